@@ -1,0 +1,5 @@
+pub mod Code
+pub mod Fault
+pub mod Moment
+pub mod Names
+pub mod Settings

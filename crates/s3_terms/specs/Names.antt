@@ -1,0 +1,128 @@
+-- The names of buckets and keys (Amazon S3 User Guide, "Bucket naming rules" and "Naming objects"),
+-- and the ids that this server gives to versions and uploads. The prefixes and suffixes that S3
+-- reserves for itself, as `xn--` and `-s3alias`, are names like others here.
+use Rattle.std.specs.Prelude.{ℕ, zero, suc, ◌-◌, ◌/◌, ◌%◌, ◌^◌, ◌<◌, Bool, not, ◌&&◌, ◌||◌, ◌==◌, nat_lt, nat_le, if◌then◌else◌, List, [], ◌∷◌, ◌++◌, length, drop, slice_index, codes, Option, Some, None, option_map, ⊤}
+use Rattle.std.specs.List.{list_all, list_any, slice_split}
+use Rattle.std.specs.Char.{is_ascii_digit, digit_char}
+use Rattle.std.specs.Str.{is_utf8, bytes_eq}
+use Rattle.std.specs.Str.Parse.{digits_value}
+use Rattle.s3_terms.specs.declared.code.Code.{Code}
+use Rattle.s3_terms.specs.declared.code.Code.TheVariants.{InvalidURI, KeyTooLongError}
+use Rattle.s3_terms.specs.declared.ids.VersionId.{VersionId}
+use Rattle.s3_terms.specs.declared.ids.VersionId.TheVariants.{Null, Numbered}
+
+-- a lower-case letter or a digit
+abbrev pub is_letter_or_digit : ℕ → Bool
+is_letter_or_digit b = (nat_le 97 b && nat_le b 122) || is_ascii_digit b
+
+-- a byte of a bucket's name: a lower-case letter, a digit, a dot or a dash
+abbrev pub is_name_byte : ℕ → Bool
+is_name_byte b = is_letter_or_digit b || b == 46 || b == 45
+
+-- the parts between the dots
+abbrev pub dotted : List ℕ → List (List ℕ)
+dotted name = slice_split (λ b. b == 46) name
+
+-- a decimal number of any size
+abbrev pub is_number : List ℕ → Bool
+is_number part = not (length part == 0) && list_all is_ascii_digit part
+
+-- two dots in a row, or a dot at an end, leave an empty part
+abbrev pub has_empty_part : List ℕ → Bool
+has_empty_part name = list_any (λ part. length part == 0) (dotted name)
+
+-- the form of an IP address: four decimal numbers joined by dots
+abbrev pub is_address_form : List ℕ → Bool
+is_address_form name = length (dotted name) == 4 && list_all is_number (dotted name)
+
+-- 3 to 63 bytes
+unfoldable pub has_name_length : List ℕ → Bool
+has_name_length name = nat_le 3 (length name) && nat_le (length name) 63
+
+-- bytes of names alone
+unfoldable pub has_name_bytes : List ℕ → Bool
+has_name_bytes name = list_all is_name_byte name
+
+-- a letter or digit at both ends
+unfoldable pub has_name_ends : List ℕ → Bool
+has_name_ends name =
+    is_letter_or_digit (slice_index name 0) && is_letter_or_digit (slice_index name (length name - 1))
+
+-- no empty part, and not the form of an IP address
+unfoldable pub has_name_parts : List ℕ → Bool
+has_name_parts name = not (has_empty_part name) && not (is_address_form name)
+
+-- the name of a bucket
+unfoldable pub is_bucket_name : List ℕ → Bool
+is_bucket_name name = has_name_length name && has_name_bytes name && has_name_ends name && has_name_parts name
+
+-- the longest key, in bytes
+abbrev pub key_limit : ℕ
+key_limit = 1024
+
+-- a key: 1 to 1,024 bytes of UTF-8
+unfoldable pub is_key : List ℕ → Bool
+is_key key = is_utf8 key && nat_le 1 (length key) && nat_le (length key) key_limit
+
+-- why bytes are no key, the first fault in this order: they are no UTF-8, too long, or empty
+unfoldable pub key_fault : List ℕ → Option Code
+key_fault key =
+    if not (is_utf8 key) then Some InvalidURI
+    else (if nat_lt key_limit (length key) then Some KeyTooLongError
+    else (if length key == 0 then Some InvalidURI
+    else None))
+
+-- a lower-case hexadecimal digit
+abbrev pub is_lower_hex : ℕ → Bool
+is_lower_hex b = is_ascii_digit b || (nat_le 97 b && nat_le b 102)
+
+-- the last digits of a number in lower-case hexadecimal, as many as there are places
+unfoldable pub hex_digits : ℕ → ℕ → List ℕ
+hex_digits zero n = []
+hex_digits (suc places) n = hex_digits places (n / 16) ++ digit_char (n % 16) ∷ []
+
+-- the id that a letter and the sixteen digits of a number make
+unfoldable pub numbered_id : ℕ → ℕ → List ℕ
+numbered_id letter number = letter ∷ hex_digits 16 number
+
+-- a letter and then sixteen lower-case hexadecimal digits
+unfoldable pub is_numbered_id : ℕ → List ℕ → Bool
+is_numbered_id letter text =
+    length text == 17 && slice_index text 0 == letter && list_all is_lower_hex (drop 1 text)
+
+-- the number that such an id was made of
+unfoldable pub number_of_id : ℕ → List ℕ → Option ℕ
+number_of_id letter text = if is_numbered_id letter text then Some (digits_value 16 (drop 1 text)) else None
+
+-- the text of an upload's id: `u` and the number of the entry that made it
+abbrev pub upload_id_text : ℕ → List ℕ
+upload_id_text number = numbered_id 117 number
+
+-- the number of the upload whose id a text is
+abbrev pub upload_id : List ℕ → Option ℕ
+upload_id text = number_of_id 117 text
+
+-- the text of a version's id: `null` for the version of a bucket that is unversioned or suspended,
+-- else `v` and the number of the entry that made it
+abbrev pub version_id_text : VersionId → List ℕ
+version_id_text Null = codes "null"
+version_id_text (Numbered number) = numbered_id 118 number
+
+-- the version whose id a text is
+unfoldable pub version_id : List ℕ → Option VersionId
+version_id text = if bytes_eq text (codes "null") then Some Null else option_map Numbered (number_of_id 118 text)
+
+-- the number, if there is one, is one of 64 bits
+abbrev pub HasSmallNumber : VersionId → Type 0
+HasSmallNumber Null = ⊤
+HasSmallNumber (Numbered number) = number < 2 ^ 64
+
+-- one to five decimal digits that spell a number from 1 to 10,000
+unfoldable pub is_part_number : List ℕ → Bool
+is_part_number text =
+    nat_le 1 (length text) && nat_le (length text) 5 && list_all is_ascii_digit text
+    && nat_le 1 (digits_value 10 text) && nat_le (digits_value 10 text) 10_000
+
+-- the part number that a text spells
+unfoldable pub part_number : List ℕ → Option ℕ
+part_number text = if is_part_number text then Some (digits_value 10 text) else None

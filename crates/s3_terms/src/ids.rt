@@ -1,0 +1,332 @@
+ghost use Rattle.std.specs.Prelude.{◌≡◌, ℕ, ◌<◌, ◌≤◌, ◌^◌, ◌++◌, ◌∷◌, Some, IfSome, IsTrue, drop, length, codes};
+ghost use Rattle.std.specs.Char.{digit_char};
+ghost use Rattle.std.specs.List.{list_all};
+ghost use Rattle.std.specs.Str.Parse.{AllDigits, digits_value};
+ghost use Rattle.s3_terms.specs.Names.{is_lower_hex, hex_digits, numbered_id, is_numbered_id, number_of_id, upload_id_text, upload_id, version_id_text, version_id, HasSmallNumber, part_number};
+
+use crate::names::has_digits_alone;
+use std::marker::Model;
+
+/// The greatest number of a part.
+const PART_MAX: u64 = 10_000;
+
+/// The most decimal digits that spell a part's number.
+const PART_DIGITS: usize = 5;
+
+/// The hexadecimal digits of an id's number.
+const NUMBER_DIGITS: usize = 16;
+
+/// The letter and the digits of an id with a number.
+const ID_LEN: usize = 1 + NUMBER_DIGITS;
+
+/// The number of an upload's part, from 1 to 10,000.
+#[derive(Clone, Copy, Debug, PartialEq, Eq, PartialOrd, Ord)]
+pub struct PartNumber(u16);
+
+impl Model for PartNumber {
+    ghost use Rattle.std.specs.Prelude.{ℕ, ◌≤◌};
+
+    ghost Value = { ℕ };
+
+    ghost view = { λ part. part.0 };
+
+    ghost invariant = { λ part. (1 ≤ part.0) × (part.0 ≤ 10_000) };
+
+    ghost inverse = { λ n. record { 0 = n } };
+}
+
+impl PartNumber {
+    /// Reads one to five decimal digits, leading zeros among them; `None` where the text is anything
+    /// else, or the number out of range.
+    #[tactic(auto, using(crate::proofs::NumberLemmas::decimal_digits, crate::proofs::NumberLemmas::decimal_room), unfolding(crate::specs::Names::part_number, crate::specs::Names::is_part_number))]
+    pub fn read(text: &[u8]) -> Option<PartNumber>
+        ensures { result ≡ part_number text.now }
+    {
+        if text.is_empty() || text.len() > PART_DIGITS || !has_digits_alone(text) {
+            return None;
+        }
+        let number = number_from(10, text);
+        if number < 1 || number > PART_MAX {
+            return None;
+        }
+        Some(PartNumber(number as u16))
+    }
+
+    /// The number.
+    pub fn get(self) -> u16
+        ensures value { result ≡ self }
+        ensures lower_bound { 1 ≤ result }
+        ensures upper_bound { result ≤ 10_000 }
+    {
+        self.0
+    }
+}
+
+/// The id of an object's version.
+#[derive(Clone, Copy, Debug, PartialEq, Eq, PartialOrd, Ord)]
+pub enum VersionId {
+    /// `null`: the version that an unversioned or suspended bucket keeps of a key.
+    Null,
+    /// `v` and the number of the entry that made the version.
+    Numbered(u64),
+}
+
+impl VersionId {
+    /// The id of the version that the entry of this number makes.
+    pub fn of(number: u64) -> VersionId
+        ensures { result ≡ VersionId.Numbered number }
+    {
+        Self::Numbered(number)
+    }
+
+    /// Reads `null`, or `v` and sixteen lower-case hexadecimal digits; `None` for any other text.
+    pub fn read(text: &[u8]) -> Option<VersionId>
+        ensures value { result ≡ version_id text.now }
+        ensures spelled { IfSome result (λ id. text.now ≡ version_id_text id) }
+        ensures found { (id : VersionId) → HasSmallNumber id → text.now ≡ version_id_text id → result ≡ Some id }
+    {
+        if text == b"null".as_slice() {
+            return Some(VersionId::Null);
+        }
+        match read_number(b'v', text) {
+            Some(number) => Some(VersionId::Numbered(number)),
+            None => None,
+        }
+    }
+
+    /// The id as a request and a reply write it.
+    pub fn text(self) -> IdText
+        ensures value { result ≡ version_id_text self }
+        ensures bound { HasSmallNumber self }
+    {
+        match self {
+            VersionId::Null => IdText::null(),
+            VersionId::Numbered(number) => IdText::numbered(b'v', number),
+        }
+    }
+}
+
+/// The id of a multipart upload: the number of the entry that made it.
+#[derive(Clone, Copy, Debug, PartialEq, Eq, PartialOrd, Ord)]
+pub struct UploadId {
+    number: u64,
+}
+
+impl Model for UploadId {
+    ghost use Rattle.std.specs.Prelude.{ℕ};
+
+    ghost Value = { ℕ };
+
+    ghost view = { λ id. id.number };
+
+    ghost inverse = { λ n. record { number = n } };
+}
+
+impl UploadId {
+    /// The id of the upload that the entry of this number makes.
+    pub fn of(number: u64) -> UploadId
+        ensures { result ≡ number }
+    {
+        Self { number }
+    }
+
+    /// Reads `u` and sixteen lower-case hexadecimal digits; `None` for any other text.
+    pub fn read(text: &[u8]) -> Option<UploadId>
+        ensures value { result ≡ upload_id text.now }
+        ensures spelled { IfSome result (λ id. text.now ≡ upload_id_text id) }
+        ensures found { (number : ℕ) → number < 2 ^ 64 → text.now ≡ upload_id_text number → result ≡ Some number }
+    {
+        match read_number(b'u', text) {
+            Some(number) => Some(UploadId { number }),
+            None => None,
+        }
+    }
+
+    /// The number of the entry that made the upload.
+    pub fn number(self) -> u64
+        ensures value { result ≡ self }
+        ensures bound { self < 2 ^ 64 }
+    {
+        self.number
+    }
+
+    /// The id as a request and a reply write it.
+    pub fn text(self) -> IdText
+        ensures value { result ≡ upload_id_text self }
+        ensures bound { self < 2 ^ 64 }
+    {
+        let UploadId { number } = self;
+        IdText::numbered(b'u', number)
+    }
+}
+
+/// The text of an id, at most 17 bytes, kept in place.
+#[derive(Debug, Drop)]
+pub struct IdText {
+    bytes: [u8; ID_LEN],
+    len: usize,
+}
+
+impl Model for IdText {
+    ghost use Rattle.std.specs.Prelude.{ℕ, ◌≤◌, List, take};
+
+    ghost Value = { List ℕ };
+
+    ghost view = { λ text. take text.len text.bytes };
+
+    ghost invariant = { λ text. text.len ≤ 17 };
+}
+
+impl IdText {
+    fn null() -> IdText
+        ensures { result ≡ codes "null" }
+    {
+        let mut bytes = [0; ID_LEN];
+        bytes[..4].copy_from_slice(b"null");
+        IdText { bytes, len: 4 }
+    }
+
+    fn numbered(letter: u8, number: u64) -> IdText
+        ensures { result ≡ numbered_id letter number }
+    {
+        let mut bytes = [letter; ID_LEN];
+        bytes[1..].copy_from_slice(&hex(number));
+        IdText { bytes, len: ID_LEN }
+    }
+
+    /// The bytes of the id.
+    pub fn as_bytes(&self) -> &[u8]
+        ensures value { result.now ≡ self.now }
+        ensures bound { length self.now ≤ 17 }
+    {
+        &self.bytes[..self.len]
+    }
+}
+
+#[tactic(auto, using(crate::proofs::NumberLemmas::hex_all_digits, crate::proofs::NumberLemmas::hex_room, crate::proofs::NumberLemmas::id_spelled), unfolding(crate::specs::Names::number_of_id))]
+fn read_number(letter: u8, text: &[u8]) -> Option<u64>
+    ensures value { result ≡ number_of_id letter text.now }
+    ensures spelled { IfSome result (λ number. text.now ≡ numbered_id letter number) }
+    ensures found { (number : ℕ) → number < 2 ^ 64 → text.now ≡ numbered_id letter number → result ≡ Some number }
+{
+    if !has_id_form(letter, text) {
+        return None;
+    }
+    let (_, digits) = text.split_at(1);
+    Some(number_from(16, digits))
+}
+
+#[tactic(auto, unfolding(crate::specs::Names::is_numbered_id))]
+fn has_id_form(letter: u8, text: &[u8]) -> bool
+    ensures value { result ≡ is_numbered_id letter text.now }
+    ensures len { IsTrue result → length (drop 1 text.now) ≡ 16 }
+    ensures digits { IsTrue result → IsTrue (list_all is_lower_hex (drop 1 text.now)) }
+{
+    if text.len() != ID_LEN {
+        return false;
+    }
+    let (_, digits) = text.split_at(1);
+    text[0] == letter && has_lower_hex_alone(digits)
+}
+
+fn has_lower_hex_alone(digits: &[u8]) -> bool
+    ensures { result ≡ list_all is_lower_hex digits.now }
+{
+    digits.iter().all(|byte| has_lower_hex(*byte))
+}
+
+fn has_lower_hex(byte: u8) -> bool
+    ensures { result ≡ is_lower_hex byte }
+{
+    matches!(byte, b'0'..=b'9' | b'a'..=b'f')
+}
+
+#[tactic(auto, using(crate::proofs::NumberLemmas::digit_below, crate::proofs::NumberLemmas::number_so_far, std::proofs::lemmas::Int::Digits::digits_value_more))]
+fn number_from(radix: u32, digits: &[u8]) -> u64
+    requires lower_bound { 2 ≤ radix }
+    requires upper_bound { radix ≤ 36 }
+    requires digits { AllDigits radix digits.now }
+    requires room { digits_value radix digits.now < 2 ^ 64 }
+    ensures { result ≡ digits_value radix digits.now }
+{
+    let mut number: u64 = 0;
+    for byte in digits {
+        let digit = (*byte as char).to_digit(radix).unwrap();
+        number = number * u64::from(radix) + u64::from(digit);
+    }
+    number
+}
+
+fn hex(number: u64) -> [u8; NUMBER_DIGITS]
+    ensures { result ≡ hex_digits 16 number }
+{
+    let mut digits = [0; NUMBER_DIGITS];
+    let mut left = number;
+    for place in 0..NUMBER_DIGITS {
+        digits[NUMBER_DIGITS - 1 - place] = hex_digit((left % 16) as u8);
+        left /= 16;
+    }
+    digits
+}
+
+fn hex_digit(value: u8) -> u8
+    requires { value < 16 }
+    ensures { result ≡ digit_char value }
+{
+    if value < 10 {
+        b'0' + value
+    } else {
+        b'a' + (value - 10)
+    }
+}
+
+#[cfg(test)]
+mod tests {
+    use super::*;
+
+    #[test]
+    fn part_numbers(rt: HostRuntime) {
+        let read = |text: &[u8]| PartNumber::read(text).map(|part| part.get());
+        assert_eq!(rt; read(b"1"), Some(1));
+        assert_eq!(rt; read(b"00001"), Some(1));
+        assert_eq!(rt; read(b"10000"), Some(10_000));
+        assert_eq!(rt; read(b"10001"), None);
+        assert_eq!(rt; read(b"0"), None);
+        assert_eq!(rt; read(b"000001"), None);
+        assert_eq!(rt; read(b"+1"), None);
+        assert_eq!(rt; read(b"1 "), None);
+        assert_eq!(rt; read(b""), None);
+    }
+
+    #[test]
+    fn ids_of_versions(rt: HostRuntime) {
+        let numbered = VersionId::of(0x0123_4567_89ab_cdef);
+        assert_eq!(rt; numbered.text().as_bytes(), b"v0123456789abcdef".as_slice());
+        assert_eq!(rt; VersionId::read(b"v0123456789abcdef"), Some(numbered));
+        assert_eq!(rt; VersionId::Null.text().as_bytes(), b"null".as_slice());
+        assert_eq!(rt; VersionId::read(b"null"), Some(VersionId::Null));
+        assert_eq!(rt;
+            VersionId::read(b"vffffffffffffffff"),
+            Some(VersionId::of(u64::MAX))
+        );
+        assert_eq!(rt; VersionId::read(b"v0123456789ABCDEF"), None);
+        assert_eq!(rt; VersionId::read(b"v0123456789abcde"), None);
+        assert_eq!(rt; VersionId::read(b"v0123456789abcdef0"), None);
+        assert_eq!(rt; VersionId::read(b"u0123456789abcdef"), None);
+        assert_eq!(rt; VersionId::read(b"Null"), None);
+        assert_eq!(rt; VersionId::read(b""), None);
+    }
+
+    #[test]
+    fn ids_of_uploads(rt: HostRuntime) {
+        let first = UploadId::of(0);
+        assert_eq!(rt; first.text().as_bytes(), b"u0000000000000000".as_slice());
+        assert_eq!(rt; UploadId::read(b"u0000000000000000"), Some(first));
+        assert_eq!(rt;
+            UploadId::read(b"u00000000000003e8").map(|id| id.number()),
+            Some(1_000)
+        );
+        assert_eq!(rt; UploadId::read(b"u000000000000000g"), None);
+        assert_eq!(rt; UploadId::read(b"null"), None);
+    }
+}

@@ -1,0 +1,77 @@
+ghost use Rattle.std.specs.Prelude.{◌≡◌};
+ghost use Rattle.s3_terms.specs.declared.code.Code.TheVariants.{InternalError};
+
+use crate::code::Code;
+use std::alloc::{AllocError, AllocFailed};
+
+/// Memory ran out, and the call did nothing that lasts. It is the one error of calls that refuse no
+/// request.
+#[derive(Clone, Copy, Debug, PartialEq, Eq)]
+pub struct NoMemory;
+
+impl From<AllocError> for NoMemory {
+    ghost from_gives = { λ _ e. e ≡ record {} };
+
+    fn from(_e: AllocError) -> NoMemory {
+        NoMemory
+    }
+}
+
+/// The value that was not stored is dropped.
+impl<T: Drop> From<AllocFailed<T>> for NoMemory {
+    ghost from_gives = { λ _ e. e ≡ record {} };
+
+    fn from(_e: AllocFailed<T>) -> NoMemory {
+        NoMemory
+    }
+}
+
+/// In a call that answers a code, want of memory is `InternalError`.
+impl From<NoMemory> for Code {
+    ghost from_gives = { λ _ code. code ≡ InternalError };
+
+    fn from(_e: NoMemory) -> Code {
+        Code::InternalError
+    }
+}
+
+impl From<AllocError> for Code {
+    ghost from_gives = { λ _ code. code ≡ InternalError };
+
+    fn from(_e: AllocError) -> Code {
+        Code::from(NoMemory)
+    }
+}
+
+impl<T: Drop> From<AllocFailed<T>> for Code {
+    ghost from_gives = { λ _ code. code ≡ InternalError };
+
+    fn from(_e: AllocFailed<T>) -> Code {
+        Code::from(NoMemory)
+    }
+}
+
+#[cfg(test)]
+mod tests {
+    use super::*;
+    use std::alloc::Global;
+
+    fn kept(alloc: Global) -> Result<Vec<u8>, NoMemory> {
+        let mut bytes = Vec::with_capacity(alloc, 1)?;
+        bytes.push(7)?;
+        Ok(bytes)
+    }
+
+    fn answered(alloc: Global) -> Result<Vec<u8>, Code> {
+        let mut bytes = Vec::with_capacity(alloc, 1)?;
+        bytes.push(7)?;
+        Ok(bytes)
+    }
+
+    #[test]
+    fn errors_convert(rt: HostRuntime) {
+        assert!(rt; kept(rt.alloc()).is_ok());
+        assert!(rt; answered(rt.alloc()).is_ok());
+        assert_eq!(rt; Code::from(NoMemory).number(), 34);
+    }
+}

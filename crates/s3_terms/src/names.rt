@@ -1,0 +1,422 @@
+ghost use Rattle.std.specs.Prelude.{◌≡◌, ◌≤◌, ◌-◌, ◌==◌, ◌&&◌, false, IsUtf8, IsAscii, Some, IsTrue, IfOk, OnOk, IfSome, IfNone, IsOkUnless, IsErrOf, length, slice_index, nat_eq, refl};
+ghost use Rattle.std.specs.Char.{is_ascii_digit};
+ghost use Rattle.std.specs.List.{list_all};
+ghost use Rattle.std.specs.Str.{is_utf8};
+ghost use Rattle.std.specs.Ordering.{nat_cmp};
+ghost use Rattle.std.specs.Cmp.{partial_equiv_from_equiv};
+ghost use Rattle.std.specs.Cmp.Lexicographic.{pointwise, slice_cmp, nat_list_eq_equiv, nat_list_cmp_total, texts_ties, texts_po};
+ghost use Rattle.s3_terms.specs.Names.{is_letter_or_digit, is_name_byte, dotted, is_number, has_empty_part, is_address_form, has_name_length, has_name_bytes, has_name_ends, has_name_parts, is_bucket_name, key_fault, is_key};
+
+use crate::code::Code;
+use crate::memory::NoMemory;
+use std::alloc::Global;
+use std::cmp::Ordering;
+use std::marker::Model;
+use std::str;
+
+/// The shortest name of a bucket, in bytes.
+const NAME_MIN: usize = 3;
+
+/// The longest name of a bucket, in bytes.
+const NAME_MAX: usize = 63;
+
+/// The longest key, in bytes.
+const KEY_MAX: usize = 1024;
+
+/// The name of a bucket (Amazon S3 User Guide, "Bucket naming rules"). A contract sees it as its
+/// bytes, and it is ordered by them.
+#[derive(Debug, Drop)]
+pub struct BucketName {
+    name: Vec<u8>,
+}
+
+impl Model for BucketName {
+    ghost use Rattle.std.specs.Prelude.{ℕ, List, IsTrue};
+    ghost use Rattle.s3_terms.specs.Names.{is_bucket_name};
+
+    ghost Value = { List ℕ };
+
+    ghost view = { λ b. b.name.items };
+
+    ghost invariant = { λ b. IsTrue (is_bucket_name b.name.items) };
+}
+
+impl BucketName {
+    /// Reads a name from its bytes. `InvalidBucketName` says that it breaks the naming rules, and
+    /// `InternalError` that there was no memory for its copy.
+    pub fn read(alloc: Global, name: &[u8]) -> Result<BucketName, Code>
+        ensures value { IfOk result (λ read. read ≡ name.now) }
+        ensures valid { OnOk result (IsTrue (is_bucket_name name.now)) }
+        ensures refused { is_bucket_name name.now ≡ false → IsErrOf result Code.InvalidBucketName }
+        ensures accepted { IsTrue (is_bucket_name name.now) → IsOkUnless result Code.InternalError }
+    {
+        if !is_valid_name(name) {
+            return Err(Code::InvalidBucketName);
+        }
+        let name = Vec::from_slice(alloc, name)?;
+        Ok(BucketName { name })
+    }
+
+    /// The bytes of the name.
+    #[tactic(auto, unfolding(crate::specs::Names::is_bucket_name, crate::specs::Names::has_name_length))]
+    pub fn as_bytes(&self) -> &[u8]
+        ensures value { result.now ≡ self.now }
+        ensures valid { IsTrue (is_bucket_name self.now) }
+        ensures ascii { IsAscii self.now }
+        ensures lower_bound { 3 ≤ length self.now }
+        ensures upper_bound { length self.now ≤ 63 }
+    {
+        self.name.as_slice()
+    }
+
+    /// A copy of the name.
+    pub fn copy(&self) -> Result<BucketName, NoMemory>
+        ensures { IfOk result (λ copied. copied ≡ self.now) }
+    {
+        let name = self.name.clone()?;
+        Ok(BucketName { name })
+    }
+}
+
+impl PartialEq for BucketName {
+    ghost eq = { pointwise nat_eq };
+
+    ghost laws = { partial_equiv_from_equiv nat_list_eq_equiv };
+
+    fn eq(&self, other: &BucketName) -> bool {
+        self.name == other.name
+    }
+}
+
+impl Eq for BucketName {
+    ghost laws = { nat_list_eq_equiv };
+}
+
+impl PartialOrd for BucketName {
+    ghost partial_cmp = { λ a b. Some (slice_cmp nat_cmp a b) };
+
+    ghost laws = { texts_po };
+
+    fn partial_cmp(&self, other: &BucketName) -> Option<Ordering> {
+        Some(self.cmp(other))
+    }
+}
+
+impl Ord for BucketName {
+    ghost cmp = { slice_cmp nat_cmp };
+
+    ghost total = { nat_list_cmp_total };
+
+    ghost matches_partial_cmp = { λ a b. refl };
+
+    ghost matches_eq = { texts_ties };
+
+    fn cmp(&self, other: &BucketName) -> Ordering {
+        self.name.cmp(&other.name)
+    }
+}
+
+/// The key of an object (Amazon S3 User Guide, "Naming objects"): 1 to 1,024 bytes of UTF-8. A
+/// contract sees it as its bytes, and it is ordered by them.
+#[derive(Debug, Drop)]
+pub struct Key {
+    text: Vec<u8>,
+}
+
+impl Model for Key {
+    ghost use Rattle.std.specs.Prelude.{ℕ, List, IsTrue};
+    ghost use Rattle.s3_terms.specs.Names.{is_key};
+
+    ghost Value = { List ℕ };
+
+    ghost view = { λ key. key.text.items };
+
+    ghost invariant = { λ key. IsTrue (is_key key.text.items) };
+}
+
+impl Key {
+    /// Reads a key from its bytes. The first fault decides: `InvalidURI` where they are no UTF-8,
+    /// `KeyTooLongError` above 1,024 bytes, `InvalidURI` where there are none. `InternalError` says
+    /// that there was no memory for its copy.
+    pub fn read(alloc: Global, key: &[u8]) -> Result<Key, Code>
+        ensures value { IfOk result (λ read. read ≡ key.now) }
+        ensures valid { OnOk result (IsTrue (is_key key.now)) }
+        ensures refused { IfSome (key_fault key.now) (λ code. IsErrOf result code) }
+        ensures accepted { IfNone (key_fault key.now) (IsOkUnless result Code.InternalError) }
+    {
+        if let Some(code) = fault_of_key(key) {
+            return Err(code);
+        }
+        let text = Vec::from_slice(alloc, key)?;
+        Ok(Key { text })
+    }
+
+    /// The bytes of the key.
+    #[tactic(auto, using(crate::proofs::NameLemmas::texts), unfolding(crate::specs::Names::is_key))]
+    pub fn as_bytes(&self) -> &[u8]
+        ensures value { result.now ≡ self.now }
+        ensures valid { IsTrue (is_key self.now) }
+        ensures utf8 { IsUtf8 self.now }
+        ensures lower_bound { 1 ≤ length self.now }
+        ensures upper_bound { length self.now ≤ 1_024 }
+    {
+        self.text.as_slice()
+    }
+
+    /// A copy of the key.
+    pub fn copy(&self) -> Result<Key, NoMemory>
+        ensures { IfOk result (λ copied. copied ≡ self.now) }
+    {
+        let text = self.text.clone()?;
+        Ok(Key { text })
+    }
+}
+
+impl PartialEq for Key {
+    ghost eq = { pointwise nat_eq };
+
+    ghost laws = { partial_equiv_from_equiv nat_list_eq_equiv };
+
+    fn eq(&self, other: &Key) -> bool {
+        self.text == other.text
+    }
+}
+
+impl Eq for Key {
+    ghost laws = { nat_list_eq_equiv };
+}
+
+impl PartialOrd for Key {
+    ghost partial_cmp = { λ a b. Some (slice_cmp nat_cmp a b) };
+
+    ghost laws = { texts_po };
+
+    fn partial_cmp(&self, other: &Key) -> Option<Ordering> {
+        Some(self.cmp(other))
+    }
+}
+
+impl Ord for Key {
+    ghost cmp = { slice_cmp nat_cmp };
+
+    ghost total = { nat_list_cmp_total };
+
+    ghost matches_partial_cmp = { λ a b. refl };
+
+    ghost matches_eq = { texts_ties };
+
+    fn cmp(&self, other: &Key) -> Ordering {
+        self.text.cmp(&other.text)
+    }
+}
+
+#[tactic(auto, unfolding(crate::specs::Names::key_fault, crate::specs::Names::is_key))]
+fn fault_of_key(key: &[u8]) -> Option<Code>
+    ensures value { result ≡ key_fault key.now }
+    ensures valid { IfNone result (IsTrue (is_key key.now)) }
+{
+    if !is_text(key) {
+        return Some(Code::InvalidURI);
+    }
+    if key.len() > KEY_MAX {
+        return Some(Code::KeyTooLongError);
+    }
+    if key.is_empty() {
+        return Some(Code::InvalidURI);
+    }
+    None
+}
+
+fn is_text(bytes: &[u8]) -> bool
+    ensures { result ≡ is_utf8 bytes.now }
+{
+    str::from_utf8(bytes).is_ok()
+}
+
+#[tactic(auto, unfolding(crate::specs::Names::is_bucket_name))]
+fn is_valid_name(name: &[u8]) -> bool
+    ensures { result ≡ is_bucket_name name.now }
+{
+    has_valid_length(name) && has_valid_bytes(name) && has_valid_ends(name) && has_valid_parts(name)
+}
+
+#[tactic(auto, unfolding(crate::specs::Names::has_name_length))]
+fn has_valid_length(name: &[u8]) -> bool
+    ensures { result ≡ has_name_length name.now }
+{
+    NAME_MIN <= name.len() && name.len() <= NAME_MAX
+}
+
+#[tactic(auto, unfolding(crate::specs::Names::has_name_bytes))]
+fn has_valid_bytes(name: &[u8]) -> bool
+    ensures { result ≡ has_name_bytes name.now }
+{
+    name.iter().all(|byte| may_stand_in_name(*byte))
+}
+
+#[tactic(auto, unfolding(crate::specs::Names::has_name_ends))]
+fn has_valid_ends(name: &[u8]) -> bool
+    ensures { result ≡ has_name_ends name.now }
+{
+    match name {
+        [] => false,
+        [first, ..] => may_end_name(*first) && may_end_name(name[name.len() - 1]),
+    }
+}
+
+#[tactic(auto, unfolding(crate::specs::Names::has_name_parts))]
+fn has_valid_parts(name: &[u8]) -> bool
+    ensures { result ≡ has_name_parts name.now }
+{
+    !leaves_empty_part(name) && !has_address_form(name)
+}
+
+/// A lower-case letter or a digit.
+pub(crate) fn may_end_name(byte: u8) -> bool
+    ensures { result ≡ is_letter_or_digit byte }
+{
+    byte.is_ascii_lowercase() || byte.is_ascii_digit()
+}
+
+fn may_stand_in_name(byte: u8) -> bool
+    ensures { result ≡ is_name_byte byte }
+{
+    may_end_name(byte) || byte == b'.' || byte == b'-'
+}
+
+fn leaves_empty_part(name: &[u8]) -> bool
+    ensures { result ≡ has_empty_part name.now }
+{
+    name.split(|byte| *byte == b'.').any(|part| part.is_empty())
+}
+
+fn has_address_form(name: &[u8]) -> bool
+    ensures { result ≡ is_address_form name.now }
+{
+    has_four_parts(name) && has_decimal_parts(name)
+}
+
+fn has_four_parts(name: &[u8]) -> bool
+    ensures { result ≡ length (dotted name.now) == 4 }
+{
+    name.split(|byte| *byte == b'.').count() == 4
+}
+
+fn has_decimal_parts(name: &[u8]) -> bool
+    ensures { result ≡ list_all is_number (dotted name.now) }
+{
+    name.split(|byte| *byte == b'.')
+        .all(|part| is_decimal(part))
+}
+
+fn is_decimal(part: &[u8]) -> bool
+    ensures { result ≡ is_number part.now }
+{
+    !part.is_empty() && has_digits_alone(part)
+}
+
+/// Decimal digits and nothing else.
+pub(crate) fn has_digits_alone(text: &[u8]) -> bool
+    ensures { result ≡ list_all is_ascii_digit text.now }
+{
+    text.iter().all(|byte| byte.is_ascii_digit())
+}
+
+#[cfg(test)]
+mod tests {
+    use super::*;
+    use std::collections::BTreeMap;
+    use std::process::Abort;
+    use std::test::Fail;
+
+    fn assert_names(rt: &impl Abort, alloc: Global, names: &[&[u8]], allowed: bool) {
+        for name in names {
+            let code = BucketName::read(alloc, name).err();
+            let want = if allowed {
+                None
+            } else {
+                Some(Code::InvalidBucketName)
+            };
+            assert_eq!(rt; code, want);
+        }
+    }
+
+    #[test]
+    fn names_of_buckets(rt: HostRuntime) -> Result<(), Fail> {
+        let alloc = rt.alloc();
+        let allowed = [
+            b"pail".as_slice(),
+            b"a.b.c",
+            b"a-.b",
+            b"a.-b",
+            b"1234.5.6",
+            b"1.2.3.4.5",
+            b"1.2.3.x",
+            b"abc",
+            [b'a'; 63].as_slice(),
+        ];
+        let refused = [
+            b"".as_slice(),
+            b"ab",
+            b"Pail",
+            b"p_il",
+            b"-ab",
+            b"ab-",
+            b".ab",
+            b"ab.",
+            b"a..b",
+            b"192.168.0.1",
+            b"1234.5.6.7890",
+            [b'a'; 64].as_slice(),
+        ];
+        assert_names(&rt, alloc, allowed.as_slice(), true);
+        assert_names(&rt, alloc, refused.as_slice(), false);
+        let name = BucketName::read(alloc, b"pail").ok().ok_or("no name")?;
+        let copied = name.copy().ok().ok_or("no memory")?;
+        assert_eq!(rt; copied.as_bytes(), b"pail".as_slice());
+        assert!(rt; copied == name);
+        Ok(())
+    }
+
+    #[test]
+    fn keys(rt: HostRuntime) -> Result<(), Fail> {
+        let alloc = rt.alloc();
+        let longest = vec![in alloc; b'k'; 1_024]?;
+        let too_long = vec![in alloc; b'k'; 1_025]?;
+        let no_text = vec![in alloc; 0xff_u8; 1_025]?;
+        assert!(rt; Key::read(alloc, longest.as_slice()).is_ok());
+        assert_eq!(rt;
+            Key::read(alloc, too_long.as_slice()).err(),
+            Some(Code::KeyTooLongError)
+        );
+        assert_eq!(rt;
+            Key::read(alloc, no_text.as_slice()).err(),
+            Some(Code::InvalidURI)
+        );
+        assert_eq!(rt; Key::read(alloc, b"").err(), Some(Code::InvalidURI));
+        let key = Key::read(alloc, "k\u{e9}".as_bytes()).ok().ok_or("no key")?;
+        let copied = key.copy().ok().ok_or("no memory")?;
+        assert_eq!(rt; copied.as_bytes(), b"k\xc3\xa9".as_slice());
+        Ok(())
+    }
+
+    #[test]
+    fn maps(rt: HostRuntime) -> Result<(), Fail> {
+        let alloc = rt.alloc();
+        let low = Key::read(alloc, b"a/b").ok().ok_or("no key")?;
+        let high = Key::read(alloc, b"a0").ok().ok_or("no key")?;
+        assert!(rt; low < high, "byte order: `/` is below `0`");
+        let mut sizes: BTreeMap<Key, u8> = BTreeMap::new(alloc);
+        sizes.insert(low.copy().ok().ok_or("no memory")?, 7)?;
+        assert_eq!(rt; sizes.get(&low).copied(), Some(7));
+        assert_eq!(rt; sizes.get(&high).copied(), None);
+        let pail = BucketName::read(alloc, b"pail").ok().ok_or("no name")?;
+        let tub = BucketName::read(alloc, b"tub").ok().ok_or("no name")?;
+        assert!(rt; pail < tub);
+        let mut counts: BTreeMap<BucketName, u8> = BTreeMap::new(alloc);
+        counts.insert(pail.copy().ok().ok_or("no memory")?, 1)?;
+        assert_eq!(rt; counts.get(&pail).copied(), Some(1));
+        assert_eq!(rt; counts.get(&tub).copied(), None);
+        Ok(())
+    }
+}
