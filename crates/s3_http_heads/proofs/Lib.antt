@@ -1,0 +1,5 @@
+pub mod TextLemmas
+pub mod NameLemmas
+pub mod LengthLemmas
+pub mod VerdictLemmas
+pub mod HeadLemmas

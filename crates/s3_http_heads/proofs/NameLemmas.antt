@@ -1,0 +1,167 @@
+-- The names of header lines, and the lines of one name.
+use Rattle.std.proofs.Common.{◌≡◌, inl, inr, ℕ, ◌+◌, ◌≤◌, Bool, true, false, ◌||◌, eqb, List, [], ◌∷◌, take, drop, length, map, filter, Option, Some, None, refl, sym, ap, ◌∙◌, arith, cond, slice_get}
+use Rattle.std.specs.Prelude.{is_some, codes}
+use Rattle.std.specs.Option.{option_copied}
+use Rattle.std.specs.Borrow.{Bor}
+use Rattle.std.specs.List.{list_any, flat_map}
+use Rattle.std.specs.Str.{bytes_eq, str_to_ascii_lowercase}
+use Rattle.std.proofs.lemmas.Bool.{cases_Bool, or_left, or_right, or_from, eq-eqb, ne_eqb}
+use Rattle.std.proofs.lemmas.List.Folds.{list_any-append}
+use Rattle.std.proofs.lemmas.List.{drop_more, drop_all, take_all, length-map}
+use Rattle.std.proofs.lemmas.List.Filters.{length-filter_more}
+use Rattle.std.proofs.lemmas.Option.{get_or_from_slice_get, slice_get_within}
+use Rattle.s3_http_heads.specs.Parts.{HeadParts, is_named, values_of, first_value, is_sent, words_of, closes}
+
+-- the rest of a name that was sent is the rest of the given one
+abbrev pub same_rest : List ℕ → List ℕ → ℕ → Bool
+same_rest sent name i = bytes_eq (str_to_ascii_lowercase (drop i sent)) (drop i name)
+
+abbrev pub Lines : Type 0
+Lines = List (List ℕ × List ℕ)
+
+-- the values of the lines of a name
+abbrev pub values_in : List ℕ → Lines → List (List ℕ)
+values_in name lines = map (λ (line : List ℕ × List ℕ). line.1) (filter (is_named name) lines)
+
+-- how many of the first i lines have the name
+abbrev pub count_in : List ℕ → Lines → ℕ → ℕ
+count_in name lines i = length (filter (is_named name) (take i lines))
+
+count_more : (name : List ℕ) (lines : Lines) (i : ℕ) (line : List ℕ × List ℕ) → slice_get lines i ≡ Some line
+    → count_in name lines (i + 1) ≡ count_in name lines i + cond (is_named name line) 1 0
+count_more name lines i line is =
+    length-filter_more (is_named name) lines i line (slice_get_within lines i line is)
+    ∙ ap (λ x. count_in name lines i + cond (is_named name x) 1 0) (get_or_from_slice_get lines i line line is)
+
+pub count_yes : (name : List ℕ) (lines : Lines) (i : ℕ) (sent value : List ℕ) → slice_get lines i ≡ Some (sent, value)
+    → true ≡ bytes_eq (str_to_ascii_lowercase sent) name → count_in name lines (i + 1) ≡ count_in name lines i + 1
+count_yes name lines i sent value is same =
+    count_more name lines i (sent, value) is ∙ ap (λ b. count_in name lines i + cond b 1 0) (sym same)
+
+pub count_no : (name : List ℕ) (lines : Lines) (i : ℕ) (sent value : List ℕ) → slice_get lines i ≡ Some (sent, value)
+    → false ≡ bytes_eq (str_to_ascii_lowercase sent) name → count_in name lines (i + 1) ≡ count_in name lines i
+count_no name lines i sent value is other =
+    count_more name lines i (sent, value) is ∙ ap (λ b. count_in name lines i + cond b 1 0) (sym other) ∙ omega arith
+
+pub count_all : (name : List ℕ) (parts : HeadParts) (i : ℕ) → length parts.headers ≤ i
+    → count_in name parts.headers i ≡ length (values_of name parts)
+unfolding values_of
+count_all name parts i past =
+    ap (λ lines. length (filter (is_named name) lines)) (take_all i parts.headers past)
+    ∙ sym (length-map (filter (is_named name) parts.headers) (λ (line : List ℕ × List ℕ). line.1))
+
+-- the line at i, and those after it
+lines_from : (lines : Lines) (i : ℕ) (line : List ℕ × List ℕ) → slice_get lines i ≡ Some line
+    → drop i lines ≡ line ∷ drop (i + 1) lines
+lines_from lines i line is =
+    drop_more lines i line (slice_get_within lines i line is)
+    ∙ ap (λ x. x ∷ drop (i + 1) lines) (get_or_from_slice_get lines i line line is)
+
+pub values_yes : (name : List ℕ) (lines : Lines) (i : ℕ) (sent value : List ℕ) → slice_get lines i ≡ Some (sent, value)
+    → true ≡ bytes_eq (str_to_ascii_lowercase sent) name
+    → values_in name (drop i lines) ≡ value ∷ values_in name (drop (i + 1) lines)
+values_yes name lines i sent value is same =
+    ap (values_in name) (lines_from lines i (sent, value) is) ∙ by (sym same)
+  where
+    by : bytes_eq (str_to_ascii_lowercase sent) name ≡ true
+        → values_in name ((sent, value) ∷ drop (i + 1) lines) ≡ value ∷ values_in name (drop (i + 1) lines)
+    by e = rw e refl
+
+pub values_no : (name : List ℕ) (lines : Lines) (i : ℕ) (sent value : List ℕ) → slice_get lines i ≡ Some (sent, value)
+    → false ≡ bytes_eq (str_to_ascii_lowercase sent) name
+    → values_in name (drop (i + 1) lines) ≡ values_in name (drop i lines)
+values_no name lines i sent value is other =
+    sym (ap (values_in name) (lines_from lines i (sent, value) is) ∙ by (sym other))
+  where
+    by : bytes_eq (str_to_ascii_lowercase sent) name ≡ false
+        → values_in name ((sent, value) ∷ drop (i + 1) lines) ≡ values_in name (drop (i + 1) lines)
+    by e = rw e refl
+
+pub first_here : (name : List ℕ) (parts : HeadParts) (i : ℕ) (sent value : List ℕ)
+    → values_in name (drop i parts.headers) ≡ values_in name parts.headers
+    → slice_get parts.headers i ≡ Some (sent, value) → true ≡ bytes_eq (str_to_ascii_lowercase sent) name
+    → Some value ≡ first_value name parts
+unfolding values_of
+first_here name parts i sent value rest is same =
+    ap (λ vs. slice_get vs 0) (sym (values_yes name parts.headers i sent value is same) ∙ rest)
+
+pub first_nowhere : (name : List ℕ) (parts : HeadParts) (i : ℕ)
+    → values_in name (drop i parts.headers) ≡ values_in name parts.headers → length parts.headers ≤ i
+    → None ≡ first_value name parts
+unfolding values_of
+first_nowhere name parts i rest past =
+    ap (λ lines. slice_get (values_in name lines) 0) (sym (drop_all i parts.headers past)) ∙ ap (λ vs. slice_get vs 0) rest
+
+-- a line was sent exactly where there is a first one
+pub is_some-first : (name : List ℕ) (lines : Lines)
+    → is_some (slice_get (values_in name lines) 0) ≡ list_any (is_named name) lines
+is_some-first name [] = refl
+is_some-first name (line ∷ lines) = elim (cases_Bool (is_named name line)) [
+  | inl e ↦ rw e refl
+  | inr e ↦ rw e (is_some-first name lines)
+]
+
+pub sent_is : (name : List ℕ) (parts : HeadParts) → is_some (first_value name parts) ≡ is_sent name parts
+unfolding values_of
+sent_is name parts = is_some-first name parts.headers
+
+pub is_some-found : (name : List ℕ) (parts : HeadParts) (o : Option (Bor (List ℕ))) → option_copied o ≡ first_value name parts
+    → is_some o ≡ is_sent name parts
+is_some-found name parts o is = sym (is_some-copied o) ∙ ap is_some is ∙ sent_is name parts
+  where
+    is_some-copied : (o : Option (Bor (List ℕ))) → is_some (option_copied o) ≡ is_some o
+    is_some-copied None = refl
+    is_some-copied (Some x) = refl
+
+-- ---- the words of the Connection lines
+
+pub list_any-map : {X Y : Type 0} (p : Y → Bool) (f : X → Y) (xs : List X) → list_any p (map f xs) ≡ list_any (λ x. p (f x)) xs
+list_any-map p f [] = refl
+list_any-map p f (x ∷ xs) = ap (λ b. p (f x) || b) (list_any-map p f xs)
+
+abbrev pub is_close : List ℕ → Bool
+is_close word = bytes_eq word (codes "close")
+
+-- `close` is among the words of the Connection lines
+abbrev pub close_in : Lines → Bool
+close_in lines = list_any is_close (flat_map words_of (values_in (codes "connection") lines))
+
+close_named : (lines : Lines) (i : ℕ) (sent value : List ℕ) → slice_get lines i ≡ Some (sent, value)
+    → true ≡ bytes_eq (str_to_ascii_lowercase sent) (codes "connection")
+    → close_in (drop i lines) ≡ (list_any is_close (words_of value) || close_in (drop (i + 1) lines))
+close_named lines i sent value is same =
+    ap (λ vs. list_any is_close (flat_map words_of vs)) (values_yes (codes "connection") lines i sent value is same)
+    ∙ list_any-append is_close (words_of value) (flat_map words_of (values_in (codes "connection") (drop (i + 1) lines)))
+
+pub close_unnamed : (lines : Lines) (i : ℕ) (sent value : List ℕ) → slice_get lines i ≡ Some (sent, value)
+    → false ≡ bytes_eq (str_to_ascii_lowercase sent) (codes "connection")
+    → close_in (drop (i + 1) lines) ≡ close_in (drop i lines)
+close_unnamed lines i sent value is other =
+    ap (λ vs. list_any is_close (flat_map words_of vs)) (values_no (codes "connection") lines i sent value is other)
+
+pub close_other : (lines : Lines) (i : ℕ) (sent value : List ℕ) → slice_get lines i ≡ Some (sent, value)
+    → true ≡ bytes_eq (str_to_ascii_lowercase sent) (codes "connection") → false ≡ list_any is_close (words_of value)
+    → close_in (drop (i + 1) lines) ≡ close_in (drop i lines)
+close_other lines i sent value is same other =
+    sym (close_named lines i sent value is same ∙ ap (λ b. b || close_in (drop (i + 1) lines)) (sym other))
+
+pub close_found : (parts : HeadParts) (i : ℕ) (sent value : List ℕ)
+    → close_in (drop i parts.headers) ≡ close_in parts.headers → slice_get parts.headers i ≡ Some (sent, value)
+    → true ≡ bytes_eq (str_to_ascii_lowercase sent) (codes "connection") → true ≡ list_any is_close (words_of value)
+    → true ≡ closes parts
+unfolding closes values_of
+close_found parts i sent value rest is same word =
+    sym (or_right (eqb parts.minor 0) (close_in parts.headers)
+    (sym rest ∙ close_named parts.headers i sent value is same
+    ∙ ap (λ b. b || close_in (drop (i + 1) parts.headers)) (sym word)))
+
+pub close_old : (parts : HeadParts) → parts.minor ≡ 0 → true ≡ closes parts
+unfolding closes
+close_old parts old = sym (or_left (eqb parts.minor 0) _ (eq-eqb _ _ old))
+
+pub close_nowhere : (parts : HeadParts) (i : ℕ) → (parts.minor ≡ 0 → ⊥)
+    → close_in (drop i parts.headers) ≡ close_in parts.headers → length parts.headers ≤ i → false ≡ closes parts
+unfolding closes values_of
+close_nowhere parts i new rest past =
+    sym (or_from (eqb parts.minor 0) (close_in parts.headers) (ne_eqb _ _ new)
+    (sym rest ∙ ap close_in (drop_all i parts.headers past)))

@@ -1,0 +1,9 @@
+pub mod Text
+pub mod Scan
+pub mod Parts
+pub mod Framing
+pub mod Message
+pub use Rattle.httparse.specs.Grammar
+pub use Rattle.httparse.specs.Spans
+pub use Rattle.s3_terms.specs.Code
+pub use Rattle.s3_terms.specs.Fault

@@ -1,0 +1,16 @@
+-- A message at the front of the bytes of a connection (RFC 9112, sections 2.1, 2.2 and 6.2).
+use Rattle.std.specs.Prelude.{◌≡◌, ℕ, true, List, ◌++◌, length}
+use Rattle.s3_http_heads.specs.declared.find.Found.TheVariants.{Head}
+use Rattle.s3_http_heads.specs.Text.{skip_pairs, found_in}
+use Rattle.s3_http_heads.specs.Parts.{HeadParts, Says}
+use Rattle.s3_http_heads.specs.Framing.{is_count_once, length_lines, announced}
+
+-- after the skipped pairs stand a head text that says these parts, as many bytes of body as its
+-- Content-Length announces, and the rest
+pub record IsMessage (bytes : List ℕ) (parts : HeadParts) (body rest : List ℕ) : Type 0 where
+  pub text : List ℕ
+  pub found : found_in bytes ≡ Head (length text)
+  pub joined : skip_pairs bytes ≡ text ++ (body ++ rest)
+  pub says : Says text parts
+  pub counted : is_count_once (length_lines parts) ≡ true
+  pub whole : length body ≡ announced (length_lines parts)

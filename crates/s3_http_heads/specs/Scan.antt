@@ -1,0 +1,8 @@
+-- How the search for the end of a head text stands after each byte.
+use Rattle.std.specs.Prelude.{ℕ, ◌==◌, if◌then◌else◌}
+
+-- how many bytes of an empty line a text ends with, one byte on
+abbrev pub after_byte : ℕ → ℕ → ℕ
+after_byte matched byte =
+    if byte == 13 then (if matched == 2 then 3 else 1)
+    else (if byte == 10 then (if matched == 1 then 2 else (if matched == 3 then 4 else 0)) else 0)

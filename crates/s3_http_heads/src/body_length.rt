@@ -1,0 +1,103 @@
+//! How long the body of a message is, and what is wrong with that.
+ghost use Rattle.std.specs.Prelude.{◌≡◌, ◌≤◌, ◌==◌, nat_lt, if◌then◌else◌, Some, None, IfOk, List, ℕ, length, codes};
+ghost use Rattle.std.specs.List.{after_first};
+ghost use Rattle.std.specs.Str.Parse.{digits_value};
+ghost use Rattle.s3_http_heads.specs.Message.{IsMessage};
+ghost use Rattle.s3_http_heads.specs.Parts.{HeadParts, is_sent};
+ghost use Rattle.s3_http_heads.specs.Framing.{is_count, is_count_once, announced, length_lines, names_key, needs_length, framing_of};
+
+use crate::Head;
+use crate::text::after_first;
+use s3_terms::Code;
+
+/// The length in bytes of the body that follows this head, where at most `limit` bytes are accepted; 0
+/// where no Content-Length was sent.
+///
+/// # Errors
+///
+/// The first of these: `NotImplemented` for a Transfer-Encoding; `InvalidRequest` where Content-Length
+/// was sent several times or is not 1 to 18 decimal digits; `MissingContentLength` for a PUT of an
+/// object's bytes that has none; `EntityTooLarge` where it is over the limit.
+pub fn framing(head: &Head, limit: u64) -> Result<u64, Code>
+    ensures value { result ≡ framing_of head.now limit }
+    ensures announced { IfOk result (λ n. n ≡ announced (length_lines head.now)) }
+    ensures within { IfOk result (λ n. n ≤ limit) }
+{
+    if is_encoded(head) {
+        return Err(Code::NotImplemented);
+    }
+    let Some(length) = announced_length(head) else {
+        return Err(Code::InvalidRequest);
+    };
+    if needs_length(head) && !head.is_sent(b"content-length") {
+        return Err(Code::MissingContentLength);
+    }
+    if limit < length {
+        return Err(Code::EntityTooLarge);
+    }
+    Ok(length)
+}
+
+/// The number that a text of 1 to 18 decimal digits writes; `None` for any other text, a sign or a
+/// space among its bytes included.
+pub fn count_of(text: &[u8]) -> Option<u64>
+    ensures { result ≡ (if is_count text.now then Some (digits_value 10 text.now) else None) }
+{
+    if text.is_empty() || text.len() > 18 {
+        return None;
+    }
+    let mut value = 0;
+    for byte in text {
+        if !byte.is_ascii_digit() {
+            return None;
+        }
+        value = value * 10 + u64::from(*byte - b'0');
+    }
+    Some(value)
+}
+
+// Whether the body is sent under an encoding, so that its end is not told by a count.
+fn is_encoded(head: &Head) -> bool
+    ensures { result ≡ is_sent (codes "transfer-encoding") head.now }
+{
+    head.is_sent(b"transfer-encoding")
+}
+
+// What Content-Length says: 0 where it was not sent, nothing where it is no single count.
+fn announced_length(head: &Head) -> Option<u64>
+    ensures { result ≡ (if is_count_once (length_lines head.now) then Some (announced (length_lines head.now)) else None) }
+{
+    if head.count(b"content-length") > 1 {
+        return None;
+    }
+    match head.first(b"content-length") {
+        Some(value) => count_of(value),
+        None => Some(0),
+    }
+}
+
+// Whether the head begins a put of an object's bytes, which has to say how many there are.
+fn needs_length(head: &Head) -> bool
+    ensures { result ≡ needs_length head.now }
+{
+    head.method() == b"PUT".as_slice()
+        && names_key(head.path())
+        && !head.is_sent(b"x-amz-copy-source")
+}
+
+// Whether a byte follows the second slash of the path.
+fn names_key(path: &[u8]) -> bool
+    ensures { result ≡ nat_lt 0 (length (after_first (λ b. b == 47) (after_first (λ b. b == 47) path.now))) }
+{
+    !after_first(after_first(path, b'/'), b'/').is_empty()
+}
+
+/// A law: the bytes of a connection have at most one message at their front.
+pub fn messages_are_cut_once()
+    ensures head { (bytes : List ℕ) (a b : HeadParts) (body other rest more : List ℕ)
+        → IsMessage bytes a body rest → IsMessage bytes b other more → a ≡ b }
+    ensures body { (bytes : List ℕ) (a b : HeadParts) (body other rest more : List ℕ)
+        → IsMessage bytes a body rest → IsMessage bytes b other more → body ≡ other }
+    ensures rest { (bytes : List ℕ) (a b : HeadParts) (body other rest more : List ℕ)
+        → IsMessage bytes a body rest → IsMessage bytes b other more → rest ≡ more }
+{}

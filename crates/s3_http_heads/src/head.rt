@@ -1,0 +1,213 @@
+//! What a head text says: a request line and header lines.
+ghost use Rattle.std.specs.Prelude.{◌≡◌, ◌≤◌, ◌<◌, ◌⊎◌, ◌↔◌, ℕ, List, length, map, All, IfOk, IfErr, MatchResult, Some, slice_get};
+ghost use Rattle.httparse.specs.Grammar.{RequestHead};
+ghost use Rattle.httparse.specs.Spans.{IsWithin, IsHeaderWithin, header_bytes, span_bytes};
+ghost use Rattle.s3_http_heads.specs.Parts.{HeadParts, IsHead, HasNoHead, Says, parts_of, values_of, first_value, is_sent, path_of, query_of, closes, asks_head_only};
+ghost use Rattle.std.specs.Option.{option_copied};
+
+use crate::text::{after_first, before_first, has_word, is_named};
+use httparse::Status;
+use httparse::spans::{EMPTY_HEADER_SPAN, HeaderSpan, RequestSpans, Span, parse_request};
+use s3_terms::Code;
+use std::alloc::{AllocError, Global};
+use std::marker::Model;
+
+/// The greatest number of header lines.
+pub const LINE_LIMIT: usize = 64;
+
+/// The head of a request: its method, target and version, and its header lines, each a name as it was
+/// sent and a value without the spaces and tabs around it.
+///
+/// It owns one copy of the head text.
+#[derive(Debug, Drop)]
+pub struct Head {
+    text: Vec<u8>,
+    method: Span,
+    target: Span,
+    minor: u8,
+    headers: Vec<HeaderSpan>,
+}
+
+impl Model for Head {
+    ghost use Rattle.std.specs.Prelude.{length, map, All};
+    ghost use Rattle.httparse.specs.Spans.{IsWithin, IsHeaderWithin, header_bytes, span_bytes};
+    ghost use Rattle.s3_http_heads.specs.Parts.{HeadParts};
+
+    ghost Value = { HeadParts };
+
+    ghost view = { λ h. record {
+      method = span_bytes h.text.items h.method;
+      target = span_bytes h.text.items h.target;
+      minor = h.minor;
+      headers = map (header_bytes h.text.items) h.headers.items;
+    } };
+
+    ghost invariant = { λ h. IsWithin (length h.text.items) h.method
+        × IsWithin (length h.text.items) h.target
+        × All (IsHeaderWithin (length h.text.items)) h.headers.items };
+}
+
+impl Head {
+    /// Reads a head text: all of `text` has to be one head (RFC 9112, sections 2 to 5) with at most 64
+    /// header lines. The cost is linear in the text, which is copied once.
+    ///
+    /// # Errors
+    ///
+    /// `MalformedHead` where it is not, `InternalError` where there is no memory for the copy.
+    pub fn read(alloc: Global, text: &[u8]) -> Result<Head, Code>
+        ensures says { IfOk result (λ head. Says text.now head) }
+        ensures found { (h : RequestHead) → IsHead text.now h
+            → MatchResult result (λ head. head ≡ parts_of h) (λ e. e ≡ Code.InternalError) }
+        ensures malformed { (result ≡ Err Code.MalformedHead) ↔ HasNoHead text.now }
+        ensures errors { IfErr result (λ e. (e ≡ Code.MalformedHead) ⊎ (e ≡ Code.InternalError)) }
+    {
+        let mut headers = [EMPTY_HEADER_SPAN; LINE_LIMIT];
+        match parse_request(text, &mut headers) {
+            Ok(Status::Complete(spans)) if spans.len == text.len() => {
+                match Head::copied(alloc, text, spans, &headers[..spans.headers]) {
+                    Ok(head) => Ok(head),
+                    Err(_) => Err(Code::InternalError),
+                }
+            }
+            _ => Err(Code::MalformedHead),
+        }
+    }
+
+    fn copied(
+        alloc: Global,
+        text: &[u8],
+        spans: RequestSpans,
+        headers: &[HeaderSpan],
+    ) -> Result<Head, AllocError>
+        requires method_within { IsWithin (length text.now) spans.method }
+        requires target_within { IsWithin (length text.now) spans.path }
+        requires headers_within { All (IsHeaderWithin (length text.now)) headers.now }
+        ensures method { IfOk result (λ head. head.method ≡ span_bytes text.now spans.method) }
+        ensures target { IfOk result (λ head. head.target ≡ span_bytes text.now spans.path) }
+        ensures minor { IfOk result (λ head. head.minor ≡ spans.version) }
+        ensures headers { IfOk result (λ head. head.headers ≡ map (header_bytes text.now) headers.now) }
+    {
+        let text = Vec::from_slice(alloc, text)?;
+        let headers = Vec::from_slice(alloc, headers)?;
+        Ok(Head {
+            text,
+            method: spans.method,
+            target: spans.path,
+            minor: spans.version,
+            headers,
+        })
+    }
+
+    /// The method, as it was sent.
+    pub fn method(&self) -> &[u8]
+        ensures { result.now ≡ self.now.method }
+    {
+        self.method.of(&self.text)
+    }
+
+    /// The target, as it was sent.
+    pub fn target(&self) -> &[u8]
+        ensures { result.now ≡ self.now.target }
+    {
+        self.target.of(&self.text)
+    }
+
+    /// The minor version: 1 for HTTP/1.1, 0 for HTTP/1.0.
+    pub fn minor(&self) -> u8
+        ensures { result ≡ self.now.minor }
+    {
+        self.minor
+    }
+
+    /// How many header lines there are.
+    pub fn header_count(&self) -> usize
+        ensures { result ≡ length self.now.headers }
+    {
+        self.headers.len()
+    }
+
+    /// The name, as it was sent, and the value of the header line at `index`, from 0.
+    pub fn header(&self, index: usize) -> (&[u8], &[u8])
+        requires { index < length self.now.headers }
+        ensures { slice_get self.now.headers index ≡ Some (result.0.now, result.1.now) }
+    {
+        let span = self.headers[index];
+        (span.name.of(&self.text), span.value.of(&self.text))
+    }
+
+    /// How many header lines have this name, which is given in lower case.
+    pub fn count(&self, name: &[u8]) -> usize
+        ensures { result ≡ length (values_of name.now self.now) }
+    {
+        let mut count = 0;
+        for index in 0..self.header_count() {
+            if is_named(self.header(index).0, name) {
+                count += 1;
+            }
+        }
+        count
+    }
+
+    /// The value of the first header line of this name, which is given in lower case.
+    pub fn first(&self, name: &[u8]) -> Option<&[u8]>
+        ensures { option_copied result ≡ first_value name.now self.now }
+    {
+        for line in 0..self.header_count() {
+            let (sent, value) = self.header(line);
+            if is_named(sent, name) {
+                return Some(value);
+            }
+        }
+        None
+    }
+
+    /// Whether a header line of this name was sent; the name is given in lower case.
+    pub fn is_sent(&self, name: &[u8]) -> bool
+        ensures { result ≡ is_sent name.now self.now }
+    {
+        self.first(name).is_some()
+    }
+
+    /// The target up to its first `?`.
+    pub fn path(&self) -> &[u8]
+        ensures { result.now ≡ path_of self.now.target }
+    {
+        before_first(self.target(), b'?')
+    }
+
+    /// What follows the first `?` of the target; empty where there is none.
+    pub fn query(&self) -> &[u8]
+        ensures { result.now ≡ query_of self.now.target }
+    {
+        after_first(self.target(), b'?')
+    }
+
+    /// Whether the connection ends with the reply to this head: it is one of HTTP/1.0, or `close` is
+    /// among the words of its Connection lines (RFC 9112, section 9.3).
+    pub fn closes(&self) -> bool
+        ensures { result ≡ closes self.now }
+    {
+        if self.minor() == 0 {
+            return true;
+        }
+        for index in 0..self.header_count() {
+            let (sent, value) = self.header(index);
+            if is_named(sent, b"connection") && has_word(value, b"close") {
+                return true;
+            }
+        }
+        false
+    }
+
+    /// Whether the method is `HEAD`, so that the reply has no body.
+    pub fn asks_head_only(&self) -> bool
+        ensures { result ≡ asks_head_only self.now }
+    {
+        self.method() == b"HEAD".as_slice()
+    }
+}
+
+/// A law: a text says one thing, so that what `Head::read` gives is fixed by the text.
+pub fn texts_say_one_thing()
+    ensures { (text : List ℕ) (a b : HeadParts) → Says text a → Says text b → a ≡ b }
+{}

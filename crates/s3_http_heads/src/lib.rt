@@ -1,0 +1,16 @@
+//! Heads of HTTP/1.1 messages: where a head text ends, what it says, and how long its body is.
+#![tactic(auto)]
+
+mod body_length;
+mod find;
+mod head;
+#[cfg(test)]
+mod tests;
+mod text;
+
+pub use body_length::{count_of, framing, messages_are_cut_once};
+pub use find::{
+    Found, HEAD_LIMIT, find_head, pairs_may_be_dropped, skipped, verdict_is_exact, verdicts_stay,
+};
+pub use head::{Head, LINE_LIMIT, texts_say_one_thing};
+pub use text::{after_first, before_first};
