@@ -1,0 +1,5 @@
+pub mod EncodingLemmas
+pub mod ListLemmas
+pub mod SortingLemmas
+pub mod ParameterLemmas
+pub mod HeaderLemmas
