@@ -1,0 +1,63 @@
+ghost use Rattle.std.specs.Prelude.{◌≡◌, ℕ, List, length, IfOk};
+
+use s3_terms::NoMemory;
+use std::alloc::Global;
+use std::marker::Model;
+
+/// The bytes of an object or of a part. Contracts see a body as the list of its bytes.
+#[derive(Drop)]
+pub struct Body {
+    bytes: Vec<u8>,
+}
+
+impl Model for Body {
+    ghost Value = { List ℕ };
+
+    ghost view = { λ body. body.bytes.items };
+}
+
+impl Body {
+    /// The body of these bytes, which are moved and not copied.
+    pub fn new(bytes: Vec<u8>) -> Body
+        ensures { result ≡ bytes.items }
+    {
+        Body { bytes }
+    }
+
+    /// How many bytes the body has.
+    pub fn size(&self) -> u64
+        ensures { result ≡ length self.now }
+    {
+        self.bytes.len() as u64
+    }
+
+    /// The bytes.
+    pub fn as_slice(&self) -> &[u8]
+        ensures { result.now ≡ self.now }
+    {
+        self.bytes.as_slice()
+    }
+
+    /// A body with the same bytes, at the cost of copying each of them.
+    pub fn copy(&self, alloc: Global) -> Result<Body, NoMemory>
+        ensures { IfOk result (λ copy. copy ≡ self.now) }
+    {
+        let bytes = Vec::from_slice(alloc, self.as_slice())?;
+        Ok(Body { bytes })
+    }
+}
+
+#[cfg(test)]
+mod tests {
+    use super::Body;
+    use std::test::Fail;
+
+    #[test]
+    fn a_body_is_its_bytes(rt: HostRuntime) -> Result<(), Fail> {
+        let body = Body::new(b"hello".to_vec(rt.alloc())?);
+        let copy = body.copy(rt.alloc())?;
+        assert_eq!(rt; copy.size(), 5);
+        assert_eq!(rt; copy.as_slice(), b"hello".as_slice());
+        Ok(())
+    }
+}
