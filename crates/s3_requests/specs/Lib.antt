@@ -1,0 +1,5 @@
+pub mod Routing
+pub use Rattle.s3_http_heads.specs.Parts
+pub use Rattle.s3_terms.specs.Code
+pub use Rattle.s3_terms.specs.Fault
+pub use Rattle.s3_terms.specs.Names

@@ -1,0 +1,18 @@
+use s3_segments::Payload;
+use s3_terms::{BucketName, Key};
+
+/// An operation with its arguments and the body that came with it: what takes a turn at the store.
+#[derive(Drop)]
+pub enum Command {
+    /// Store the payload under the key (Amazon S3 API Reference, PutObject).
+    PutObject {
+        bucket: BucketName,
+        key: Key,
+        payload: Payload,
+    },
+    /// Give what is stored under the key (Amazon S3 API Reference, GetObject).
+    GetObject {
+        bucket: BucketName,
+        key: Key,
+    },
+}

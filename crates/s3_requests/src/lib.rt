@@ -1,0 +1,10 @@
+//! What a verified message asks for: routing, and the command with the data that came.
+#![tactic(auto)]
+
+mod commands;
+mod plans;
+mod routing;
+
+pub use commands::Command;
+pub use plans::Plan;
+pub use routing::{command, route};
