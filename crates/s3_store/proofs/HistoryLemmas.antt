@@ -1,0 +1,16 @@
+-- Histories with one more entry at the end.
+use Rattle.std.proofs.Common.{◌≡◌, refl, subst, arith, ℕ, ◌+◌, suc, List, [], ◌∷◌, ◌++◌, length}
+use Rattle.s3_store.specs.Store.{State}
+use Rattle.s3_store.specs.History.{Entry, IsAnswer, Legal, after, after_entry}
+
+pub after-push : (s : State) (es : List Entry) (e : Entry) → after s (es ++ e ∷ []) ≡ after_entry (after s es) e
+after-push s [] e = refl
+after-push s (x ∷ es) e = after-push (after_entry s x) es e
+
+pub Legal-push : (s : State) (n : ℕ) (es : List Entry) (e : Entry) → Legal s n es → IsAnswer (after s es) (n + length es) e → Legal s n (es ++ e ∷ [])
+Legal-push s n [] e legal answer =
+    let same : n + 0 ≡ n = omega arith in
+    (subst (λ m. IsAnswer s m e) same answer, tt)
+Legal-push s n (x ∷ es) e legal answer =
+    let same : n + suc (length es) ≡ suc n + length es = omega arith in
+    (legal.0, Legal-push (after_entry s x) (suc n) es e legal.1 (subst (λ m. IsAnswer (after (after_entry s x) es) m e) same answer))

@@ -1,0 +1,4 @@
+pub mod HistoryLemmas
+pub mod MapLemmas
+pub mod OpeningLemmas
+pub mod StepLemmas

@@ -1,0 +1,30 @@
+-- Histories of the store: which answers are right, given all that was answered before.
+use Rattle.std.specs.Prelude.{◌≡◌, ℕ, suc, List, [], ◌∷◌}
+use Rattle.s3_requests.specs.declared.commands.Command.{Command}
+use Rattle.s3_store.specs.declared.answer.Answer.{Answer}
+use Rattle.s3_store.specs.Store.{State, step}
+
+-- a command that took its turn, its moment, and the answer that it was given
+pub record Entry : Type 0 where
+  pub command : Command
+  pub moment : ℕ
+  pub answer : Answer
+
+-- the entry has the answer that the step from this state gives, under this number
+abbrev pub IsAnswer : State → ℕ → Entry → Type 0
+IsAnswer s n e = e.answer ≡ record { number = n; outcome = (step s e.moment e.command).1 }
+
+-- the state after an entry
+abbrev pub after_entry : State → Entry → State
+after_entry s e = (step s e.moment e.command).0
+
+-- entries that begin at a state and a number: each has the answer of the state that the entries
+-- before it leave, and the numbers count up by one
+abbrev pub Legal : State → ℕ → List Entry → Type 0
+Legal s n [] = Unit {0}
+Legal s n (e ∷ es) = IsAnswer s n e × Legal (after_entry s e) (suc n) es
+
+-- the state that the entries leave
+abbrev pub after : State → List Entry → State
+after s [] = s
+after s (e ∷ es) = after (after_entry s e) es

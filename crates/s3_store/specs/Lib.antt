@@ -1,0 +1,5 @@
+pub mod Store
+pub mod Codes
+pub mod History
+pub use Rattle.s3_segments.specs.Payload
+pub use Rattle.s3_terms.specs.Code

@@ -1,0 +1,15 @@
+//! The store: one state of buckets and objects, and one step for each command, all or nothing.
+#![tactic(auto)]
+
+mod answer;
+mod history;
+mod object;
+mod objects;
+mod store;
+#[cfg(test)]
+mod tests;
+
+pub use answer::{Answer, Outcome};
+pub use history::one_more_entry;
+pub use object::Object;
+pub use store::Store;

@@ -1,0 +1,139 @@
+ghost use Rattle.std.specs.Prelude.{◌≡◌, ℕ, IfOk, OnOk, OnErr};
+ghost use Rattle.std.specs.FinMap as map;
+
+use crate::objects::Objects;
+use crate::{Answer, Object, Outcome};
+use s3_requests::Command;
+use s3_segments::Payload;
+use s3_terms::{BucketName, Code, Key, Moment, NoMemory};
+use std::alloc::Global;
+use std::collections::BTreeMap;
+use std::marker::Model;
+
+/// The buckets with their objects. Contracts see a store as its state: a finite map from the names of
+/// the buckets to finite maps from keys to objects.
+#[derive(Drop)]
+pub struct Store {
+    by_name: BTreeMap<BucketName, Objects>,
+}
+
+impl Model for Store {
+    ghost use Rattle.std.specs.FinMap as map;
+    ghost use Rattle.s3_store.specs.Store.{State};
+    ghost use Rattle.s3_store.specs.Codes.{coded_state};
+
+    ghost Value = { State };
+
+    ghost coded = { coded_state };
+
+    ghost view = { λ store. map.from_entries store.by_name.entries };
+}
+
+impl Store {
+    ghost use Rattle.s3_store.specs.Store.{opening, step};
+
+    /// The store with these buckets, which are unversioned and have nothing in them. A name that stands
+    /// twice is one bucket. The names are copied.
+    pub fn open(alloc: Global, buckets: &[BucketName]) -> Result<Store, NoMemory>
+        ensures { IfOk result (λ store. store ≡ opening buckets.now) }
+    {
+        let mut store = Store {
+            by_name: BTreeMap::new(alloc),
+        };
+        for name in buckets {
+            store.add_bucket(alloc, name)?;
+        }
+        Ok(store)
+    }
+
+    /// Takes one step: does what the command asks for at this moment, and answers it under this number,
+    /// the count of the commands answered before. A put moves the bytes into the store and does not copy
+    /// them; a get copies the object, at a cost that is linear in its bytes. To find a bucket and a key
+    /// costs the logarithm of how many there are.
+    ///
+    /// `NoMemory` leaves the store as it was, and nothing is answered.
+    pub fn apply(
+        &mut self,
+        alloc: Global,
+        command: Command,
+        moment: Moment,
+        number: u64,
+    ) -> Result<Answer, NoMemory>
+        ensures state { OnOk result (self.new ≡ (step self.old moment command).0) }
+        ensures answer { IfOk result (λ answer.
+            answer ≡ record { number = number; outcome = (step self.old moment command).1 }) }
+        ensures err { OnErr result (self.new ≡ self.old) }
+    {
+        match command {
+            Command::PutObject {
+                bucket,
+                key,
+                payload,
+            } => match self.put(&bucket, key, payload, moment) {
+                Ok(outcome) => Ok(Answer { number, outcome }),
+                Err(e) => Err(e),
+            },
+            Command::GetObject { bucket, key } => match self.get(alloc, &bucket, &key) {
+                Ok(outcome) => Ok(Answer { number, outcome }),
+                Err(e) => Err(e),
+            },
+        }
+    }
+
+    /// Puts in a bucket with nothing in it, in the place of the one that has this name.
+    fn add_bucket(&mut self, alloc: Global, name: &BucketName) -> Result<(), NoMemory>
+        ensures { OnOk result (self.new ≡ map.insert self.old name.now map.empty) }
+    {
+        let name = name.copy()?;
+        self.by_name.insert(name, Objects::new(alloc))?;
+        Ok(())
+    }
+
+    /// PutObject.
+    fn put(
+        &mut self,
+        bucket: &BucketName,
+        key: Key,
+        payload: Payload,
+        moment: Moment,
+    ) -> Result<Outcome, NoMemory>
+        ensures state { OnOk result (
+            self.new ≡ (step self.old moment (Command.PutObject bucket.now key payload)).0) }
+        ensures outcome { IfOk result (λ outcome.
+            outcome ≡ (step self.old moment (Command.PutObject bucket.now key payload)).1) }
+        ensures err { OnErr result (self.new ≡ self.old) }
+    {
+        let tag = payload.tag();
+        let object = Object::of_payload(payload, moment);
+        match self.by_name.get_mut(bucket) {
+            None => Ok(Outcome::Refused {
+                code: Code::NoSuchBucket,
+            }),
+            Some(objects) => match objects.put(key, object) {
+                Ok(()) => Ok(Outcome::Put { tag }),
+                Err(e) => Err(e),
+            },
+        }
+    }
+
+    /// GetObject, which leaves the store as it was, at any moment.
+    fn get(&self, alloc: Global, bucket: &BucketName, key: &Key) -> Result<Outcome, NoMemory>
+        ensures { (t : ℕ) → IfOk result (λ outcome.
+            outcome ≡ (step self.now t (Command.GetObject bucket.now key.now)).1) }
+    {
+        match self.by_name.get(bucket) {
+            None => Ok(Outcome::Refused {
+                code: Code::NoSuchBucket,
+            }),
+            Some(objects) => match objects.get(key) {
+                None => Ok(Outcome::Refused {
+                    code: Code::NoSuchKey,
+                }),
+                Some(object) => match object.copy(alloc) {
+                    Ok(object) => Ok(Outcome::Got { object }),
+                    Err(e) => Err(e),
+                },
+            },
+        }
+    }
+}
