@@ -1,0 +1,2 @@
+pub mod ReplyLemmas
+pub mod UniqueLemmas

@@ -1,0 +1,13 @@
+use s3_terms::Moment;
+
+/// What a reply takes from the message that it answers.
+#[derive(Clone, Copy, Debug, PartialEq, Eq)]
+pub struct Context {
+    /// The moment of the message, which dates the reply.
+    pub moment: Moment,
+    /// The message is a HEAD, so that the reply has no body. A head that could not be read counts
+    /// as none.
+    pub head_only: bool,
+    /// The connection ends with this reply.
+    pub closes: bool,
+}
