@@ -1,0 +1,46 @@
+-- A list cut at an element, as the parts that `slice_split` gives.
+use Rattle.std.proofs.Common.{◌≡◌, ℕ, ◌+◌, ◌<◌, ◌≤◌, ◌≢◌, Bool, true, false, List, [], ◌∷◌, length, take, drop, refl, arith, cond, nat_lt, Option, Some, None, MatchOption, position}
+use Rattle.std.specs.List.{slice_split, before_first, position_or_len}
+use Rattle.std.proofs.lemmas.List.Splits.{slice_split_none, slice_split_first}
+use Rattle.std.proofs.lemmas.List.Sums.{fails_before_first}
+use Rattle.std.proofs.lemmas.List.Elements.{All-from_get_or}
+use Rattle.std.proofs.lemmas.List.{take_all}
+use Rattle.std.proofs.lemmas.Bool.Decides.{nat_tests}
+use Rattle.s3_signing.specs.Authorization.{three_parts}
+
+-- what a place says of the parts, and of what comes before it
+pub record Uncut (p : ℕ → Bool) (xs : List ℕ) : Type 0 where
+  pub parts : slice_split p xs ≡ xs ∷ []
+  pub before : before_first p xs ≡ xs
+
+pub record Cut (p : ℕ → Bool) (xs : List ℕ) (at : ℕ) : Type 0 where
+  pub within : at < length xs
+  pub parts : slice_split p xs ≡ take at xs ∷ slice_split p (drop (at + 1) xs)
+  pub before : before_first p xs ≡ take at xs
+
+abbrev pub CutsAt : (ℕ → Bool) → List ℕ → Option ℕ → Type 0
+CutsAt p xs place = MatchOption place (Uncut p xs) (Cut p xs)
+
+uncut : (p : ℕ → Bool) (xs : List ℕ) → length xs ≤ position_or_len p xs → Uncut p xs
+uncut p xs far = record {
+  parts = slice_split_none p xs (All-from_get_or (λ x. p x ≡ false) xs 0 (λ k within. fails_before_first p xs k 0 (omega arith)));
+  before = take_all (position_or_len p xs) xs far;
+}
+
+cuts : (p : ℕ → Bool) (xs : List ℕ) (b : Bool) → nat_lt (position_or_len p xs) (length xs) ≡ b → CutsAt p xs (cond b (Some (position_or_len p xs)) None)
+cuts p xs true h =
+    let inside : position_or_len p xs < length xs = grind (arith, nat_tests) in
+    record { within = inside; parts = slice_split_first p xs 0 inside; before = refl }
+cuts p xs false h = uncut p xs (grind (arith, nat_tests))
+
+-- the first place of a byte is where the first part ends
+pub CutsAt-position : (p : ℕ → Bool) (xs : List ℕ) → CutsAt p xs (position p xs)
+CutsAt-position p xs = cuts p xs (nat_lt (position_or_len p xs) (length xs)) refl
+
+-- another count of parts says nothing
+pub not_three : (parts : List (List ℕ)) → length parts ≢ 3 → three_parts parts ≡ None
+not_three [] other = refl
+not_three (a ∷ []) other = refl
+not_three (a ∷ b ∷ []) other = refl
+not_three (a ∷ b ∷ c ∷ []) other = absurd (other refl)
+not_three (a ∷ b ∷ c ∷ d ∷ rest) other = refl

@@ -1,0 +1,86 @@
+-- The value of the Authorization header (AWS Signature Version 4, "Using the Authorization header").
+use Rattle.std.specs.Prelude.{ℕ, Bool, true, not, ◌&&◌, ◌==◌, nat_eq, nat_lt, if◌then◌else◌, List, [], ◌∷◌, length, drop, codes, Option, Some, None, option_and_then}
+use Rattle.std.specs.List.{list_all, list_any, slice_split, starts_with}
+use Rattle.std.specs.Char.{is_ascii_uppercase}
+use Rattle.std.specs.Str.{bytes_eq}
+use Rattle.std.specs.Ordering.{nat_cmp, is_lt}
+use Rattle.std.specs.Cmp.Lexicographic.{slice_cmp}
+use Rattle.httparse.specs.Grammar.{is_token}
+use Rattle.s3_terms.specs.Names.{is_lower_hex}
+use Rattle.s3_canonical.specs.Request.{signed_names}
+
+-- the parts of an authorization; the signed names are as they were sent, joined by semicolons
+pub record Parts : Type 0 where
+  pub id : List ℕ
+  pub date : List ℕ
+  pub region : List ℕ
+  pub service : List ℕ
+  pub signed : List ℕ
+  pub signature : List ℕ
+
+-- the text behind a beginning that it has to have
+abbrev pub behind : List ℕ → List ℕ → Option (List ℕ)
+behind front text = if starts_with nat_eq text front then Some (drop (length front) text) else None
+
+-- the text without the spaces that it begins with
+abbrev pub skip_spaces : List ℕ → List ℕ
+skip_spaces [] = []
+skip_spaces (b ∷ rest) = if b == 32 then skip_spaces rest else b ∷ rest
+
+-- the scheme's name and at least one space
+abbrev pub scheme : List ℕ
+scheme = codes "AWS4-HMAC-SHA256 "
+
+-- the name of a signed header: a token of RFC 9110, section 5.6.2, without capital letters
+abbrev pub is_signed_name : List ℕ → Bool
+is_signed_name name = is_token name && not (list_any is_ascii_uppercase name)
+
+-- each name comes before the next one, byte by byte
+abbrev pub rises : List (List ℕ) → Bool
+rises [] = true
+rises (x ∷ []) = true
+rises (x ∷ y ∷ rest) = is_lt (slice_cmp nat_cmp x y) && rises (y ∷ rest)
+
+abbrev pub are_signed_names : List ℕ → Bool
+are_signed_names signed = list_all is_signed_name (signed_names signed) && rises (signed_names signed)
+
+-- 64 lower-case hexadecimal digits
+abbrev pub is_hex_digest : List ℕ → Bool
+is_hex_digest text = length text == 64 && list_all is_lower_hex text
+
+-- the parts hold what the form asks for
+abbrev pub are_parts : Parts → Bool
+are_parts p = nat_lt 0 (length p.id) && are_signed_names p.signed && is_hex_digest p.signature
+
+abbrev pub checked : Parts → Option Parts
+checked p = if are_parts p then Some p else None
+
+-- `id/date/region/service/aws4_request`
+abbrev pub with_scope : List ℕ → List ℕ → List (List ℕ) → Option Parts
+with_scope signed signature (id ∷ date ∷ region ∷ service ∷ last ∷ []) =
+    if bytes_eq last (codes "aws4_request")
+    then checked (record { id = id; date = date; region = region; service = service; signed = signed; signature = signature })
+    else None
+with_scope signed signature other = None
+
+-- what stands between the commas: spaces may follow the scheme and each comma
+abbrev pub scope_at : List ℕ → Option (List ℕ)
+scope_at text = option_and_then (λ rest. behind (codes "Credential=") (skip_spaces rest)) (behind scheme text)
+
+abbrev pub signed_at : List ℕ → Option (List ℕ)
+signed_at text = behind (codes "SignedHeaders=") (skip_spaces text)
+
+abbrev pub signature_at : List ℕ → Option (List ℕ)
+signature_at text = behind (codes "Signature=") (skip_spaces text)
+
+abbrev pub three_parts : List (List ℕ) → Option Parts
+three_parts (first ∷ second ∷ third ∷ []) =
+    option_and_then (λ scope.
+    option_and_then (λ signed.
+    option_and_then (λ signature. with_scope signed signature (slice_split (λ b. b == 47) scope))
+    (signature_at third)) (signed_at second)) (scope_at first)
+three_parts other = None
+
+-- the parts that a value of the form has
+unfoldable pub authorization_of : List ℕ → Option Parts
+authorization_of text = three_parts (slice_split (λ b. b == 44) text)

@@ -1,0 +1,270 @@
+//! The value of the Authorization header, cut into its parts.
+
+ghost use Rattle.std.specs.Prelude.{◌≡◌, ◌≢◌, ◌==◌, ◌<◌, [], ◌∷◌, length, MatchOption, if◌then◌else◌};
+ghost use Rattle.std.specs.List.{slice_split, list_all, list_any};
+ghost use Rattle.std.specs.Option.{ok_or, option_copied};
+ghost use Rattle.std.specs.Char.{is_ascii_uppercase};
+ghost use Rattle.std.specs.Ordering.{nat_cmp, is_lt};
+ghost use Rattle.std.specs.Cmp.Lexicographic.{slice_cmp};
+ghost use Rattle.s3_terms.specs.Names.{is_lower_hex};
+ghost use Rattle.s3_signing.specs.Authorization.{authorization_of, behind, skip_spaces, are_signed_names, is_signed_name, is_hex_digest, with_scope, scope_at, signed_at, signature_at, three_parts};
+
+use crate::cut::cut_once;
+use httparse::is_token;
+use s3_terms::Code;
+use std::cmp::Ordering;
+use std::marker::Model;
+
+// The name of the scheme, and the space that has to follow it.
+const SCHEME: &[u8] = b"AWS4-HMAC-SHA256 ";
+
+/// The parts of the value of an Authorization header: what the signer says of the credential, the
+/// names of the headers that it signed, and the signature (AWS Signature Version 4, "Using the
+/// Authorization header").
+///
+/// It borrows from that value and takes no memory.
+#[derive(Debug, Drop)]
+pub struct Authorization<'a> {
+    id: &'a [u8],
+    date: &'a [u8],
+    region: &'a [u8],
+    service: &'a [u8],
+    signed: &'a [u8],
+    signature: [u8; 64],
+}
+
+impl<'a> Model for Authorization<'a> {
+    ghost use Rattle.s3_signing.specs.Authorization.{Parts};
+
+    ghost Value = { Parts };
+
+    ghost view = { λ a. record {
+      id = a.id.now;
+      date = a.date.now;
+      region = a.region.now;
+      service = a.service.now;
+      signed = a.signed.now;
+      signature = a.signature;
+    } };
+}
+
+impl<'a> Authorization<'a> {
+    /// Reads the value of an Authorization header: `AWS4-HMAC-SHA256`, one or more spaces,
+    /// `Credential=id/date/region/service/aws4_request`, a comma, `SignedHeaders=` and the names, a
+    /// comma, and `Signature=` with its 64 lower-case hexadecimal digits. Spaces may follow a comma.
+    /// The names are tokens without capital letters, joined by `;`, and each comes after the one
+    /// before it, byte by byte. Takes time by the length of `text`.
+    ///
+    /// # Errors
+    ///
+    /// `AuthorizationHeaderMalformed` where `text` has another form.
+    pub fn read(text: &'a [u8]) -> Result<Authorization<'a>, Code>
+        ensures { result ≡ ok_or (authorization_of text.now) Code.AuthorizationHeaderMalformed }
+    {
+        read_parts(text).ok_or(Code::AuthorizationHeaderMalformed)
+    }
+
+    /// The access key's id.
+    pub fn id(&self) -> &'a [u8]
+        ensures { result.now ≡ self.now.id }
+    {
+        self.id
+    }
+
+    /// The date of the scope, as `20130524`.
+    pub fn date(&self) -> &'a [u8]
+        ensures { result.now ≡ self.now.date }
+    {
+        self.date
+    }
+
+    /// The region of the scope.
+    pub fn region(&self) -> &'a [u8]
+        ensures { result.now ≡ self.now.region }
+    {
+        self.region
+    }
+
+    /// The service of the scope.
+    pub fn service(&self) -> &'a [u8]
+        ensures { result.now ≡ self.now.service }
+    {
+        self.service
+    }
+
+    /// The names of the signed headers, joined by `;`.
+    pub fn signed(&self) -> &'a [u8]
+        ensures { result.now ≡ self.now.signed }
+    {
+        self.signed
+    }
+
+    /// The signature: 64 lower-case hexadecimal digits.
+    pub fn signature(&self) -> [u8; 64]
+        ensures { result ≡ self.now.signature }
+    {
+        self.signature
+    }
+}
+
+// What follows the front that the text has to have.
+fn behind<'a>(front: &[u8], text: &'a [u8]) -> Option<&'a [u8]>
+    ensures { option_copied result ≡ behind front.now text.now }
+{
+    text.strip_prefix(front)
+}
+
+// The text without the spaces that it begins with.
+fn skip_spaces(text: &[u8]) -> &[u8]
+    ensures { result.now ≡ skip_spaces text.now }
+{
+    let mut rest = text;
+    while let [b' ', behind @ ..] = rest {
+        rest = behind;
+    }
+    rest
+}
+
+// Whether a capital letter stands in the name.
+fn has_capital(name: &[u8]) -> bool
+    ensures { result ≡ list_any is_ascii_uppercase name.now }
+{
+    name.iter().any(|b| b.is_ascii_uppercase())
+}
+
+// Whether a name may stand among the signed ones.
+fn is_signed_name(name: &[u8]) -> bool
+    ensures { result ≡ is_signed_name name.now }
+{
+    is_token(name) && !has_capital(name)
+}
+
+// Whether the first text comes before the second one, byte by byte.
+fn comes_before(first: &[u8], second: &[u8]) -> bool
+    ensures { result ≡ is_lt (slice_cmp nat_cmp first.now second.now) }
+{
+    matches!(first.cmp(&second), Ordering::Less)
+}
+
+// Whether the names, joined by semicolons, may stand as the signed ones.
+fn are_signed_names(signed: &[u8]) -> bool
+    ensures { result ≡ are_signed_names signed.now }
+{
+    let mut before: &[u8] = &[];
+    let mut rest = signed;
+    while let Some((name, behind)) = cut_once(rest, b';') {
+        if !is_signed_name(name) || !comes_before(before, name) {
+            return false;
+        }
+        before = name;
+        rest = behind;
+    }
+    is_signed_name(rest) && comes_before(before, rest)
+}
+
+// Whether all bytes are lower-case hexadecimal digits.
+fn are_lower_hex(text: &[u8]) -> bool
+    ensures { result ≡ list_all is_lower_hex text.now }
+{
+    text.iter().all(|b| matches!(*b, b'0'..=b'9' | b'a'..=b'f'))
+}
+
+// The text as a digest of 64 lower-case hexadecimal digits, if it is one.
+pub(crate) fn read_digest(text: &[u8]) -> Option<[u8; 64]>
+    ensures { result ≡ (if is_hex_digest text.now then Some text.now else None) }
+{
+    if text.len() != 64 || !are_lower_hex(text) {
+        return None;
+    }
+    text.try_into().ok()
+}
+
+// The three parts between the commas of the text, if it has just two.
+fn cut_in_three(text: &[u8]) -> Option<(&[u8], &[u8], &[u8])>
+    ensures { MatchOption result
+        (length (slice_split (λ b. b == 44) text.now) ≢ 3)
+        (λ p. slice_split (λ b. b == 44) text.now ≡ p.0.now ∷ p.1.now ∷ p.2.now ∷ []) }
+{
+    let (first, rest) = cut_once(text, b',')?;
+    let (second, third) = cut_once(rest, b',')?;
+    match cut_once(third, b',') {
+        Some(_) => None,
+        None => Some((first, second, third)),
+    }
+}
+
+// The five parts between the slashes of the text, if it has just four.
+fn cut_in_five(text: &[u8]) -> Option<(&[u8], &[u8], &[u8], &[u8], &[u8])>
+    ensures { MatchOption result
+        (length (slice_split (λ b. b == 47) text.now) ≢ 5)
+        (λ p. slice_split (λ b. b == 47) text.now
+        ≡ p.0.now ∷ p.1.now ∷ p.2.now ∷ p.3.now ∷ p.4.now ∷ []) }
+{
+    let (first, rest) = cut_once(text, b'/')?;
+    let (second, rest) = cut_once(rest, b'/')?;
+    let (third, rest) = cut_once(rest, b'/')?;
+    let (fourth, fifth) = cut_once(rest, b'/')?;
+    match cut_once(fifth, b'/') {
+        Some(_) => None,
+        None => Some((first, second, third, fourth, fifth)),
+    }
+}
+
+// The parts of an authorization with this credential, if they hold what the form asks for.
+fn with_scope<'a>(signed: &'a [u8], signature: &[u8], scope: &'a [u8]) -> Option<Authorization<'a>>
+    ensures { result ≡ with_scope signed.now signature.now (slice_split (λ b. b == 47) scope.now) }
+{
+    let (id, date, region, service, last) = cut_in_five(scope)?;
+    let signature = read_digest(signature)?;
+    if last != b"aws4_request".as_slice() || id.is_empty() || !are_signed_names(signed) {
+        return None;
+    }
+    Some(Authorization {
+        id,
+        date,
+        region,
+        service,
+        signed,
+        signature,
+    })
+}
+
+// The credential of the first part.
+fn scope_at(text: &[u8]) -> Option<&[u8]>
+    ensures { option_copied result ≡ scope_at text.now }
+{
+    behind(b"Credential=", skip_spaces(behind(SCHEME, text)?))
+}
+
+// The signed names of the second part.
+fn signed_at(text: &[u8]) -> Option<&[u8]>
+    ensures { option_copied result ≡ signed_at text.now }
+{
+    behind(b"SignedHeaders=", skip_spaces(text))
+}
+
+// The signature of the third part.
+fn signature_at(text: &[u8]) -> Option<&[u8]>
+    ensures { option_copied result ≡ signature_at text.now }
+{
+    behind(b"Signature=", skip_spaces(text))
+}
+
+// What the three parts say.
+fn from_parts<'a>(first: &'a [u8], second: &'a [u8], third: &[u8]) -> Option<Authorization<'a>>
+    ensures { result ≡ three_parts (first.now ∷ second.now ∷ third.now ∷ []) }
+{
+    let scope = scope_at(first)?;
+    let signed = signed_at(second)?;
+    let signature = signature_at(third)?;
+    with_scope(signed, signature, scope)
+}
+
+// The parts of a value of the form.
+#[tactic(auto, using(crate::proofs::CutLemmas::not_three), unfolding(crate::specs::Authorization::authorization_of))]
+fn read_parts(text: &[u8]) -> Option<Authorization<'_>>
+    ensures { result ≡ authorization_of text.now }
+{
+    let (first, second, third) = cut_in_three(text)?;
+    from_parts(first, second, third)
+}

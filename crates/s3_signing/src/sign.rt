@@ -1,0 +1,105 @@
+//! The authorization that a signer writes.
+
+ghost use Rattle.std.specs.Prelude.{◌≡◌, ◌++◌, ◌∷◌, false, codes, length, IfOk, IfErr};
+ghost use Rattle.s3_canonical.specs.Request.{canonical_request};
+ghost use Rattle.s3_canonical.specs.Target.{is_unreadable};
+ghost use Rattle.s3_terms.specs.Moment.{stamp_date};
+ghost use Rattle.s3_signing.specs.Signature.{scope_text, signature_of};
+ghost use Rattle.s3_signing.specs.Signing.{authorization_text, credential_text, signed_by};
+ghost use Rattle.s3_signing.specs.Verdict.{sent_word, word_lines};
+
+use crate::key::signing_key;
+use crate::names::signed_by;
+use crate::signature::signature;
+use s3_canonical::request_hash;
+use s3_http_heads::Head;
+use s3_terms::{NoMemory, Stamp};
+use std::alloc::{AllocError, Global};
+
+// `id/date/region/s3/aws4_request`.
+fn push_credential(
+    text: &mut Vec<u8>,
+    id: &[u8],
+    stamp: &Stamp,
+    region: &[u8],
+) -> Result<(), AllocError>
+    ensures { IfOk result (λ _. text.new.items ≡ text.old.items ++ credential_text id.now stamp.now region.now) }
+{
+    text.extend_from_slice(id)?;
+    text.push(b'/')?;
+    text.extend_from_slice(stamp.date())?;
+    text.push(b'/')?;
+    text.extend_from_slice(region)?;
+    text.extend_from_slice(b"/s3/aws4_request")?;
+    Ok(())
+}
+
+// The value with its three parts.
+fn authorization(
+    alloc: Global,
+    id: &[u8],
+    stamp: &Stamp,
+    region: &[u8],
+    signed: &[u8],
+    signature: &[u8; 64],
+) -> Result<Vec<u8>, AllocError>
+    ensures { IfOk result (λ text. text.items
+        ≡ codes "AWS4-HMAC-SHA256 Credential=" ++ credential_text id.now stamp.now region.now
+        ++ codes ", SignedHeaders=" ++ signed.now ++ codes ", Signature=" ++ signature.now) }
+{
+    let mut text = Vec::new(alloc);
+    text.extend_from_slice(b"AWS4-HMAC-SHA256 Credential=")?;
+    push_credential(&mut text, id, stamp, region)?;
+    text.extend_from_slice(b", SignedHeaders=")?;
+    text.extend_from_slice(signed)?;
+    text.extend_from_slice(b", Signature=")?;
+    text.extend_from_slice(signature.as_slice())?;
+    Ok(text)
+}
+
+// The signature of a head that covers these names.
+#[tactic(auto, unfolding(crate::specs::Signature::signature_of))]
+fn head_signature(
+    alloc: Global,
+    secret: &[u8],
+    region: &[u8],
+    head: &Head,
+    stamp: &Stamp,
+    signed: &[u8],
+) -> Result<[u8; 64], NoMemory>
+    requires { length (word_lines head.now) ≡ 1 }
+    ensures { IfOk result (λ digits. digits
+        ≡ signature_of secret.now stamp.now region.now head.now signed.now (sent_word head.now)) }
+{
+    let word = head.first(b"x-amz-content-sha256").unwrap();
+    let key = signing_key(secret, stamp.date(), region);
+    match request_hash(alloc, head, signed, word) {
+        Ok(hash) => Ok(signature(&key, stamp, region, &hash)),
+        Err(_) => Err(NoMemory),
+    }
+}
+
+/// The value of the Authorization header that signs a head (AWS Signature Version 4, "Add the
+/// signature to the request"): for the access key `id` with its `secret`, the `region`, and the
+/// `stamp` that the head's `x-amz-date` line has.
+///
+/// It signs every name that the head has but `authorization`, and writes one space after the scheme
+/// and after each comma. Takes memory and time as the canonical request does, and a sort of the names.
+#[tactic(auto, unfolding(crate::specs::Signing::authorization_text))]
+pub fn sign_head(
+    alloc: Global,
+    id: &[u8],
+    secret: &[u8],
+    region: &[u8],
+    head: &Head,
+    stamp: Stamp,
+) -> Result<Vec<u8>, NoMemory>
+    requires readable { is_unreadable head.now.target ≡ false }
+    requires word { length (word_lines head.now) ≡ 1 }
+    ensures { IfOk result (λ text. text.items
+        ≡ authorization_text id.now secret.now region.now head.now stamp) }
+{
+    let signed = signed_by(alloc, head)?;
+    let signature = head_signature(alloc, secret, region, head, &stamp, &signed)?;
+    Ok(authorization(alloc, id, &stamp, region, &signed, &signature)?)
+}
