@@ -1,0 +1,2 @@
+pub mod WordLemmas
+pub mod ReplayLemmas

@@ -1,0 +1,12 @@
+pub mod Message
+pub mod Output
+pub mod Replay
+pub mod Turn
+pub use Rattle.s3_http_heads.specs.Text
+pub use Rattle.s3_http_heads.specs.Parts
+pub use Rattle.s3_http_heads.specs.Framing
+pub use Rattle.s3_signing.specs.Verdict
+pub use Rattle.s3_requests.specs.Routing
+pub use Rattle.s3_store.specs.Store
+pub use Rattle.s3_store.specs.History
+pub use Rattle.s3_replies.specs.Replies

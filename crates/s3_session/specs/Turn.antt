@@ -1,0 +1,41 @@
+-- One message of a replay: what it leaves in the store, and what it writes.
+use Rattle.std.specs.Prelude.{◌≡◌, ℕ, ◌+◌, ◌⊎◌, Bool, true, List, [], ◌∷◌, ◌++◌, drop, length}
+use Rattle.s3_terms.specs.Settings.{Settings}
+use Rattle.s3_requests.specs.declared.commands.Command.{Command}
+use Rattle.s3_store.specs.Store.{State, step}
+use Rattle.s3_store.specs.declared.answer.Answer.{Answer}
+use Rattle.s3_replies.specs.declared.context.Context.{Context}
+use Rattle.s3_replies.specs.Replies.{Prints, internal_error}
+use Rattle.s3_session.specs.declared.verdict.Verdict.TheVariants as verdicts
+use Rattle.s3_session.specs.declared.turn.Turn.{Turn}
+use Rattle.s3_session.specs.declared.turn.Turn.TheVariants as turns
+use Rattle.s3_session.specs.Message.{Judges}
+use Rattle.s3_session.specs.Output.{BringsNone, EndsWith}
+
+-- the longer text is the shorter one and then what was added to it
+abbrev pub added : List ℕ → List ℕ → List ℕ
+added old new = drop (length old) new
+
+abbrev pub IsLonger : List ℕ → List ℕ → Type 0
+IsLonger old new = new ≡ old ++ added old new
+
+-- the answer that the store gives to a command under this number
+abbrev pub answer_of : State → ℕ → ℕ → Command → Answer
+answer_of s moment number command = record { number = number; outcome = (step s moment command).1 }
+
+-- the message is sound, and its command has taken one step of the store and been answered
+abbrev pub IsAnswered : Settings → ℕ → ℕ → List ℕ → State → State → Context → List ℕ → List ℕ → Type 0
+IsAnswered settings moment number bytes old new context rest text =
+    (command : Command)
+    × Judges settings moment true bytes (verdicts.Sound context command, rest)
+    × (new ≡ (step old moment command).0)
+    × Prints (answer_of old moment number command) context text
+
+-- what one turn did: it found no more commands, or memory ran out, or a command was answered
+abbrev pub Turned : Settings → ℕ → ℕ → List ℕ → State → State → Turn → List ℕ → Type 0
+Turned settings moment number bytes old new turns.Ended text =
+    (new ≡ old) × BringsNone settings moment true bytes × EndsWith settings moment true bytes text
+Turned settings moment number bytes old new turns.Died text =
+    (new ≡ old) × (text ≡ internal_error)
+Turned settings moment number bytes old new (turns.Answered context rest) text =
+    IsAnswered settings moment number bytes old new context rest.now text

@@ -1,0 +1,41 @@
+ghost use Rattle.std.specs.Prelude.{◌≡◌, IfOk, IfErr};
+ghost use Rattle.s3_terms.specs.Fault.{Follows};
+ghost use Rattle.s3_session.specs.Message as rules;
+
+use crate::Admission;
+use s3_http_heads::{Head, framing};
+use s3_requests::route;
+use s3_signing::{Verified, Word, verify_head};
+use s3_terms::{Code, Config, Moment};
+use std::alloc::Global;
+
+/// Judges a head that has been read: its framing, its signature, the word that stands for its body,
+/// and its routing, in this order (`docs/PROTOCOL.md`, "Refusals"). The refusal is the first fault;
+/// `InternalError` says that memory ran out.
+#[tactic(auto, unfolding(crate::specs::Message::admission_of))]
+pub fn admit(alloc: Global, config: &Config, head: &Head, moment: Moment) -> Result<Admission, Code>
+    ensures { Follows result (rules.admission_of config.now head.now moment) }
+{
+    let size = framing(head, config.body_limit())?;
+    let verified = verify_head(alloc, config, head, moment)?;
+    let word = hash_word(&verified)?;
+    let plan = route(alloc, head)?;
+    Ok(Admission { size, word, plan })
+}
+
+// The hash that stands for the body; the other payload modes are not there yet.
+fn hash_word(verified: &Verified) -> Result<[u8; 64], Code>
+    ensures { result ≡ rules.hash_word verified.now.word }
+{
+    match verified.word() {
+        Word::Hash(digits) => hash_of(digits),
+        Word::Unsigned | Word::Chunks => Err(Code::NotImplemented),
+    }
+}
+
+// The digits of a hash are neither of the other words.
+fn hash_of(digits: [u8; 64]) -> Result<[u8; 64], Code>
+    ensures { result ≡ rules.hash_word digits }
+{
+    Ok(digits)
+}

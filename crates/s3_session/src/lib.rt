@@ -1,0 +1,13 @@
+//! A connection: what its bytes ask for, and what it writes.
+#![tactic(auto)]
+
+mod admission;
+mod decision;
+mod replay;
+mod turn;
+mod verdict;
+
+pub use admission::admit;
+pub use decision::decide;
+pub use replay::replay_one;
+pub use verdict::{Admission, Verdict};

@@ -1,0 +1,63 @@
+ghost use Rattle.std.specs.Prelude.{◌≡◌, [], IfOk, OnOk};
+ghost use Rattle.s3_store.specs.Store.{opening};
+ghost use Rattle.s3_session.specs.Replay.{Replays};
+
+use crate::turn::{Turn, take_turn};
+use s3_replies::internal_error_reply;
+use s3_store::{Store, one_more_entry};
+use s3_terms::{Config, Moment, NoMemory};
+use std::alloc::Global;
+
+/// Replays one connection, whose bytes come in one piece and then end, over a store with the opening
+/// buckets: every message has this moment, and every command its turn at once. The result is all that
+/// the connection writes. `NoMemory` says that there was no memory for the output.
+pub fn replay_one(
+    alloc: Global,
+    config: &Config,
+    bytes: &[u8],
+    moment: Moment,
+) -> Result<Vec<u8>, NoMemory>
+    ensures { IfOk result (λ out. Replays config.now moment bytes.now out.items) }
+{
+    let mut store = Store::open(alloc, config.buckets())?;
+    let mut out = Vec::new(alloc);
+    take_turns(alloc, config, &mut store, bytes, moment, &mut out)?;
+    Ok(out)
+}
+
+// Takes turns until the bytes bring no more commands, a reply closes, or memory runs out.
+fn take_turns(
+    alloc: Global,
+    config: &Config,
+    store: &mut Store,
+    bytes: &[u8],
+    moment: Moment,
+    out: &mut Vec<u8>,
+) -> Result<(), NoMemory>
+    requires opening { store.old ≡ opening config.now.buckets }
+    requires nothing { out.old.items ≡ [] }
+    ensures { OnOk result (Replays config.now moment bytes.now out.new.items) }
+{
+    one_more_entry();
+    let mut rest = bytes;
+    for number in 0..u64::MAX {
+        let Ok(turn) = take_turn(alloc, config, store, number, rest, moment, out) else {
+            return Err(NoMemory);
+        };
+        match turn {
+            Turn::Ended => return Ok(()),
+            Turn::Died => return Ok(()),
+            Turn::Answered {
+                context,
+                rest: after,
+            } => {
+                if context.closes {
+                    return Ok(());
+                }
+                rest = after;
+            }
+        }
+    }
+    out.extend_from_slice(internal_error_reply())?;
+    Ok(())
+}

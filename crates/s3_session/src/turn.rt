@@ -1,0 +1,84 @@
+ghost use Rattle.std.specs.Prelude.{◌≡◌, ◌++◌, ◌⊎◌, IfOk, OnOk, vec_len};
+ghost use Rattle.s3_replies.specs.Replies.{Prints, body_of, internal_error};
+ghost use Rattle.s3_session.specs.Turn.{IsLonger, added, Turned};
+
+use crate::Verdict;
+use crate::decision::decide;
+use s3_replies::{Context, head_of, internal_error_reply, refusal};
+use s3_store::{Answer, Outcome, Store};
+use s3_terms::{Config, Moment, NoMemory};
+use std::alloc::Global;
+
+/// What came of one turn of a replay.
+#[derive(Clone, Copy, Debug)]
+pub(crate) enum Turn<'b> {
+    /// The bytes bring no more commands.
+    Ended,
+    /// Memory ran out, and the connection is dead.
+    Died,
+    /// A command was answered; these bytes come after its message.
+    Answered { context: Context, rest: &'b [u8] },
+}
+
+/// Takes the message at the front of the bytes, which are the last that come: decides about it, gives
+/// its command a turn at the store, and writes the reply or the refusal behind what is written.
+pub(crate) fn take_turn<'b>(
+    alloc: Global,
+    config: &Config,
+    store: &mut Store,
+    number: u64,
+    bytes: &'b [u8],
+    moment: Moment,
+    out: &mut Vec<u8>,
+) -> Result<Turn<'b>, NoMemory>
+    ensures longer { OnOk result (IsLonger out.old.items out.new.items) }
+    ensures turned { IfOk result (λ turn. Turned config.now moment number bytes.now store.old store.new turn
+        (added out.old.items out.new.items)) }
+{
+    let Ok((verdict, rest)) = decide(alloc, config, bytes, true, moment) else {
+        return die(out);
+    };
+    match verdict {
+        Verdict::Open => Ok(Turn::Ended),
+        Verdict::Refused { code, context } => {
+            out.extend_from_slice(refusal(code, &context).as_slice())?;
+            Ok(Turn::Ended)
+        }
+        Verdict::Sound { context, command } => match store.apply(alloc, command, moment, number) {
+            Ok(answer) => {
+                write_answer(out, &answer, &context)?;
+                Ok(Turn::Answered { context, rest })
+            }
+            Err(NoMemory) => die(out),
+        },
+    }
+}
+
+// Writes what stands for a reply where memory ran out.
+fn die<'b>(out: &mut Vec<u8>) -> Result<Turn<'b>, NoMemory>
+    ensures died { IfOk result (λ turn. turn ≡ Turn.Died) }
+    ensures written { OnOk result (out.new.items ≡ out.old.items ++ internal_error) }
+{
+    out.extend_from_slice(internal_error_reply())?;
+    Ok(Turn::Died)
+}
+
+// Writes the reply to an answer of the store.
+fn write_answer(out: &mut Vec<u8>, answer: &Answer, context: &Context) -> Result<(), NoMemory>
+    ensures longer { OnOk result (IsLonger out.old.items out.new.items) }
+    ensures printed { OnOk result (Prints answer.now context.now (added out.old.items out.new.items)) }
+{
+    out.extend_from_slice(head_of(answer, context).as_slice())?;
+    out.extend_from_slice(body_of(answer, context))?;
+    Ok(())
+}
+
+// The bytes of a reply that its head does not hold.
+fn body_of<'a>(answer: &'a Answer, context: &Context) -> &'a [u8]
+    ensures { result.now ≡ body_of answer.now context.now }
+{
+    match &answer.outcome {
+        Outcome::Got { object } if !context.head_only => object.body.as_slice(),
+        _ => &[],
+    }
+}
