@@ -1,0 +1,4 @@
+pub mod KeysLemmas
+pub mod NumberLemmas
+pub mod RunLemmas
+pub mod WordsLemmas

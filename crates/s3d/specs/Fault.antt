@@ -1,0 +1,22 @@
+-- What the program says when it ends with status 1: one line on the standard error.
+use Rattle.std.specs.Prelude.{◌≡◌, ◌⊎◌, ℕ, List, [], ◌∷◌, ◌++◌, codes}
+use Rattle.std.specs.Fmt.{decimal}
+use Rattle.s3d.specs.declared.fault.Fault.{Fault}
+use Rattle.s3d.specs.declared.fault.Fault.TheVariants.{CannotRead, BadKeysLine, BadSetting, InputFailed, OutputFailed, OutOfMemory}
+
+-- the text of a fault
+abbrev pub text_of : Fault → List ℕ
+text_of (CannotRead path) = codes "cannot read " ++ path.now
+text_of (BadKeysLine number) = codes "bad keys line " ++ decimal number
+text_of BadSetting = codes "bad setting"
+text_of InputFailed = codes "input failed"
+text_of OutputFailed = codes "output failed"
+text_of OutOfMemory = codes "out of memory"
+
+-- the line that tells it
+abbrev pub line_of : Fault → List ℕ
+line_of fault = codes "s3d: " ++ text_of fault ++ 10 ∷ []
+
+-- want of memory, or that fault where the fact holds
+abbrev pub MemoryOr : Fault → Type 0 → Fault → Type 0
+MemoryOr expected P fault = (fault ≡ OutOfMemory) ⊎ ((fault ≡ expected) × P)

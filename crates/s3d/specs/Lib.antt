@@ -1,0 +1,5 @@
+pub mod Fault
+pub mod Keys
+pub mod Run
+pub mod Settings
+pub mod Words

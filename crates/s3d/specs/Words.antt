@@ -1,0 +1,72 @@
+-- The command line of the program, as `clap` reads it: its `fault_of` says what is wrong with some
+-- words, and its `subcommand_of` what they give.
+use Rattle.std.specs.Prelude.{◌≡◌, true, List, [], ◌∷◌, codes, Some, option_map, unwrap_or}
+use Rattle.clap.specs.Words.{App, Row, Rule, Text, new_app, new_rule, with_rule, with_subcommand, subcommand_of, first_of, fault_of}
+use Rattle.s3d.specs.declared.words.Options.{Options}
+
+-- an option `--name VALUE`
+abbrev pub option_rule : Text → Rule
+option_rule name = record (new_rule name) { long = Some name; value_names = 1 }
+
+-- an option that has to be there
+abbrev pub required_rule : Text → Rule
+required_rule name = record (option_rule name) { required = true }
+
+-- an option that has a value also where it is not there
+abbrev pub default_rule : Text → Text → Rule
+default_rule name value = record (option_rule name) { defaults = value ∷ [] }
+
+-- the values of options that are not there
+abbrev pub default_region : Text
+default_region = codes "us-east-1"
+
+abbrev pub default_min_part : Text
+default_min_part = codes "5242880"
+
+abbrev pub default_body_limit : Text
+default_body_limit = codes "67108864"
+
+-- the options of `replay` on the settings
+abbrev pub with_settings : App → App
+with_settings a =
+    with_rule (with_rule (with_rule (with_rule (with_rule a
+    (required_rule (codes "keys")))
+    (default_rule (codes "region") default_region))
+    (default_rule (codes "min-part") default_min_part))
+    (default_rule (codes "body-limit") default_body_limit))
+    (option_rule (codes "bucket"))
+
+-- `s3d replay`
+abbrev pub replay_app : App
+replay_app = with_rule (with_settings (new_app (codes "replay"))) (option_rule (codes "moment"))
+
+-- `s3d` before it has a subcommand
+abbrev pub bare_app : App
+bare_app =
+    let top = (new_app (codes "s3d")).top in
+    record (new_app (codes "s3d")) { top = record top { subcommand_required = true; arg_required_else_help = true } }
+
+-- `s3d`
+abbrev pub s3d_app : App
+s3d_app = with_subcommand bare_app replay_app.top
+
+-- the words are right and ask for no help, and they name `replay`
+abbrev pub AreReplayWords : List Text → Type 0
+AreReplayWords words =
+    (fault_of s3d_app words ≡ []) × (option_map (λ p. p.0) (subcommand_of s3d_app words) ≡ Some (codes "replay"))
+
+-- the options are those of some matches
+pub record HasOptions (rows : List Row) (o : Options) : Type 0 where
+  pub keys : option_map (λ text. text.now) o.keys ≡ first_of (codes "keys") rows
+  pub region : o.region.now ≡ unwrap_or (first_of (codes "region") rows) default_region
+  pub min_part : o.min_part.now ≡ unwrap_or (first_of (codes "min-part") rows) default_min_part
+  pub body_limit : o.body_limit.now ≡ unwrap_or (first_of (codes "body-limit") rows) default_body_limit
+  pub bucket : option_map (λ text. text.now) o.bucket ≡ first_of (codes "bucket") rows
+  pub moment : option_map (λ text. text.now) o.moment ≡ first_of (codes "moment") rows
+
+-- the options are those that the words give
+pub record IsReadFrom (words : List Text) (o : Options) : Type 0 where
+  pub rows : List Row
+  pub right : AreReplayWords words
+  pub given : option_map (λ p. p.1) (subcommand_of s3d_app words) ≡ Some rows
+  pub options : HasOptions rows o

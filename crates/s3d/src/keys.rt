@@ -1,0 +1,83 @@
+ghost use Rattle.std.specs.Prelude.{◌≡◌, ◌<◌, ◌==◌, ◌∷◌, [], length, map, position, Ok, IfOk, IfErr, IfSome, MatchOption};
+ghost use Rattle.s3d.specs.Keys.{lines_of, key_of_line, has_id, new_key, credentials_of, line_of_key, IsKeysFault};
+
+use crate::fault::Fault;
+use s3_terms::Credential;
+use std::alloc::{AllocError, Global};
+
+/// The credentials that a keys file says, in its order, or its first bad line. A line is an id, one
+/// space, and as the secret all bytes up to LF, which the last line may lack. Compares each id with
+/// those before it.
+#[tactic(auto, using(crate::proofs::KeysLemmas::keys), unfolding(crate::specs::Keys::credentials_of))]
+pub fn read_keys<'a>(alloc: Global, text: &[u8]) -> Result<Vec<Credential>, Fault<'a>>
+    ensures value { IfOk result (λ keys. credentials_of text.now ≡ Ok keys.items) }
+    ensures spelled { IfOk result (λ keys. lines_of text.now ≡ map line_of_key keys.items) }
+    ensures refused { IfErr result (IsKeysFault (credentials_of text.now)) }
+{
+    let mut keys: Vec<Credential> = Vec::new(alloc);
+    let mut left = text;
+    while let Some((line, rest)) = next_line(left) {
+        match new_key(alloc, keys.as_slice(), line)? {
+            Some(key) => keys.push(key)?,
+            None => return Err(Fault::BadKeysLine(keys.len() + 1)),
+        }
+        left = rest;
+    }
+    Ok(keys)
+}
+
+/// The first line of a text without its end, and what follows it; `None` where there is no line.
+#[tactic(auto, using(crate::proofs::KeysLemmas::lines), unfolding(crate::specs::Keys::lines_of))]
+fn next_line(text: &[u8]) -> Option<(&[u8], &[u8])>
+    ensures value { MatchOption result (lines_of text.now ≡ []) (λ parts. lines_of text.now ≡ parts.0.now ∷ lines_of parts.1.now) }
+    ensures smaller { IfSome result (λ parts. length parts.1.now < length text.now) }
+{
+    if text.is_empty() {
+        return None;
+    }
+    match first_place(text, b'\n') {
+        Some(at) => Some((&text[..at], &text[at + 1..])),
+        None => Some((text, &text[text.len()..])),
+    }
+}
+
+/// The credential that a line says, unless one of `keys` has its id.
+#[tactic(auto, unfolding(crate::specs::Keys::new_key))]
+fn new_key(
+    alloc: Global,
+    keys: &[Credential],
+    line: &[u8],
+) -> Result<Option<Credential>, AllocError>
+    ensures { IfOk result (λ key. key ≡ new_key keys.now line.now) }
+{
+    match key_of_line(alloc, line)? {
+        Some(key) if !has_id(keys, key.id()) => Ok(Some(key)),
+        _ => Ok(None),
+    }
+}
+
+/// The credential that a line says.
+#[tactic(auto, unfolding(crate::specs::Keys::key_of_line))]
+fn key_of_line(alloc: Global, line: &[u8]) -> Result<Option<Credential>, AllocError>
+    ensures { IfOk result (λ key. key ≡ key_of_line line.now) }
+{
+    let Some(at) = first_place(line, b' ') else {
+        return Ok(None);
+    };
+    let id = Vec::from_slice(alloc, &line[..at])?;
+    let secret = Vec::from_slice(alloc, &line[at + 1..])?;
+    Ok(Credential::new(id, secret))
+}
+
+/// The first place of a byte.
+fn first_place(text: &[u8], byte: u8) -> Option<usize>
+    ensures { result ≡ position (λ b. b == byte) text.now }
+{
+    text.iter().position(|b| *b == byte)
+}
+
+fn has_id(keys: &[Credential], id: &[u8]) -> bool
+    ensures { result ≡ has_id keys.now id.now }
+{
+    keys.iter().any(|key| key.id() == id)
+}

@@ -1,0 +1,48 @@
+//! The program `s3d`, a server of the Amazon S3 REST API. `s3d replay` answers one connection that
+//! stands whole on the standard input. `run::run_words` does the work over any devices.
+#![tactic(auto)]
+
+mod fault;
+mod files;
+mod keys;
+mod run;
+mod settings;
+#[cfg(test)]
+mod tests;
+mod words;
+
+use files::Files;
+use run::run_words;
+use std::alloc::Global;
+use std::process::ExitCode;
+use std::{env, fs, io};
+
+/// The files of the system.
+#[derive(Clone, Copy)]
+struct SystemFiles<'a>(&'a HostRuntime);
+
+impl Files for SystemFiles<'_> {
+    fn read(&self, _alloc: Global, path: &str) -> io::Result<Vec<u8>> {
+        fs::read(self.0, path)
+    }
+}
+
+/// Arguments that cannot be read count as wrong ones.
+fn arguments(rt: &HostRuntime) -> io::Result<Vec<String>> {
+    let words = env::args(rt)?.collect(rt.alloc())?;
+    Ok(words)
+}
+
+fn main(rt: HostRuntime) -> ExitCode {
+    let alloc = rt.alloc();
+    let words = arguments(&rt).unwrap_or(Vec::new(alloc));
+    let status = run_words(
+        alloc,
+        words.as_slice(),
+        &SystemFiles(&rt),
+        &mut rt.stdin(),
+        &mut rt.stdout(),
+        &mut rt.stderr(),
+    );
+    ExitCode::from(status)
+}

@@ -1,0 +1,126 @@
+ghost use Rattle.std.specs.Prelude.{◌≡◌, true, false, IfOk, IfErr, OnOk, IsTrue, option_map, option_to_list};
+ghost use Rattle.std.specs.List.{list_all};
+ghost use Rattle.std.specs.Char.{is_ascii_digit};
+ghost use Rattle.s3_terms.specs.Settings.{are_settings};
+ghost use Rattle.s3d.specs.Fault.{MemoryOr};
+ghost use Rattle.s3d.specs.Settings.{is_number, number_of, option_moment, is_bucket_option, are_options, IsReplayOf, settings_of};
+
+use crate::fault::Fault;
+use crate::words::Options;
+use s3_terms::{BucketName, Code, Config, Credential, Moment};
+use std::alloc::{AllocError, Global};
+
+/// The most digits of a number.
+const DIGITS_MAX: usize = 12;
+
+/// A replay as its options ask for it.
+#[derive(Drop)]
+pub struct Replay<'a> {
+    /// The path of the keys file.
+    pub keys: &'a str,
+    /// The region that signatures name, which the settings judge.
+    pub region: &'a str,
+    /// The least size of a part that is not the last one, in bytes.
+    pub min_part: u64,
+    /// The greatest size of a body, in bytes, which the settings judge.
+    pub body_limit: u64,
+    /// The bucket that is there from the start.
+    pub bucket: Option<BucketName>,
+    /// The moment of every message.
+    pub moment: Moment,
+}
+
+impl<'a> Replay<'a> {
+    /// What the options ask for; `BadSetting` where one of them is out of its form.
+    #[tactic(auto, unfolding(crate::specs::Settings::are_options))]
+    pub fn read(alloc: Global, options: &Options<'a>) -> Result<Replay<'a>, Fault<'a>>
+        ensures value { IfOk result (IsReplayOf options.now) }
+        ensures refused { IfErr result (MemoryOr Fault.BadSetting (are_options options.now ≡ false)) }
+    {
+        let keys = options.keys.ok_or(Fault::BadSetting)?;
+        let min_part = number(options.min_part).ok_or(Fault::BadSetting)?;
+        let body_limit = number(options.body_limit).ok_or(Fault::BadSetting)?;
+        let moment = moment(options.moment).ok_or(Fault::BadSetting)?;
+        let bucket = bucket(alloc, options.bucket)?;
+        Ok(Replay {
+            keys,
+            region: options.region,
+            min_part,
+            body_limit,
+            bucket,
+            moment,
+        })
+    }
+
+    /// The settings that these options and keys make; `BadSetting` where no server accepts them.
+    pub fn into_config(self, alloc: Global, keys: Vec<Credential>) -> Result<Config, Fault<'a>>
+        ensures value { IfOk result (λ config. config ≡ settings_of self.entry keys.items) }
+        ensures valid { OnOk result (IsTrue (are_settings (settings_of self.entry keys.items))) }
+        ensures refused { IfErr result (MemoryOr Fault.BadSetting (are_settings (settings_of self.entry keys.items) ≡ false)) }
+    {
+        let region = Vec::from_slice(alloc, self.region.as_bytes())?;
+        let buckets = in_list(alloc, self.bucket)?;
+        Config::new(region, keys, self.min_part, self.body_limit, buckets).ok_or(Fault::BadSetting)
+    }
+}
+
+/// A list of the name that is there.
+fn in_list(alloc: Global, name: Option<BucketName>) -> Result<Vec<BucketName>, AllocError>
+    ensures { IfOk result (λ names. names.items ≡ option_to_list name) }
+{
+    match name {
+        Some(name) => {
+            let mut names = Vec::with_capacity(alloc, 1)?;
+            names.push(name)?;
+            Ok(names)
+        }
+        None => Ok(Vec::new(alloc)),
+    }
+}
+
+/// The number that an option says in 1 to 12 decimal digits.
+#[tactic(auto, using(crate::proofs::NumberLemmas::number_read), unfolding(crate::specs::Settings::number_of))]
+fn number(text: &str) -> Option<u64>
+    ensures { result ≡ number_of text.now }
+{
+    if !is_number(text.as_bytes()) {
+        return None;
+    }
+    text.parse().ok()
+}
+
+#[tactic(auto, unfolding(crate::specs::Settings::is_number))]
+fn is_number(text: &[u8]) -> bool
+    ensures { result ≡ is_number text.now }
+{
+    !text.is_empty() && text.len() <= DIGITS_MAX && has_digits_alone(text)
+}
+
+fn has_digits_alone(text: &[u8]) -> bool
+    ensures { result ≡ list_all is_ascii_digit text.now }
+{
+    text.iter().all(|byte| byte.is_ascii_digit())
+}
+
+/// The moment that an option says.
+fn moment(option: Option<&str>) -> Option<Moment>
+    ensures { result ≡ option_moment (option_map (λ text. text.now) option.entry) }
+{
+    Moment::new(number(option?)?)
+}
+
+/// The bucket that an option names, if it does.
+fn bucket<'a>(alloc: Global, option: Option<&str>) -> Result<Option<BucketName>, Fault<'a>>
+    ensures value { IfOk result (λ bucket. bucket ≡ option_map (λ name. name.now) option.entry) }
+    ensures valid { OnOk result (IsTrue (is_bucket_option (option_map (λ name. name.now) option.entry))) }
+    ensures refused { IfErr result (MemoryOr Fault.BadSetting (is_bucket_option (option_map (λ name. name.now) option.entry) ≡ false)) }
+{
+    let Some(name) = option else {
+        return Ok(None);
+    };
+    match BucketName::read(alloc, name.as_bytes()) {
+        Ok(name) => Ok(Some(name)),
+        Err(Code::InvalidBucketName) => Err(Fault::BadSetting),
+        Err(_) => Err(Fault::OutOfMemory),
+    }
+}
