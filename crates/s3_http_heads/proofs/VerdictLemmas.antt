@@ -290,3 +290,10 @@ pub found_in-dropped : (bytes more : List ℕ) → found_in (skip_pairs bytes ++
 unfolding found_in
 found_in-dropped bytes more =
     ap (λ s. found_by (text_length (take head_limit s)) (length s)) (skip_pairs-twice bytes more)
+
+-- behind the pairs that were skipped before a head text, more bytes are more bytes
+pub pairs_stay : (bytes more : List ℕ) (n : ℕ) → found_in bytes ≡ Head n → skip_pairs (bytes ++ more) ≡ skip_pairs bytes ++ more
+pairs_stay bytes more n is =
+    let text = (head_verdict bytes n).0 is in
+    let long = (ends_length (skip_pairs bytes) n text.ends).1 in
+    skip_pairs-append bytes more (omega (arith, text.within))

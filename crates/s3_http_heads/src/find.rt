@@ -93,6 +93,8 @@ pub fn verdicts_stay()
         → found_in (bytes ++ more) ≡ Found.Head len }
     ensures too_large { (bytes more : List ℕ) → found_in bytes ≡ Found.TooLarge
         → found_in (bytes ++ more) ≡ Found.TooLarge }
+    ensures pairs { (bytes more : List ℕ) (len : ℕ) → found_in bytes ≡ Found.Head len
+        → skip_pairs (bytes ++ more) ≡ skip_pairs bytes ++ more }
 {}
 
 /// A law: the skipped pairs decide nothing, so that a connection may drop them as they come.

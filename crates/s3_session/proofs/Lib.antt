@@ -1,2 +1,3 @@
 pub mod WordLemmas
 pub mod ReplayLemmas
+pub mod StayLemmas

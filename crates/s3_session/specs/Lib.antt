@@ -1,6 +1,7 @@
 pub mod Message
 pub mod Output
 pub mod Replay
+pub mod Stays
 pub mod Turn
 pub use Rattle.s3_http_heads.specs.Text
 pub use Rattle.s3_http_heads.specs.Parts

@@ -3,11 +3,13 @@
 
 mod admission;
 mod decision;
+mod laws;
 mod replay;
 mod turn;
 mod verdict;
 
 pub use admission::admit;
 pub use decision::decide;
+pub use laws::verdicts_stay;
 pub use replay::replay_one;
 pub use verdict::{Admission, Verdict};
