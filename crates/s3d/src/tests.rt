@@ -39,6 +39,16 @@ impl Write for Broken {
     }
 }
 
+/// A device that has no memory.
+#[derive(Drop)]
+struct Full;
+
+impl Read for Full {
+    fn read(&mut self, _buf: &mut [u8]) -> io::Result<usize> {
+        Err(io::Error::from(ErrorKind::OutOfMemory))
+    }
+}
+
 const FILES: [(&str, &[u8]); 11] = [
     ("keys", b"id secret\nother a b \r"),
     ("no-space", b"id secret\nid-secret\n"),
@@ -180,6 +190,17 @@ fn failing_devices(rt: HostRuntime) {
     assert_eq!(rt; errors.as_slice(), b"s3d: output failed\n".as_slice());
     let status = run_words(alloc, &REPLAY, &files, &mut Broken, &mut taken, &mut Broken);
     assert_eq!(rt; status, 1);
+}
+
+#[test]
+fn no_memory(rt: HostRuntime) {
+    let alloc = rt.alloc();
+    let mut output: Vec<u8> = Vec::new(alloc);
+    let mut errors: Vec<u8> = Vec::new(alloc);
+    let files = Shelf(&FILES);
+    let status = run_words(alloc, &REPLAY, &files, &mut Full, &mut output, &mut errors);
+    assert_eq!(rt; status, 1);
+    assert_eq!(rt; errors.as_slice(), b"s3d: out of memory\n".as_slice());
 }
 
 #[test]
