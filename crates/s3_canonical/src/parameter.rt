@@ -6,7 +6,7 @@ ghost use Rattle.s3_canonical.specs.Parameter.{pair, pairs};
 ghost use Rattle.s3_canonical.specs.Target.{encoded_pair, pair_of, pieces_of, print_pair, sorted_pairs};
 
 use crate::encoding::recode_query;
-use crate::text::cut_at;
+use s3_http_heads::{after_first, before_first};
 use std::alloc::{AllocError, Global};
 
 // A parameter of a query: its name and its value, both encoded. Its order is by name and then by
@@ -22,9 +22,8 @@ impl Parameter {
     fn read(alloc: Global, piece: &[u8]) -> Result<Parameter, AllocError>
         ensures { IfOk result (λ parameter. pair parameter ≡ encoded_pair (pair_of piece.now)) }
     {
-        let (name, value) = cut_at(piece, b'=');
-        let name = recode_query(alloc, name)?;
-        let value = recode_query(alloc, value)?;
+        let name = recode_query(alloc, before_first(piece, b'='))?;
+        let value = recode_query(alloc, after_first(piece, b'='))?;
         Ok(Parameter { name, value })
     }
 

@@ -9,8 +9,8 @@ ghost use Rattle.s3_canonical.specs.Target.{is_unreadable};
 ghost use Rattle.s3_canonical.specs.Request.{canonical_headers, canonical_line, canonical_request, signed_names, single_spaced};
 
 use crate::target::{query, uri};
-use crate::text::{is_named, push_single_spaced};
-use s3_http_heads::Head;
+use crate::text::push_single_spaced;
+use s3_http_heads::{Head, is_named};
 use s3_terms::Code;
 use sha2::{Digest, Sha256};
 use std::alloc::{AllocError, Global};

@@ -6,7 +6,7 @@ ghost use Rattle.s3_canonical.specs.Target.{canonical_query, canonical_uri, is_u
 
 use crate::encoding::recode_path;
 use crate::parameter::sorted_query;
-use crate::text::cut_at;
+use s3_http_heads::{after_first, before_first};
 use s3_terms::Code;
 use std::alloc::{AllocError, Global};
 
@@ -44,7 +44,7 @@ pub fn is_readable(target: &[u8]) -> bool
 /// normalised.
 ///
 /// `InvalidURI` where the target cannot be read, and else `InternalError` where memory runs out.
-/// Takes time and memory by the path's length.
+/// Takes time by the target's length, and memory by the path's.
 #[tactic(auto, unfolding(crate::specs::Target::canonical_uri))]
 pub fn uri(alloc: Global, target: &[u8]) -> Result<Vec<u8>, Code>
     ensures value { IfOk result (λ text. text.items ≡ canonical_uri target.now) }
@@ -55,8 +55,7 @@ pub fn uri(alloc: Global, target: &[u8]) -> Result<Vec<u8>, Code>
     if !is_readable(target) {
         return Err(Code::InvalidURI);
     }
-    let (path, _) = cut_at(target, b'?');
-    match recode_path(alloc, path) {
+    match recode_path(alloc, before_first(target, b'?')) {
         Ok(text) => Ok(text),
         Err(AllocError) => Err(Code::InternalError),
     }
@@ -67,7 +66,7 @@ pub fn uri(alloc: Global, target: &[u8]) -> Result<Vec<u8>, Code>
 /// `&`. Empty pieces are dropped, a piece without `=` has the empty value, and a `+` is a plus sign.
 ///
 /// `InvalidURI` where the target cannot be read, and else `InternalError` where memory runs out.
-/// Takes memory by the query's length, and time by it but for the sort, which compares each of the
+/// Takes memory by the query's length, and time by the target's but for the sort, which compares each of the
 /// parameters with as many others as the logarithm of their count.
 #[tactic(auto, unfolding(crate::specs::Target::canonical_query, crate::specs::Target::parameters_of))]
 pub fn query(alloc: Global, target: &[u8]) -> Result<Vec<u8>, Code>
@@ -79,8 +78,7 @@ pub fn query(alloc: Global, target: &[u8]) -> Result<Vec<u8>, Code>
     if !is_readable(target) {
         return Err(Code::InvalidURI);
     }
-    let (_, query) = cut_at(target, b'?');
-    match sorted_query(alloc, query) {
+    match sorted_query(alloc, after_first(target, b'?')) {
         Ok(text) => Ok(text),
         Err(AllocError) => Err(Code::InternalError),
     }

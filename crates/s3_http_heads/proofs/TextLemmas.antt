@@ -8,7 +8,7 @@ use Rattle.std.proofs.lemmas.List.Sums.{prefix_len-le-length}
 use Rattle.std.proofs.lemmas.Bool.Decides.{nat_tests}
 use Rattle.s3_http_heads.specs.Scan.{after_byte}
 use Rattle.s3_http_heads.specs.declared.find.Found.TheVariants.{NeedMore, Head, TooLarge}
-use Rattle.s3_http_heads.specs.Text.{skip_pairs, text_length, empty_line, head_limit, found_by, found_in}
+use Rattle.s3_http_heads.specs.Text.{skip_pairs, text_length, head_end, head_limit, found_by, found_in}
 
 -- ---- the scan
 
@@ -22,7 +22,7 @@ longer_by-suc k None = refl
 longer_by-suc k (Some n) = ap Some (omega arith)
 
 -- no empty line begins here
-text_length-skip : (b : ℕ) (rest : List ℕ) → starts_with nat_eq (b ∷ rest) empty_line ≡ false
+text_length-skip : (b : ℕ) (rest : List ℕ) → starts_with nat_eq (b ∷ rest) head_end ≡ false
     → (k : ℕ) → longer_by k (text_length (b ∷ rest)) ≡ longer_by (k + 1) (text_length rest)
 unfolding text_length
 text_length-skip b rest none k = rw none (longer_by-suc k (text_length rest))
@@ -60,7 +60,7 @@ byte_cases b =
 -- how a scan stands after i bytes of which the last m begin an empty line: what is left gives the length
 abbrev pub Stands : List ℕ → ℕ → ℕ → List ℕ → Type 0
 Stands text i m rest =
-    (m ≤ 3) × (m ≤ i) × (text_length text ≡ longer_by (i - m) (text_length (take m empty_line ++ rest)))
+    (m ≤ 3) × (m ≤ i) × (text_length text ≡ longer_by (i - m) (text_length (take m head_end ++ rest)))
 
 -- what one byte more leaves, where j is what is matched then
 abbrev pub GoesOn : List ℕ → ℕ → ℕ → List ℕ → Type 0
@@ -68,7 +68,7 @@ GoesOn text i j rest =
     ((j ≡ 4) × (text_length text ≡ Some (i + 1))) ⊎ ((j ≢ 4) × Stands text (i + 1) j rest)
 
 on : (text : List ℕ) (i j : ℕ) (rest : List ℕ) → j ≤ 3 → j ≤ i + 1
-    → text_length text ≡ longer_by (i + 1 - j) (text_length (take j empty_line ++ rest)) → GoesOn text i j rest
+    → text_length text ≡ longer_by (i + 1 - j) (text_length (take j head_end ++ rest)) → GoesOn text i j rest
 on text i j rest few within is = inr (omega arith, (few, within, is))
 
 more_cr : (text : List ℕ) (i m : ℕ) (rest : List ℕ) → Stands text i m (13 ∷ rest) → GoesOn text i (after_byte m 13) rest

@@ -8,17 +8,17 @@ use Rattle.std.proofs.lemmas.List.{length-take, length-append, take-take, take-a
 use Rattle.std.proofs.lemmas.Option.{none-some, same_Some}
 use Rattle.std.proofs.lemmas.Slice.Eq.{starts_is}
 use Rattle.s3_http_heads.specs.declared.find.Found.TheVariants.{NeedMore, Head, TooLarge}
-use Rattle.s3_http_heads.specs.Text.{skip_pairs, text_length, empty_line, head_limit, found_by, found_in, EndsHead, IsHeadText, HasNoHeadText}
+use Rattle.s3_http_heads.specs.Text.{skip_pairs, text_length, head_end, head_limit, found_by, found_in, EndsHead, IsHeadText, HasNoHeadText}
 
 -- an empty line begins here
 abbrev here : List ℕ → Bool
-here s = starts_with nat_eq s empty_line
+here s = starts_with nat_eq s head_end
 
-here_begins : (s : List ℕ) → here s ≡ true → s ≡ empty_line ++ drop 4 s
-here_begins s is = (starts_is Decides-eqb s empty_line (here s) refl).0 is
+here_begins : (s : List ℕ) → here s ≡ true → s ≡ head_end ++ drop 4 s
+here_begins s is = (starts_is Decides-eqb s head_end (here s) refl).0 is
 
-begins_here : (s rest : List ℕ) → s ≡ empty_line ++ rest → here s ≡ true
-begins_here s rest is = (starts_is Decides-eqb s empty_line (here s) refl).1 rest is
+begins_here : (s rest : List ℕ) → s ≡ head_end ++ rest → here s ≡ true
+begins_here s rest is = (starts_is Decides-eqb s head_end (here s) refl).1 rest is
 
 -- ---- what is found
 
@@ -49,7 +49,7 @@ record Shortest (s : List ℕ) (n : ℕ) : Type 0 where
 
 ends_length : (s : List ℕ) (k : ℕ) → EndsHead (take k s) → (4 ≤ k) × (4 ≤ length s)
 ends_length s k (front, is) =
-    let long : 4 ≤ length (take k s) = omega (arith, ap length is, length-append front empty_line) in
+    let long : 4 ≤ length (take k s) = omega (arith, ap length is, length-append front head_end) in
     (omega (arith, length-take k s), omega (arith, length-take k s))
 
 -- a beginning that ends a head is an empty line, or ends one a byte later
@@ -64,7 +64,7 @@ found_here : (b : ℕ) (s : List ℕ) → here (b ∷ s) ≡ true → Shortest (
 found_here b s is =
     let begins = here_begins (b ∷ s) is in
     record {
-      within = omega (arith, ap length begins, length-append empty_line (drop 4 (b ∷ s)));
+      within = omega (arith, ap length begins, length-append head_end (drop 4 (b ∷ s)));
       least = omega arith;
       ends = ([], ap (take 4) begins);
       shortest = λ k less ends. omega (arith, (ends_length (b ∷ s) k ends).0);

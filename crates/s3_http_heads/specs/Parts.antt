@@ -66,7 +66,8 @@ words_of value = map (λ word. str_to_ascii_lowercase (trim_ows word)) (slice_sp
 abbrev pub connection_words : HeadParts → List (List ℕ)
 connection_words parts = flat_map words_of (values_of (codes "connection") parts)
 
--- the connection ends with the reply to this head (RFC 9112, section 9.3)
+-- the connection ends with the reply to this head (RFC 9112, section 9.3; a keep-alive of HTTP/1.0 is not
+-- kept)
 unfoldable pub closes : HeadParts → Bool
 closes parts = (parts.minor == 0) || list_any (λ word. bytes_eq word (codes "close")) (connection_words parts)
 

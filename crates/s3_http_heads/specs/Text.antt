@@ -14,15 +14,15 @@ skip_pairs [] = []
 skip_pairs (b ∷ []) = b ∷ []
 skip_pairs (b ∷ c ∷ rest) = if b == 13 && c == 10 then skip_pairs rest else b ∷ c ∷ rest
 
--- the end of the last field line and the empty line after it
-abbrev pub empty_line : List ℕ
-empty_line = 13 ∷ 10 ∷ 13 ∷ 10 ∷ []
+-- how every head ends: the end of its last line, and an empty line
+abbrev pub head_end : List ℕ
+head_end = 13 ∷ 10 ∷ 13 ∷ 10 ∷ []
 
 -- the length of the shortest beginning that ends with an empty line
 unfoldable pub text_length : List ℕ → Option ℕ
 text_length [] = None
 text_length (b ∷ rest) =
-    if starts_with nat_eq (b ∷ rest) empty_line then Some 4 else option_map suc (text_length rest)
+    if starts_with nat_eq (b ∷ rest) head_end then Some 4 else option_map suc (text_length rest)
 
 -- what `held` bytes after the skipped pairs begin with: a head text of the length that was found, too
 -- many bytes without one, or neither yet
@@ -36,7 +36,7 @@ found_in bytes = found_by (text_length (take head_limit (skip_pairs bytes))) (le
 
 -- the text ends with an empty line
 abbrev pub EndsHead : List ℕ → Type 0
-EndsHead text = (front : List ℕ) × (text ≡ front ++ empty_line)
+EndsHead text = (front : List ℕ) × (text ≡ front ++ head_end)
 
 -- the head text at the front of the bytes: so many of those after the skipped pairs end with an empty
 -- line, no fewer do, and they are not too many

@@ -183,7 +183,8 @@ impl Head {
     }
 
     /// Whether the connection ends with the reply to this head: it is one of HTTP/1.0, or `close` is
-    /// among the words of its Connection lines (RFC 9112, section 9.3).
+    /// among the words of its Connection lines (RFC 9112, section 9.3; a keep-alive of HTTP/1.0 is not
+    /// kept).
     pub fn closes(&self) -> bool
         ensures { result ≡ closes self.now }
     {

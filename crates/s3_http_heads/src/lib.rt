@@ -13,4 +13,4 @@ pub use find::{
     Found, HEAD_LIMIT, find_head, pairs_may_be_dropped, skipped, verdict_is_exact, verdicts_stay,
 };
 pub use head::{Head, LINE_LIMIT, texts_say_one_thing};
-pub use text::{after_first, before_first};
+pub use text::{after_first, before_first, is_named};

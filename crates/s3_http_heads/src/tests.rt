@@ -1,4 +1,4 @@
-//! Heads and their verdicts at the limits, each with the answer that the standard or the profile gives.
+//! Heads and their verdicts at the limits, each with the answer that the standard or docs/DECISIONS.md gives.
 use crate::{Found, Head, count_of, find_head, framing, skipped};
 use s3_terms::Code;
 use std::alloc::{AllocError, Global};

@@ -7,8 +7,9 @@ ghost use Rattle.s3_http_heads.specs.Parts.{words_of};
 
 use httparse::is_space_or_tab;
 
-/// Whether a name that was sent is the given one, which is in lower case.
-pub(crate) fn is_named(sent: &[u8], name: &[u8]) -> bool
+/// Whether a header name that was sent is the given one, which is in lower case: the case of a header
+/// name doesn't count (RFC 9110, section 5.1).
+pub fn is_named(sent: &[u8], name: &[u8]) -> bool
     ensures { result ≡ bytes_eq (str_to_ascii_lowercase sent.now) name.now }
 {
     if sent.len() != name.len() {

@@ -11,7 +11,8 @@ use Rattle.s3_replies.specs.declared.context.Context.{Context}
 use Rattle.s3_replies.specs.Lines.{Line, line_if, quoted, IsHttpDate, id_text, count_text, print_reply}
 use Rattle.s3_replies.specs.Status.{status_text}
 
--- the lines that every reply begins with: its date, whether the connection ends, the entry's number
+-- the lines that every reply begins with but the fixed one for want of memory: its date, whether the
+-- connection ends, the entry's number
 abbrev pub first_lines : List ℕ → Bool → ℕ → List Line
 first_lines date closing number =
     (codes "Date", date)
@@ -117,7 +118,7 @@ body_of answer context = sent_body context.head_only (outcome_body answer.outcom
 -- what is written where memory runs out: it names no moment and no entry
 abbrev pub internal_error : List ℕ
 internal_error =
-    print_reply (codes "500 Internal Server Error")
+    print_reply (status_text 500)
     ((codes "Connection", codes "close")
     ∷ (codes "Content-Length", codes "0")
     ∷ (codes "x-amz-request-id", id_text 0)

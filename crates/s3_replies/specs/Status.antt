@@ -1,7 +1,7 @@
 -- Statuses with their reason phrases (RFC 9110, section 15).
 use Rattle.std.specs.Prelude.{ℕ, ◌==◌, if◌then◌else◌, List, codes}
 
--- the status and its reason phrase; a status that no reply has is printed as 500
+-- the status and its reason phrase; any status but those named is printed as 500
 abbrev pub status_text : ℕ → List ℕ
 status_text status =
     if status == 200 then codes "200 OK"

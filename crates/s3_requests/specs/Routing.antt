@@ -1,6 +1,6 @@
 -- Which operation a head asks for (Amazon S3 API Reference, "Actions"; addresses are path-style:
 -- Amazon S3 User Guide, "Path-style requests"), and the faults of routing in their order. Operations
--- that this server has not yet are not implemented, and so is every query.
+-- that this server does not have yet are NotImplemented, and so is every query.
 use Rattle.std.specs.Prelude.{ℕ, Bool, true, false, not, ◌&&◌, ◌||◌, ◌==◌, nat_lt, if◌then◌else◌, List, [], ◌∷◌, length, codes, Option, Some, None, Result, Ok, Err}
 use Rattle.std.specs.List.{before_first, after_first}
 use Rattle.std.specs.Str.{bytes_eq}
@@ -22,7 +22,8 @@ address_of parts = after_first (λ b. b == 47) (path_of parts.target)
 abbrev pub has_method : List ℕ → HeadParts → Bool
 has_method name parts = bytes_eq parts.method name
 
--- the path `/` is the service, whose operation this server has not yet; nor has it any query
+-- refused are a query, and the path `/`, which is the service: its one operation, a GET, does not exist
+-- here yet
 unfoldable pub address_at : HeadParts → Result (List ℕ) Code
 address_at parts =
     let is_service = length (address_of parts) == 0 in
@@ -53,7 +54,7 @@ key_at address = checked_key (percent_decode (after_first (λ b. b == 47) addres
 abbrev pub is_copy : HeadParts → Bool
 is_copy parts = has_method (codes "PUT") parts && is_sent (codes "x-amz-copy-source") parts
 
--- the operations on a bucket are those that S3 has and this server has not yet
+-- the operations on a bucket that S3 has, none of which this server has yet
 abbrev pub is_bucket_operation : HeadParts → Bool
 is_bucket_operation parts =
     has_method (codes "PUT") parts || has_method (codes "GET") parts || has_method (codes "POST") parts

@@ -1,4 +1,4 @@
--- What a body is known by (Amazon S3 API Reference, "Common response headers", ETag).
+-- The entity tag of bytes (Amazon S3 API Reference, "Common response headers", ETag).
 use Rattle.std.specs.Prelude.{ℕ, List}
 use Rattle.md5.specs.Md5.{md5}
 use Rattle.hex.specs.Hex.{encode_lower}

@@ -6,3 +6,11 @@ pub mod WordLemmas
 pub mod CompareLemmas
 pub mod VerdictLemmas
 pub mod NameLemmas
+pub mod OrderLemmas
+pub mod JoinLemmas
+pub mod DigestLemmas
+pub mod CoverLemmas
+pub mod ReadBackLemmas
+pub mod OtherLineLemmas
+pub mod EnoughLemmas
+pub mod SignedHeadLemmas

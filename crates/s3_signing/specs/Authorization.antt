@@ -27,7 +27,7 @@ abbrev pub skip_spaces : List ℕ → List ℕ
 skip_spaces [] = []
 skip_spaces (b ∷ rest) = if b == 32 then skip_spaces rest else b ∷ rest
 
--- the scheme's name and at least one space
+-- the scheme's name and the space that has to follow it
 abbrev pub scheme : List ℕ
 scheme = codes "AWS4-HMAC-SHA256 "
 
@@ -63,7 +63,8 @@ with_scope signed signature (id ∷ date ∷ region ∷ service ∷ last ∷ [])
     else None
 with_scope signed signature other = None
 
--- what stands between the commas: spaces may follow the scheme and each comma
+-- what the three parts between the commas name: the id with its scope, the signed names, the signature;
+-- spaces may follow the scheme and each comma
 abbrev pub scope_at : List ℕ → Option (List ℕ)
 scope_at text = option_and_then (λ rest. behind (codes "Credential=") (skip_spaces rest)) (behind scheme text)
 

@@ -1,6 +1,10 @@
 pub mod Authorization
 pub mod Signature
 pub mod Verdict
+pub mod Signing
+pub mod Signed
+pub mod Word
+pub mod Name
 pub use Rattle.s3_terms.specs.Code
 pub use Rattle.s3_terms.specs.Settings
 pub use Rattle.s3_terms.specs.Moment
@@ -8,6 +12,3 @@ pub use Rattle.s3_http_heads.specs.Parts
 pub use Rattle.s3_canonical.specs.Target
 pub use Rattle.s3_canonical.specs.Request
 pub use Rattle.s3_hmac.specs.Hmac
-pub mod Word
-pub mod Name
-pub mod Signing

@@ -6,8 +6,7 @@ ghost use Rattle.std.specs.Str.{str_to_ascii_lowercase};
 ghost use Rattle.s3_signing.specs.Name.{name_text, texts};
 ghost use Rattle.s3_signing.specs.Signing.{in_order, names_to_sign, signed_by};
 
-use crate::signed::is_named;
-use s3_http_heads::Head;
+use s3_http_heads::{Head, is_named};
 use std::alloc::{AllocError, Global};
 
 // The name of a header in lower case. Its order is byte by byte.

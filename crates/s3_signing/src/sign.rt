@@ -5,6 +5,7 @@ ghost use Rattle.s3_canonical.specs.Request.{canonical_request};
 ghost use Rattle.s3_canonical.specs.Target.{is_unreadable};
 ghost use Rattle.s3_terms.specs.Moment.{stamp_date};
 ghost use Rattle.s3_signing.specs.Signature.{scope_text, signature_of};
+ghost use Rattle.s3_signing.specs.Signed.{IsVerifiedWith};
 ghost use Rattle.s3_signing.specs.Signing.{authorization_text, credential_text, signed_by};
 ghost use Rattle.s3_signing.specs.Verdict.{sent_word, word_lines};
 
@@ -85,6 +86,9 @@ fn head_signature(
 ///
 /// It signs every name that the head has but `authorization`, and writes one space after the scheme
 /// and after each comma. Takes memory and time as the canonical request does, and a sort of the names.
+///
+/// A head with no other fault that carries this line is verified by every server that has the key and
+/// stands in the region, while its clock is within 900 seconds of the stamp.
 #[tactic(auto, unfolding(crate::specs::Signing::authorization_text))]
 pub fn sign_head(
     alloc: Global,
@@ -96,8 +100,12 @@ pub fn sign_head(
 ) -> Result<Vec<u8>, NoMemory>
     requires readable { is_unreadable head.now.target ≡ false }
     requires word { length (word_lines head.now) ≡ 1 }
-    ensures { IfOk result (λ text. text.items
+    ensures text { IfOk result (λ text. text.items
         ≡ authorization_text id.now secret.now region.now head.now stamp) }
+
+    // What is signed is verified, by every server that knows the signer.
+    ensures verified { IfOk result
+        (λ value. IsVerifiedWith id.now secret.now region.now head.now stamp value.items) }
 {
     let signed = signed_by(alloc, head)?;
     let signature = head_signature(alloc, secret, region, head, &stamp, &signed)?;

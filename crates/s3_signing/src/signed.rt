@@ -1,26 +1,11 @@
 //! Which headers an authorization has to cover.
 
 ghost use Rattle.std.specs.Prelude.{◌≡◌};
-ghost use Rattle.std.specs.Str.{bytes_eq, str_to_ascii_lowercase};
+ghost use Rattle.std.specs.Str.{str_to_ascii_lowercase};
 ghost use Rattle.s3_signing.specs.Verdict.{covers, is_amz_name, signs, signs_amz, signs_enough};
 
 use crate::cut::cut_once;
-use s3_http_heads::Head;
-
-// Whether a header name that was sent is the given one, its case aside.
-pub(crate) fn is_named(sent: &[u8], name: &[u8]) -> bool
-    ensures { result ≡ bytes_eq (str_to_ascii_lowercase sent.now) name.now }
-{
-    if sent.len() != name.len() {
-        return false;
-    }
-    for (i, byte) in sent.iter().enumerate() {
-        if byte.to_ascii_lowercase() != name[i] {
-            return false;
-        }
-    }
-    true
-}
+use s3_http_heads::{Head, is_named};
 
 // Whether the header name stands among the signed ones, which semicolons join.
 fn signs(signed: &[u8], sent: &[u8]) -> bool

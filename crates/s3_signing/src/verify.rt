@@ -222,8 +222,8 @@ fn judged(
 /// key's id, the time, the payload word, the names that are signed and the signature are judged in
 /// this order, and the first fault is the refusal.
 ///
-/// Takes memory for the canonical request and gives it back, and time by the length of the head; each
-/// signed name is looked up among all header lines. The signatures are compared whole, so that the
+/// Takes memory for the canonical request and gives it back, and time by the length of the head and by
+/// the number of signed names times that of the header lines, among which each is looked up. The signatures are compared whole, so that the
 /// time does not tell where they differ; that is not proved.
 ///
 /// # Errors

@@ -1,4 +1,5 @@
--- The codes of the values that the store is seen as: each is made of the code of its parts.
+-- How std numbers the values that the store is seen as, so that they may stand in a finite map: each by
+-- its parts. Nothing here is about the server.
 use Rattle.std.specs.Prelude.{ℕ, List, refl}
 use Rattle.std.specs.Coded.{Coded, code_by, coded×, coded_ℕ, coded_list}
 use Rattle.std.specs.FinMap as map

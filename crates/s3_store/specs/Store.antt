@@ -50,7 +50,7 @@ put_step s bucket key t body None = refused s NoSuchBucket
 put_step s bucket key t body (Some objects) =
     (map.insert s bucket (map.insert objects key (put_object t body)), outcomes.Put (tag_of body))
 
--- the object that was found under a key, as it was put
+-- the object that was found under a key, as it was put, or NoSuchKey
 abbrev pub got : State → Option Object → Stepped
 got s None = refused s NoSuchKey
 got s (Some object) = (s, outcomes.Got object)

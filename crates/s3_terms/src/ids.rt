@@ -65,7 +65,7 @@ impl PartNumber {
 /// The id of an object's version.
 #[derive(Clone, Copy, Debug, PartialEq, Eq, PartialOrd, Ord)]
 pub enum VersionId {
-    /// `null`: the version that an unversioned or suspended bucket keeps of a key.
+    /// `null`: the version that was put while its bucket was unversioned or suspended.
     Null,
     /// `v` and the number of the entry that made the version.
     Numbered(u64),

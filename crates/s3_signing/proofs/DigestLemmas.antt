@@ -1,0 +1,63 @@
+-- A code of HMAC is written as 64 lower-case hexadecimal digits.
+use Rattle.std.proofs.Common.{◌≡◌, ℕ, zero, suc, ◌/◌, ◌%◌, ◌*◌, ◌^◌, ◌<◌, Bool, true, nat_lt, List, [], ◌∷◌, length, refl, ap, ◌∙◌, arith}
+use Rattle.std.specs.Prelude.{slice_index}
+use Rattle.std.specs.Int.{to_be_bytes, w32}
+use Rattle.std.specs.List.{list_all}
+use Rattle.std.proofs.lemmas.Bool.{and_parts, and_from, agree_below_at, ltb-true, lt-ltb, eq-eqb}
+use Rattle.std.proofs.lemmas.List.Folds.{list_all-append}
+use Rattle.hex.specs.Hex.{encode_with, encode_lower, lower_digits}
+use Rattle.hex.proofs.HexLemmas.{length-encode_with}
+use Rattle.sha2.specs.Sha256.{sha256, digest_bytes}
+use Rattle.sha2.proofs.Facts256.{length-sha256}
+use Rattle.s3_terms.specs.Names.{is_lower_hex}
+use Rattle.s3_hmac.specs.Hmac.{hmac}
+use Rattle.s3_signing.specs.Authorization.{is_hex_digest}
+
+abbrev is_byte : ℕ → Bool
+is_byte b = nat_lt b 256
+
+below_256 : (n : ℕ) → is_byte (n % 256) ≡ true
+below_256 n = lt-ltb (n % 256) 256 (omega arith)
+
+-- the bytes of a word
+word_bytes : (n : ℕ) → list_all is_byte (to_be_bytes w32 n) ≡ true
+word_bytes n =
+    and_from _ _ (below_256 (n / 256 ^ 3))
+    (and_from _ _ (below_256 (n / 256 ^ 2))
+    (and_from _ _ (below_256 (n / 256 ^ 1)) (and_from _ _ (below_256 n) refl)))
+
+-- a digest is bytes
+digest_all : (h : List ℕ) (n : ℕ) → list_all is_byte (digest_bytes h n) ≡ true
+unfolding digest_bytes
+digest_all h zero = refl
+digest_all h (suc n) =
+    list_all-append is_byte (digest_bytes h n) (to_be_bytes w32 (slice_index h n))
+    ∙ and_from _ _ (digest_all h n) (word_bytes (slice_index h n))
+
+sha256_all : (message : List ℕ) → list_all is_byte (sha256 message) ≡ true
+unfolding sha256
+sha256_all message = digest_all _ 8
+
+-- the digits of a byte
+digit_lower : (n : ℕ) → n < 16 → is_lower_hex (slice_index lower_digits n) ≡ true
+digit_lower n below = agree_below_at (λ i. is_lower_hex (slice_index lower_digits i)) (λ i. true) 16 n refl below
+
+encoded_all : (bytes : List ℕ) → list_all is_byte bytes ≡ true → list_all is_lower_hex (encode_lower bytes) ≡ true
+unfolding encode_with
+encoded_all [] all = refl
+encoded_all (b ∷ bytes) all =
+    let both = and_parts (is_byte b) (list_all is_byte bytes) all in
+    let below : b < 256 = ltb-true b 256 both.0 in
+    and_from _ _ (digit_lower (b / 16) (omega arith))
+    (and_from _ _ (digit_lower (b % 16) (omega arith)) (encoded_all bytes both.1))
+
+-- 32 bytes have such a text
+digest_text : (bytes : List ℕ) → length bytes ≡ 32 → list_all is_byte bytes ≡ true → is_hex_digest (encode_lower bytes) ≡ true
+digest_text bytes size all =
+    and_from _ _
+    (eq-eqb (length (encode_lower bytes)) 64 (length-encode_with lower_digits bytes ∙ ap (λ n. 2 * n) size))
+    (encoded_all bytes all)
+
+pub hmac_text : (key message : List ℕ) → is_hex_digest (encode_lower (hmac key message)) ≡ true
+unfolding hmac
+hmac_text key message = digest_text (hmac key message) (length-sha256 _) (sha256_all _)

@@ -1,0 +1,168 @@
+-- A head that carries its signer's authorization is verified by a server that knows the signer.
+use Rattle.std.proofs.Common.{◌≡◌, ℕ, true, List, [], ◌∷◌, ◌++◌, refl, sym, ap, ◌∙◌, inl, inr, Option, Some, None, Ok, slice_get}
+use Rattle.std.specs.Prelude.{codes, is_some, option_and_then}
+use Rattle.std.specs.List.{list_all}
+use Rattle.std.specs.Str.{bytes_eq}
+use Rattle.std.proofs.lemmas.Bool.{cases_Bool, and_parts}
+use Rattle.std.proofs.lemmas.Cmp.{nat_list_eq_equiv}
+use Rattle.std.proofs.lemmas.Slice.Eq.{bytes_eq-Decides}
+use Rattle.s3_terms.specs.Fault.{first_fault, unless_refused}
+use Rattle.s3_terms.specs.Moment.{is_stamp, stamp_seconds, stamp_date}
+use Rattle.s3_terms.specs.Settings.{Settings, Credentials, are_settings, are_keys, are_credentials, is_access_key_id, is_secret, is_region, secret_of}
+use Rattle.s3_http_heads.specs.Parts.{HeadParts, is_sent, values_of}
+use Rattle.s3_http_heads.proofs.NameLemmas.{sent_is}
+use Rattle.s3_signing.specs.Authorization.{Parts, authorization_of}
+use Rattle.s3_signing.specs.Signature.{signature_of}
+use Rattle.s3_signing.specs.Signed.{Knows, IsReady, IsSigned, IsVerifiedWith, proved_by_signer}
+use Rattle.s3_signing.specs.Signing.{authorization_text, signed_by}
+use Rattle.s3_signing.specs.Verdict.{authorization_faults, checked_stamp, faults_of_words, first_of_lines, head_verdict, is_near, line_faults, only, proved_by, scope_faults, sent_authorization, sent_stamp, sent_word, signature_faults, target_faults, word_faults, word_lines}
+use Rattle.s3_signing.proofs.EnoughLemmas.{signs_covered, signs_enough_for}
+use Rattle.s3_signing.proofs.OtherLineLemmas.{signature_same, values_of_other}
+use Rattle.s3_signing.proofs.ReadBackLemmas.{reads_back}
+use Rattle.s3_signing.proofs.VerdictLemmas.{fault_later, judged_late}
+
+-- what the authorization of a signer says
+abbrev signer_parts : List ℕ → List ℕ → List ℕ → HeadParts → List ℕ → Parts
+signer_parts id secret region head stamp = record {
+  id = id;
+  date = stamp_date stamp;
+  region = region;
+  service = codes "s3";
+  signed = signed_by head;
+  signature = signature_of secret stamp region head (signed_by head) (sent_word head);
+}
+
+-- ---- what is known of a signer and of a stamp
+
+bytes_eq-same : (xs : List ℕ) → bytes_eq xs xs ≡ true
+bytes_eq-same = nat_list_eq_equiv.refl
+
+id_of_credentials : (c : Credentials) → are_credentials c ≡ true → is_access_key_id c.id ≡ true
+unfolding are_credentials
+id_of_credentials c are = (and_parts (is_access_key_id c.id) (is_secret c.secret) are).0
+
+-- an id whose secret is there is one of the keys'
+id_of_secret : (keys : List Credentials) (id secret : List ℕ) → list_all are_credentials keys ≡ true → secret_of keys id ≡ Some secret → is_access_key_id id ≡ true
+id_of_secret [] id secret are is = absurd (cc)
+id_of_secret (c ∷ keys) id secret are is =
+    let parts = and_parts (are_credentials c) (list_all are_credentials keys) are in
+    elim (cases_Bool (bytes_eq c.id id)) [
+      | inl same ↦ ap is_access_key_id (sym ((bytes_eq-Decides c.id id).0 same)) ∙ id_of_credentials c parts.0
+      | inr other ↦ id_of_secret keys id secret parts.1 (rw other at is)
+    ]
+
+keys_of_settings : (settings : Settings) → are_settings settings ≡ true → list_all are_credentials settings.keys ≡ true
+unfolding are_settings are_keys
+keys_of_settings settings are =
+    let keys : are_keys settings.keys ≡ true = (and_parts _ _ (and_parts _ _ (and_parts _ _ are).0).0).1 in
+    (and_parts _ _ (and_parts _ _ keys).0).1
+
+region_of_settings : (settings : Settings) → are_settings settings ≡ true → is_region settings.region ≡ true
+unfolding are_settings
+region_of_settings settings are = (and_parts _ _ (and_parts _ _ (and_parts _ _ are).0).0).0
+
+-- a server's access key has an id of the form
+id_known : (settings : Settings) (id secret region : List ℕ) → Knows settings id secret region → is_access_key_id id ≡ true
+id_known settings id secret region knows =
+    id_of_secret settings.keys id secret (keys_of_settings settings knows.limits) knows.key
+
+-- and so has its region
+region_known : (settings : Settings) (id secret region : List ℕ) → Knows settings id secret region → is_region region ≡ true
+region_known settings id secret region knows =
+    ap is_region (sym knows.place) ∙ region_of_settings settings knows.limits
+
+stamp_checked : (text : Option (List ℕ)) (stamp : List ℕ) → option_and_then checked_stamp text ≡ Some stamp → is_stamp stamp ≡ true
+stamp_checked None stamp is = absurd (cc)
+stamp_checked (Some text) stamp is = elim (cases_Bool (is_stamp text)) [
+  | inl sound ↦
+      let same : Some text ≡ Some stamp = rw sound at is in
+      let same_text : text ≡ stamp = cc in
+      ap is_stamp (sym same_text) ∙ sound
+  | inr other ↦
+      let nothing : None ≡ Some stamp = rw other at is in
+      absurd (cc)
+]
+
+-- the stamp that was sent is one
+stamp_sent : (head : HeadParts) (stamp : List ℕ) → sent_stamp head ≡ Some stamp → is_stamp stamp ≡ true
+stamp_sent head stamp is = stamp_checked (only (values_of (codes "x-amz-date") head)) stamp is
+
+-- ---- the lines of the signed head
+
+module _ (head signed : HeadParts) (value : List ℕ) (carries : IsSigned head value signed) where
+  stamp_same : sent_stamp signed ≡ sent_stamp head
+  stamp_same =
+      ap (λ values. option_and_then checked_stamp (only values))
+      (values_of_other head signed carries.lines (codes "x-amz-date") refl)
+
+  words_same : word_lines signed ≡ word_lines head
+  words_same = values_of_other head signed carries.lines (codes "x-amz-content-sha256") refl
+
+  word_same : sent_word signed ≡ sent_word head
+  word_same = ap first_of_lines words_same
+
+  own_sent : is_sent (codes "authorization") signed ≡ true
+  own_sent = sym (sent_is (codes "authorization") signed) ∙ ap (λ values. is_some (slice_get values 0)) carries.own
+
+  own_parts : (parts : Parts) → authorization_of value ≡ Some parts → sent_authorization signed ≡ Some parts
+  own_parts parts is = ap (λ values. option_and_then authorization_of (only values)) carries.own ∙ is
+
+  -- ---- no fault is left
+
+  no_target_fault : first_fault (target_faults head) ≡ None → first_fault (target_faults signed) ≡ None
+  no_target_fault none = rw carries.target none
+
+  no_line_fault : (parts : Parts) (stamp : List ℕ) → authorization_of value ≡ Some parts → sent_stamp head ≡ Some stamp → first_fault (line_faults signed) ≡ None
+  no_line_fault parts stamp is stamped =
+      rw (own_sent, own_parts parts is, stamp_same, stamped) refl
+
+  no_word_fault : first_fault (word_faults head) ≡ None → first_fault (word_faults signed) ≡ None
+  no_word_fault none = ap (λ words. first_fault (faults_of_words words)) words_same ∙ none
+
+  module _ (settings : Settings) (id secret region stamp : List ℕ) (knows : Knows settings id secret region) (ready : IsReady head stamp) where
+    -- the signature is the same over either head
+    same_signature : signature_of secret stamp region signed (signed_by head) (sent_word signed) ≡ signature_of secret stamp region head (signed_by head) (sent_word head)
+    same_signature =
+        ap (signature_of secret stamp region signed (signed_by head)) word_same
+        ∙ signature_same head signed carries.lines carries.method carries.target secret stamp region (signed_by head) (sent_word head)
+        (signs_covered head ready.names ready.host)
+
+    -- so it covers enough, and is the formula
+    no_signature_fault : first_fault (signature_faults settings signed (signer_parts id secret region head stamp) stamp) ≡ None
+    no_signature_fault =
+        let enough = signs_enough_for head ready.names ready.host signed carries.lines in
+        rw (enough, knows.key, knows.place, same_signature, bytes_eq-same (signature_of secret stamp region head (signed_by head) (sent_word head))) refl
+
+    -- the scope is the server's
+    no_scope_fault : (moment : ℕ) → is_near (stamp_seconds stamp) moment ≡ true → first_fault (scope_faults settings moment (signer_parts id secret region head stamp) stamp) ≡ None
+    no_scope_fault moment near =
+        rw (knows.place, bytes_eq-same region, bytes_eq-same (stamp_date stamp), knows.key, near) refl
+
+    no_late_fault : (moment : ℕ) → is_near (stamp_seconds stamp) moment ≡ true → first_fault (authorization_faults settings signed moment (signer_parts id secret region head stamp) stamp) ≡ None
+    no_late_fault moment near =
+        let parts = signer_parts id secret region head stamp in
+        let signature = signature_faults settings signed parts stamp in
+        fault_later (scope_faults settings moment parts stamp) (word_faults signed ++ signature) (no_scope_fault moment near)
+        ∙ fault_later (word_faults signed) signature (no_word_fault ready.word)
+        ∙ no_signature_fault
+
+    proved_same : proved_by settings signed (signer_parts id secret region head stamp) stamp ≡ proved_by_signer secret region head stamp
+    proved_same = rw (knows.key, knows.place, word_same) refl
+
+    -- where the authorization reads back as what its signer meant, the head is verified
+    signed_is_verified : (moment : ℕ) → is_near (stamp_seconds stamp) moment ≡ true → authorization_of value ≡ Some (signer_parts id secret region head stamp) → head_verdict settings signed moment ≡ Ok (proved_by_signer secret region head stamp)
+    signed_is_verified moment near is =
+        let parts = signer_parts id secret region head stamp in
+        let early = fault_later (target_faults signed) (line_faults signed) (no_target_fault ready.target) ∙ no_line_fault parts stamp is ready.stamped in
+        judged_late settings signed moment parts stamp early (own_parts parts is) (stamp_same ∙ ready.stamped)
+        ∙ ap (λ fault. unless_refused fault (proved_by settings signed parts stamp)) (no_late_fault moment near)
+        ∙ ap Ok proved_same
+
+-- so the value that a signer writes is one with which a head is verified
+pub IsVerifiedWith-written : (id secret region : List ℕ) (head : HeadParts) (stamp value : List ℕ) → value ≡ authorization_text id secret region head stamp → IsVerifiedWith id secret region head stamp value
+IsVerifiedWith-written id secret region head stamp value written settings moment signed knows ready near carries =
+    let known = id_known settings id secret region knows in
+    let placed = region_known settings id secret region knows in
+    let stamped = stamp_sent head stamp ready.stamped in
+    signed_is_verified head signed value carries settings id secret region stamp knows ready moment near
+    (ap authorization_of written ∙ reads_back id secret region head stamp known placed stamped ready.names ready.host)
