@@ -1,4 +1,4 @@
--- Histories with one more entry at the end.
+-- Histories with one more entry at the end, and histories in two parts.
 use Rattle.std.proofs.Common.{◌≡◌, refl, subst, arith, ℕ, ◌+◌, suc, List, [], ◌∷◌, ◌++◌, length}
 use Rattle.s3_store.specs.Store.{State}
 use Rattle.s3_store.specs.History.{Entry, IsAnswer, Legal, after, after_entry}
@@ -14,3 +14,13 @@ Legal-push s n [] e legal answer =
 Legal-push s n (x ∷ es) e legal answer =
     let same : n + suc (length es) ≡ suc n + length es = omega arith in
     (legal.0, Legal-push (after_entry s x) (suc n) es e legal.1 (subst (λ m. IsAnswer (after (after_entry s x) es) m e) same answer))
+
+-- of a legal history in two parts both are legal, the second from where the first leads
+pub Legal-append : (s : State) (n : ℕ) (es fs : List Entry) → Legal s n (es ++ fs) → Legal s n es × Legal (after s es) (n + length es) fs
+Legal-append s n [] fs legal =
+    let same : n ≡ n + 0 = omega arith in
+    (tt, subst (λ m. Legal s m fs) same legal)
+Legal-append s n (x ∷ es) fs legal =
+    let same : suc n + length es ≡ n + suc (length es) = omega arith in
+    let parts = Legal-append (after_entry s x) (suc n) es fs legal.1 in
+    ((legal.0, parts.0), subst (λ m. Legal (after (after_entry s x) es) m fs) same parts.1)

@@ -1,4 +1,5 @@
 pub mod HistoryLemmas
+pub mod KeptLemmas
 pub mod MapLemmas
 pub mod OpeningLemmas
 pub mod StepLemmas

@@ -48,7 +48,7 @@ made_by_write before after m k old new view found writes =
     made_by_insert before.entries after.entries k new (writes.3 (some_is _ old found)).0 ∙ ap (λ n. insert n k new) view
 
 -- keys that compare alike are one
-tied_equal : (q k : List ℕ) → eq_by_cmp byte_order q k ≡ true → q ≡ k
+pub tied_equal : (q k : List ℕ) → eq_by_cmp byte_order q k ≡ true → q ≡ k
 tied_equal q k tied = (bytes_decides q k).0 (texts_ties q k ∙ tied)
 
 same_at_key : {X : Type 0} (m : FinMap byte_order X) (k : List ℕ) (v : X) (q : List ℕ) (b : Bool) → get m k ≡ Some v → eq_by_cmp byte_order q k ≡ b → cond b (Some v) (get m q) ≡ get m q

@@ -10,6 +10,6 @@ mod store;
 mod tests;
 
 pub use answer::{Answer, Outcome};
-pub use history::one_more_entry;
+pub use history::{one_more_entry, puts_are_kept, refusals_change_nothing};
 pub use object::Object;
 pub use store::Store;
