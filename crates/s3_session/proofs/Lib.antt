@@ -1,3 +1,6 @@
 pub mod WordLemmas
 pub mod ReplayLemmas
 pub mod StayLemmas
+pub mod VerdictLemmas
+pub mod SoundLemmas
+pub mod OutputLemmas

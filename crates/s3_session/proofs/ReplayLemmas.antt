@@ -1,5 +1,5 @@
 -- A replay after some turns: what was answered and written, and how it may go on.
-use Rattle.std.proofs.Common.{◌≡◌, ℕ, suc, ◌+◌, ◌*◌, Bool, true, false, List, [], ◌∷◌, ◌++◌, map, length, refl, sym, ap, subst, ◌∙◌, inl, inr, append_assoc, append-nil, zero-add, arith, length-append, MatchBool}
+use Rattle.std.proofs.Common.{◌≡◌, ℕ, ◌+◌, Bool, true, false, List, [], ◌∷◌, ◌++◌, map, length, refl, sym, ap, subst, ◌∙◌, append_assoc, append-nil, zero-add, arith, length-append, MatchBool}
 use Rattle.s3_terms.specs.Settings.{Settings}
 use Rattle.s3_store.specs.Store.{State, opening, step}
 use Rattle.s3_store.specs.History.{Entry, Legal, IsAnswer, after, after_entry}
@@ -9,8 +9,8 @@ use Rattle.s3_replies.specs.declared.context.Context.{Context}
 use Rattle.s3_replies.specs.Replies.{Prints, internal_error}
 use Rattle.s3_session.specs.declared.verdict.Verdict.TheVariants as verdicts
 use Rattle.s3_session.specs.Message.{Judges}
-use Rattle.s3_session.specs.Output.{Brings, BringsNone, EndsWith, Writes}
-use Rattle.s3_session.specs.Replay.{BringsFirst, Answers, Replays}
+use Rattle.s3_session.specs.Output.{BringsNone, EndsWith, Writes}
+use Rattle.s3_session.specs.Replay.{Answers, Replays}
 use Rattle.std.specs.Borrow.{Bor}
 use Rattle.s3_session.specs.declared.turn.Turn.{Turn}
 use Rattle.s3_session.specs.declared.turn.Turn.TheVariants as turns
@@ -133,7 +133,7 @@ replays_end settings moment bytes rest out s number text h none ends =
     let all = h.goes_on [] false text (tt, none) ends in
     let same : h.history ++ [] ≡ h.history = append-nil h.history in
     let facts = rw same at all in
-    (false, h.history, h.legal, facts.0, facts.1)
+    (false, (h.history, h.legal, facts.0, facts.1))
 
 -- what is written where memory runs out
 pub replays_dead : (settings : Settings) (moment : ℕ) (bytes rest out : List ℕ) (s : State) (number : ℕ)
@@ -143,7 +143,7 @@ replays_dead settings moment bytes rest out s number h =
     let all = h.goes_on [] true internal_error (tt, tt) refl in
     let same : h.history ++ [] ≡ h.history = append-nil h.history in
     let facts = rw same at all in
-    (true, h.history, h.legal, facts.0, facts.1)
+    (true, (h.history, h.legal, facts.0, facts.1))
 
 -- what is written where the reply to an answered command closes the connection
 pub replays_closed : (settings : Settings) (moment : ℕ) (bytes rest out : List ℕ) (s : State) (number : ℕ)
@@ -159,7 +159,7 @@ replays_closed settings moment bytes rest out s number new context after_it text
     let writes : Writes settings moment true false rest (answers_of (e ∷ [])) text =
     (context, command, after_it, text, [], answered.1, answered.3, sym (append-nil text), if_true context.closes _ _ closing (refl, refl, refl)) in
     let all = h.goes_on (e ∷ []) false text answers writes in
-    (false, h.history ++ e ∷ [], legal_more settings moment bytes rest out s number command stays h, all.0, all.1)
+    (false, (h.history ++ e ∷ [], legal_more settings moment bytes rest out s number command stays h, all.0, all.1))
 
 -- the same, by what one turn did
 pub by_ended : (settings : Settings) (moment : ℕ) (bytes rest out : List ℕ) (s : State) (number : ℕ) (new : State) (turn : Turn) (longer : List ℕ)

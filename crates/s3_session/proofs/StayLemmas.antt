@@ -1,22 +1,19 @@
 -- What was decided about a message stays decided.
-use Rattle.std.proofs.Common.{◌≡◌, ◌≢◌, ◌⊎◌, ℕ, ◌<◌, ◌≤◌, ◌&&◌, Bool, true, false, cond, List, [], ◌∷◌, ◌++◌, take, drop, length, refl, sym, ap, subst, ◌∙◌, inl, inr, arith, length-append, Option, Some, None, Result, Ok, Err, ◌↔◌}
-use Rattle.std.specs.Prelude.{not, nat_lt}
+use Rattle.std.proofs.Common.{◌≡◌, ◌≢◌, ℕ, ◌≤◌, Bool, false, List, ◌++◌, take, drop, length, refl, sym, ap, subst, ◌∙◌, inl, inr, arith, length-append, Option, Some, None, Result, Ok, Err, ◌↔◌}
+use Rattle.std.specs.Prelude.{nat_lt}
 use Rattle.std.proofs.lemmas.List.{take-append-le, drop-append-le}
 use Rattle.std.proofs.lemmas.Bool.{cases_Bool, ltb-false, le-ltb}
 use Rattle.s3_terms.specs.Settings.{Settings}
 use Rattle.s3_terms.specs.Fault.{first_fault}
 use Rattle.s3_terms.specs.declared.code.Code.{Code}
-use Rattle.s3_terms.specs.declared.code.Code.TheVariants.{IncompleteBody, XAmzContentSHA256Mismatch, HeadTooLarge, MalformedHead}
+use Rattle.s3_terms.specs.declared.code.Code.TheVariants.{HeadTooLarge, MalformedHead}
 use Rattle.s3_http_heads.specs.Text.{found_in, skip_pairs, IsHeadText}
 use Rattle.s3_http_heads.specs.declared.find.Found.{Found}
 use Rattle.s3_http_heads.specs.declared.find.Found.TheVariants as found
-use Rattle.s3_http_heads.specs.Parts.{HeadParts, Says, HasNoHead, asks_head_only}
-use Rattle.s3_requests.specs.Routing.{command_of}
-use Rattle.s3_replies.specs.declared.context.Context.{Context}
+use Rattle.s3_http_heads.specs.Parts.{HeadParts, asks_head_only}
 use Rattle.s3_session.specs.declared.verdict.Admission.{Admission}
-use Rattle.s3_session.specs.declared.verdict.Verdict.{Verdict}
 use Rattle.s3_session.specs.declared.verdict.Verdict.TheVariants as verdicts
-use Rattle.s3_session.specs.Message.{Decision, Judges, FoundJudged, TextJudged, open_yet, refused, meets, body_faults, judged, body_decision, admitted_decision, admission_of, decision_of, text_at, behind_text, context_of, closing_context}
+use Rattle.s3_session.specs.Message.{Decision, Judges, FoundJudged, TextJudged, open_yet, refused, body_faults, judged, body_decision, admitted_decision, admission_of, decision_of, text_at, behind_text}
 use Rattle.s3_session.specs.Stays.{rest_with, VerdictsStay}
 
 -- the decision where more bytes follow

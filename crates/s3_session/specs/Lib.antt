@@ -1,3 +1,4 @@
+pub mod Laws
 pub mod Message
 pub mod Output
 pub mod Replay

@@ -1,8 +1,7 @@
 -- What a connection writes, as a relation on whole byte strings, and the commands that it brings.
-use Rattle.std.specs.Prelude.{◌≡◌, ℕ, suc, ◌⊎◌, Bool, true, false, MatchBool, List, [], ◌∷◌, ◌++◌}
+use Rattle.std.specs.Prelude.{◌≡◌, ℕ, ◌⊎◌, Bool, false, MatchBool, List, [], ◌∷◌, ◌++◌}
 use Rattle.s3_terms.specs.Settings.{Settings}
 use Rattle.s3_terms.specs.declared.code.Code.{Code}
-use Rattle.s3_http_heads.specs.Parts.{HeadParts, closes, asks_head_only}
 use Rattle.s3_requests.specs.declared.commands.Command.{Command}
 use Rattle.s3_store.specs.declared.answer.Answer.{Answer}
 use Rattle.s3_replies.specs.declared.context.Context.{Context}

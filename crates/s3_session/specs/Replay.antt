@@ -1,6 +1,6 @@
 -- What a replay of one connection writes: the headline for one connection, as a relation on its bytes
 -- and its output.
-use Rattle.std.specs.Prelude.{◌≡◌, ℕ, Bool, true, MatchBool, List, [], ◌∷◌, map}
+use Rattle.std.specs.Prelude.{◌≡◌, ℕ, Bool, true, false, MatchBool, List, [], ◌∷◌, map}
 use Rattle.std.specs.List.{AllByRecursion}
 use Rattle.s3_terms.specs.Settings.{Settings}
 use Rattle.s3_requests.specs.declared.commands.Command.{Command}
@@ -31,9 +31,17 @@ Answers settings moment ended dead bytes entries =
 -- the output of a whole connection at one moment, from the opening state: some legal history answers
 -- the connection's commands, and the output is its printed answers, message by message, and then the
 -- refusal of the first message that is refused; dead says that memory ran out
-abbrev pub Replays : Settings → ℕ → List ℕ → List ℕ → Type 0
-Replays settings moment bytes out =
-    (dead : Bool) × (entries : List Entry)
+abbrev pub ReplaysAs : Bool → Settings → ℕ → List ℕ → List ℕ → Type 0
+ReplaysAs dead settings moment bytes out =
+    (entries : List Entry)
     × Legal (opening settings.buckets) 0 entries
     × Answers settings moment true dead bytes entries
     × Writes settings moment true dead bytes (map (λ (e : Entry). e.answer) entries) out
+
+-- the same, whether or not memory ran out
+abbrev pub Replays : Settings → ℕ → List ℕ → List ℕ → Type 0
+Replays settings moment bytes out = (dead : Bool) × ReplaysAs dead settings moment bytes out
+
+-- the same where memory did not run out
+abbrev pub LiveReplays : Settings → ℕ → List ℕ → List ℕ → Type 0
+LiveReplays = ReplaysAs false

@@ -1,5 +1,5 @@
 -- One message of a replay: what it leaves in the store, and what it writes.
-use Rattle.std.specs.Prelude.{◌≡◌, ℕ, ◌+◌, ◌⊎◌, Bool, true, List, [], ◌∷◌, ◌++◌, drop, length}
+use Rattle.std.specs.Prelude.{◌≡◌, ℕ, true, List, ◌++◌, drop, length}
 use Rattle.s3_terms.specs.Settings.{Settings}
 use Rattle.s3_requests.specs.declared.commands.Command.{Command}
 use Rattle.s3_store.specs.Store.{State, step}

@@ -10,6 +10,6 @@ mod verdict;
 
 pub use admission::admit;
 pub use decision::decide;
-pub use laws::verdicts_stay;
+pub use laws::{outputs_are_one, sound_verdicts_are_exact, verdicts_are_one, verdicts_stay};
 pub use replay::replay_one;
 pub use verdict::{Admission, Verdict};

@@ -1,4 +1,4 @@
-use Rattle.std.proofs.Common.{◌≡◌, ◌≢◌, length, codes, arith, sym, ap, refl}
+use Rattle.std.proofs.Common.{codes, arith, refl}
 use Rattle.s3_session.proofs.WordLemmas.{bytes_eq-other_length}
 use Rattle.s3_session.proofs.admission.hash_of.Goals as goal
 

@@ -1,4 +1,4 @@
-use Rattle.std.proofs.Common.{◌∙◌, sym, arith, ◌≤◌, length, ap, length-drop, length-take}
+use Rattle.std.proofs.Common.{sym, arith, length-drop, length-take}
 use Rattle.s3_session.proofs.decision.decide.Goals as goal
 
 pub split_at-requires : goal.split_at-requires

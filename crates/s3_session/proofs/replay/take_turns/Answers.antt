@@ -1,4 +1,3 @@
-use Rattle.std.proofs.Common.{◌≡◌, ◌++◌, sym, ap, ◌∙◌}
 use Rattle.s3_session.proofs.ReplayLemmas.{stands_at_first, replays_dead, by_ended, by_died, by_closed, by_answered}
 use Rattle.s3_session.proofs.replay.take_turns.Goals as goal
 

@@ -1,0 +1,52 @@
+-- What a verdict on a connection's bytes says of them (RFC 9112, sections 2.1 and 6.2), and that the
+-- bytes fix what is written.
+use Rattle.std.specs.Prelude.{◌≡◌, IsTrue, ℕ, Bool, List, Ok}
+use Rattle.s3_terms.specs.Settings.{Settings}
+use Rattle.s3_http_heads.specs.Parts.{HeadParts}
+use Rattle.s3_http_heads.specs.Message.{IsMessage}
+use Rattle.s3_requests.specs.declared.commands.Command.{Command}
+use Rattle.s3_requests.specs.Routing.{command_of}
+use Rattle.s3_replies.specs.declared.context.Context.{Context}
+use Rattle.s3_session.specs.declared.verdict.Admission.{Admission}
+use Rattle.s3_session.specs.declared.verdict.Verdict.TheVariants as verdicts
+use Rattle.s3_session.specs.Message.{Decision, Judges, admission_of, meets, context_of}
+use Rattle.s3_session.specs.Replay.{LiveReplays}
+
+-- settings, moment, bytes and whether they end leave at most one verdict, with one rest
+abbrev pub OneVerdict : Type 0
+OneVerdict =
+    (settings : Settings) (moment : ℕ) (ended : Bool) (bytes : List ℕ) (d e : Decision)
+    → Judges settings moment ended bytes d → Judges settings moment ended bytes e → d ≡ e
+
+-- at the front of the bytes stands a whole message, and then the rest: its head is admitted, its body
+-- has the hash that the head's word says, and the context and the command are what they ask for
+pub record IsSound (settings : Settings) (moment : ℕ) (bytes : List ℕ) (context : Context) (command : Command) (rest : List ℕ) : Type 0 where
+  pub head : HeadParts
+  pub body : List ℕ
+  pub admission : Admission
+  pub message : IsMessage bytes head body rest
+  pub admitted : admission_of settings head moment ≡ Ok admission
+  pub met : IsTrue (meets admission.word body)
+  pub replied : context ≡ context_of head moment
+  pub asked : command ≡ command_of admission.plan body
+
+-- a sound verdict is about a sound message at the front of the bytes
+abbrev pub SoundMessages : Type 0
+SoundMessages =
+    (settings : Settings) (moment : ℕ) (ended : Bool) (bytes rest : List ℕ) (context : Context) (command : Command)
+    → Judges settings moment ended bytes (verdicts.Sound context command, rest)
+    → IsSound settings moment bytes context command rest
+
+-- a sound message at the front of the bytes has the sound verdict, whether or not more bytes come
+abbrev pub SoundIsJudged : Type 0
+SoundIsJudged =
+    (settings : Settings) (moment : ℕ) (ended : Bool) (bytes rest : List ℕ) (context : Context) (command : Command)
+    → IsSound settings moment bytes context command rest
+    → Judges settings moment ended bytes (verdicts.Sound context command, rest)
+
+-- two replays of the same bytes under the same settings at the same moment, in which memory does not
+-- run out, write the same
+abbrev pub OneOutput : Type 0
+OneOutput =
+    (settings : Settings) (moment : ℕ) (bytes a b : List ℕ)
+    → LiveReplays settings moment bytes a → LiveReplays settings moment bytes b → a ≡ b
