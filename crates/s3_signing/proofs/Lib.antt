@@ -4,6 +4,7 @@ pub mod TargetLemmas
 pub mod SignedLemmas
 pub mod WordLemmas
 pub mod CompareLemmas
+pub mod FaultLemmas
 pub mod VerdictLemmas
 pub mod NameLemmas
 pub mod OrderLemmas

@@ -1,25 +1,30 @@
 -- A head that carries its signer's authorization is verified by a server that knows the signer.
-use Rattle.std.proofs.Common.{◌≡◌, ℕ, true, List, [], ◌∷◌, ◌++◌, refl, sym, ap, ◌∙◌, inl, inr, Option, Some, None, Ok, slice_get}
-use Rattle.std.specs.Prelude.{codes, is_some, option_and_then}
+use Rattle.std.proofs.Common.{◌≡◌, ℕ, true, false, arith, List, [], ◌∷◌, ◌++◌, refl, sym, ap, ◌∙◌, inl, inr, Option, Some, None, Ok, slice_get}
+use Rattle.std.specs.Prelude.{codes, is_some, length, option_and_then, unwrap_or}
 use Rattle.std.specs.List.{list_all}
 use Rattle.std.specs.Str.{bytes_eq}
 use Rattle.std.proofs.lemmas.Bool.{cases_Bool, and_parts}
 use Rattle.std.proofs.lemmas.Cmp.{nat_list_eq_equiv}
 use Rattle.std.proofs.lemmas.Slice.Eq.{bytes_eq-Decides}
+use Rattle.s3_terms.specs.declared.code.Code.TheVariants.{InvalidURI, AccessDenied}
 use Rattle.s3_terms.specs.Fault.{first_fault, unless_refused}
 use Rattle.s3_terms.specs.Moment.{is_stamp, stamp_seconds, stamp_date}
 use Rattle.s3_terms.specs.Settings.{Settings, Credentials, are_settings, are_keys, are_credentials, is_access_key_id, is_secret, is_region, secret_of}
 use Rattle.s3_http_heads.specs.Parts.{HeadParts, is_sent, values_of}
 use Rattle.s3_http_heads.proofs.NameLemmas.{sent_is}
+use Rattle.s3_canonical.specs.Target.{is_unreadable}
 use Rattle.s3_signing.specs.Authorization.{Parts, authorization_of}
+use Rattle.s3_signing.specs.Groups.{authorization_faults, line_faults, scope_faults, signature_faults, target_faults, word_faults}
 use Rattle.s3_signing.specs.Signature.{signature_of}
 use Rattle.s3_signing.specs.Signed.{Knows, IsReady, IsSigned, IsVerifiedWith, proved_by_signer}
 use Rattle.s3_signing.specs.Signing.{authorization_text, signed_by}
-use Rattle.s3_signing.specs.Verdict.{authorization_faults, checked_stamp, faults_of_words, first_of_lines, head_verdict, is_near, line_faults, only, proved_by, scope_faults, sent_authorization, sent_stamp, sent_word, signature_faults, target_faults, word_faults, word_lines}
+use Rattle.s3_signing.specs.Verdict.{checked_stamp, head_verdict, is_near, is_presigned, is_word, only, proved_by, sent_authorization, sent_parts, sent_stamp, sent_word, word_lines}
 use Rattle.s3_signing.proofs.EnoughLemmas.{signs_covered, signs_enough_for}
 use Rattle.s3_signing.proofs.OtherLineLemmas.{signature_same, values_of_other}
 use Rattle.s3_signing.proofs.ReadBackLemmas.{reads_back}
-use Rattle.s3_signing.proofs.VerdictLemmas.{fault_later, judged_late}
+use Rattle.s3_signing.proofs.FaultLemmas.{fault_later}
+use Rattle.s3_signing.proofs.VerdictLemmas.{judged_late}
+use Rattle.s3_signing.proofs.WordLemmas.{one_word}
 
 -- what the authorization of a signer says
 abbrev signer_parts : List ℕ → List ℕ → List ℕ → HeadParts → List ℕ → Parts
@@ -87,6 +92,11 @@ stamp_checked (Some text) stamp is = elim (cases_Bool (is_stamp text)) [
 stamp_sent : (head : HeadParts) (stamp : List ℕ) → sent_stamp head ≡ Some stamp → is_stamp stamp ≡ true
 stamp_sent head stamp is = stamp_checked (only (values_of (codes "x-amz-date") head)) stamp is
 
+-- one line has a value
+get_within : (words : List (List ℕ)) → length words ≡ 1 → (word : List ℕ) × (slice_get words 0 ≡ Some word)
+get_within [] one = absurd (omega arith)
+get_within (word ∷ words) one = (word, refl)
+
 -- ---- the lines of the signed head
 
 module _ (head signed : HeadParts) (value : List ℕ) (carries : IsSigned head value signed) where
@@ -99,7 +109,7 @@ module _ (head signed : HeadParts) (value : List ℕ) (carries : IsSigned head v
   words_same = values_of_other head signed carries.lines (codes "x-amz-content-sha256") refl
 
   word_same : sent_word signed ≡ sent_word head
-  word_same = ap first_of_lines words_same
+  word_same = ap (λ words. unwrap_or (slice_get words 0) []) words_same
 
   own_sent : is_sent (codes "authorization") signed ≡ true
   own_sent = sym (sent_is (codes "authorization") signed) ∙ ap (λ values. is_some (slice_get values 0)) carries.own
@@ -107,17 +117,27 @@ module _ (head signed : HeadParts) (value : List ℕ) (carries : IsSigned head v
   own_parts : (parts : Parts) → authorization_of value ≡ Some parts → sent_authorization signed ≡ Some parts
   own_parts parts is = ap (λ values. option_and_then authorization_of (only values)) carries.own ∙ is
 
+  own_sent_parts : (parts : Parts) → authorization_of value ≡ Some parts → sent_parts signed ≡ parts
+  own_sent_parts parts is =
+      ap (λ sent. unwrap_or sent (record { id = []; date = []; region = []; service = []; signed = []; signature = [] })) (own_parts parts is)
+
   -- ---- no fault is left
 
-  no_target_fault : first_fault (target_faults head) ≡ None → first_fault (target_faults signed) ≡ None
-  no_target_fault none = rw carries.target none
+  no_target_fault : is_unreadable head.target ≡ false → is_presigned head.target ≡ false → first_fault (target_faults signed) ≡ None
+  no_target_fault readable unsigned =
+      ap (λ target. first_fault ((is_unreadable target, InvalidURI) ∷ (is_presigned target, AccessDenied) ∷ [])) carries.target
+      ∙ rw (readable, unsigned) refl
 
   no_line_fault : (parts : Parts) (stamp : List ℕ) → authorization_of value ≡ Some parts → sent_stamp head ≡ Some stamp → first_fault (line_faults signed) ≡ None
   no_line_fault parts stamp is stamped =
       rw (own_sent, own_parts parts is, stamp_same, stamped) refl
 
-  no_word_fault : first_fault (word_faults head) ≡ None → first_fault (word_faults signed) ≡ None
-  no_word_fault none = ap (λ words. first_fault (faults_of_words words)) words_same ∙ none
+  no_word_fault : length (word_lines head) ≡ 1 → is_word (sent_word head) ≡ true → first_fault (word_faults signed) ≡ None
+  no_word_fault one sound =
+      let one_signed : length (word_lines signed) ≡ 1 = ap (λ (words : List (List ℕ)). length words) words_same ∙ one in
+      let sound_signed : is_word (sent_word signed) ≡ true = ap is_word word_same ∙ sound in
+      let first = get_within (word_lines signed) one_signed in
+      one_word signed first.0 first.1 one_signed ∙ rw sound_signed refl
 
   module _ (settings : Settings) (id secret region stamp : List ℕ) (knows : Knows settings id secret region) (ready : IsReady head stamp) where
     -- the signature is the same over either head
@@ -143,7 +163,7 @@ module _ (head signed : HeadParts) (value : List ℕ) (carries : IsSigned head v
         let parts = signer_parts id secret region head stamp in
         let signature = signature_faults settings signed parts stamp in
         fault_later (scope_faults settings moment parts stamp) (word_faults signed ++ signature) (no_scope_fault moment near)
-        ∙ fault_later (word_faults signed) signature (no_word_fault ready.word)
+        ∙ fault_later (word_faults signed) signature (no_word_fault ready.one_word ready.word)
         ∙ no_signature_fault
 
     proved_same : proved_by settings signed (signer_parts id secret region head stamp) stamp ≡ proved_by_signer secret region head stamp
@@ -153,8 +173,11 @@ module _ (head signed : HeadParts) (value : List ℕ) (carries : IsSigned head v
     signed_is_verified : (moment : ℕ) → is_near (stamp_seconds stamp) moment ≡ true → authorization_of value ≡ Some (signer_parts id secret region head stamp) → head_verdict settings signed moment ≡ Ok (proved_by_signer secret region head stamp)
     signed_is_verified moment near is =
         let parts = signer_parts id secret region head stamp in
-        let early = fault_later (target_faults signed) (line_faults signed) (no_target_fault ready.target) ∙ no_line_fault parts stamp is ready.stamped in
-        judged_late settings signed moment parts stamp early (own_parts parts is) (stamp_same ∙ ready.stamped)
+        judged_late settings signed moment
+        (no_target_fault ready.readable ready.unsigned_query)
+        (no_line_fault parts stamp is ready.stamped)
+        parts stamp (own_sent_parts parts is)
+        (ap (λ text. unwrap_or text []) (stamp_same ∙ ready.stamped))
         ∙ ap (λ fault. unless_refused fault (proved_by settings signed parts stamp)) (no_late_fault moment near)
         ∙ ap Ok proved_same
 

@@ -1,6 +1,7 @@
 pub mod Authorization
 pub mod Signature
 pub mod Verdict
+pub mod Groups
 pub mod Signing
 pub mod Signed
 pub mod Word

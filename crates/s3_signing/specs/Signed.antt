@@ -1,15 +1,15 @@
 -- What a head that carries its signer's authorization proves to a server (AWS Signature Version 4,
 -- "Add the signature to the request").
-use Rattle.std.specs.Prelude.{◌≡◌, ℕ, true, not, List, [], ◌∷◌, filter, codes, Some, None, Ok}
+use Rattle.std.specs.Prelude.{◌≡◌, ℕ, true, false, not, List, [], ◌∷◌, filter, length, codes, Some, Ok}
 use Rattle.std.specs.List.{list_all}
 use Rattle.httparse.specs.Grammar.{is_token}
-use Rattle.s3_terms.specs.Fault.{first_fault}
 use Rattle.s3_terms.specs.Settings.{Settings, are_settings, secret_of}
 use Rattle.s3_terms.specs.Moment.{stamp_seconds, stamp_date}
 use Rattle.s3_http_heads.specs.Parts.{HeadParts, is_named, is_sent, values_of}
+use Rattle.s3_canonical.specs.Target.{is_unreadable}
 use Rattle.s3_signing.specs.Signature.{signing_key, signature_of}
 use Rattle.s3_signing.specs.Signing.{signed_by}
-use Rattle.s3_signing.specs.Verdict.{Proved, is_near, sent_names, sent_stamp, sent_word, target_faults, word_faults, head_verdict}
+use Rattle.s3_signing.specs.Verdict.{Proved, is_near, is_presigned, is_word, sent_names, sent_stamp, sent_word, word_lines, head_verdict}
 
 -- a server of these settings has this access key, and stands in this region
 pub record Knows (settings : Settings) (id secret region : List ℕ) : Type 0 where
@@ -17,13 +17,15 @@ pub record Knows (settings : Settings) (id secret region : List ℕ) : Type 0 wh
   pub key : secret_of settings.keys id ≡ Some secret
   pub place : settings.region ≡ region
 
--- all but the signature's own line is as it has to be: names of the grammar, a target and a word for
--- the body without a fault, one line with this stamp, and a host
+-- all but the signature's own line is as it has to be: names of the grammar, a target that can be read
+-- and carries no signature, one line with this stamp, one with a word for the body, and a host
 pub record IsReady (head : HeadParts) (stamp : List ℕ) : Type 0 where
   pub names : list_all is_token (sent_names head) ≡ true
-  pub target : first_fault (target_faults head) ≡ None
+  pub readable : is_unreadable head.target ≡ false
+  pub unsigned_query : is_presigned head.target ≡ false
   pub stamped : sent_stamp head ≡ Some stamp
-  pub word : first_fault (word_faults head) ≡ None
+  pub one_word : length (word_lines head) ≡ 1
+  pub word : is_word (sent_word head) ≡ true
   pub host : is_sent (codes "host") head ≡ true
 
 -- the header lines but those of Authorization

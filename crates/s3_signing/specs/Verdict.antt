@@ -1,26 +1,27 @@
 -- Whether a head is verified, and otherwise which fault comes first (AWS Signature Version 4; Amazon
 -- S3 API Reference, "Authenticating requests (AWS Signature Version 4)" and "Error responses").
-use Rattle.std.specs.Prelude.{◌≡◌, ℕ, ◌+◌, Bool, not, ◌&&◌, ◌||◌, nat_le, nat_eq, if◌then◌else◌, List, [], ◌∷◌, ◌++◌, map, length, codes, is_none, Option, Some, None, option_and_then, unwrap_or, Result, Ok, Err}
+use Rattle.std.specs.Prelude.{◌≡◌, ℕ, ◌+◌, ◌≤◌, Bool, true, not, ◌&&◌, ◌||◌, nat_le, nat_eq, if◌then◌else◌, List, [], ◌∷◌, ◌++◌, map, length, codes, is_none, Option, Some, None, option_and_then, unwrap_or, Result, Ok}
 use Rattle.std.specs.List.{list_any, list_all, starts_with}
 use Rattle.std.specs.Str.{bytes_eq, str_to_ascii_lowercase}
 use Rattle.s3_terms.specs.Fault.{first_fault, unless_refused}
-use Rattle.s3_terms.specs.Settings.{Settings, secret_of}
-use Rattle.s3_terms.specs.Moment.{is_stamp, stamp_seconds, stamp_date}
+use Rattle.s3_terms.specs.Settings.{Settings, are_settings, secret_of}
+use Rattle.s3_terms.specs.Moment.{last_moment, is_stamp, stamp_seconds, stamp_date}
 use Rattle.s3_terms.specs.declared.code.Code.{Code}
 use Rattle.s3_terms.specs.declared.code.Code.TheVariants.{InvalidURI, AccessDenied, AuthorizationHeaderMalformed, InvalidAccessKeyId, RequestTimeTooSkewed, InvalidRequest, InvalidArgument, NotImplemented, SignatureDoesNotMatch}
-use Rattle.s3_http_heads.specs.Parts.{HeadParts, values_of, is_sent}
+use Rattle.s3_http_heads.specs.Parts.{HeadParts, values_of, first_value, is_sent}
 use Rattle.s3_canonical.specs.Target.{is_unreadable, parameters_of}
 use Rattle.s3_canonical.specs.Request.{signed_names}
 use Rattle.s3_signing.specs.Authorization.{authorization_of, is_hex_digest}
 use Rattle.s3_signing.specs.Authorization as authorization
 use Rattle.s3_signing.specs.Signature.{signing_key, signature_of}
 
--- how far a stamp and the moment of its message may lie apart, in seconds
-abbrev pub skew_limit : ℕ
-skew_limit = 900
+-- the parameter is the signature of a presigned request
+abbrev pub is_query_signature : List ℕ × List ℕ → Bool
+is_query_signature parameter = bytes_eq parameter.0 (codes "X-Amz-Signature")
 
-abbrev pub is_near : ℕ → ℕ → Bool
-is_near stamped moment = nat_le stamped (moment + skew_limit) && nat_le moment (stamped + skew_limit)
+-- the query has such a parameter: a form that is not accepted
+abbrev pub is_presigned : List ℕ → Bool
+is_presigned target = list_any is_query_signature (parameters_of target)
 
 -- the one value of a header that was sent once
 abbrev pub only : List (List ℕ) → Option (List ℕ)
@@ -38,6 +39,18 @@ checked_stamp text = if is_stamp text then Some text else None
 
 abbrev pub sent_stamp : HeadParts → Option (List ℕ)
 sent_stamp head = option_and_then checked_stamp (only (values_of (codes "x-amz-date") head))
+
+-- the scope of the authorization is another one than the server's and the stamp's
+abbrev pub is_other_scope : Settings → authorization.Parts → List ℕ → Bool
+is_other_scope settings a stamp =
+    not (bytes_eq a.service (codes "s3") && bytes_eq a.region settings.region && bytes_eq a.date (stamp_date stamp))
+
+-- how far a stamp and the moment of its message may lie apart, in seconds
+abbrev pub skew_limit : ℕ
+skew_limit = 900
+
+abbrev pub is_near : ℕ → ℕ → Bool
+is_near stamped moment = nat_le stamped (moment + skew_limit) && nat_le moment (stamped + skew_limit)
 
 -- the lines that say what stands for the body
 abbrev pub word_lines : HeadParts → List (List ℕ)
@@ -77,6 +90,55 @@ signs_amz head signed = list_all (covers signed) (sent_names head)
 abbrev pub signs_enough : HeadParts → List ℕ → Bool
 signs_enough head signed = signs signed (codes "host") && signs_amz head signed
 
+-- the secret of the authorization's id
+abbrev pub secret_behind : Settings → authorization.Parts → List ℕ
+secret_behind settings a = unwrap_or (secret_of settings.keys a.id) []
+
+-- what is judged of a head: the parts of its authorization, its stamp, and the word of its first word
+-- line; they are empty where the head lacks them, which the table below refuses before it looks at them
+abbrev pub sent_parts : HeadParts → authorization.Parts
+sent_parts head =
+    unwrap_or (sent_authorization head) (record { id = []; date = []; region = []; service = []; signed = []; signature = [] })
+
+abbrev pub stamp_of : HeadParts → List ℕ
+stamp_of head = unwrap_or (sent_stamp head) []
+
+abbrev pub sent_word : HeadParts → List ℕ
+sent_word head = unwrap_or (first_value (codes "x-amz-content-sha256") head) []
+
+-- all that can be wrong with a head, and its code, in their order: what shows before a signature is
+-- computed
+unfoldable pub faults_before_signature : Settings → HeadParts → ℕ → List (Bool × Code)
+faults_before_signature settings head moment =
+    let a = sent_parts head in
+    let stamp = stamp_of head in
+    let word = sent_word head in
+    (is_unreadable head.target, InvalidURI)
+    ∷ (is_presigned head.target, AccessDenied)
+    ∷ (not (is_sent (codes "authorization") head), AccessDenied)
+    ∷ (is_none (sent_authorization head), AuthorizationHeaderMalformed)
+    ∷ (is_none (sent_stamp head), AccessDenied)
+    ∷ (is_other_scope settings a stamp, AuthorizationHeaderMalformed)
+    ∷ (is_none (secret_of settings.keys a.id), InvalidAccessKeyId)
+    ∷ (not (is_near (stamp_seconds stamp) moment), RequestTimeTooSkewed)
+    ∷ (not (is_sent (codes "x-amz-content-sha256") head), InvalidRequest)
+    ∷ (nat_le 2 (length (word_lines head)), InvalidArgument)
+    ∷ (not (is_word word) && starts_with nat_eq word (codes "STREAMING-"), NotImplemented)
+    ∷ (not (is_word word), InvalidArgument)
+    ∷ (not (signs_enough head a.signed), AccessDenied)
+    ∷ []
+
+-- the signature that was sent is not the formula
+abbrev pub is_other_signature : Settings → HeadParts → authorization.Parts → List ℕ → Bool
+is_other_signature settings head a stamp =
+    not (bytes_eq a.signature (signature_of (secret_behind settings a) stamp settings.region head a.signed (sent_word head)))
+
+-- and the signature itself at last
+unfoldable pub head_faults : Settings → HeadParts → ℕ → List (Bool × Code)
+head_faults settings head moment =
+    faults_before_signature settings head moment
+    ++ (is_other_signature settings head (sent_parts head) (stamp_of head), SignatureDoesNotMatch) ∷ []
+
 -- what a verified head has proved: its stamp, its scope's region, the key of the day, the signature
 -- that was sent, and the word that stands for its body
 pub record Proved : Type 0 where
@@ -85,83 +147,6 @@ pub record Proved : Type 0 where
   pub key : List ℕ
   pub seed : List ℕ
   pub word : List ℕ
-
--- the parameter is the signature of a presigned request
-abbrev pub is_query_signature : List ℕ × List ℕ → Bool
-is_query_signature parameter = bytes_eq parameter.0 (codes "X-Amz-Signature")
-
--- the query has such a parameter: a form that is not accepted
-abbrev pub is_presigned : List ℕ → Bool
-is_presigned target = list_any is_query_signature (parameters_of target)
-
--- the faults of the target
-abbrev pub target_faults : HeadParts → List (Bool × Code)
-target_faults head =
-    (is_unreadable head.target, InvalidURI)
-    ∷ (is_presigned head.target, AccessDenied)
-    ∷ []
-
--- the faults of the lines that the signature needs: its own, and its stamp's
-abbrev pub line_faults : HeadParts → List (Bool × Code)
-line_faults head =
-    (not (is_sent (codes "authorization") head), AccessDenied)
-    ∷ (is_none (sent_authorization head), AuthorizationHeaderMalformed)
-    ∷ (is_none (sent_stamp head), AccessDenied)
-    ∷ []
-
--- the scope of the authorization is another one than the server's and the stamp's
-abbrev pub is_other_scope : Settings → authorization.Parts → List ℕ → Bool
-is_other_scope settings a stamp =
-    not (bytes_eq a.service (codes "s3") && bytes_eq a.region settings.region && bytes_eq a.date (stamp_date stamp))
-
--- the faults of its scope, its id and its time
-abbrev pub scope_faults : Settings → ℕ → authorization.Parts → List ℕ → List (Bool × Code)
-scope_faults settings moment a stamp =
-    (is_other_scope settings a stamp, AuthorizationHeaderMalformed)
-    ∷ (is_none (secret_of settings.keys a.id), InvalidAccessKeyId)
-    ∷ (not (is_near (stamp_seconds stamp) moment), RequestTimeTooSkewed)
-    ∷ []
-
-abbrev pub first_of_lines : List (List ℕ) → List ℕ
-first_of_lines [] = []
-first_of_lines (value ∷ others) = value
-
--- the word that stands for the body
-abbrev pub sent_word : HeadParts → List ℕ
-sent_word head = first_of_lines (word_lines head)
-
--- the faults of such a word: another way to send chunks, or no such word
-abbrev pub form_faults : List ℕ → List (Bool × Code)
-form_faults word =
-    (not (is_word word) && starts_with nat_eq word (codes "STREAMING-"), NotImplemented)
-    ∷ (not (is_word word), InvalidArgument)
-    ∷ []
-
--- the faults of the lines that have it: there has to be one
-abbrev pub faults_of_words : List (List ℕ) → List (Bool × Code)
-faults_of_words words =
-    (nat_le (length words) 0, InvalidRequest)
-    ∷ (nat_le 2 (length words), InvalidArgument)
-    ∷ form_faults (first_of_lines words)
-
-abbrev pub word_faults : HeadParts → List (Bool × Code)
-word_faults head = faults_of_words (word_lines head)
-
--- the secret of the authorization's id
-abbrev pub secret_behind : Settings → authorization.Parts → List ℕ
-secret_behind settings a = unwrap_or (secret_of settings.keys a.id) []
-
--- the faults of the signature: it has to cover enough, and to be the formula
-abbrev pub signature_faults : Settings → HeadParts → authorization.Parts → List ℕ → List (Bool × Code)
-signature_faults settings head a stamp =
-    (not (signs_enough head a.signed), AccessDenied)
-    ∷ (not (bytes_eq a.signature (signature_of (secret_behind settings a) stamp settings.region head a.signed (sent_word head))), SignatureDoesNotMatch)
-    ∷ []
-
--- all that can be wrong with an authorization and its stamp
-abbrev pub authorization_faults : Settings → HeadParts → ℕ → authorization.Parts → List ℕ → List (Bool × Code)
-authorization_faults settings head moment a stamp =
-    scope_faults settings moment a stamp ++ word_faults head ++ signature_faults settings head a stamp
 
 -- what the head has proved, if nothing is wrong with it
 abbrev pub proved_by : Settings → HeadParts → authorization.Parts → List ℕ → Proved
@@ -173,27 +158,16 @@ proved_by settings head a stamp = record {
   word = sent_word head;
 }
 
--- what the authorization and the stamp of a head prove, or their first fault
-abbrev pub authorized : Settings → HeadParts → ℕ → Option authorization.Parts → Option (List ℕ) → Result Proved Code
-authorized settings head moment (Some a) (Some stamp) =
-    unless_refused (first_fault (authorization_faults settings head moment a stamp)) (proved_by settings head a stamp)
-authorized settings head moment (Some a) None = Err AccessDenied
-authorized settings head moment None stamp = Err AuthorizationHeaderMalformed
-
-abbrev pub unless_first : Option Code → Result Proved Code → Result Proved Code
-unless_first (Some code) verdict = Err code
-unless_first None verdict = verdict
-
--- what the head has proved at this moment to a server of these settings, or the first fault: those of
--- the target, of its lines, of the scope, of the word, of the signature
+-- what the head has proved at this moment to a server of these settings, or the first fault
 unfoldable pub head_verdict : Settings → HeadParts → ℕ → Result Proved Code
 head_verdict settings head moment =
-    unless_first (first_fault (target_faults head ++ line_faults head))
-    (authorized settings head moment (sent_authorization head) (sent_stamp head))
+    unless_refused (first_fault (head_faults settings head moment)) (proved_by settings head (sent_parts head) (stamp_of head))
 
 -- some head has proved this to some server at some moment
 pub record WasVerified (proved : Proved) : Type 0 where
   pub settings : Settings
   pub head : HeadParts
   pub moment : ℕ
+  pub limits : are_settings settings ≡ true
+  pub within : moment ≤ last_moment
   pub verdict : head_verdict settings head moment ≡ Ok proved

@@ -4,7 +4,8 @@ ghost use Rattle.std.specs.Prelude.{◌≡◌, codes, None, Some, MatchResult, i
 ghost use Rattle.std.specs.Option.{ok_or, option_copied};
 ghost use Rattle.s3_terms.specs.Fault.{first_fault};
 ghost use Rattle.s3_http_heads.specs.Parts.{is_sent, values_of};
-ghost use Rattle.s3_signing.specs.Verdict.{form_faults, line_faults, only, sent_authorization, sent_stamp, sent_word, word_faults};
+ghost use Rattle.s3_signing.specs.Groups.{form_faults, line_faults, word_faults};
+ghost use Rattle.s3_signing.specs.Verdict.{only, sent_authorization, sent_parts, sent_stamp, sent_word, stamp_of};
 ghost use Rattle.s3_signing.specs.Word.{word_text};
 
 use crate::authorization::Authorization;
@@ -53,7 +54,7 @@ fn sent_stamp(head: &Head) -> Result<Stamp, Code>
 pub(crate) fn sent_lines(head: &Head) -> Result<(Authorization<'_>, Stamp), Code>
     ensures { MatchResult result
         (λ sent. (first_fault (line_faults head.now) ≡ None)
-        × (sent_authorization head.now ≡ Some sent.0) × (sent_stamp head.now ≡ Some sent.1))
+        × (sent_parts head.now ≡ sent.0) × (stamp_of head.now ≡ sent.1))
         (λ e. first_fault (line_faults head.now) ≡ Some e) }
 {
     let authorization = sent_authorization(head)?;

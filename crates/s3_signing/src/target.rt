@@ -6,7 +6,8 @@ ghost use Rattle.std.specs.List.{list_any, slice_split};
 ghost use Rattle.percent_encoding.specs.Percent.{percent_decode};
 ghost use Rattle.s3_canonical.specs.Target.{pair_of};
 ghost use Rattle.s3_terms.specs.Fault.{first_fault};
-ghost use Rattle.s3_signing.specs.Verdict.{is_query_signature, target_faults};
+ghost use Rattle.s3_signing.specs.Verdict.{is_query_signature};
+ghost use Rattle.s3_signing.specs.Groups.{target_faults};
 
 use crate::cut::cut_once;
 use percent_encoding::percent_decode;

@@ -1,13 +1,14 @@
 //! Whether a head is verified.
 
-ghost use Rattle.std.specs.Prelude.{◌≡◌, ◌≤◌, ◌⊎◌, not, length, None, Some, MatchResult, IfOk, IfErr};
-ghost use Rattle.s3_terms.specs.Fault.{first_fault};
-ghost use Rattle.s3_terms.specs.Moment.{stamp_date};
+ghost use Rattle.std.specs.Prelude.{◌≡◌, ◌≤◌, ◌⊎◌, true, not, length, None, Some, Err, MatchResult, IfOk, IfErr};
+ghost use Rattle.s3_terms.specs.Fault.{Follows, first_fault};
+ghost use Rattle.s3_terms.specs.Moment.{last_moment, stamp_date};
 ghost use Rattle.hex.specs.Hex.{encode_lower};
 ghost use Rattle.s3_hmac.specs.Hmac.{hmac};
 ghost use Rattle.s3_canonical.specs.Request.{canonical_request};
+ghost use Rattle.s3_signing.specs.Groups.{authorization_faults, cover_faults, scope_faults, signature_faults, unsigned_faults};
 ghost use Rattle.s3_signing.specs.Signature.{signing_key, string_to_sign};
-ghost use Rattle.s3_signing.specs.Verdict.{WasVerified, authorization_faults, head_verdict, is_near, is_other_scope, scope_faults, secret_behind, sent_word, signature_faults};
+ghost use Rattle.s3_signing.specs.Verdict.{WasVerified, faults_before_signature, head_verdict, is_near, is_other_scope, is_word, secret_behind, sent_word};
 ghost use Rattle.s3_signing.specs.Word.{word_text};
 
 use crate::authorization::Authorization;
@@ -65,7 +66,10 @@ impl Model for Verified {
 impl Verified {
     /// The stamp of the head.
     pub fn stamp(&self) -> Stamp
-        ensures { result ≡ self.now.stamp }
+        ensures value { result ≡ self.now.stamp }
+
+        // The value as a whole is what some head has proved: nothing else makes one.
+        ensures kept { ∥ WasVerified self.now ∥₁ }
     {
         self.stamp
     }
@@ -74,13 +78,15 @@ impl Verified {
     pub fn region(&self) -> &[u8]
         ensures value { result.now ≡ self.now.region }
         ensures bound { length result.now ≤ REGION_MAX }
+        ensures kept { ∥ WasVerified self.now ∥₁ }
     {
         self.region.as_bytes()
     }
 
     /// The key that signs what the head's owner sends on the stamp's day.
     pub fn key(&self) -> [u8; 32]
-        ensures { result ≡ self.now.key }
+        ensures value { result ≡ self.now.key }
+        ensures kept { ∥ WasVerified self.now ∥₁ }
     {
         self.key
     }
@@ -88,16 +94,17 @@ impl Verified {
     /// The signature that was sent, in lower-case hexadecimal.
     pub fn seed(&self) -> [u8; 64]
         ensures value { result ≡ self.now.seed }
-
-        // The value as a whole is what some head has proved: nothing else makes one.
         ensures kept { ∥ WasVerified self.now ∥₁ }
     {
         self.seed
     }
 
     /// The word that stands for the body.
+    #[tactic(auto, using(crate::proofs::VerdictLemmas::is_word_kept))]
     pub fn word(&self) -> Word
-        ensures { word_text result ≡ self.now.word }
+        ensures value { word_text result ≡ self.now.word }
+        ensures form { is_word self.now.word ≡ true }
+        ensures kept { ∥ WasVerified self.now ∥₁ }
     {
         self.word
     }
@@ -114,7 +121,8 @@ fn is_own_scope(config: &Config, sent: &Authorization, stamp: &Stamp) -> bool
 
 // Whether the two moments lie near enough.
 fn is_near(stamped: Moment, moment: Moment) -> bool
-    ensures { result ≡ is_near stamped moment }
+    ensures value { result ≡ is_near stamped moment }
+    ensures within { moment ≤ last_moment }
 {
     let stamped = stamped.seconds();
     let moment = moment.seconds();
@@ -130,7 +138,7 @@ fn secret_of<'a>(
 ) -> Result<&'a [u8], Code>
     ensures { MatchResult result
         (λ secret. (first_fault (scope_faults config.now moment sent.now stamp.now) ≡ None)
-        × (secret.now ≡ secret_behind config.now sent.now))
+        × (secret.now ≡ secret_behind config.now sent.now) × (moment ≤ last_moment))
         (λ e. first_fault (scope_faults config.now moment sent.now stamp.now) ≡ Some e) }
 {
     if !is_own_scope(config, sent, stamp) {
@@ -181,7 +189,7 @@ fn key_of(
     ensures { MatchResult result
         (λ key. (first_fault (signature_faults config.now head.now sent.now stamp.now) ≡ None)
         × (key ≡ signing_key (secret_behind config.now sent.now) (stamp_date stamp.now) config.now.region))
-        (λ e. (e ≡ Code.InternalError)
+        (λ e. ((e ≡ Code.InternalError) × (first_fault (cover_faults head.now sent.now) ≡ None))
         ⊎ (first_fault (signature_faults config.now head.now sent.now stamp.now) ≡ Some e)) }
 {
     if !signs_enough(head, sent.signed()) {
@@ -207,8 +215,8 @@ fn judged(
     ensures { MatchResult result
         (λ p. (first_fault (authorization_faults config.now head.now moment sent.now stamp.now) ≡ None)
         × (p.0 ≡ signing_key (secret_behind config.now sent.now) (stamp_date stamp.now) config.now.region)
-        × (word_text p.1 ≡ sent_word head.now))
-        (λ e. (e ≡ Code.InternalError)
+        × (word_text p.1 ≡ sent_word head.now) × (moment ≤ last_moment))
+        (λ e. ((e ≡ Code.InternalError) × (first_fault (unsigned_faults config.now head.now moment sent.now stamp.now) ≡ None))
         ⊎ (first_fault (authorization_faults config.now head.now moment sent.now stamp.now) ≡ Some e)) }
 {
     let secret = secret_of(config, moment, sent, stamp)?;
@@ -223,8 +231,8 @@ fn judged(
 /// this order, and the first fault is the refusal.
 ///
 /// Takes memory for the canonical request and gives it back, and time by the length of the head and by
-/// the number of signed names times that of the header lines, among which each is looked up. The signatures are compared whole, so that the
-/// time does not tell where they differ; that is not proved.
+/// the number of signed names times that of the header lines, among which each is looked up. The
+/// signatures are compared whole, so that the time does not tell where they differ; that is not proved.
 ///
 /// # Errors
 ///
@@ -238,9 +246,11 @@ pub fn verify_head(
     head: &Head,
     moment: Moment,
 ) -> Result<Verified, Code>
-    ensures verified { IfOk result (λ v. head_verdict config.now head.now moment ≡ Ok v) }
-    ensures refused { IfErr result
-        (λ e. (e ≡ Code.InternalError) ⊎ (head_verdict config.now head.now moment ≡ Err e)) }
+    ensures verdict { Follows result (head_verdict config.now head.now moment) }
+
+    // Memory is wanted for the signature alone, once nothing else is wrong.
+    ensures memory { (result ≡ Err Code.InternalError)
+        → first_fault (faults_before_signature config.now head.now moment) ≡ None }
 {
     check_target(head)?;
     let (sent, stamp) = sent_lines(head)?;
