@@ -1,0 +1,162 @@
+-- The bytes of the values that a signer adds.
+use Rattle.std.proofs.Common.{◌≡◌, ℕ, zero, suc, ◌+◌, ◌/◌, ◌%◌, ◌*◌, ◌^◌, ◌<◌, ◌≤◌, Bool, true, not, ◌&&◌, List, [], ◌∷◌, ◌++◌, length, take, drop, get_or, refl, sym, ap, ◌∙◌, arith, ⊎_elim}
+use Rattle.std.specs.Prelude.{◌==◌, nat_lt, nat_le, slice_index, slice_range}
+use Rattle.std.specs.Int.{to_be_bytes, w32}
+use Rattle.std.specs.Char.{is_ascii_digit}
+use Rattle.std.specs.Fmt.{decimal}
+use Rattle.std.specs.List.{list_all}
+use Rattle.std.proofs.lemmas.Bool.{and_parts, and_from, or_cases, or_right, agree_below_at, eq-eqb, eqb-true, leb-true, le-leb, ltb-true, lt-ltb, ne_eqb}
+use Rattle.std.proofs.lemmas.Fmt.{decimal_by_steps}
+use Rattle.std.proofs.lemmas.List.{drop_all, drop_more, drop-drop, take-append-drop}
+use Rattle.std.proofs.lemmas.List.Folds.{list_all-append}
+use Rattle.hex.specs.Hex.{encode_with, encode_lower, lower_digits}
+use Rattle.hex.proofs.HexLemmas.{length-encode_with}
+use Rattle.sha2.specs.Sha256.{sha256, digest_bytes}
+use Rattle.sha2.proofs.Facts256.{length-sha256}
+use Rattle.httparse.specs.Grammar.{is_value_byte}
+use Rattle.s3_terms.specs.Names.{is_lower_hex}
+use Rattle.s3_signing.specs.Authorization.{is_hex_digest}
+use Rattle.s3_http_heads.specs.Parts.{HeadParts}
+use Rattle.s3_signing.specs.Signature.{signature_of}
+use Rattle.s3_signing.proofs.DigestLemmas.{hmac_text}
+use Rattle.s3_signing.proofs.OrderLemmas.{all_weaker}
+use Rattle.s3_terms.specs.Moment.{is_stamp, is_stamp_date, is_stamp_form, is_stamp_time}
+
+-- ---- digits
+
+abbrev is_byte : ℕ → Bool
+is_byte b = nat_lt b 256
+
+below_256 : (n : ℕ) → is_byte (n % 256) ≡ true
+below_256 n = lt-ltb (n % 256) 256 (omega arith)
+
+word_bytes : (n : ℕ) → list_all is_byte (to_be_bytes w32 n) ≡ true
+word_bytes n =
+    and_from _ _ (below_256 (n / 256 ^ 3))
+    (and_from _ _ (below_256 (n / 256 ^ 2))
+    (and_from _ _ (below_256 (n / 256 ^ 1)) (and_from _ _ (below_256 n) refl)))
+
+digest_all : (h : List ℕ) (n : ℕ) → list_all is_byte (digest_bytes h n) ≡ true
+unfolding digest_bytes
+digest_all h zero = refl
+digest_all h (suc n) =
+    list_all-append is_byte (digest_bytes h n) (to_be_bytes w32 (slice_index h n))
+    ∙ and_from _ _ (digest_all h n) (word_bytes (slice_index h n))
+
+sha256_all : (message : List ℕ) → list_all is_byte (sha256 message) ≡ true
+unfolding sha256
+sha256_all message = digest_all _ 8
+
+digit_lower : (n : ℕ) → n < 16 → is_lower_hex (slice_index lower_digits n) ≡ true
+digit_lower n below = agree_below_at (λ i. is_lower_hex (slice_index lower_digits i)) (λ i. true) 16 n refl below
+
+encoded_all : (bytes : List ℕ) → list_all is_byte bytes ≡ true → list_all is_lower_hex (encode_lower bytes) ≡ true
+unfolding encode_with
+encoded_all [] all = refl
+encoded_all (b ∷ bytes) all =
+    let both = and_parts (is_byte b) (list_all is_byte bytes) all in
+    let below : b < 256 = ltb-true b 256 both.0 in
+    and_from _ _ (digit_lower (b / 16) (omega arith))
+    (and_from _ _ (digit_lower (b % 16) (omega arith)) (encoded_all bytes both.1))
+
+-- the text of a hash is lower-case hexadecimal digits
+pub hash_digits : (body : List ℕ) → list_all is_lower_hex (encode_lower (sha256 body)) ≡ true
+hash_digits body = encoded_all (sha256 body) (sha256_all body)
+
+-- 64 of them
+pub length-hash : (body : List ℕ) → length (encode_lower (sha256 body)) ≡ 64
+length-hash body = length-encode_with lower_digits (sha256 body) ∙ ap (λ n. 2 * n) (length-sha256 body)
+
+pub hash_digest : (body : List ℕ) → is_hex_digest (encode_lower (sha256 body)) ≡ true
+hash_digest body =
+    and_from _ _ (eq-eqb (length (encode_lower (sha256 body))) 64 (length-hash body)) (hash_digits body)
+
+digit_at : (n : ℕ) → n < 10 → is_ascii_digit (48 + n) ≡ true
+digit_at n below = and_from _ _ (le-leb 48 (48 + n) (omega arith)) (le-leb (48 + n) 57 (omega arith))
+
+-- a number in decimal is digits
+pub decimal_digits : (n : ℕ) → n < 2 ^ 64 → list_all is_ascii_digit (decimal n) ≡ true
+decimal_digits n fits =
+    decimal_by_steps (λ m ds. list_all is_ascii_digit ds ≡ true)
+    (λ m below. and_from _ _ (digit_at m below) refl)
+    (λ m ds big all. list_all-append is_ascii_digit ds ((48 + m % 10) ∷ []) ∙ and_from _ _ all (and_from _ _ (digit_at (m % 10) (omega arith)) refl))
+    n fits
+
+-- a signature is 64 lower-case hexadecimal digits
+pub signature_digest : (secret stamp region : List ℕ) (head : HeadParts) (signed word : List ℕ) → is_hex_digest (signature_of secret stamp region head signed word) ≡ true
+unfolding signature_of
+signature_digest secret stamp region head signed word = hmac_text _ _
+
+pub signature_digits : (secret stamp region : List ℕ) (head : HeadParts) (signed word : List ℕ) → (length (signature_of secret stamp region head signed word) ≡ 64) × (list_all is_lower_hex (signature_of secret stamp region head signed word) ≡ true)
+signature_digits secret stamp region head signed word =
+    let text = signature_of secret stamp region head signed word in
+    let both = and_parts (length text == 64) (list_all is_lower_hex text) (signature_digest secret stamp region head signed word) in
+    (eqb-true (length text) 64 both.0, both.1)
+
+-- ---- stamps
+
+-- a stamp has sixteen bytes
+pub length-stamp : (stamp : List ℕ) → is_stamp stamp ≡ true → length stamp ≡ 16
+unfolding is_stamp
+length-stamp stamp h =
+    let form = (and_parts (is_stamp_form stamp) (is_stamp_date stamp) (and_parts (is_stamp_form stamp && is_stamp_date stamp) (is_stamp_time stamp) h).0).0 in
+    let date = list_all is_ascii_digit (slice_range stamp 0 8) in
+    let time = list_all is_ascii_digit (slice_range stamp 9 15) in
+    let five = and_parts (length stamp == 16 && date && slice_index stamp 8 == 84 && time) (slice_index stamp 15 == 90) form in
+    let four = and_parts (length stamp == 16 && date && slice_index stamp 8 == 84) time five.0 in
+    let three = and_parts (length stamp == 16 && date) (slice_index stamp 8 == 84) four.0 in
+    eqb-true (length stamp) 16 (and_parts (length stamp == 16) date three.0).0
+
+-- a test that digits and the two letters pass is passed by all bytes of a stamp
+pub stamp_all : (q : ℕ → Bool) → ((b : ℕ) → is_ascii_digit b ≡ true → q b ≡ true) → q 84 ≡ true → q 90 ≡ true → (stamp : List ℕ) → is_stamp stamp ≡ true → list_all q stamp ≡ true
+unfolding is_stamp
+stamp_all q digit middle last stamp h =
+    let form = (and_parts (is_stamp_form stamp) (is_stamp_date stamp) (and_parts (is_stamp_form stamp && is_stamp_date stamp) (is_stamp_time stamp) h).0).0 in
+    let date = list_all is_ascii_digit (slice_range stamp 0 8) in
+    let time = list_all is_ascii_digit (slice_range stamp 9 15) in
+    let five = and_parts (length stamp == 16 && date && slice_index stamp 8 == 84 && time) (slice_index stamp 15 == 90) form in
+    let four = and_parts (length stamp == 16 && date && slice_index stamp 8 == 84) time five.0 in
+    let three = and_parts (length stamp == 16 && date) (slice_index stamp 8 == 84) four.0 in
+    let two = and_parts (length stamp == 16) date three.0 in
+    let size : length stamp ≡ 16 = eqb-true _ 16 two.0 in
+    let first : get_or stamp 8 0 ≡ 84 = eqb-true _ 84 three.1 in
+    let second : get_or stamp 15 0 ≡ 90 = eqb-true _ 90 five.1 in
+    let tail : drop 15 stamp ≡ get_or stamp 15 0 ∷ drop 16 stamp = drop_more stamp 15 0 (omega arith) in
+    let end : drop 16 stamp ≡ [] = drop_all 16 stamp (omega arith) in
+    let inner : take 6 (drop 9 stamp) ++ drop 15 stamp ≡ drop 9 stamp =
+    ap (λ r. take 6 (drop 9 stamp) ++ r) (sym (drop-drop 6 9 stamp)) ∙ take-append-drop 6 (drop 9 stamp) in
+    let mid : drop 8 stamp ≡ get_or stamp 8 0 ∷ drop 9 stamp = drop_more stamp 8 0 (omega arith) in
+    let last_part : list_all q (drop 15 stamp) ≡ true =
+    ap (list_all q) (tail ∙ ap (λ r. get_or stamp 15 0 ∷ r) end) ∙ and_from _ _ (ap q second ∙ last) refl in
+    let time_part : list_all q (drop 9 stamp) ≡ true =
+    ap (list_all q) (sym inner) ∙ list_all-append q (take 6 (drop 9 stamp)) (drop 15 stamp) ∙ and_from _ _ (all_weaker is_ascii_digit q digit (take 6 (drop 9 stamp)) four.1) last_part in
+    let date_part : list_all q (drop 8 stamp) ≡ true = ap (list_all q) mid ∙ and_from _ _ (ap q first ∙ middle) time_part in
+    ap (list_all q) (sym (take-append-drop 8 stamp)) ∙ list_all-append q (take 8 stamp) (drop 8 stamp) ∙ and_from _ _ (all_weaker is_ascii_digit q digit (take 8 stamp) two.1) date_part
+
+-- ---- values
+
+-- a visible byte of ASCII
+value_byte : (b : ℕ) → 32 ≤ b → b < 127 → is_value_byte b ≡ true
+value_byte b low high =
+    or_right _ _ (and_from _ _ (le-leb 32 b low) (ap not (ne_eqb b 127 (λ e. absurd (omega arith)))))
+
+digit_value_byte : (b : ℕ) → is_ascii_digit b ≡ true → is_value_byte b ≡ true
+digit_value_byte b digit =
+    let both = and_parts (nat_le 48 b) (nat_le b 57) digit in
+    value_byte b (omega (arith, leb-true 48 b both.0)) (omega (arith, leb-true b 57 both.1))
+
+pub hex_value_byte : (b : ℕ) → is_lower_hex b ≡ true → is_value_byte b ≡ true
+hex_value_byte b digit =
+    ⊎_elim
+    (λ decimal. digit_value_byte b decimal)
+    (λ letter. let both = and_parts (nat_le 97 b) (nat_le b 102) letter in value_byte b (omega (arith, leb-true 97 b both.0)) (omega (arith, leb-true b 102 both.1)))
+    (or_cases (is_ascii_digit b) (nat_le 97 b && nat_le b 102) digit)
+
+pub hash_value : (body : List ℕ) → list_all is_value_byte (encode_lower (sha256 body)) ≡ true
+hash_value body = all_weaker is_lower_hex is_value_byte hex_value_byte (encode_lower (sha256 body)) (hash_digits body)
+
+pub decimal_value : (n : ℕ) → n < 2 ^ 64 → list_all is_value_byte (decimal n) ≡ true
+decimal_value n fits = all_weaker is_ascii_digit is_value_byte digit_value_byte (decimal n) (decimal_digits n fits)
+
+pub stamp_value : (stamp : List ℕ) → is_stamp stamp ≡ true → list_all is_value_byte stamp ≡ true
+stamp_value stamp h = stamp_all is_value_byte digit_value_byte refl refl stamp h

@@ -1,0 +1,65 @@
+-- Lines, put in their places one after the other.
+use Rattle.std.proofs.Common.{◌≡◌, ℕ, ◌+◌, ◌-◌, ◌<◌, ◌≤◌, suc, Bool, true, false, not, List, [], ◌∷◌, ◌++◌, map, drop, get_or, length, refl, sym, ap, ◌∙◌, arith}
+use Rattle.std.specs.List.{insert, position_or_len}
+use Rattle.std.specs.declared.cmp.Ordering.{Ordering}
+use Rattle.std.specs.Ordering.{is_gt}
+use Rattle.std.proofs.lemmas.List.Sums.{position_or_len_is}
+use Rattle.std.proofs.lemmas.List.{drop_more, get_or-map, length-map}
+use Rattle.std.specs.Borrow.{Bor}
+use Rattle.std.specs.Prelude.{if◌then◌else◌}
+use Rattle.s3_canonical.specs.Sorting.{insert_by, sorted_by}
+use Rattle.s3_signer.specs.Request.{HeaderLine, added_lines, given_lines, hash_line, length_line, line_cmp, lower_line, stamp_line, tells_length}
+
+-- where none passes, the place is the end
+pub no_place : {X : Type 0} (p : X → Bool) (xs : List X) → ((k : ℕ) (d : X) → k < length xs → p (get_or xs k d) ≡ false) → length xs ≡ position_or_len p xs
+no_place p [] none = refl
+no_place p (x ∷ xs) none =
+    sym (position_or_len_is p (x ∷ xs) (length (x ∷ xs)) x (omega arith) (λ k h. none k x h) (λ h. absurd (omega arith)))
+
+-- the first that passes is the place
+pub first_place : {X : Type 0} (p : X → Bool) (xs : List X) (i : ℕ) (x : X) → i < length xs → x ≡ get_or xs i x → p x ≡ true → ((k : ℕ) (d : X) → k < i → p (get_or xs k d) ≡ false) → i ≡ position_or_len p xs
+first_place p xs i x within is passes none =
+    sym (position_or_len_is p xs i x (omega arith) (λ k h. none k x h) (λ h. ap p (sym is) ∙ passes))
+
+-- the test that the place of x is the first to pass
+abbrev pub is_not_below : {X Y : Type 0} → (X → Y) → (Y → Y → Ordering) → X → X → Bool
+is_not_below f cmp x y = not (is_gt (cmp (f x) (f y)))
+
+-- an element that is inserted at its place
+pub inserted : {X Y : Type 0} (f : X → Y) (cmp : Y → Y → Ordering) (x : X) (xs : List X) → map f (insert xs (position_or_len (is_not_below f cmp x) xs) x) ≡ insert_by cmp (f x) (map f xs)
+inserted f cmp x [] = refl
+inserted f cmp x (y ∷ ys) = by (is_gt (cmp (f x) (f y))) refl (inserted f cmp x ys)
+  where
+    by : (b : Bool) → is_gt (cmp (f x) (f y)) ≡ b → map f (insert ys (position_or_len (is_not_below f cmp x) ys) x) ≡ insert_by cmp (f x) (map f ys) → map f (insert (y ∷ ys) (position_or_len (is_not_below f cmp x) (y ∷ ys)) x) ≡ insert_by cmp (f x) (map f (y ∷ ys))
+    by true h rest =
+        let place = position_or_len (is_not_below f cmp x) ys in
+        let next : 1 + place ≡ suc place = omega arith in
+        rw (h, next) (ap (λ zs. f y ∷ zs) rest)
+    by false h rest = rw h refl
+
+-- one line, or none, is in order
+one_in_order : (b : Bool) (line : HeaderLine) → (if b then line ∷ [] else []) ≡ sorted_by line_cmp (if b then line ∷ [] else [])
+unfolding sorted_by
+one_in_order true line = refl
+one_in_order false line = refl
+
+-- the lines of the hash and of the stamp, added to that of the length or to none
+pub added_in_order : (method body stamp : List ℕ) → insert_by line_cmp (lower_line (hash_line body)) (insert_by line_cmp (lower_line (stamp_line stamp)) (if tells_length method body then length_line body ∷ [] else [])) ≡ sorted_by line_cmp (added_lines method body stamp)
+unfolding sorted_by
+added_in_order method body stamp =
+    ap (λ lines. insert_by line_cmp (hash_line body) (insert_by line_cmp (stamp_line stamp) lines)) (one_in_order (tells_length method body) (length_line body))
+
+-- the text of a given line
+abbrev pub given_line : Bor (List ℕ) × Bor (List ℕ) → HeaderLine
+given_line header = (header.0.now, header.1.now)
+
+-- one more of the lines that are given, the last first
+pub given_in_order : (headers : List (Bor (List ℕ) × Bor (List ℕ))) (i : ℕ) (d : Bor (List ℕ) × Bor (List ℕ)) (added : List HeaderLine) → 0 < i → i ≤ length headers → insert_by line_cmp (lower_line (given_line (get_or headers (i - 1) d))) (sorted_by line_cmp (map lower_line (drop i (given_lines headers)) ++ added)) ≡ sorted_by line_cmp (map lower_line (drop (i - 1) (given_lines headers)) ++ added)
+unfolding sorted_by
+given_in_order headers i d added some within =
+    let next : i - 1 + 1 ≡ i = omega arith in
+    let inside : i - 1 < length headers = omega arith in
+    let same : get_or (given_lines headers) (i - 1) (given_line d) ≡ given_line (get_or headers (i - 1) d) = get_or-map given_line headers (i - 1) d (given_line d) inside in
+    let more : drop (i - 1) (given_lines headers) ≡ get_or (given_lines headers) (i - 1) (given_line d) ∷ drop (i - 1 + 1) (given_lines headers) =
+    drop_more (given_lines headers) (i - 1) (given_line d) (omega (arith, length-map headers given_line)) in
+    rw (more, next, same) refl
