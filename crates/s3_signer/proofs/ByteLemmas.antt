@@ -95,22 +95,17 @@ signature_digits secret stamp region head signed word =
 
 -- ---- stamps
 
--- a stamp has sixteen bytes
-pub length-stamp : (stamp : List ℕ) → is_stamp stamp ≡ true → length stamp ≡ 16
-unfolding is_stamp
-length-stamp stamp h =
-    let form = (and_parts (is_stamp_form stamp) (is_stamp_date stamp) (and_parts (is_stamp_form stamp && is_stamp_date stamp) (is_stamp_time stamp) h).0).0 in
-    let date = list_all is_ascii_digit (slice_range stamp 0 8) in
-    let time = list_all is_ascii_digit (slice_range stamp 9 15) in
-    let five = and_parts (length stamp == 16 && date && slice_index stamp 8 == 84 && time) (slice_index stamp 15 == 90) form in
-    let four = and_parts (length stamp == 16 && date && slice_index stamp 8 == 84) time five.0 in
-    let three = and_parts (length stamp == 16 && date) (slice_index stamp 8 == 84) four.0 in
-    eqb-true (length stamp) 16 (and_parts (length stamp == 16) date three.0).0
+-- the form of a stamp, part by part
+record HasForm (stamp : List ℕ) : Type 0 where
+  size : length stamp ≡ 16
+  date : list_all is_ascii_digit (take 8 stamp) ≡ true
+  letter : get_or stamp 8 0 ≡ 84
+  time : list_all is_ascii_digit (take 6 (drop 9 stamp)) ≡ true
+  last : get_or stamp 15 0 ≡ 90
 
--- a test that digits and the two letters pass is passed by all bytes of a stamp
-pub stamp_all : (q : ℕ → Bool) → ((b : ℕ) → is_ascii_digit b ≡ true → q b ≡ true) → q 84 ≡ true → q 90 ≡ true → (stamp : List ℕ) → is_stamp stamp ≡ true → list_all q stamp ≡ true
+has_form : (stamp : List ℕ) → is_stamp stamp ≡ true → HasForm stamp
 unfolding is_stamp
-stamp_all q digit middle last stamp h =
+has_form stamp h =
     let form = (and_parts (is_stamp_form stamp) (is_stamp_date stamp) (and_parts (is_stamp_form stamp && is_stamp_date stamp) (is_stamp_time stamp) h).0).0 in
     let date = list_all is_ascii_digit (slice_range stamp 0 8) in
     let time = list_all is_ascii_digit (slice_range stamp 9 15) in
@@ -118,20 +113,34 @@ stamp_all q digit middle last stamp h =
     let four = and_parts (length stamp == 16 && date && slice_index stamp 8 == 84) time five.0 in
     let three = and_parts (length stamp == 16 && date) (slice_index stamp 8 == 84) four.0 in
     let two = and_parts (length stamp == 16) date three.0 in
-    let size : length stamp ≡ 16 = eqb-true _ 16 two.0 in
-    let first : get_or stamp 8 0 ≡ 84 = eqb-true _ 84 three.1 in
-    let second : get_or stamp 15 0 ≡ 90 = eqb-true _ 90 five.1 in
+    record {
+      size = eqb-true (length stamp) 16 two.0;
+      date = two.1;
+      letter = eqb-true (slice_index stamp 8) 84 three.1;
+      time = four.1;
+      last = eqb-true (slice_index stamp 15) 90 five.1;
+    }
+
+-- a stamp has sixteen bytes
+pub length-stamp : (stamp : List ℕ) → is_stamp stamp ≡ true → length stamp ≡ 16
+length-stamp stamp h = (has_form stamp h).size
+
+-- a test that digits and the two letters pass is passed by all bytes of a stamp
+pub stamp_all : (q : ℕ → Bool) → ((b : ℕ) → is_ascii_digit b ≡ true → q b ≡ true) → q 84 ≡ true → q 90 ≡ true → (stamp : List ℕ) → is_stamp stamp ≡ true → list_all q stamp ≡ true
+stamp_all q digit middle last stamp h =
+    let form = has_form stamp h in
+    let size = form.size in
     let tail : drop 15 stamp ≡ get_or stamp 15 0 ∷ drop 16 stamp = drop_more stamp 15 0 (omega arith) in
     let end : drop 16 stamp ≡ [] = drop_all 16 stamp (omega arith) in
     let inner : take 6 (drop 9 stamp) ++ drop 15 stamp ≡ drop 9 stamp =
     ap (λ r. take 6 (drop 9 stamp) ++ r) (sym (drop-drop 6 9 stamp)) ∙ take-append-drop 6 (drop 9 stamp) in
     let mid : drop 8 stamp ≡ get_or stamp 8 0 ∷ drop 9 stamp = drop_more stamp 8 0 (omega arith) in
     let last_part : list_all q (drop 15 stamp) ≡ true =
-    ap (list_all q) (tail ∙ ap (λ r. get_or stamp 15 0 ∷ r) end) ∙ and_from _ _ (ap q second ∙ last) refl in
+    ap (list_all q) (tail ∙ ap (λ r. get_or stamp 15 0 ∷ r) end) ∙ and_from _ _ (ap q form.last ∙ last) refl in
     let time_part : list_all q (drop 9 stamp) ≡ true =
-    ap (list_all q) (sym inner) ∙ list_all-append q (take 6 (drop 9 stamp)) (drop 15 stamp) ∙ and_from _ _ (all_weaker is_ascii_digit q digit (take 6 (drop 9 stamp)) four.1) last_part in
-    let date_part : list_all q (drop 8 stamp) ≡ true = ap (list_all q) mid ∙ and_from _ _ (ap q first ∙ middle) time_part in
-    ap (list_all q) (sym (take-append-drop 8 stamp)) ∙ list_all-append q (take 8 stamp) (drop 8 stamp) ∙ and_from _ _ (all_weaker is_ascii_digit q digit (take 8 stamp) two.1) date_part
+    ap (list_all q) (sym inner) ∙ list_all-append q (take 6 (drop 9 stamp)) (drop 15 stamp) ∙ and_from _ _ (all_weaker is_ascii_digit q digit (take 6 (drop 9 stamp)) form.time) last_part in
+    let date_part : list_all q (drop 8 stamp) ≡ true = ap (list_all q) mid ∙ and_from _ _ (ap q form.letter ∙ middle) time_part in
+    ap (list_all q) (sym (take-append-drop 8 stamp)) ∙ list_all-append q (take 8 stamp) (drop 8 stamp) ∙ and_from _ _ (all_weaker is_ascii_digit q digit (take 8 stamp) form.date) date_part
 
 -- ---- values
 

@@ -46,7 +46,7 @@ pub fn is_signable(
         && keeps_limits(id, region, method, target, headers, body)
 }
 
-// What the text of a head of these lines says.
+// What the text of a head of these lines says. Where that is a head, only memory can be wanting.
 fn read_head(alloc: Global, method: &[u8], target: &[u8], lines: &[Line]) -> Result<Head, NoMemory>
     ensures { (h : RequestHead) → h ≡ head_of method.now target.now (pairs lines.now) → IsHead (print_request h) h
         → IfOk result (λ head. head ≡ parts_of h) }

@@ -33,8 +33,8 @@ fn has_name(name: &[u8], lines: &[(&[u8], &[u8])]) -> bool
     lines.iter().any(|line| same_name(line.0, name))
 }
 
-// What is left of the room after a name among the signed ones, where it is the last line of that name
-// that counts.
+// What is left of the room after the name of a line among the signed ones: of the lines of one name the
+// last counts.
 fn room_after_name(room: usize, name: &[u8], later: &[(&[u8], &[u8])]) -> Option<usize>
     ensures { SomeIff result
         (name_size name.now (given_lines later.now) ≤ room) (room - name_size name.now (given_lines later.now)) }

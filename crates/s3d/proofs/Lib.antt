@@ -1,4 +1,5 @@
 pub mod KeysLemmas
 pub mod NumberLemmas
 pub mod RunLemmas
+pub mod SignLemmas
 pub mod WordsLemmas

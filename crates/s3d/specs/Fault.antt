@@ -1,5 +1,5 @@
 -- What the program says when it ends with status 1: one line on the standard error.
-use Rattle.std.specs.Prelude.{◌≡◌, ◌⊎◌, ℕ, List, [], ◌∷◌, ◌++◌, codes}
+use Rattle.std.specs.Prelude.{◌≡◌, ◌⊎◌, ⊤, ℕ, List, [], ◌∷◌, ◌++◌, codes}
 use Rattle.std.specs.Fmt.{decimal}
 use Rattle.s3d.specs.declared.fault.Fault.{Fault}
 use Rattle.s3d.specs.declared.fault.Fault.TheVariants.{CannotRead, BadKeysLine, BadSetting, InputFailed, OutputFailed, OutOfMemory}
@@ -20,3 +20,9 @@ line_of fault = codes "s3d: " ++ text_of fault ++ 10 ∷ []
 -- want of memory, or that fault where the fact holds
 abbrev pub MemoryOr : Fault → Type 0 → Fault → Type 0
 MemoryOr expected P fault = (fault ≡ OutOfMemory) ⊎ ((fault ≡ expected) × P)
+
+-- why a file gives no bytes
+abbrev pub IsReadFault : List ℕ → Fault → Type 0
+IsReadFault path (CannotRead which) = which.now ≡ path
+IsReadFault path OutOfMemory = ⊤
+IsReadFault path _ = ⊥

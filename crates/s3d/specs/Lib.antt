@@ -2,4 +2,5 @@ pub mod Fault
 pub mod Keys
 pub mod Run
 pub mod Settings
+pub mod Sign
 pub mod Words

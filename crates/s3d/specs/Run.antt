@@ -1,46 +1,18 @@
--- What a run of `s3d replay` does, over the bytes that its devices tell: `None` stands for those of a
--- device that tells none.
-use Rattle.std.specs.Prelude.{◌≡◌, ◌⊎◌, ℕ, Bool, true, false, IsTrue, List, [], Option, IfSome, Ok, Err, ⊤}
+-- What a run of `s3d` does, over the bytes that its devices tell: `None` stands for those of a device
+-- that tells none.
+use Rattle.std.specs.Prelude.{◌≡◌, ◌≢◌, ◌⊎◌, IsTrue, ℕ, Bool, true, false, List, Option, IfSome, ⊤}
 use Rattle.std.specs.Io.KnownBytes.{Appends}
-use Rattle.s3_terms.specs.Settings.{Settings, Credentials, are_settings}
+use Rattle.s3_terms.specs.Settings.{Settings}
 use Rattle.s3_session.specs.Replay.{Replays}
 use Rattle.s3d.specs.declared.fault.Fault.{Fault}
 use Rattle.s3d.specs.declared.fault.Fault.TheVariants.{CannotRead, BadKeysLine, BadSetting, InputFailed, OutputFailed, OutOfMemory}
-use Rattle.s3d.specs.declared.settings.Replay.{Replay}
+use Rattle.s3d.specs.declared.settings.Setup.{Setup}
 use Rattle.s3d.specs.declared.words.Options.{Options}
-use Rattle.s3d.specs.Keys.{credentials_of}
-use Rattle.s3d.specs.Settings.{are_options, IsReplayOf, settings_of}
+use Rattle.s3d.specs.declared.words.Task.{Task}
+use Rattle.s3d.specs.declared.words.Task.TheVariants.{Replay, Sign}
+use Rattle.s3d.specs.Settings.{are_options, IsSetupOf, IsConfigured, IsReady, HasConfigFault}
+use Rattle.s3d.specs.Sign.{IsSigned, IsSignFault}
 use Rattle.s3d.specs.Words.{IsReadFrom}
-
--- the keys file says these keys, where it is known
-abbrev pub HasKeys : Option (List ℕ) → List Credentials → Type 0
-HasKeys file keys = IfSome file (λ text. credentials_of text ≡ Ok keys)
-
--- the settings are those of a replay and of the keys in its keys file
-pub record IsConfigured (file : Option (List ℕ)) (replay : Replay) (settings : Settings) : Type 0 where
-  pub keys : HasKeys file settings.keys
-  pub parts : settings ≡ settings_of replay settings.keys
-  pub valid : IsTrue (are_settings settings)
-
--- why there are no settings
-abbrev pub IsConfigFault : Option (List ℕ) → Replay → Fault → Type 0
-IsConfigFault file replay (CannotRead path) = path.now ≡ replay.keys.now
-IsConfigFault file replay (BadKeysLine number) = IfSome file (λ text. credentials_of text ≡ Err number)
-IsConfigFault file replay BadSetting =
-    (keys : List Credentials) × HasKeys file keys × (are_settings (settings_of replay keys) ≡ false)
-IsConfigFault file replay OutOfMemory = ⊤
-IsConfigFault file replay _ = ⊥
-
--- a replay of these options has settings
-abbrev pub IsReady : (List ℕ → Option (List ℕ)) → Options → Type 0
-IsReady known options =
-    (replay : Replay) × (settings : Settings) × IsReplayOf options replay
-    × IsConfigured (known replay.keys.now) replay settings
-
--- a replay of these options has none for this reason
-abbrev pub HasConfigFault : (List ℕ → Option (List ℕ)) → Options → Fault → Type 0
-HasConfigFault known options fault =
-    (replay : Replay) × IsReplayOf options replay × IsConfigFault (known replay.keys.now) replay fault
 
 -- why a replay fails, each fault only where none that comes before it is there
 abbrev pub IsReplayFault : (List ℕ → Option (List ℕ)) → Options → Fault → Type 0
@@ -61,15 +33,43 @@ is_before_input _ = false
 -- a replay is done: the output has what the connection of all the input is answered under the
 -- settings that the options and the keys file make
 pub record IsAnswered (known : List ℕ → Option (List ℕ)) (input before after : Option (List ℕ)) (options : Options) : Type 0 where
-  pub replay : Replay
+  pub setup : Setup
   pub settings : Settings
   pub out : List ℕ
-  pub asked : IsReplayOf options replay
-  pub configured : IsConfigured (known replay.keys.now) replay settings
-  pub answered : IfSome input (λ bytes. Replays settings replay.moment bytes out)
+  pub asked : IsSetupOf options setup
+  pub configured : IsConfigured (known setup.keys.now) setup settings
+  pub answered : IfSome input (λ bytes. Replays settings setup.moment bytes out)
   pub written : Appends before after out
+
+-- a task is done
+abbrev pub IsTaskDone : (List ℕ → Option (List ℕ)) → Option (List ℕ) → Option (List ℕ) → Option (List ℕ) → Task → Type 0
+IsTaskDone known input before after (Replay options) = IsAnswered known input before after options
+IsTaskDone known input before after (Sign options) = IsSigned known before after options
 
 -- a run did what its words ask for
 abbrev pub IsDone : List (List ℕ) → (List ℕ → Option (List ℕ)) → Option (List ℕ) → Option (List ℕ) → Option (List ℕ) → Type 0
 IsDone words known input before after =
-    (options : Options) × IsReadFrom words options × IsAnswered known input before after options
+    (task : Task) × IsReadFrom words task × IsTaskDone known input before after task
+
+-- a task that reads no input
+abbrev pub is_signing : Task → Bool
+is_signing (Replay options) = false
+is_signing (Sign options) = true
+
+-- why a task fails
+abbrev pub IsTaskFault : (List ℕ → Option (List ℕ)) → Task → Fault → Type 0
+IsTaskFault known (Replay options) fault = IsReplayFault known options fault
+IsTaskFault known (Sign options) fault = IsSignFault known options fault
+
+-- why a run fails: memory ran out, or the task that its words ask for fails
+abbrev pub IsRunFault : List (List ℕ) → (List ℕ → Option (List ℕ)) → Fault → Type 0
+IsRunFault words known fault =
+    (fault ≡ OutOfMemory) ⊎ ((task : Task) × IsReadFrom words task × IsTaskFault known task fault)
+
+-- a run failed for some reason; nothing is written unless the output failed, and nothing is read where
+-- the reason comes before the input
+pub record HasFailed (words : List (List ℕ)) (known : List ℕ → Option (List ℕ)) (unread unwritten : Type 0) : Type 0 where
+  pub fault : Fault
+  pub reason : IsRunFault words known fault
+  pub output : fault ≢ OutputFailed → unwritten
+  pub input : IsTrue (is_before_input fault) → unread

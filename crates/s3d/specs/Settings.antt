@@ -1,13 +1,16 @@
--- What the options of a replay say.
-use Rattle.std.specs.Prelude.{◌≡◌, ℕ, Bool, true, ◌&&◌, nat_le, if◌then◌else◌, List, length, Option, Some, None, is_some, option_map, option_to_list}
+-- What the options on the settings say, and the settings that they and the keys file make.
+use Rattle.std.specs.Prelude.{◌≡◌, ⊤, ℕ, Bool, true, false, IsTrue, ◌&&◌, nat_le, if◌then◌else◌, List, length, Option, Some, None, is_some, IfSome, option_map, option_to_list, Ok, Err}
 use Rattle.std.specs.List.{list_all}
 use Rattle.std.specs.Char.{is_ascii_digit}
 use Rattle.std.specs.Str.Parse.{digits_value}
 use Rattle.s3_terms.specs.Names.{is_bucket_name}
 use Rattle.s3_terms.specs.Moment.{last_moment}
-use Rattle.s3_terms.specs.Settings.{Settings, Credentials}
+use Rattle.s3_terms.specs.Settings.{Settings, Credentials, are_settings, greatest_body, is_region}
+use Rattle.s3d.specs.declared.fault.Fault.{Fault}
+use Rattle.s3d.specs.declared.fault.Fault.TheVariants.{CannotRead, BadKeysLine, BadSetting, OutOfMemory}
 use Rattle.s3d.specs.declared.words.Options.{Options}
-use Rattle.s3d.specs.declared.settings.Replay.{Replay}
+use Rattle.s3d.specs.declared.settings.Setup.{Setup}
+use Rattle.s3d.specs.Keys.{credentials_of}
 
 -- 1 to 12 decimal digits
 unfoldable pub is_number : List ℕ → Bool
@@ -27,6 +30,19 @@ abbrev pub option_moment : Option (List ℕ) → Option ℕ
 option_moment None = None
 option_moment (Some text) = moment_of (number_of text)
 
+-- a number of bytes up to the greatest body
+abbrev pub body_limit_of : Option ℕ → Option ℕ
+body_limit_of None = None
+body_limit_of (Some bytes) = if nat_le bytes greatest_body then Some bytes else None
+
+-- the greatest size of a body that an option says
+abbrev pub option_body_limit : List ℕ → Option ℕ
+option_body_limit text = body_limit_of (number_of text)
+
+-- the region that an option says
+abbrev pub option_region : List ℕ → Option (List ℕ)
+option_region text = if is_region text then Some text else None
+
 -- no bucket, or one whose name is a bucket's
 abbrev pub is_bucket_option : Option (List ℕ) → Bool
 is_bucket_option None = true
@@ -35,25 +51,57 @@ is_bucket_option (Some name) = is_bucket_name name
 -- each option is of its form
 unfoldable pub are_options : Options → Bool
 are_options o =
-    is_some o.keys && is_some (number_of o.min_part.now) && is_some (number_of o.body_limit.now)
+    is_some o.keys && is_some (option_region o.region.now) && is_some (number_of o.min_part.now)
+    && is_some (option_body_limit o.body_limit.now)
     && is_some (option_moment (option_map (λ text. text.now) o.moment))
     && is_bucket_option (option_map (λ name. name.now) o.bucket)
 
--- a replay has what the options say
-pub record IsReplayOf (o : Options) (r : Replay) : Type 0 where
-  pub keys : option_map (λ path. path.now) o.keys ≡ Some r.keys.now
-  pub region : r.region.now ≡ o.region.now
-  pub min_part : number_of o.min_part.now ≡ Some r.min_part
-  pub body_limit : number_of o.body_limit.now ≡ Some r.body_limit
-  pub moment : option_moment (option_map (λ text. text.now) o.moment) ≡ Some r.moment
-  pub bucket : option_map (λ name. name.now) o.bucket ≡ r.bucket
+-- the options are of their forms, and a setup has what they say
+pub record IsSetupOf (o : Options) (s : Setup) : Type 0 where
+  pub valid : are_options o ≡ true
+  pub keys : option_map (λ path. path.now) o.keys ≡ Some s.keys.now
+  pub region : option_region o.region.now ≡ Some s.region.now
+  pub min_part : number_of o.min_part.now ≡ Some s.min_part
+  pub body_limit : option_body_limit o.body_limit.now ≡ Some s.body_limit
+  pub moment : option_moment (option_map (λ text. text.now) o.moment) ≡ Some s.moment
+  pub bucket : option_map (λ name. name.now) o.bucket ≡ s.bucket
 
--- the settings that a replay and its keys make
-abbrev pub settings_of : Replay → List Credentials → Settings
-settings_of r keys = record {
-  region = r.region.now;
+-- the settings that a setup and some keys make
+abbrev pub settings_of : Setup → List Credentials → Settings
+settings_of s keys = record {
+  region = s.region.now;
   keys = keys;
-  min_part = r.min_part;
-  body_limit = r.body_limit;
-  buckets = option_to_list r.bucket;
+  min_part = s.min_part;
+  body_limit = s.body_limit;
+  buckets = option_to_list s.bucket;
 }
+
+-- the keys file says these keys, where it is known
+abbrev pub HasKeys : Option (List ℕ) → List Credentials → Type 0
+HasKeys file keys = IfSome file (λ text. credentials_of text ≡ Ok keys)
+
+-- the settings are those of a setup and of the keys in its keys file
+pub record IsConfigured (file : Option (List ℕ)) (setup : Setup) (settings : Settings) : Type 0 where
+  pub keys : HasKeys file settings.keys
+  pub parts : settings ≡ settings_of setup settings.keys
+  pub valid : IsTrue (are_settings settings)
+
+-- why there are no settings
+abbrev pub IsConfigFault : Option (List ℕ) → Setup → Fault → Type 0
+IsConfigFault file setup (CannotRead path) = path.now ≡ setup.keys.now
+IsConfigFault file setup (BadKeysLine number) = IfSome file (λ text. credentials_of text ≡ Err number)
+IsConfigFault file setup BadSetting =
+    (keys : List Credentials) × HasKeys file keys × (are_settings (settings_of setup keys) ≡ false)
+IsConfigFault file setup OutOfMemory = ⊤
+IsConfigFault file setup _ = ⊥
+
+-- these options have settings
+abbrev pub IsReady : (List ℕ → Option (List ℕ)) → Options → Type 0
+IsReady known options =
+    (setup : Setup) × (settings : Settings) × IsSetupOf options setup
+    × IsConfigured (known setup.keys.now) setup settings
+
+-- they have none for this reason
+abbrev pub HasConfigFault : (List ℕ → Option (List ℕ)) → Options → Fault → Type 0
+HasConfigFault known options fault =
+    (setup : Setup) × IsSetupOf options setup × IsConfigFault (known setup.keys.now) setup fault

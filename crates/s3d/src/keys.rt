@@ -70,7 +70,7 @@ fn key_of_line(alloc: Global, line: &[u8]) -> Result<Option<Credential>, AllocEr
 }
 
 /// The first place of a byte.
-fn first_place(text: &[u8], byte: u8) -> Option<usize>
+pub fn first_place(text: &[u8], byte: u8) -> Option<usize>
     ensures { result ≡ position (λ b. b == byte) text.now }
 {
     text.iter().position(|b| *b == byte)

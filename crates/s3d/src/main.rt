@@ -1,12 +1,15 @@
 //! The program `s3d`, a server of the Amazon S3 REST API. `s3d replay` answers one connection that
-//! stands whole on the standard input. `run::run_words` does the work over any devices.
+//! stands whole on the standard input, and `s3d sign` writes one signed request. `run::run_words` does
+//! the work over any devices.
 #![tactic(auto)]
 
+mod devices;
 mod fault;
 mod files;
 mod keys;
 mod run;
 mod settings;
+mod sign;
 #[cfg(test)]
 mod tests;
 mod words;

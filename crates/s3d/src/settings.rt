@@ -1,11 +1,14 @@
 ghost use Rattle.std.specs.Prelude.{◌≡◌, true, false, IfOk, IfErr, OnOk, IsTrue, option_map, option_to_list};
 ghost use Rattle.std.specs.List.{list_all};
 ghost use Rattle.std.specs.Char.{is_ascii_digit};
-ghost use Rattle.s3_terms.specs.Settings.{are_settings};
+ghost use Rattle.s3_terms.specs.Settings.{are_settings, is_region, is_region_byte};
 ghost use Rattle.s3d.specs.Fault.{MemoryOr};
-ghost use Rattle.s3d.specs.Settings.{is_number, number_of, option_moment, is_bucket_option, are_options, IsReplayOf, settings_of};
+ghost use Rattle.s3d.specs.Settings.{is_number, number_of, option_body_limit, option_region, option_moment, is_bucket_option, are_options, IsSetupOf, settings_of, IsConfigured, IsConfigFault};
 
+use crate::devices::read_file;
 use crate::fault::Fault;
+use crate::files::Files;
+use crate::keys::read_keys;
 use crate::words::Options;
 use s3_terms::{BucketName, Code, Config, Credential, Moment};
 use std::alloc::{AllocError, Global};
@@ -13,38 +16,45 @@ use std::alloc::{AllocError, Global};
 /// The most digits of a number.
 const DIGITS_MAX: usize = 12;
 
-/// A replay as its options ask for it.
+/// The longest name of a region, in bytes.
+const REGION_MAX: usize = 64;
+
+/// The greatest body that any server takes, in bytes.
+const BODY_MAX: u64 = 67_108_864;
+
+/// What the options of a subcommand set up.
 #[derive(Drop)]
-pub struct Replay<'a> {
+pub struct Setup<'a> {
     /// The path of the keys file.
     pub keys: &'a str,
-    /// The region that signatures name, which the settings judge.
+    /// The region that signatures name.
     pub region: &'a str,
     /// The least size of a part that is not the last one, in bytes.
     pub min_part: u64,
-    /// The greatest size of a body, in bytes, which the settings judge.
+    /// The greatest size of a body, in bytes.
     pub body_limit: u64,
     /// The bucket that is there from the start.
     pub bucket: Option<BucketName>,
-    /// The moment of every message.
+    /// The moment at which everything happens.
     pub moment: Moment,
 }
 
-impl<'a> Replay<'a> {
+impl<'a> Setup<'a> {
     /// What the options ask for; `BadSetting` where one of them is out of its form.
     #[tactic(auto, unfolding(crate::specs::Settings::are_options))]
-    pub fn read(alloc: Global, options: &Options<'a>) -> Result<Replay<'a>, Fault<'a>>
-        ensures value { IfOk result (IsReplayOf options.now) }
+    pub fn read(alloc: Global, options: &Options<'a>) -> Result<Setup<'a>, Fault<'a>>
+        ensures value { IfOk result (IsSetupOf options.now) }
         ensures refused { IfErr result (MemoryOr Fault.BadSetting (are_options options.now ≡ false)) }
     {
         let keys = options.keys.ok_or(Fault::BadSetting)?;
         let min_part = number(options.min_part).ok_or(Fault::BadSetting)?;
-        let body_limit = number(options.body_limit).ok_or(Fault::BadSetting)?;
+        let body_limit = body_limit(options.body_limit).ok_or(Fault::BadSetting)?;
         let moment = moment(options.moment).ok_or(Fault::BadSetting)?;
+        let region = region(options.region).ok_or(Fault::BadSetting)?;
         let bucket = bucket(alloc, options.bucket)?;
-        Ok(Replay {
+        Ok(Setup {
             keys,
-            region: options.region,
+            region,
             min_part,
             body_limit,
             bucket,
@@ -62,6 +72,20 @@ impl<'a> Replay<'a> {
         let buckets = in_list(alloc, self.bucket)?;
         Config::new(region, keys, self.min_part, self.body_limit, buckets).ok_or(Fault::BadSetting)
     }
+}
+
+/// The settings of a setup, with the keys that its keys file says.
+pub fn configure<'a, F: Files>(
+    alloc: Global,
+    setup: Setup<'a>,
+    files: &F,
+) -> Result<Config, Fault<'a>>
+    ensures value { IfOk result (IsConfigured (F.known files.now setup.entry.keys.now) setup.entry) }
+    ensures refused { IfErr result (IsConfigFault (F.known files.now setup.entry.keys.now) setup.entry) }
+{
+    let text = read_file(alloc, files, setup.keys)?;
+    let keys = read_keys(alloc, text.as_slice())?;
+    setup.into_config(alloc, keys)
 }
 
 /// A list of the name that is there.
@@ -100,6 +124,41 @@ fn has_digits_alone(text: &[u8]) -> bool
     ensures { result ≡ list_all is_ascii_digit text.now }
 {
     text.iter().all(|byte| byte.is_ascii_digit())
+}
+
+/// The greatest size of a body that an option says.
+fn body_limit(text: &str) -> Option<u64>
+    ensures { result ≡ option_body_limit text.now }
+{
+    let bytes = number(text)?;
+    if bytes > BODY_MAX {
+        return None;
+    }
+    Some(bytes)
+}
+
+/// The region that an option says, if it is one.
+fn region(text: &str) -> Option<&str>
+    ensures { option_map (λ name. name.now) result ≡ option_region text.now }
+{
+    if !is_region(text.as_bytes()) {
+        return None;
+    }
+    Some(text)
+}
+
+#[tactic(auto, unfolding(s3_terms::specs::Settings::is_region))]
+fn is_region(text: &[u8]) -> bool
+    ensures { result ≡ is_region text.now }
+{
+    !text.is_empty() && text.len() <= REGION_MAX && has_region_bytes(text)
+}
+
+fn has_region_bytes(text: &[u8]) -> bool
+    ensures { result ≡ list_all is_region_byte text.now }
+{
+    text.iter()
+        .all(|byte| matches!(*byte, b'a'..=b'z' | b'0'..=b'9' | b'-'))
 }
 
 /// The moment that an option says.

@@ -1,0 +1,154 @@
+ghost use Rattle.std.specs.Prelude.{◌≡◌, ◌≢◌, IfOk, OnOk, IfErr, MatchOption, false, true};
+ghost use Rattle.std.specs.List.{list_all};
+ghost use Rattle.s3_signer.specs.Request.{given_lines};
+ghost use Rattle.s3d.specs.Fault.{MemoryOr};
+ghost use Rattle.s3d.specs.Sign.{texts_of, has_colon, line_of_word, header_lines, are_sign_options, IsDraftOf, IsBodyOf, IsBodyFault, IsRequestOf, IsRequestFault, IsTextOf, IsSigned, IsSignFault};
+
+use crate::devices::{read_file, write_output};
+use crate::fault::Fault;
+use crate::files::Files;
+use crate::keys::first_place;
+use crate::settings::{Setup, configure};
+use crate::words::SignOptions;
+use s3_signer::{is_signable, signed_request};
+use s3_terms::{Config, Stamp};
+use std::alloc::Global;
+use std::io::Write;
+
+/// A request that is to be signed.
+#[derive(Drop)]
+pub struct Draft<'a> {
+    /// The id of the access key that signs.
+    pub id: &'a str,
+    /// The method.
+    pub method: &'a str,
+    /// The target.
+    pub target: &'a str,
+    /// The names and values of its header lines, that of the host first.
+    pub headers: Vec<(&'a [u8], &'a [u8])>,
+    /// The path of the file that has its body; without one the body is empty.
+    pub body: Option<&'a str>,
+}
+
+impl<'a> Draft<'a> {
+    /// The request that the options describe; `BadSetting` where a header line has no `:`.
+    #[tactic(auto, unfolding(crate::specs::Sign::are_sign_options))]
+    pub fn read(alloc: Global, options: &SignOptions<'a>) -> Result<Draft<'a>, Fault<'a>>
+        ensures value { IfOk result (IsDraftOf options.now) }
+        ensures refused { IfErr result (MemoryOr Fault.BadSetting (are_sign_options options.now ≡ false)) }
+    {
+        let id = options.id.ok_or(Fault::BadSetting)?;
+        let method = options.method.ok_or(Fault::BadSetting)?;
+        let target = options.target.ok_or(Fault::BadSetting)?;
+        let host = options.host.ok_or(Fault::BadSetting)?;
+        let headers = header_lines(alloc, host, options.headers.as_slice())?;
+        Ok(Draft {
+            id,
+            method,
+            target,
+            headers,
+            body: options.body,
+        })
+    }
+}
+
+/// The header lines that the host and the words say.
+#[tactic(auto, using(crate::proofs::SignLemmas::colon_missing))]
+fn header_lines<'a>(
+    alloc: Global,
+    host: &'a str,
+    words: &[&'a str],
+) -> Result<Vec<(&'a [u8], &'a [u8])>, Fault<'a>>
+    ensures value { IfOk result (λ lines. given_lines lines.items ≡ header_lines host.entry.now (texts_of words.now)) }
+    ensures words { OnOk result (list_all has_colon (texts_of words.now) ≡ true) }
+    ensures refused { IfErr result (MemoryOr Fault.BadSetting (list_all has_colon (texts_of words.now) ≡ false)) }
+{
+    let mut lines = Vec::new(alloc);
+    lines.push((b"host".as_slice(), host.as_bytes()))?;
+    for word in words {
+        match name_and_value(word) {
+            Some(line) => lines.push(line)?,
+            None => return Err(Fault::BadSetting),
+        }
+    }
+    Ok(lines)
+}
+
+/// What stands before and after the first `:` of a word.
+fn name_and_value(word: &str) -> Option<(&[u8], &[u8])>
+    ensures { MatchOption result (has_colon word.now ≡ false) (λ line. (has_colon word.now ≡ true) × ((line.0.now, line.1.now) ≡ line_of_word word.now)) }
+{
+    let bytes = word.as_bytes();
+    let at = first_place(bytes, b':')?;
+    Some((&bytes[..at], &bytes[at + 1..]))
+}
+
+/// Writes the signed request that the options describe.
+pub fn sign<'a, F: Files, W: Write>(
+    alloc: Global,
+    options: &SignOptions<'a>,
+    files: &F,
+    output: &mut W,
+) -> Result<(), Fault<'a>>
+    ensures done { OnOk result (IsSigned (F.known files.now) (W.contents output.old) (W.contents output.new) options.now) }
+    ensures refused { IfErr result (IsSignFault (F.known files.now) options.now) }
+    ensures unwritten { IfErr result (λ fault. fault ≢ Fault.OutputFailed → output.new ≡ output.old) }
+{
+    let text = signed_text(alloc, options, files)?;
+    write_output(output, text.as_slice())
+}
+
+/// The signed request that the options describe.
+#[tactic(auto, using(crate::proofs::SignLemmas::signing))]
+fn signed_text<'a, F: Files>(
+    alloc: Global,
+    options: &SignOptions<'a>,
+    files: &F,
+) -> Result<Vec<u8>, Fault<'a>>
+    ensures value { IfOk result (λ text. IsTextOf (F.known files.now) options.now text.items) }
+    ensures refused { IfErr result (IsSignFault (F.known files.now) options.now) }
+{
+    let setup = Setup::read(alloc, &options.common)?;
+    let draft = Draft::read(alloc, options)?;
+    let stamp = Stamp::at(setup.moment);
+    let config = configure(alloc, setup, files)?;
+    request(alloc, &config, &draft, files, stamp)
+}
+
+/// The signed request of a draft, in a server's region and by the secret that it has for the id.
+fn request<'a, F: Files>(
+    alloc: Global,
+    config: &Config,
+    draft: &Draft<'a>,
+    files: &F,
+    stamp: Stamp,
+) -> Result<Vec<u8>, Fault<'a>>
+    ensures value { IfOk result (λ text. IsRequestOf (F.known files.now) config.now draft.now stamp text.items) }
+    ensures refused { IfErr result (IsRequestFault (F.known files.now) config.now draft.now stamp) }
+{
+    let Some(secret) = config.secret_of(draft.id.as_bytes()) else {
+        return Err(Fault::BadSetting);
+    };
+    let bytes = body(alloc, draft.body, files)?;
+    let (id, region, body) = (draft.id.as_bytes(), config.region(), bytes.as_slice());
+    let (method, target) = (draft.method.as_bytes(), draft.target.as_bytes());
+    let headers = draft.headers.as_slice();
+    if !is_signable(id, region, method, target, headers, body, stamp) {
+        return Err(Fault::BadSetting);
+    }
+    let text = signed_request(
+        alloc, id, secret, region, method, target, headers, body, stamp,
+    )?;
+    Ok(text)
+}
+
+/// The bytes of the file at the path; none without one.
+fn body<'a, F: Files>(alloc: Global, path: Option<&'a str>, files: &F) -> Result<Vec<u8>, Fault<'a>>
+    ensures value { IfOk result (λ bytes. IsBodyOf (F.known files.now) path.entry bytes.items) }
+    ensures refused { IfErr result (IsBodyFault path.entry) }
+{
+    match path {
+        Some(path) => read_file(alloc, files, path),
+        None => Ok(Vec::new(alloc)),
+    }
+}
