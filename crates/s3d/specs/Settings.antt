@@ -5,7 +5,7 @@ use Rattle.std.specs.Char.{is_ascii_digit}
 use Rattle.std.specs.Str.Parse.{digits_value}
 use Rattle.s3_terms.specs.Names.{is_bucket_name}
 use Rattle.s3_terms.specs.Moment.{last_moment}
-use Rattle.s3_terms.specs.Settings.{Settings, Credentials, are_settings, greatest_body, is_region}
+use Rattle.s3_terms.specs.Settings.{Settings, Credentials, are_settings}
 use Rattle.s3d.specs.declared.fault.Fault.{Fault}
 use Rattle.s3d.specs.declared.fault.Fault.TheVariants.{CannotRead, BadKeysLine, BadSetting, OutOfMemory}
 use Rattle.s3d.specs.declared.words.Options.{Options}
@@ -30,19 +30,6 @@ abbrev pub option_moment : Option (List ℕ) → Option ℕ
 option_moment None = None
 option_moment (Some text) = moment_of (number_of text)
 
--- a number of bytes up to the greatest body
-abbrev pub body_limit_of : Option ℕ → Option ℕ
-body_limit_of None = None
-body_limit_of (Some bytes) = if nat_le bytes greatest_body then Some bytes else None
-
--- the greatest size of a body that an option says
-abbrev pub option_body_limit : List ℕ → Option ℕ
-option_body_limit text = body_limit_of (number_of text)
-
--- the region that an option says
-abbrev pub option_region : List ℕ → Option (List ℕ)
-option_region text = if is_region text then Some text else None
-
 -- no bucket, or one whose name is a bucket's
 abbrev pub is_bucket_option : Option (List ℕ) → Bool
 is_bucket_option None = true
@@ -51,8 +38,7 @@ is_bucket_option (Some name) = is_bucket_name name
 -- each option is of its form
 unfoldable pub are_options : Options → Bool
 are_options o =
-    is_some o.keys && is_some (option_region o.region.now) && is_some (number_of o.min_part.now)
-    && is_some (option_body_limit o.body_limit.now)
+    is_some o.keys && is_some (number_of o.min_part.now) && is_some (number_of o.body_limit.now)
     && is_some (option_moment (option_map (λ text. text.now) o.moment))
     && is_bucket_option (option_map (λ name. name.now) o.bucket)
 
@@ -60,9 +46,9 @@ are_options o =
 pub record IsSetupOf (o : Options) (s : Setup) : Type 0 where
   pub valid : are_options o ≡ true
   pub keys : option_map (λ path. path.now) o.keys ≡ Some s.keys.now
-  pub region : option_region o.region.now ≡ Some s.region.now
+  pub region : s.region.now ≡ o.region.now
   pub min_part : number_of o.min_part.now ≡ Some s.min_part
-  pub body_limit : option_body_limit o.body_limit.now ≡ Some s.body_limit
+  pub body_limit : number_of o.body_limit.now ≡ Some s.body_limit
   pub moment : option_moment (option_map (λ text. text.now) o.moment) ≡ Some s.moment
   pub bucket : option_map (λ name. name.now) o.bucket ≡ s.bucket
 

@@ -3,7 +3,7 @@ ghost use Rattle.std.specs.List.{list_all};
 ghost use Rattle.std.specs.Char.{is_ascii_digit};
 ghost use Rattle.s3_terms.specs.Settings.{are_settings, is_region, is_region_byte};
 ghost use Rattle.s3d.specs.Fault.{MemoryOr};
-ghost use Rattle.s3d.specs.Settings.{is_number, number_of, option_body_limit, option_region, option_moment, is_bucket_option, are_options, IsSetupOf, settings_of, IsConfigured, IsConfigFault};
+ghost use Rattle.s3d.specs.Settings.{is_number, number_of, option_moment, is_bucket_option, are_options, IsSetupOf, settings_of, IsConfigured, IsConfigFault};
 
 use crate::devices::read_file;
 use crate::fault::Fault;
@@ -15,12 +15,6 @@ use std::alloc::{AllocError, Global};
 
 /// The most digits of a number.
 const DIGITS_MAX: usize = 12;
-
-/// The longest name of a region, in bytes.
-const REGION_MAX: usize = 64;
-
-/// The greatest body that any server takes, in bytes.
-const BODY_MAX: u64 = 67_108_864;
 
 /// What the options of a subcommand set up.
 #[derive(Drop)]
@@ -48,13 +42,12 @@ impl<'a> Setup<'a> {
     {
         let keys = options.keys.ok_or(Fault::BadSetting)?;
         let min_part = number(options.min_part).ok_or(Fault::BadSetting)?;
-        let body_limit = body_limit(options.body_limit).ok_or(Fault::BadSetting)?;
+        let body_limit = number(options.body_limit).ok_or(Fault::BadSetting)?;
         let moment = moment(options.moment).ok_or(Fault::BadSetting)?;
-        let region = region(options.region).ok_or(Fault::BadSetting)?;
         let bucket = bucket(alloc, options.bucket)?;
         Ok(Setup {
             keys,
-            region,
+            region: options.region,
             min_part,
             body_limit,
             bucket,
@@ -124,41 +117,6 @@ fn has_digits_alone(text: &[u8]) -> bool
     ensures { result ≡ list_all is_ascii_digit text.now }
 {
     text.iter().all(|byte| byte.is_ascii_digit())
-}
-
-/// The greatest size of a body that an option says.
-fn body_limit(text: &str) -> Option<u64>
-    ensures { result ≡ option_body_limit text.now }
-{
-    let bytes = number(text)?;
-    if bytes > BODY_MAX {
-        return None;
-    }
-    Some(bytes)
-}
-
-/// The region that an option says, if it is one.
-fn region(text: &str) -> Option<&str>
-    ensures { option_map (λ name. name.now) result ≡ option_region text.now }
-{
-    if !is_region(text.as_bytes()) {
-        return None;
-    }
-    Some(text)
-}
-
-#[tactic(auto, unfolding(s3_terms::specs::Settings::is_region))]
-fn is_region(text: &[u8]) -> bool
-    ensures { result ≡ is_region text.now }
-{
-    !text.is_empty() && text.len() <= REGION_MAX && has_region_bytes(text)
-}
-
-fn has_region_bytes(text: &[u8]) -> bool
-    ensures { result ≡ list_all is_region_byte text.now }
-{
-    text.iter()
-        .all(|byte| matches!(*byte, b'a'..=b'z' | b'0'..=b'9' | b'-'))
 }
 
 /// The moment that an option says.

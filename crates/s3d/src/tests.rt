@@ -121,7 +121,7 @@ fn one_line_faults(rt: HostRuntime) -> Result<(), Fail> {
     let faults: [(&str, &[&str]); 21] = [
         ("bad setting", &["--keys", "keys"]),
         (
-            "bad setting",
+            "cannot read shelf",
             &["--keys", "shelf", "--moment", "0", "--region", "US"],
         ),
         ("bad setting", &["--keys", "keys", "--moment", "12x"]),

@@ -174,11 +174,11 @@ fn signing_faults(rt: HostRuntime) -> Result<(), Fail> {
             "s3d sign --keys keys --id id --moment 0 --method G/T --target / --host h --body body",
         ),
         (
-            "bad setting",
+            "cannot read shelf",
             "s3d sign --keys shelf --id id --moment 0 --method GET --target / --host h --region US",
         ),
         (
-            "bad setting",
+            "cannot read shelf",
             "s3d sign --keys shelf --id id --moment 0 --method GET --target / --host h --body-limit 67108865",
         ),
         (
