@@ -17,10 +17,11 @@ fn paths(rt: HostRuntime) -> Result<(), Fail> {
 
 #[test]
 fn queries(rt: HostRuntime) -> Result<(), Fail> {
-    let cases: [(&[u8], &[u8]); 5] = [
+    let cases: [(&[u8], &[u8]); 6] = [
         (b"/?b=2&a=1&&c&a=0%2f", b"a=0%2F&a=1&b=2&c="),
         (b"/?z=1&%c3%a9=2", b"%C3%A9=2&z=1"),
         (b"/?a-=1&a=2&q=x+y", b"a=2&a-=1&q=x%2By"),
+        (b"/?a=2&a-=1", b"a=2&a-=1"),
         (b"/?=", b"="),
         (b"/pail", b""),
     ];
