@@ -1,3 +1,4 @@
+pub mod SortedLemmas
 pub mod EncodingLemmas
 pub mod ListLemmas
 pub mod SortingLemmas

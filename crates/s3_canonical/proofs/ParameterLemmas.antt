@@ -1,12 +1,11 @@
 -- Parameters, sorted by the code, are the pairs in their order.
 use Rattle.std.proofs.Common.{◌≡◌, ℕ, List, IsPermutation}
-use Rattle.std.specs.Ordering.{nat_cmp}
 use Rattle.std.specs.Cmp.{IsTotalOrder}
-use Rattle.std.specs.Cmp.Lexicographic.{slice_cmp}
 use Rattle.std.specs.List.Sorted.{IsSorted}
 use Rattle.std.proofs.lemmas.Cmp.{nat_list_cmp_total, on_total, then_total}
 use Rattle.std.proofs.lemmas.List.Sorted.{IsPermutation-map}
 use Rattle.std.proofs.lemmas.Map.Lookups.{CmpEqualImpliesEq, exact_bytes, exact_pairs}
+use Rattle.s3_terms.specs.Names.{byte_order}
 use Rattle.s3_canonical.specs.declared.parameter.Parameter.{Parameter}
 use Rattle.s3_canonical.specs.Parameter.{pair, pairs}
 use Rattle.s3_canonical.specs.Target.{pair_cmp, sorted_pairs}
@@ -17,7 +16,7 @@ pair_cmp_total : IsTotalOrder pair_cmp
 pair_cmp_total = then_total (on_total (λ (p : List ℕ × List ℕ). p.0) nat_list_cmp_total) (on_total (λ (p : List ℕ × List ℕ). p.1) nat_list_cmp_total)
 
 pair_cmp_exact : CmpEqualImpliesEq pair_cmp
-pair_cmp_exact = exact_pairs (slice_cmp nat_cmp) (slice_cmp nat_cmp) exact_bytes exact_bytes
+pair_cmp_exact = exact_pairs byte_order byte_order exact_bytes exact_bytes
 
 -- what the sort of the code leaves
 pub pairs-sorted : (xs ys : List Parameter) → IsPermutation xs ys → IsSorted (λ p q. pair_cmp (pair p) (pair q)) ys → pairs ys ≡ sorted_pairs (pairs xs)

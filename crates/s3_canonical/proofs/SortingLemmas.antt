@@ -12,6 +12,7 @@ use Rattle.std.proofs.lemmas.List.{set_split, set-get_or, get_or-set_same, get_o
 use Rattle.std.proofs.lemmas.List.Sorted.{IsPermutation-keeps}
 use Rattle.std.proofs.lemmas.Bool.{cases_Bool, cond-true, cond-false, cases_eq, false≢true}
 use Rattle.s3_canonical.specs.Sorting.{insert_by, sorted_by}
+use Rattle.s3_canonical.proofs.SortedLemmas.{here, past}
 
 is_gt-back : (o : Ordering) → is_gt o ≡ true → is_gt (ordering_reverse o) ≡ false
 is_gt-back Less h = absurd (false≢true h)
@@ -39,13 +40,8 @@ remove_by cmp x [] = []
 remove_by cmp x (y ∷ ys) = cond (is_eq (cmp x y)) ys (y ∷ remove_by cmp x ys)
 
 module _ {X : Type 0} (cmp : X → X → Ordering) (total : IsTotalOrder cmp) where
-  past : (x y : X) (ys : List X) → is_gt (cmp x y) ≡ true → insert_by cmp x (y ∷ ys) ≡ y ∷ insert_by cmp x ys
-  past x y ys gt = cond-true _ _ _ gt
-
-  here : (x y : X) (ys : List X) → is_gt (cmp x y) ≡ false → insert_by cmp x (y ∷ ys) ≡ x ∷ y ∷ ys
-  here x y ys le = cond-false _ _ _ le
-
-  one_way : (x y : X) → is_gt (cmp x y) ≡ true → is_gt (cmp y x) ≡ false
+  -- what is greater is not below
+  pub one_way : (x y : X) → is_gt (cmp x y) ≡ true → is_gt (cmp y x) ≡ false
   one_way x y gt = ap is_gt (total.antisymm y x) ∙ is_gt-back (cmp x y) gt
 
   -- taking an element out again gives the list back
@@ -53,8 +49,8 @@ module _ {X : Type 0} (cmp : X → X → Ordering) (total : IsTotalOrder cmp) wh
   remove-insert x [] = cond-true _ _ _ (ap is_eq (tied_itself total x))
   remove-insert x (y ∷ ys) =
       ⊎_elim
-      (λ gt. ap (remove_by cmp x) (past x y ys gt) ∙ cond-false _ _ _ (not_equal_from_gt (cmp x y) gt) ∙ ap (λ zs. y ∷ zs) (remove-insert x ys))
-      (λ le. ap (remove_by cmp x) (here x y ys le) ∙ cond-true _ _ _ (ap is_eq (tied_itself total x)))
+      (λ gt. ap (remove_by cmp x) (past cmp x y ys gt) ∙ cond-false _ _ _ (not_equal_from_gt (cmp x y) gt) ∙ ap (λ zs. y ∷ zs) (remove-insert x ys))
+      (λ le. ap (remove_by cmp x) (here cmp x y ys le) ∙ cond-true _ _ _ (ap is_eq (tied_itself total x)))
       (cases_Bool (is_gt (cmp x y)))
 
   insert_cancel : (x : X) (ys zs : List X) → insert_by cmp x ys ≡ insert_by cmp x zs → ys ≡ zs
@@ -67,7 +63,7 @@ module _ {X : Type 0} (cmp : X → X → Ordering) (total : IsTotalOrder cmp) wh
   sorted_by-sorted (x ∷ []) up = refl
   sorted_by-sorted (x ∷ y ∷ ys) up =
       let tail : IsSorted cmp (y ∷ ys) = λ k d low high. rw add-one (rw add-one at (up (suc k) d (omega arith) (omega arith))) in
-      ap (insert_by cmp x) (sorted_by-sorted (y ∷ ys) tail) ∙ here x y ys (is_gt-reverse (cmp x y) ∙ ap is_lt (sym (total.antisymm y x)) ∙ up 0 x (omega arith) (omega arith))
+      ap (insert_by cmp x) (sorted_by-sorted (y ∷ ys) tail) ∙ here cmp x y ys (is_gt-reverse (cmp x y) ∙ ap is_lt (sym (total.antisymm y x)) ∙ up 0 x (omega arith) (omega arith))
 
   module _ (exact : CmpEqualImpliesEq cmp) where
     -- two elements go in in either order: it is enough to see it where one is greater
@@ -85,26 +81,26 @@ module _ {X : Type 0} (cmp : X → X → Ordering) (total : IsTotalOrder cmp) wh
     around_head : (x y z : X) (zs : List X) → is_gt (cmp x z) ≡ true → is_gt (cmp y z) ≡ false → insert_by cmp x (insert_by cmp y (z ∷ zs)) ≡ insert_by cmp y (insert_by cmp x (z ∷ zs))
     around_head x y z zs above below =
         let greater : is_gt (cmp x y) ≡ true = ⊎_elim (λ e. e) (λ le. absurd (false≢true (sym (upto total x y z le below) ∙ above))) (cases_Bool (is_gt (cmp x y))) in
-        ap (insert_by cmp x) (here y z zs below) ∙ past x y (z ∷ zs) greater ∙ ap (λ ws. y ∷ ws) (past x z zs above)
-        ∙ sym (ap (insert_by cmp y) (past x z zs above) ∙ here y z (insert_by cmp x zs) below)
+        ap (insert_by cmp x) (here cmp y z zs below) ∙ past cmp x y (z ∷ zs) greater ∙ ap (λ ws. y ∷ ws) (past cmp x z zs above)
+        ∙ sym (ap (insert_by cmp y) (past cmp x z zs above) ∙ here cmp y z (insert_by cmp x zs) below)
 
     -- neither is above the head, and the first is greater
     before_head : (x y z : X) (zs : List X) → is_gt (cmp x z) ≡ false → is_gt (cmp y z) ≡ false → is_gt (cmp x y) ≡ true → insert_by cmp x (insert_by cmp y (z ∷ zs)) ≡ insert_by cmp y (insert_by cmp x (z ∷ zs))
     before_head x y z zs first second greater =
-        ap (insert_by cmp x) (here y z zs second) ∙ past x y (z ∷ zs) greater ∙ ap (λ ws. y ∷ ws) (here x z zs first)
-        ∙ sym (ap (insert_by cmp y) (here x z zs first) ∙ here y x (z ∷ zs) (one_way x y greater))
+        ap (insert_by cmp x) (here cmp y z zs second) ∙ past cmp x y (z ∷ zs) greater ∙ ap (λ ws. y ∷ ws) (here cmp x z zs first)
+        ∙ sym (ap (insert_by cmp y) (here cmp x z zs first) ∙ here cmp y x (z ∷ zs) (one_way x y greater))
 
     insert_comm : (x y : X) (zs : List X) → insert_by cmp x (insert_by cmp y zs) ≡ insert_by cmp y (insert_by cmp x zs)
     insert_comm x y [] =
         either_order x y []
-        (λ gt. past x y [] gt ∙ sym (here y x [] (one_way x y gt)))
-        (λ gt. here x y [] (one_way y x gt) ∙ sym (past y x [] gt))
+        (λ gt. past cmp x y [] gt ∙ sym (here cmp y x [] (one_way x y gt)))
+        (λ gt. here cmp x y [] (one_way y x gt) ∙ sym (past cmp y x [] gt))
     insert_comm x y (z ∷ zs) =
         ⊎_elim
         (λ above. ⊎_elim
         (λ above2.
-        ap (insert_by cmp x) (past y z zs above2) ∙ past x z (insert_by cmp y zs) above ∙ ap (λ ws. z ∷ ws) (insert_comm x y zs)
-        ∙ sym (ap (insert_by cmp y) (past x z zs above) ∙ past y z (insert_by cmp x zs) above2))
+        ap (insert_by cmp x) (past cmp y z zs above2) ∙ past cmp x z (insert_by cmp y zs) above ∙ ap (λ ws. z ∷ ws) (insert_comm x y zs)
+        ∙ sym (ap (insert_by cmp y) (past cmp x z zs above) ∙ past cmp y z (insert_by cmp x zs) above2))
         (λ below2. around_head x y z zs above below2)
         (cases_Bool (is_gt (cmp y z))))
         (λ below. ⊎_elim

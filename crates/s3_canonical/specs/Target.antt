@@ -4,9 +4,9 @@
 use Rattle.std.specs.Prelude.{ℕ, Bool, not, ◌||◌, ◌==◌, nat_eq, nat_lt, List, [], ◌∷◌, ◌++◌, map, filter, length}
 use Rattle.std.specs.List.{slice_split, before_first, after_first, join_with_byte, starts_with}
 use Rattle.std.specs.declared.cmp.Ordering.{Ordering}
-use Rattle.std.specs.Ordering.{nat_cmp, ordering_then}
-use Rattle.std.specs.Cmp.Lexicographic.{slice_cmp}
+use Rattle.std.specs.Ordering.{ordering_then}
 use Rattle.percent_encoding.specs.Percent.{percent_decode}
+use Rattle.s3_terms.specs.Names.{byte_order}
 use Rattle.s3_http_heads.specs.Parts.{path_of, query_of}
 use Rattle.s3_canonical.specs.Sorting.{sorted_by}
 use Rattle.s3_canonical.specs.Encoding.{encode_path, encode_query, has_bad_escape}
@@ -35,9 +35,9 @@ parameters_of target = map pair_of (pieces_of (query_of target))
 abbrev pub encoded_pair : List ℕ × List ℕ → List ℕ × List ℕ
 encoded_pair pair = (encode_query pair.0, encode_query pair.1)
 
--- the order of parameters: by name, and then by value, each byte by byte
+-- the order of parameters: by name, and then by value
 abbrev pub pair_cmp : List ℕ × List ℕ → List ℕ × List ℕ → Ordering
-pair_cmp a b = ordering_then (slice_cmp nat_cmp a.0 b.0) (slice_cmp nat_cmp a.1 b.1)
+pair_cmp a b = ordering_then (byte_order a.0 b.0) (byte_order a.1 b.1)
 
 -- the pairs in that order
 abbrev pub sorted_pairs : List (List ℕ × List ℕ) → List (List ℕ × List ℕ)

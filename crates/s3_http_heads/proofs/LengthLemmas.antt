@@ -1,53 +1,13 @@
--- Counts in decimal digits, and the order of the faults in the framing.
-use Rattle.std.proofs.Common.{◌≡◌, ◌⊎◌, inl, inr, cond, [], ◌∷◌, ◌&&◌, Option, Some, None, Result, Ok, Err, ℕ, ◌+◌, ◌-◌, ◌*◌, ◌^◌, ◌<◌, ◌≤◌, Bool, true, false, List, take, length, get_or, refl, sym, ap, ◌∙◌, arith}
+-- The order of the faults in the framing.
+use Rattle.std.proofs.Common.{◌≡◌, ◌⊎◌, inl, inr, cond, [], ◌∷◌, ◌&&◌, Option, Some, None, Result, Ok, Err, ℕ, ◌<◌, ◌≤◌, Bool, true, false, refl, sym, ap, ◌∙◌}
 use Rattle.std.specs.Prelude.{codes, not, nat_lt}
-use Rattle.std.specs.List.{list_all}
-use Rattle.std.specs.Char.{is_ascii_digit, digit_value}
-use Rattle.std.specs.Str.Parse.{digits_value}
-use Rattle.std.proofs.Math.Nat.{pow-le-pow_right}
 use Rattle.std.proofs.lemmas.Bool.{cases_Bool, and_left, and_right, and_from, lt-ltb, le-ltb}
-use Rattle.std.proofs.lemmas.Bool.Decides.{nat_tests}
-use Rattle.std.proofs.lemmas.Grind.{pow_more}
-use Rattle.std.proofs.lemmas.Int.Digits.{digits_value_more}
-use Rattle.std.proofs.lemmas.List.Folds.{list_all_more}
 use Rattle.std.proofs.lemmas.Option.{cond_some, none-some}
 use Rattle.s3_terms.specs.declared.code.Code.{Code}
 use Rattle.s3_terms.specs.declared.code.Code.TheVariants.{NotImplemented, InvalidRequest, MissingContentLength, EntityTooLarge}
 use Rattle.s3_terms.specs.Fault.{first_fault, unless_refused}
 use Rattle.s3_http_heads.specs.Parts.{HeadParts, is_sent}
 use Rattle.s3_http_heads.specs.Framing.{is_count_once, length_lines, needs_length, announced, framing_of}
-
--- ---- counts
-
--- what a digit says
-digit_small : (b : ℕ) → is_ascii_digit b ≡ true → b - 48 < 10
-digit_small b digit = grind (arith, nat_tests)
-
-digit_value-digit : (b : ℕ) → is_ascii_digit b ≡ true → digit_value b ≡ b - 48
-digit_value-digit b digit = grind (arith, nat_tests)
-
-pub number_more : (text : List ℕ) (i v : ℕ) → i < length text → v ≡ digits_value 10 (take i text)
-    → is_ascii_digit (get_or text i 0) ≡ true → v * 10 + (get_or text i 0 - 48) ≡ digits_value 10 (take (i + 1) text)
-number_more text i v here is digit =
-    sym (digits_value_more 10 text i here
-    ∙ ap (λ n. n * 10 + digit_value (get_or text i 0)) (sym is)
-    ∙ ap (λ d. v * 10 + d) (digit_value-digit _ digit))
-
-pub digits_more : (text : List ℕ) (i : ℕ) → i < length text → list_all is_ascii_digit (take i text) ≡ true
-    → is_ascii_digit (get_or text i 0) ≡ true → list_all is_ascii_digit (take (i + 1) text) ≡ true
-digits_more text i here all digit = list_all_more is_ascii_digit text i 0 here ∙ rw (all, digit) refl
-
-pub small_more : (i v b : ℕ) → v < 10 ^ i → is_ascii_digit b ≡ true → v * 10 + (b - 48) < 10 ^ (i + 1)
-small_more i v b small digit = rw (pow_more 10 i) (omega (arith, digit_small b digit))
-
-pub fits_more : (i v b : ℕ) → i < 18 → v < 10 ^ i → is_ascii_digit b ≡ true → v * 10 + (b - 48) < 2 ^ 64
-fits_more i v b few small digit =
-    let ten : 0 < 10 = omega arith in
-    let few : i + 1 ≤ 18 = omega arith in
-    let most : 10 ^ (i + 1) ≤ 10 ^ 18 = pow-le-pow_right ten few in
-    omega (arith, small_more i v b small digit, most)
-
--- ---- the faults in their order
 
 -- the verdict, by what applies: a Transfer-Encoding, at most one count, no length where one is needed, too much
 abbrev verdict_by : Bool → Bool → Bool → Bool → ℕ → Result ℕ Code

@@ -2,13 +2,12 @@
 use Rattle.std.proofs.Common.{◌≡◌, ◌≢◌, ℕ, zero, suc, ◌+◌, ◌-◌, ◌≤◌, ◌<◌, ◌⊎◌, inl, inr, Bool, true, false, List, [], ◌∷◌, ◌++◌, take, drop, length, Option, Some, None, get_or, eqb, refl, sym, ap, ◌∙◌, arith, subst}
 use Rattle.std.specs.Prelude.{option_map, nat_eq, unwrap_or}
 use Rattle.std.specs.List.{starts_with, position, position_or_len}
-use Rattle.std.proofs.lemmas.Bool.{cases_eq, and_parts, false≢true, lt-leb, le-leb}
-use Rattle.std.proofs.lemmas.List.{take_rest, drop-drop, drop_more, drop_all, take_all, length-take, length-drop}
+use Rattle.std.proofs.lemmas.Bool.{cases_eq, and_parts, false≢true}
+use Rattle.std.proofs.lemmas.List.{take_rest, drop-drop, drop_more, drop_all, length-take, length-drop}
 use Rattle.std.proofs.lemmas.List.Sums.{prefix_len-le-length}
 use Rattle.std.proofs.lemmas.Bool.Decides.{nat_tests}
 use Rattle.s3_http_heads.specs.Scan.{after_byte}
-use Rattle.s3_http_heads.specs.declared.find.Found.TheVariants.{NeedMore, Head, TooLarge}
-use Rattle.s3_http_heads.specs.Text.{skip_pairs, text_length, head_end, head_limit, found_by, found_in}
+use Rattle.s3_http_heads.specs.Text.{skip_pairs, text_length, head_end}
 
 -- ---- the scan
 
@@ -194,44 +193,6 @@ pairs_all s at none = skip_pairs-other (drop at s) (rw take_rest at none)
 
 pub pairs_fit : (s : List ℕ) (at : ℕ) → at ≤ length s → 2 ≤ length (take (length s - at) (drop at s)) → at + 2 ≤ length s
 pairs_fit s at within two = omega (arith, two, length-take (length s - at) (drop at s), length-drop at s)
-
--- ---- the verdict
-
--- what is searched: the bytes from a place on
-abbrev pub held_from : List ℕ → ℕ → List ℕ
-held_from bytes at = take (length bytes - at) (drop at bytes)
-
-found_short : (bytes : List ℕ) (at : ℕ) → drop at bytes ≡ skip_pairs bytes → length (held_from bytes at) < head_limit
-    → (o : Option ℕ) → o ≡ text_length (held_from bytes at) → found_by o (length (held_from bytes at)) ≡ found_in bytes
-unfolding found_in
-found_short bytes at pairs short o is =
-    let held : held_from bytes at ≡ skip_pairs bytes = take_rest bytes at ∙ pairs in
-    ap (λ v. found_by v (length (held_from bytes at))) is
-    ∙ ap (λ s. found_by (text_length s) (length (held_from bytes at))) (sym (take_all head_limit (held_from bytes at) (omega arith)))
-    ∙ ap (λ s. found_by (text_length (take head_limit s)) (length s)) held
-
-pub found_head_short : (bytes : List ℕ) (at len : ℕ) → drop at bytes ≡ skip_pairs bytes → length (held_from bytes at) < head_limit
-    → Some len ≡ text_length (held_from bytes at) → Head len ≡ found_in bytes
-found_head_short bytes at len pairs short is = found_short bytes at pairs short (Some len) is
-
-pub found_more : (bytes : List ℕ) (at : ℕ) → drop at bytes ≡ skip_pairs bytes → length (held_from bytes at) < head_limit
-    → None ≡ text_length (held_from bytes at) → NeedMore ≡ found_in bytes
-found_more bytes at pairs short is = rw (lt-leb head_limit _ short) at (found_short bytes at pairs short None is)
-
-found_long : (bytes : List ℕ) (at : ℕ) → drop at bytes ≡ skip_pairs bytes
-    → (o : Option ℕ) → o ≡ text_length (take head_limit (held_from bytes at)) → found_by o (length (held_from bytes at)) ≡ found_in bytes
-unfolding found_in
-found_long bytes at pairs o is =
-    ap (λ v. found_by v (length (held_from bytes at))) is
-    ∙ ap (λ s. found_by (text_length (take head_limit s)) (length s)) (take_rest bytes at ∙ pairs)
-
-pub found_head_long : (bytes : List ℕ) (at len : ℕ) → drop at bytes ≡ skip_pairs bytes
-    → Some len ≡ text_length (take head_limit (held_from bytes at)) → Head len ≡ found_in bytes
-found_head_long bytes at len pairs is = found_long bytes at pairs (Some len) is
-
-pub found_too_large : (bytes : List ℕ) (at : ℕ) → drop at bytes ≡ skip_pairs bytes → head_limit ≤ length (held_from bytes at)
-    → None ≡ text_length (take head_limit (held_from bytes at)) → TooLarge ≡ found_in bytes
-found_too_large bytes at pairs long is = rw (le-leb head_limit _ long) at (found_long bytes at pairs None is)
 
 -- ---- the first place
 

@@ -1,22 +1,18 @@
 -- How long the body of a message is (RFC 9112, section 6), and the faults that are judged first.
-use Rattle.std.specs.Prelude.{ℕ, Bool, true, false, ◌&&◌, ◌==◌, not, nat_lt, nat_le, List, [], ◌∷◌, length, codes, Result}
-use Rattle.std.specs.List.{list_all, after_first}
-use Rattle.std.specs.Char.{is_ascii_digit}
+use Rattle.std.specs.Prelude.{ℕ, Bool, true, false, ◌&&◌, ◌==◌, not, nat_lt, List, [], ◌∷◌, length, codes, Result}
+use Rattle.std.specs.List.{after_first}
 use Rattle.std.specs.Str.{bytes_eq}
 use Rattle.std.specs.Str.Parse.{digits_value}
+use Rattle.s3_terms.specs.Digits.{is_decimal}
 use Rattle.s3_terms.specs.Fault.{first_fault, unless_refused}
 use Rattle.s3_terms.specs.declared.code.Code.{Code}
 use Rattle.s3_terms.specs.declared.code.Code.TheVariants.{NotImplemented, InvalidRequest, MissingContentLength, EntityTooLarge}
 use Rattle.s3_http_heads.specs.Parts.{HeadParts, values_of, is_sent, path_of}
 
--- 1 to 18 decimal digits: no sign, no space
-abbrev pub is_count : List ℕ → Bool
-is_count text = nat_le 1 (length text) && nat_le (length text) 18 && list_all is_ascii_digit text
-
--- at most one line, and that one a count
+-- at most one line, and that one a count: 1 to 18 decimal digits
 abbrev pub is_count_once : List (List ℕ) → Bool
 is_count_once [] = true
-is_count_once (value ∷ []) = is_count value
+is_count_once (value ∷ []) = is_decimal 18 value
 is_count_once (value ∷ other ∷ others) = false
 
 -- the number that the line says; nothing was announced where there is none

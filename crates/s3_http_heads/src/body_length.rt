@@ -1,14 +1,13 @@
 //! How long the body of a message is, and what is wrong with that.
 ghost use Rattle.std.specs.Prelude.{◌≡◌, ◌≤◌, ◌==◌, nat_lt, if◌then◌else◌, Some, None, IfOk, List, ℕ, length, codes};
 ghost use Rattle.std.specs.List.{after_first};
-ghost use Rattle.std.specs.Str.Parse.{digits_value};
 ghost use Rattle.s3_http_heads.specs.Message.{IsMessage};
 ghost use Rattle.s3_http_heads.specs.Parts.{HeadParts, is_sent};
-ghost use Rattle.s3_http_heads.specs.Framing.{is_count, is_count_once, announced, length_lines, names_key, needs_length, framing_of};
+ghost use Rattle.s3_http_heads.specs.Framing.{is_count_once, announced, length_lines, names_key, needs_length, framing_of};
 
 use crate::Head;
 use crate::text::after_first;
-use s3_terms::Code;
+use s3_terms::{Code, decimal_number};
 
 /// The length in bytes of the body that follows this head, where at most `limit` bytes are accepted; 0
 /// where no Content-Length was sent.
@@ -38,24 +37,6 @@ pub fn framing(head: &Head, limit: u64) -> Result<u64, Code>
     Ok(length)
 }
 
-/// The number that a text of 1 to 18 decimal digits writes; `None` for any other text, a sign or a
-/// space among its bytes included.
-pub fn count_of(text: &[u8]) -> Option<u64>
-    ensures { result ≡ (if is_count text.now then Some (digits_value 10 text.now) else None) }
-{
-    if text.is_empty() || text.len() > 18 {
-        return None;
-    }
-    let mut value = 0;
-    for byte in text {
-        if !byte.is_ascii_digit() {
-            return None;
-        }
-        value = value * 10 + u64::from(*byte - b'0');
-    }
-    Some(value)
-}
-
 // Whether the body is sent under an encoding, so that its end is not told by a count.
 fn is_encoded(head: &Head) -> bool
     ensures { result ≡ is_sent (codes "transfer-encoding") head.now }
@@ -71,7 +52,7 @@ fn announced_length(head: &Head) -> Option<u64>
         return None;
     }
     match head.first(b"content-length") {
-        Some(value) => count_of(value),
+        Some(value) => decimal_number(value, 18),
         None => Some(0),
     }
 }

@@ -1,7 +1,7 @@
 //! Where a head text begins and ends in the bytes of a connection.
-ghost use Rattle.std.specs.Prelude.{◌≡◌, ◌≤◌, ◌<◌, ◌↔◌, ◌++◌, ℕ, List, length, drop};
+ghost use Rattle.std.specs.Prelude.{◌≡◌, ◌≤◌, ◌<◌, ◌↔◌, ◌++◌, ℕ, List, length, take, drop};
 ghost use Rattle.s3_http_heads.specs.Scan.{after_byte};
-ghost use Rattle.s3_http_heads.specs.Text.{skip_pairs, text_length, found_in, IsHeadText, HasNoHeadText};
+ghost use Rattle.s3_http_heads.specs.Text.{head_limit, skip_pairs, text_length, found_in, IsHeadText, HasNoHeadText};
 
 /// The greatest size of a head text, in bytes.
 pub const HEAD_LIMIT: usize = 16_384;
@@ -21,20 +21,15 @@ pub enum Found {
 /// on. A `len` counts from the end of the skipped pairs of CR and LF.
 ///
 /// Each byte is looked at once, and none past the head's end or the limit.
+#[tactic(auto, unfolding(crate::specs::Text::found_in))]
 pub fn find_head(bytes: &[u8]) -> Found
     ensures { result ≡ found_in bytes.now }
 {
-    let held = &bytes[skipped(bytes)..];
-    if held.len() < HEAD_LIMIT {
-        match head_length(held) {
-            Some(len) => Found::Head { len },
-            None => Found::NeedMore,
-        }
-    } else {
-        match head_length(&held[..HEAD_LIMIT]) {
-            Some(len) => Found::Head { len },
-            None => Found::TooLarge,
-        }
+    let held = without_pairs(bytes);
+    match head_within_limit(held) {
+        Some(len) => Found::Head { len },
+        None if held.len() < HEAD_LIMIT => Found::NeedMore,
+        None => Found::TooLarge,
     }
 }
 
@@ -48,6 +43,21 @@ pub fn skipped(bytes: &[u8]) -> usize
         at += 2;
     }
     at
+}
+
+// The bytes without the pairs of CR and LF that they begin with.
+fn without_pairs(bytes: &[u8]) -> &[u8]
+    ensures { result.now ≡ skip_pairs bytes.now }
+{
+    &bytes[skipped(bytes)..]
+}
+
+// The length of the shortest beginning that ends with an empty line and has at most 16,384 bytes.
+#[tactic(auto, using(std::proofs::lemmas::List::take_min))]
+fn head_within_limit(held: &[u8]) -> Option<usize>
+    ensures { result ≡ text_length (take head_limit held.now) }
+{
+    head_length(&held[..HEAD_LIMIT.min(held.len())])
 }
 
 // The length of the shortest beginning that ends with an empty line.

@@ -8,7 +8,7 @@ mod head;
 mod tests;
 mod text;
 
-pub use body_length::{count_of, framing, messages_are_cut_once};
+pub use body_length::{framing, messages_are_cut_once};
 pub use find::{
     Found, HEAD_LIMIT, find_head, pairs_may_be_dropped, skipped, verdict_is_exact, verdicts_stay,
 };

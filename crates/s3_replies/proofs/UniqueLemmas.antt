@@ -1,14 +1,13 @@
 -- A reply has one text: its moments have one date each, and nothing else in it is chosen.
-use Rattle.std.proofs.Common.{◌≡◌, ℕ, true, List, ap, sym, subst, ◌∙◌}
+use Rattle.std.proofs.Common.{◌≡◌, ℕ, List, ap, sym, subst, ◌∙◌}
 use Rattle.httpdate.specs.Text.{imf_fixdate}
 use Rattle.httpdate.proofs.Theorems.{unix_secs_injective}
-use Rattle.s3_terms.specs.declared.code.Code.{Code}
 use Rattle.s3_store.specs.declared.answer.Answer.{Answer}
 use Rattle.s3_store.specs.declared.answer.Outcome.{Outcome}
 use Rattle.s3_store.specs.declared.answer.Outcome.TheVariants.{Put, Got, Refused}
 use Rattle.s3_replies.specs.declared.context.Context.{Context}
 use Rattle.s3_replies.specs.Lines.{IsHttpDate}
-use Rattle.s3_replies.specs.Replies.{print_error, print_got, PrintsOutcome, Prints, PrintsRefusal}
+use Rattle.s3_replies.specs.Replies.{print_got, PrintsOutcome, Prints}
 
 pub IsHttpDate_unique : (t : ℕ) (a b : List ℕ) → IsHttpDate t a → IsHttpDate t b → a ≡ b
 IsHttpDate_unique t a b h k =
@@ -26,8 +25,3 @@ Prints_unique answer context t u h k =
     let same = IsHttpDate_unique context.moment h.0 k.0 h.1 k.1 in
     let P : List ℕ → Type 0 = λ date. PrintsOutcome answer.number answer.outcome context date t in
     PrintsOutcome_unique answer.number answer.outcome context k.0 t u (subst P same h.2) k.2
-
-pub PrintsRefusal_unique : (code : Code) (context : Context) (t u : List ℕ) → PrintsRefusal code context t → PrintsRefusal code context u → t ≡ u
-PrintsRefusal_unique code context t u h k =
-    let same = IsHttpDate_unique context.moment h.0 k.0 h.1 k.1 in
-    h.2 ∙ ap (print_error code 0 true context.head_only) same ∙ sym k.2

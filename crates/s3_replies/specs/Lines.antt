@@ -2,8 +2,6 @@
 use Rattle.std.specs.Prelude.{◌≡◌, ℕ, Bool, if◌then◌else◌, List, [], ◌∷◌, ◌++◌, codes}
 use Rattle.std.specs.List.{flat_map}
 use Rattle.std.specs.Fmt.{decimal}
-use Rattle.std.specs.Int.{w64, to_be_bytes}
-use Rattle.hex.specs.Hex.{encode_lower}
 use Rattle.httpdate.specs.declared.date.HttpDate.{HttpDate}
 use Rattle.httpdate.specs.Date.{unix_secs, date_text}
 
@@ -35,10 +33,6 @@ quoted text = 34 ∷ text ++ 34 ∷ []
 -- the text is the moment as a date of HTTP (RFC 9110, section 5.6.7: IMF-fixdate)
 abbrev pub IsHttpDate : ℕ → List ℕ → Type 0
 IsHttpDate t text = (date : HttpDate) × (unix_secs date ≡ t) × (text ≡ date_text date)
-
--- a number as sixteen lower-case hexadecimal digits
-unfoldable pub id_text : ℕ → List ℕ
-id_text n = encode_lower (to_be_bytes w64 n)
 
 -- a number in decimal digits
 unfoldable pub count_text : ℕ → List ℕ

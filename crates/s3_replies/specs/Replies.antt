@@ -2,13 +2,14 @@
 -- response headers" and "Error responses"; documents are JSON here).
 use Rattle.std.specs.Prelude.{◌≡◌, ℕ, ◌==◌, Bool, true, if◌then◌else◌, List, [], ◌∷◌, ◌++◌, length, codes}
 use Rattle.s3_terms.specs.Code.{status_of, name_of, message_of}
+use Rattle.s3_terms.specs.Digits.{number_digits}
 use Rattle.s3_terms.specs.declared.code.Code.{Code}
 use Rattle.s3_store.specs.declared.object.Object.{Object}
 use Rattle.s3_store.specs.declared.answer.Answer.{Answer}
 use Rattle.s3_store.specs.declared.answer.Outcome.{Outcome}
 use Rattle.s3_store.specs.declared.answer.Outcome.TheVariants as outcomes
 use Rattle.s3_replies.specs.declared.context.Context.{Context}
-use Rattle.s3_replies.specs.Lines.{Line, line_if, quoted, IsHttpDate, id_text, count_text, print_reply}
+use Rattle.s3_replies.specs.Lines.{Line, line_if, quoted, IsHttpDate, count_text, print_reply}
 use Rattle.s3_replies.specs.Status.{status_text}
 
 -- the lines that every reply begins with but the fixed one for want of memory: its date, whether the
@@ -17,7 +18,7 @@ abbrev pub first_lines : List ℕ → Bool → ℕ → List Line
 first_lines date closing number =
     (codes "Date", date)
     ∷ line_if closing (codes "Connection", codes "close")
-    ++ (codes "x-amz-request-id", id_text number) ∷ []
+    ++ (codes "x-amz-request-id", number_digits number) ∷ []
 
 -- the line that every reply ends with: the size of its body, also where that is not sent
 abbrev pub length_line : List ℕ → Line
@@ -86,12 +87,17 @@ Prints answer context text =
     (date : List ℕ) × IsHttpDate context.moment date
     × PrintsOutcome answer.number answer.outcome context date text
 
--- the text is the printed refusal of a message that did not come to the store: it has no number,
--- and ends the connection
+-- the same context, but the connection ends with the reply
+abbrev pub closing : Context → Context
+closing context = record { moment = context.moment; head_only = context.head_only; closes = true }
+
+-- the refusal of a message that did not come to the store: it has no number
+abbrev pub unnumbered : Code → Answer
+unnumbered code = record { number = 0; outcome = outcomes.Refused code }
+
+-- the text is the printed refusal of such a message, and ends the connection
 abbrev pub PrintsRefusal : Code → Context → List ℕ → Type 0
-PrintsRefusal code context text =
-    (date : List ℕ) × IsHttpDate context.moment date
-    × (text ≡ print_error code 0 true context.head_only date)
+PrintsRefusal code context text = Prints (unnumbered code) (closing context) text
 
 -- an answer has one printed reply to a message
 abbrev pub RepliesAreUnique : Type 0
@@ -121,6 +127,6 @@ internal_error =
     print_reply (status_text 500)
     ((codes "Connection", codes "close")
     ∷ (codes "Content-Length", codes "0")
-    ∷ (codes "x-amz-request-id", id_text 0)
+    ∷ (codes "x-amz-request-id", number_digits 0)
     ∷ [])
     []

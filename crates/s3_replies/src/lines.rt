@@ -4,10 +4,10 @@ ghost use Rattle.std.specs.List.{flat_map};
 ghost use Rattle.s3_replies.specs.Lines.{print_line, line_if, quoted, count_text, crlf};
 ghost use Rattle.s3_replies.specs.Replies.{first_lines, default_type, sent_body};
 
-use crate::texts::{id_digits, quoted_tag};
+use crate::texts::quoted_tag;
 use arrayvec::ArrayVec;
 use itoa::Buffer;
-use s3_terms::Tag;
+use s3_terms::{Tag, number_digits};
 
 /// A reply while it is written.
 pub(crate) type Reply = ArrayVec<u8, 4096>;
@@ -70,7 +70,7 @@ pub(crate) fn write_first_lines(out: &mut Reply, date: &[u8; 29], closes: bool, 
 {
     write_line(out, "Date", date);
     write_closing(out, closes);
-    write_line(out, "x-amz-request-id", &id_digits(number));
+    write_line(out, "x-amz-request-id", &number_digits(number));
 }
 
 /// Appends the lines that tell of an object, by its tag and the date at which it was made: 145

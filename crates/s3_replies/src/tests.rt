@@ -5,6 +5,7 @@ use crate::{
 use s3_segments::Body;
 use s3_store::{Answer, Object, Outcome};
 use s3_terms::{Code, Moment, Tag};
+use std::alloc::{AllocError, Global};
 use std::test::Fail;
 
 /// 2013-05-24T00:00:00Z.
@@ -15,60 +16,66 @@ const HELLO: [u8; 16] = [
     0x5d, 0x41, 0x40, 0x2a, 0xbc, 0x4b, 0x2a, 0x76, 0xb9, 0x71, 0x9d, 0x91, 0x10, 0x17, 0xc5, 0x92,
 ];
 
-fn context_at(moment: u64, head_only: bool, closes: bool) -> Option<Context> {
-    let moment = Moment::new(moment)?;
-    Some(Context {
+fn context_at(moment: u64, head_only: bool, closes: bool) -> Result<Context, Fail> {
+    let moment = Moment::new(moment).ok_or("no moment")?;
+    Ok(Context {
         moment,
         head_only,
         closes,
     })
 }
 
-#[test]
-fn put_and_get_hello(rt: HostRuntime) -> Result<(), Fail> {
-    let context = context_at(MOMENT, false, false).ok_or("moment")?;
-    let tag = Tag::of_digest(HELLO);
-    let put = Answer {
-        number: 0,
-        outcome: Outcome::Put { tag },
-    };
-    assert_eq!(rt;
-        head_of(&put, &context).as_slice(),
-        b"HTTP/1.1 200 OK\r\n\
-        Date: Fri, 24 May 2013 00:00:00 GMT\r\n\
-        x-amz-request-id: 0000000000000000\r\n\
-        ETag: \"5d41402abc4b2a76b9719d911017c592\"\r\n\
-        Content-Length: 0\r\n\
-        \r\n"
-            .as_slice()
-    );
-    let object = Object {
-        tag: Tag::of_digest(HELLO),
-        moment: context.moment,
-        body: Body::new(b"hello".to_vec(rt.alloc())?),
-    };
-    let got = Answer {
-        number: 1,
-        outcome: Outcome::Got { object },
-    };
-    let mut output = head_of(&got, &context).as_slice().to_vec(rt.alloc())?;
-    if let Outcome::Got { object } = &got.outcome {
+/// What is sent for an answer: its head, and behind it the bytes of an object.
+fn sent(alloc: Global, answer: &Answer, context: &Context) -> Result<Vec<u8>, AllocError> {
+    let mut output = head_of(answer, context).as_slice().to_vec(alloc)?;
+    if let Outcome::Got { object } = &answer.outcome {
         output.extend_from_slice(object.body.as_slice())?;
     }
-    assert_eq!(rt;
-        output.as_slice(),
-        b"HTTP/1.1 200 OK\r\n\
-        Date: Fri, 24 May 2013 00:00:00 GMT\r\n\
-        x-amz-request-id: 0000000000000001\r\n\
-        ETag: \"5d41402abc4b2a76b9719d911017c592\"\r\n\
-        Last-Modified: Fri, 24 May 2013 00:00:00 GMT\r\n\
-        Accept-Ranges: bytes\r\n\
-        Content-Type: binary/octet-stream\r\n\
-        Content-Length: 5\r\n\
-        \r\n\
-        hello"
-            .as_slice()
-    );
+    Ok(output)
+}
+
+#[test]
+fn put_and_get_hello(rt: HostRuntime) -> Result<(), Fail> {
+    let alloc = rt.alloc();
+    let context = context_at(MOMENT, false, false)?;
+    let tag = Tag::of_digest(HELLO);
+    let object = Object {
+        tag: tag.copy(),
+        moment: context.moment,
+        body: Body::new(b"hello".to_vec(alloc)?),
+    };
+    let put = Outcome::Put { tag };
+    let got = Outcome::Got { object };
+    let cases: [(u64, Outcome, &[u8]); 2] = [
+        (
+            0,
+            put,
+            b"HTTP/1.1 200 OK\r\n\
+            Date: Fri, 24 May 2013 00:00:00 GMT\r\n\
+            x-amz-request-id: 0000000000000000\r\n\
+            ETag: \"5d41402abc4b2a76b9719d911017c592\"\r\n\
+            Content-Length: 0\r\n\
+            \r\n",
+        ),
+        (
+            1,
+            got,
+            b"HTTP/1.1 200 OK\r\n\
+            Date: Fri, 24 May 2013 00:00:00 GMT\r\n\
+            x-amz-request-id: 0000000000000001\r\n\
+            ETag: \"5d41402abc4b2a76b9719d911017c592\"\r\n\
+            Last-Modified: Fri, 24 May 2013 00:00:00 GMT\r\n\
+            Accept-Ranges: bytes\r\n\
+            Content-Type: binary/octet-stream\r\n\
+            Content-Length: 5\r\n\
+            \r\n\
+            hello",
+        ),
+    ];
+    for (number, outcome, expected) in cases {
+        let answer = Answer { number, outcome };
+        assert_eq!(rt; sent(alloc, &answer, &context)?.as_slice(), expected);
+    }
     Ok(())
 }
 
@@ -80,36 +87,37 @@ fn refusals_of_the_store(rt: HostRuntime) -> Result<(), Fail> {
             code: Code::NoSuchKey,
         },
     };
-    let context = context_at(MOMENT, false, false).ok_or("moment")?;
-    assert_eq!(rt;
-        head_of(&missing, &context).as_slice(),
-        b"HTTP/1.1 404 Not Found\r\n\
-        Date: Fri, 24 May 2013 00:00:00 GMT\r\n\
-        x-amz-request-id: 00000000000000ff\r\n\
-        Content-Type: application/json\r\n\
-        Content-Length: 56\r\n\
-        \r\n\
-        {\"Code\":\"NoSuchKey\",\"Message\":\"The key does not exist.\"}"
-            .as_slice()
-    );
-    let head = context_at(0, true, true).ok_or("moment")?;
-    assert_eq!(rt;
-        head_of(&missing, &head).as_slice(),
-        b"HTTP/1.1 404 Not Found\r\n\
-        Date: Thu, 01 Jan 1970 00:00:00 GMT\r\n\
-        Connection: close\r\n\
-        x-amz-request-id: 00000000000000ff\r\n\
-        Content-Type: application/json\r\n\
-        Content-Length: 56\r\n\
-        \r\n"
-            .as_slice()
-    );
+    let cases: [(Context, &[u8]); 2] = [
+        (
+            context_at(MOMENT, false, false)?,
+            b"HTTP/1.1 404 Not Found\r\n\
+            Date: Fri, 24 May 2013 00:00:00 GMT\r\n\
+            x-amz-request-id: 00000000000000ff\r\n\
+            Content-Type: application/json\r\n\
+            Content-Length: 56\r\n\
+            \r\n\
+            {\"Code\":\"NoSuchKey\",\"Message\":\"The key does not exist.\"}",
+        ),
+        (
+            context_at(0, true, true)?,
+            b"HTTP/1.1 404 Not Found\r\n\
+            Date: Thu, 01 Jan 1970 00:00:00 GMT\r\n\
+            Connection: close\r\n\
+            x-amz-request-id: 00000000000000ff\r\n\
+            Content-Type: application/json\r\n\
+            Content-Length: 56\r\n\
+            \r\n",
+        ),
+    ];
+    for (context, expected) in cases {
+        assert_eq!(rt; head_of(&missing, &context).as_slice(), expected);
+    }
     Ok(())
 }
 
 #[test]
 fn malformed_head(rt: HostRuntime) -> Result<(), Fail> {
-    let context = context_at(MOMENT, false, false).ok_or("moment")?;
+    let context = context_at(MOMENT, false, false)?;
     assert_eq!(rt;
         refusal(Code::MalformedHead, &context).as_slice(),
         b"HTTP/1.1 400 Bad Request\r\n\
@@ -127,47 +135,66 @@ fn malformed_head(rt: HostRuntime) -> Result<(), Fail> {
 
 #[test]
 fn status_lines(rt: HostRuntime) -> Result<(), Fail> {
-    let context = context_at(MOMENT, true, false).ok_or("moment")?;
-    let statuses = [
-        (Code::MalformedHead, "400 Bad Request"),
-        (Code::HeadTooLarge, "400 Bad Request"),
-        (Code::NotImplemented, "501 Not Implemented"),
-        (Code::InvalidRequest, "400 Bad Request"),
-        (Code::MissingContentLength, "411 Length Required"),
-        (Code::EntityTooLarge, "400 Bad Request"),
-        (Code::InvalidURI, "400 Bad Request"),
-        (Code::AccessDenied, "403 Forbidden"),
-        (Code::AuthorizationHeaderMalformed, "400 Bad Request"),
-        (Code::RequestTimeTooSkewed, "403 Forbidden"),
-        (Code::InvalidArgument, "400 Bad Request"),
-        (Code::InvalidAccessKeyId, "403 Forbidden"),
-        (Code::SignatureDoesNotMatch, "403 Forbidden"),
-        (Code::InvalidDigest, "400 Bad Request"),
-        (Code::InvalidBucketName, "400 Bad Request"),
-        (Code::KeyTooLongError, "400 Bad Request"),
-        (Code::MethodNotAllowed, "405 Method Not Allowed"),
-        (Code::MetadataTooLarge, "400 Bad Request"),
-        (Code::NoSuchUpload, "404 Not Found"),
-        (Code::IncompleteBody, "400 Bad Request"),
-        (Code::XAmzContentSHA256Mismatch, "400 Bad Request"),
-        (Code::BadDigest, "400 Bad Request"),
-        (Code::MalformedBody, "400 Bad Request"),
-        (Code::NoSuchBucket, "404 Not Found"),
-        (Code::BucketAlreadyOwnedByYou, "409 Conflict"),
-        (Code::BucketNotEmpty, "409 Conflict"),
-        (Code::NoSuchKey, "404 Not Found"),
-        (Code::NoSuchVersion, "404 Not Found"),
-        (Code::PreconditionFailed, "412 Precondition Failed"),
-        (Code::InvalidRange, "416 Range Not Satisfiable"),
-        (Code::InvalidPartOrder, "400 Bad Request"),
-        (Code::InvalidPart, "400 Bad Request"),
-        (Code::EntityTooSmall, "400 Bad Request"),
-        (Code::InternalError, "500 Internal Server Error"),
+    let context = context_at(MOMENT, true, false)?;
+    let statuses: [(&str, &[Code]); 10] = [
+        (
+            "400 Bad Request",
+            &[
+                Code::MalformedHead,
+                Code::HeadTooLarge,
+                Code::InvalidRequest,
+                Code::EntityTooLarge,
+                Code::InvalidURI,
+                Code::AuthorizationHeaderMalformed,
+                Code::InvalidArgument,
+                Code::InvalidDigest,
+                Code::InvalidBucketName,
+                Code::KeyTooLongError,
+                Code::MetadataTooLarge,
+                Code::IncompleteBody,
+                Code::XAmzContentSHA256Mismatch,
+                Code::BadDigest,
+                Code::MalformedBody,
+                Code::InvalidPartOrder,
+                Code::InvalidPart,
+                Code::EntityTooSmall,
+            ],
+        ),
+        (
+            "403 Forbidden",
+            &[
+                Code::AccessDenied,
+                Code::RequestTimeTooSkewed,
+                Code::InvalidAccessKeyId,
+                Code::SignatureDoesNotMatch,
+            ],
+        ),
+        (
+            "404 Not Found",
+            &[
+                Code::NoSuchUpload,
+                Code::NoSuchBucket,
+                Code::NoSuchKey,
+                Code::NoSuchVersion,
+            ],
+        ),
+        ("405 Method Not Allowed", &[Code::MethodNotAllowed]),
+        (
+            "409 Conflict",
+            &[Code::BucketAlreadyOwnedByYou, Code::BucketNotEmpty],
+        ),
+        ("411 Length Required", &[Code::MissingContentLength]),
+        ("412 Precondition Failed", &[Code::PreconditionFailed]),
+        ("416 Range Not Satisfiable", &[Code::InvalidRange]),
+        ("500 Internal Server Error", &[Code::InternalError]),
+        ("501 Not Implemented", &[Code::NotImplemented]),
     ];
-    for (code, status) in statuses {
-        let reply = refusal(code, &context);
-        let shown = reply.as_slice().get(9..).ok_or("no status line")?;
-        assert!(rt; shown.starts_with(status.as_bytes()), "{status}");
+    for (status, codes) in statuses {
+        for code in codes {
+            let reply = refusal(*code, &context);
+            let shown = reply.as_slice().get(9..).ok_or("no status line")?;
+            assert!(rt; shown.starts_with(status.as_bytes()), "{status}");
+        }
     }
     Ok(())
 }

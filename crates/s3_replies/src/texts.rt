@@ -1,6 +1,6 @@
 ghost use Rattle.std.specs.Prelude.{◌≡◌};
 ghost use Rattle.arrayvec.specs.ArrayVec.{array_vec_len};
-ghost use Rattle.s3_replies.specs.Lines.{IsHttpDate, id_text, quoted};
+ghost use Rattle.s3_replies.specs.Lines.{IsHttpDate, quoted};
 
 use crate::lines::write;
 use arrayvec::ArrayVec;
@@ -15,16 +15,6 @@ pub(crate) fn date_of(moment: Moment) -> [u8; 29]
         Ok(date) => date.to_bytes(),
         Err(_) => unreachable!(),
     }
-}
-
-/// The number in sixteen hexadecimal digits.
-#[tactic(auto, unfolding(crate::specs::Lines::id_text))]
-pub(crate) fn id_digits(number: u64) -> [u8; 16]
-    ensures { result ≡ id_text number }
-{
-    let mut digits = [0u8; 16];
-    let _fits = hex::encode_to_slice(number.to_be_bytes(), &mut digits);
-    digits
 }
 
 /// The tag's text in double quotes.

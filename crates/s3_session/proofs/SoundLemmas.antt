@@ -20,17 +20,12 @@ use Rattle.s3_requests.specs.Routing.{command_of, route_of}
 use Rattle.s3_replies.specs.declared.context.Context.{Context}
 use Rattle.s3_session.specs.declared.verdict.Admission.{Admission}
 use Rattle.s3_session.specs.declared.verdict.Verdict.TheVariants as verdicts
-use Rattle.s3_session.specs.Message.{Decision, Judges, FoundJudged, TextJudged, open_yet, refused, meets, body_faults, judged, body_decision, admitted_decision, admission_of, hash_word, decision_of, text_at, behind_text, context_of}
+use Rattle.s3_session.specs.Message.{Decision, Judges, FoundJudged, TextJudged, open_yet, refused_message, meets, body_faults, judged, body_decision, admitted_decision, admission_of, hash_word, decision_of, text_at, behind_text, context_of}
 use Rattle.s3_session.specs.Laws.{IsSound, SoundMessages, SoundIsJudged}
+use Rattle.s3_terms.proofs.FaultLemmas.{no_first, unrefused}
 use Rattle.s3_session.proofs.StayLemmas.{IsExact}
 
 -- ---- faults
-
--- where no fault of a list decides, the foremost is absent, and none behind it decides
-no_first : (test : Bool) (code : Code) (faults : List (Bool × Code)) → first_fault ((test, code) ∷ faults) ≡ None
-    → (test ≡ false) × (first_fault faults ≡ None)
-no_first true code faults none = absurd (cc)
-no_first false code faults none = (refl, none)
 
 -- where no fault of a list decides, each is absent
 no_faults : (faults : List (Bool × Code)) → first_fault faults ≡ None → AllByRecursion (λ (fault : Bool × Code). fault.0 ≡ false) faults
@@ -38,12 +33,6 @@ no_faults [] none = tt
 no_faults (fault ∷ faults) none =
     let one = no_first fault.0 fault.1 faults none in
     (one.0, no_faults faults one.1)
-
--- a value that nothing refuses is the given one
-unrefused : {A : Type 0} (fault : Option Code) (value given : A) → unless_refused fault value ≡ Ok given
-    → (fault ≡ None) × (value ≡ given)
-unrefused (Some code) value given e = absurd (cc)
-unrefused None value given e = (refl, cc)
 
 -- the first of two stages has refused nothing where both have not
 stage_ok : {A B : Type 0} (first : Result A Code) (next : A → Result B Code) (given : B) → first >>= next ≡ Ok given
@@ -102,7 +91,7 @@ body_at : (head : HeadParts) (moment : ℕ) (bytes : List ℕ) (admission : Admi
     → first_fault (body_faults bytes admission) ≡ fault → sound context command rest ≡ judged head moment bytes admission fault
     → IsSoundBody head moment bytes admission context command rest
 body_at head moment bytes admission context command rest (Some code) first is =
-    not_sound context command rest (refused code moment (asks_head_only head)) _ is (refused_is_not_sound code _ context command)
+    not_sound context command rest (refused_message code moment (asks_head_only head)) _ is (refused_is_not_sound code _ context command)
 body_at head moment bytes admission context command rest None first is =
     let absent = no_faults (body_faults bytes admission) first in
     let same = ap (λ (d : Decision). d.0) is in
@@ -137,7 +126,7 @@ head_at : (settings : Settings) (head : HeadParts) (moment : ℕ) (ended : Bool)
 head_at settings head moment ended bytes context command rest (Ok admission) admitted is =
     record { admission = admission; admitted = admitted; body = body_sound head moment ended bytes admission context command rest is }
 head_at settings head moment ended bytes context command rest (Err code) admitted is =
-    not_sound context command rest (refused code moment (asks_head_only head)) _ is (refused_is_not_sound code _ context command)
+    not_sound context command rest (refused_message code moment (asks_head_only head)) _ is (refused_is_not_sound code _ context command)
 
 head_sound : (settings : Settings) (moment : ℕ) (ended : Bool) (head : HeadParts) (bytes : List ℕ) (context : Context) (command : Command) (rest : List ℕ)
     → sound context command rest ≡ decision_of settings moment ended head bytes
@@ -171,9 +160,9 @@ sound_at : IsExact → (settings : Settings) (moment : ℕ) (ended : Bool) (byte
 sound_at exact settings moment ended bytes rest context command found.NeedMore at is =
     not_sound context command rest open_yet _ is (open_is_not_sound context command)
 sound_at exact settings moment ended bytes rest context command found.TooLarge at is =
-    not_sound context command rest (refused HeadTooLarge moment false) _ is (refused_is_not_sound HeadTooLarge _ context command)
+    not_sound context command rest (refused_message HeadTooLarge moment false) _ is (refused_is_not_sound HeadTooLarge _ context command)
 sound_at exact settings moment ended bytes rest context command (found.Head n) at (inl unreadable) =
-    not_sound context command rest (refused MalformedHead moment false) _ unreadable.1 (refused_is_not_sound MalformedHead _ context command)
+    not_sound context command rest (refused_message MalformedHead moment false) _ unreadable.1 (refused_is_not_sound MalformedHead _ context command)
 sound_at exact settings moment ended bytes rest context command (found.Head n) at (inr said) =
     let h = head_sound settings moment ended said.0 (behind_text n bytes) context command rest said.2 in
     record {

@@ -13,7 +13,7 @@ use Rattle.s3_http_heads.specs.declared.find.Found.TheVariants as found
 use Rattle.s3_http_heads.specs.Parts.{HeadParts, asks_head_only}
 use Rattle.s3_session.specs.declared.verdict.Admission.{Admission}
 use Rattle.s3_session.specs.declared.verdict.Verdict.TheVariants as verdicts
-use Rattle.s3_session.specs.Message.{Decision, Judges, FoundJudged, TextJudged, open_yet, refused, body_faults, judged, body_decision, admitted_decision, admission_of, decision_of, text_at, behind_text}
+use Rattle.s3_session.specs.Message.{Decision, Judges, FoundJudged, TextJudged, open_yet, refused_message, body_faults, judged, body_decision, admitted_decision, admission_of, decision_of, text_at, behind_text}
 use Rattle.s3_session.specs.Stays.{rest_with, VerdictsStay}
 
 -- the decision where more bytes follow
@@ -22,7 +22,7 @@ with_more more d = (d.0, rest_with d.0 d.1 more)
 
 -- a refusal is the same where more bytes follow
 refusal_stays : (more : List ℕ) (code : Code) (moment : ℕ) (head_only : Bool) (d : Decision)
-    → d ≡ refused code moment head_only → with_more more d ≡ refused code moment head_only
+    → d ≡ refused_message code moment head_only → with_more more d ≡ refused_message code moment head_only
 refusal_stays more code moment head_only d is = ap (with_more more) is
 
 -- nothing is open where something is decided

@@ -1,6 +1,6 @@
 -- The message at the front of a connection's bytes, and what is decided about it (RFC 9112, sections
 -- 2.2, 6.3 and 9.3; AWS Signature Version 4; Amazon S3 API Reference, "Error responses").
-use Rattle.std.specs.Prelude.{◌≡◌, ℕ, ◌⊎◌, Bool, true, false, not, ◌&&◌, ◌||◌, nat_lt, if◌then◌else◌, List, [], ◌∷◌, take, drop, length, codes, Option, Some, None, Result, Ok, Err}
+use Rattle.std.specs.Prelude.{◌≡◌, ℕ, ◌⊎◌, Bool, true, false, not, ◌&&◌, ◌||◌, nat_lt, if◌then◌else◌, List, [], ◌∷◌, take, drop, length, Option, Some, None, Result, Ok, Err}
 use Rattle.std.specs.Str.{bytes_eq}
 use Rattle.hex.specs.Hex.{encode_lower}
 use Rattle.sha2.specs.Sha256.{sha256}
@@ -14,6 +14,7 @@ use Rattle.s3_http_heads.specs.declared.find.Found.TheVariants as found
 use Rattle.s3_http_heads.specs.Parts.{HeadParts, Says, HasNoHead, closes, asks_head_only}
 use Rattle.s3_http_heads.specs.Framing.{framing_of}
 use Rattle.s3_signing.specs.Verdict.{head_verdict}
+use Rattle.s3_signing.specs.Word.{signed_chunks, unsigned_payload}
 use Rattle.s3_replies.specs.declared.context.Context.{Context}
 use Rattle.s3_session.specs.declared.verdict.Admission.{Admission}
 use Rattle.s3_session.specs.declared.verdict.Verdict.{Verdict}
@@ -22,7 +23,7 @@ use Rattle.s3_requests.specs.Routing.{route_of, command_of}
 
 -- of the three words that stand for a body, this server has the body's hash alone
 abbrev pub is_other_word : List ℕ → Bool
-is_other_word word = bytes_eq word (codes "UNSIGNED-PAYLOAD") || bytes_eq word (codes "STREAMING-AWS4-HMAC-SHA256-PAYLOAD")
+is_other_word word = bytes_eq word unsigned_payload || bytes_eq word signed_chunks
 
 abbrev pub hash_word : List ℕ → Result (List ℕ) Code
 hash_word word = if is_other_word word then Err NotImplemented else Ok word
@@ -53,8 +54,8 @@ abbrev pub open_yet : Decision
 open_yet = (verdicts.Open, [])
 
 -- refused with this code; nothing after it is read
-abbrev pub refused : Code → ℕ → Bool → Decision
-refused code moment head_only = (verdicts.Refused code (closing_context moment head_only), [])
+abbrev pub refused_message : Code → ℕ → Bool → Decision
+refused_message code moment head_only = (verdicts.Refused code (closing_context moment head_only), [])
 
 -- the body has the hash that the head's word says
 abbrev pub meets : List ℕ → List ℕ → Bool
@@ -69,7 +70,7 @@ body_faults bytes admission =
 
 -- refused by the first fault; where there is none, the message is sound
 abbrev pub judged : HeadParts → ℕ → List ℕ → Admission → Option Code → Decision
-judged head moment bytes admission (Some code) = refused code moment (asks_head_only head)
+judged head moment bytes admission (Some code) = refused_message code moment (asks_head_only head)
 judged head moment bytes admission None =
     (verdicts.Sound (context_of head moment) (command_of admission.plan (take admission.size bytes)), drop admission.size bytes)
 
@@ -81,7 +82,7 @@ body_decision head moment ended bytes admission =
 
 abbrev pub admitted_decision : HeadParts → ℕ → Bool → List ℕ → Result Admission Code → Decision
 admitted_decision head moment ended bytes (Ok admission) = body_decision head moment ended bytes admission
-admitted_decision head moment ended bytes (Err code) = refused code moment (asks_head_only head)
+admitted_decision head moment ended bytes (Err code) = refused_message code moment (asks_head_only head)
 
 -- only a sound message has something after it
 abbrev pub EndsOrGoesOn : Verdict → List ℕ → Type 0
@@ -104,13 +105,13 @@ behind_text n bytes = drop n (skip_pairs bytes)
 -- the verdict once the head text has been cut: malformed, or that on the head that it says
 abbrev pub TextJudged : Settings → ℕ → Bool → List ℕ → List ℕ → Decision → Type 0
 TextJudged settings moment ended text bytes decision =
-    (HasNoHead text × (decision ≡ refused MalformedHead moment false))
+    (HasNoHead text × (decision ≡ refused_message MalformedHead moment false))
     ⊎ ((head : HeadParts) × Says text head × (decision ≡ decision_of settings moment ended head bytes))
 
 -- the verdict by what was found at the front
 abbrev pub FoundJudged : Settings → ℕ → Bool → List ℕ → Found → Decision → Type 0
 FoundJudged settings moment ended bytes found.NeedMore decision = decision ≡ open_yet
-FoundJudged settings moment ended bytes found.TooLarge decision = decision ≡ refused HeadTooLarge moment false
+FoundJudged settings moment ended bytes found.TooLarge decision = decision ≡ refused_message HeadTooLarge moment false
 FoundJudged settings moment ended bytes (found.Head n) decision =
     TextJudged settings moment ended (text_at n bytes) (behind_text n bytes) decision
 

@@ -119,7 +119,7 @@ fn decide_body<'b>(
 
 // A refusal of the connection, which ends it.
 fn refusal(code: Code, moment: Moment, head_only: bool) -> Verdict
-    ensures { (result, []) ≡ rules.refused code moment head_only }
+    ensures { (result, []) ≡ rules.refused_message code moment head_only }
 {
     Verdict::Refused {
         code,

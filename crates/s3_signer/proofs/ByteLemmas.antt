@@ -1,75 +1,31 @@
 -- The bytes of the values that a signer adds.
-use Rattle.std.proofs.Common.{◌≡◌, ℕ, zero, suc, ◌+◌, ◌/◌, ◌%◌, ◌*◌, ◌^◌, ◌<◌, ◌≤◌, Bool, true, not, ◌&&◌, List, [], ◌∷◌, ◌++◌, length, take, drop, get_or, refl, sym, ap, ◌∙◌, arith, ⊎_elim}
-use Rattle.std.specs.Prelude.{◌==◌, nat_lt, nat_le, slice_index, slice_range}
-use Rattle.std.specs.Int.{to_be_bytes, w32}
+use Rattle.std.proofs.Common.{◌≡◌, ℕ, ◌+◌, ◌%◌, ◌^◌, ◌<◌, ◌≤◌, Bool, true, not, ◌&&◌, List, [], ◌∷◌, ◌++◌, length, take, drop, get_or, refl, sym, ap, ◌∙◌, arith, ⊎_elim}
+use Rattle.std.specs.Prelude.{◌==◌, nat_le, slice_index, slice_range}
 use Rattle.std.specs.Char.{is_ascii_digit}
 use Rattle.std.specs.Fmt.{decimal}
 use Rattle.std.specs.List.{list_all}
-use Rattle.std.proofs.lemmas.Bool.{and_parts, and_from, or_cases, or_right, agree_below_at, eq-eqb, eqb-true, leb-true, le-leb, ltb-true, lt-ltb, ne_eqb}
+use Rattle.std.proofs.lemmas.Bool.{and_parts, and_from, or_cases, or_right, eqb-true, leb-true, le-leb, ne_eqb}
 use Rattle.std.proofs.lemmas.Fmt.{decimal_by_steps}
 use Rattle.std.proofs.lemmas.List.{drop_all, drop_more, drop-drop, take-append-drop}
 use Rattle.std.proofs.lemmas.List.Folds.{list_all-append}
-use Rattle.hex.specs.Hex.{encode_with, encode_lower, lower_digits}
-use Rattle.hex.proofs.HexLemmas.{length-encode_with}
-use Rattle.sha2.specs.Sha256.{sha256, digest_bytes}
-use Rattle.sha2.proofs.Facts256.{length-sha256}
+use Rattle.hex.specs.Hex.{encode_lower}
+use Rattle.sha2.specs.Sha256.{sha256}
 use Rattle.httparse.specs.Grammar.{is_value_byte}
 use Rattle.s3_terms.specs.Names.{is_lower_hex}
-use Rattle.s3_signing.specs.Authorization.{is_hex_digest}
 use Rattle.s3_http_heads.specs.Parts.{HeadParts}
 use Rattle.s3_signing.specs.Signature.{signature_of}
-use Rattle.s3_signing.proofs.DigestLemmas.{hmac_text}
+use Rattle.s3_signing.proofs.DigestLemmas.{digest_parts, sha256_text, signature_text}
 use Rattle.s3_signing.proofs.OrderLemmas.{all_weaker}
 use Rattle.s3_terms.specs.Moment.{is_stamp, is_stamp_date, is_stamp_form, is_stamp_time}
 
 -- ---- digits
 
-abbrev is_byte : ℕ → Bool
-is_byte b = nat_lt b 256
-
-below_256 : (n : ℕ) → is_byte (n % 256) ≡ true
-below_256 n = lt-ltb (n % 256) 256 (omega arith)
-
-word_bytes : (n : ℕ) → list_all is_byte (to_be_bytes w32 n) ≡ true
-word_bytes n =
-    and_from _ _ (below_256 (n / 256 ^ 3))
-    (and_from _ _ (below_256 (n / 256 ^ 2))
-    (and_from _ _ (below_256 (n / 256 ^ 1)) (and_from _ _ (below_256 n) refl)))
-
-digest_all : (h : List ℕ) (n : ℕ) → list_all is_byte (digest_bytes h n) ≡ true
-unfolding digest_bytes
-digest_all h zero = refl
-digest_all h (suc n) =
-    list_all-append is_byte (digest_bytes h n) (to_be_bytes w32 (slice_index h n))
-    ∙ and_from _ _ (digest_all h n) (word_bytes (slice_index h n))
-
-sha256_all : (message : List ℕ) → list_all is_byte (sha256 message) ≡ true
-unfolding sha256
-sha256_all message = digest_all _ 8
-
-digit_lower : (n : ℕ) → n < 16 → is_lower_hex (slice_index lower_digits n) ≡ true
-digit_lower n below = agree_below_at (λ i. is_lower_hex (slice_index lower_digits i)) (λ i. true) 16 n refl below
-
-encoded_all : (bytes : List ℕ) → list_all is_byte bytes ≡ true → list_all is_lower_hex (encode_lower bytes) ≡ true
-unfolding encode_with
-encoded_all [] all = refl
-encoded_all (b ∷ bytes) all =
-    let both = and_parts (is_byte b) (list_all is_byte bytes) all in
-    let below : b < 256 = ltb-true b 256 both.0 in
-    and_from _ _ (digit_lower (b / 16) (omega arith))
-    (and_from _ _ (digit_lower (b % 16) (omega arith)) (encoded_all bytes both.1))
-
--- the text of a hash is lower-case hexadecimal digits
-pub hash_digits : (body : List ℕ) → list_all is_lower_hex (encode_lower (sha256 body)) ≡ true
-hash_digits body = encoded_all (sha256 body) (sha256_all body)
-
--- 64 of them
+-- the text of a hash is 64 lower-case hexadecimal digits
 pub length-hash : (body : List ℕ) → length (encode_lower (sha256 body)) ≡ 64
-length-hash body = length-encode_with lower_digits (sha256 body) ∙ ap (λ n. 2 * n) (length-sha256 body)
+length-hash body = (digest_parts (encode_lower (sha256 body)) (sha256_text body)).0
 
-pub hash_digest : (body : List ℕ) → is_hex_digest (encode_lower (sha256 body)) ≡ true
-hash_digest body =
-    and_from _ _ (eq-eqb (length (encode_lower (sha256 body))) 64 (length-hash body)) (hash_digits body)
+pub hash_digits : (body : List ℕ) → list_all is_lower_hex (encode_lower (sha256 body)) ≡ true
+hash_digits body = (digest_parts (encode_lower (sha256 body)) (sha256_text body)).1
 
 digit_at : (n : ℕ) → n < 10 → is_ascii_digit (48 + n) ≡ true
 digit_at n below = and_from _ _ (le-leb 48 (48 + n) (omega arith)) (le-leb (48 + n) 57 (omega arith))
@@ -82,16 +38,10 @@ decimal_digits n fits =
     (λ m ds big all. list_all-append is_ascii_digit ds ((48 + m % 10) ∷ []) ∙ and_from _ _ all (and_from _ _ (digit_at (m % 10) (omega arith)) refl))
     n fits
 
--- a signature is 64 lower-case hexadecimal digits
-pub signature_digest : (secret stamp region : List ℕ) (head : HeadParts) (signed word : List ℕ) → is_hex_digest (signature_of secret stamp region head signed word) ≡ true
-unfolding signature_of
-signature_digest secret stamp region head signed word = hmac_text _ _
-
+-- and so is a signature
 pub signature_digits : (secret stamp region : List ℕ) (head : HeadParts) (signed word : List ℕ) → (length (signature_of secret stamp region head signed word) ≡ 64) × (list_all is_lower_hex (signature_of secret stamp region head signed word) ≡ true)
 signature_digits secret stamp region head signed word =
-    let text = signature_of secret stamp region head signed word in
-    let both = and_parts (length text == 64) (list_all is_lower_hex text) (signature_digest secret stamp region head signed word) in
-    (eqb-true (length text) 64 both.0, both.1)
+    digest_parts (signature_of secret stamp region head signed word) (signature_text secret stamp region head signed word)
 
 -- ---- stamps
 

@@ -19,7 +19,7 @@ use Rattle.s3_signing.proofs.OrderLemmas.{all_weaker}
 use Rattle.s3_signer.specs.Request.{HeaderLine, added_lines, body_limit, field_of, hash_line, head_of, is_signable, length_line, line_cmp, lower_line, may_be_given, is_own_name, request_text, stamp_line, tells_length, unsigned_head, unsigned_lines}
 use Rattle.s3_signer.proofs.ByteLemmas.{decimal_value, hash_value, stamp_value}
 use Rattle.s3_signer.proofs.SignableLemmas.{Signable, signable_parts}
-use Rattle.s3_signer.proofs.SortedLemmas.{list_all-sorted_by}
+use Rattle.s3_canonical.proofs.SortedLemmas.{list_all-sorted_by}
 
 -- ---- names in lower case
 

@@ -3,8 +3,6 @@ use Rattle.std.proofs.Common.{◌≡◌, ℕ, ◌+◌, ◌-◌, ◌≤◌, Bool,
 use Rattle.std.specs.Borrow.{Bor}
 use Rattle.std.specs.Prelude.{codes, if◌then◌else◌, nat_lt}
 use Rattle.std.specs.Fmt.{decimal}
-use Rattle.std.specs.Ordering.{nat_cmp}
-use Rattle.std.specs.Cmp.Lexicographic.{slice_cmp}
 use Rattle.std.specs.Char.{to_ascii_lowercase}
 use Rattle.std.specs.List.{join_with_byte, list_all}
 use Rattle.std.specs.Str.{bytes_eq}
@@ -14,6 +12,7 @@ use Rattle.std.proofs.lemmas.List.Folds.{list_all-append, list_all-map}
 use Rattle.std.proofs.lemmas.Simd.{map-map}
 use Rattle.httparse.specs.Grammar.{print_field, print_request}
 use Rattle.httparse.specs.Spans.{name_and_value}
+use Rattle.s3_terms.specs.Names.{byte_order}
 use Rattle.s3_http_heads.specs.Parts.{HeadParts, parts_of}
 use Rattle.s3_http_heads.proofs.NameLemmas.{list_any-map}
 use Rattle.s3_canonical.specs.Sorting.{sorted_by}
@@ -28,7 +27,7 @@ use Rattle.s3_signer.proofs.HeadLemmas.{print_first, print_head, print_lines}
 use Rattle.s3_signer.proofs.LineLemmas.{given_line}
 use Rattle.s3_signer.proofs.NameSizeLemmas.{distinct_size, distinct_size-append, distinct_size-count, is_among, joined_in_order, other_back}
 use Rattle.s3_signer.proofs.OwnLemmas.{given_is_other}
-use Rattle.s3_signer.proofs.SortedLemmas.{IsCount, by_image, count-sorted_by, length-sorted_by, list_all-sorted_by, sorted_by-map}
+use Rattle.s3_canonical.proofs.SortedLemmas.{IsCount, by_image, count-sorted_by, length-sorted_by, list_all-sorted_by, sorted_by-map}
 use Rattle.s3_signer.proofs.ValueLemmas.{all_lines, lowercase_twice, unsigned_lines-map}
 
 -- ---- lines
@@ -87,7 +86,7 @@ sent_names-head method target lines =
     map-map lower_name name_and_value (map field_of lines) ∙ map-map (λ f. lower_name (name_and_value f)) field_of lines
 
 -- the names of the unsigned head, in their order
-sent_names-unsigned : (method target : List ℕ) (headers : List HeaderLine) (body stamp : List ℕ) → sent_names (parts_of (unsigned_head method target headers body stamp)) ≡ sorted_by (slice_cmp nat_cmp) (map lower_name (all_lines method headers body stamp))
+sent_names-unsigned : (method target : List ℕ) (headers : List HeaderLine) (body stamp : List ℕ) → sent_names (parts_of (unsigned_head method target headers body stamp)) ≡ sorted_by byte_order (map lower_name (all_lines method headers body stamp))
 sent_names-unsigned method target headers body stamp =
     let all = all_lines method headers body stamp in
     let sorted = sorted_by (by_image lower_line line_cmp) all in
@@ -95,7 +94,7 @@ sent_names-unsigned method target headers body stamp =
     ∙ ap (map lower_name) (unsigned_lines-map method headers body stamp)
     ∙ map-map lower_name lower_line sorted
     ∙ map_same (λ line. lower_name (lower_line line)) lower_name (λ line. lowercase_twice line.0) sorted
-    ∙ sym (sorted_by-map lower_name (slice_cmp nat_cmp) all)
+    ∙ sym (sorted_by-map lower_name byte_order all)
 
 -- none of them is that of the authorization
 filter_all : {X : Type 0} (p : X → Bool) (xs : List X) → list_all p xs ≡ true → filter p xs ≡ xs
@@ -118,13 +117,13 @@ all_covered method headers body stamp given =
     (added_covered (tells_length method body) body stamp)
 
 -- so that all of them are signed
-names_to_sign-unsigned : (method target : List ℕ) (headers : List HeaderLine) (body stamp : List ℕ) → list_all may_be_given headers ≡ true → names_to_sign (parts_of (unsigned_head method target headers body stamp)) ≡ sorted_by (slice_cmp nat_cmp) (map lower_name (all_lines method headers body stamp))
+names_to_sign-unsigned : (method target : List ℕ) (headers : List HeaderLine) (body stamp : List ℕ) → list_all may_be_given headers ≡ true → names_to_sign (parts_of (unsigned_head method target headers body stamp)) ≡ sorted_by byte_order (map lower_name (all_lines method headers body stamp))
 names_to_sign-unsigned method target headers body stamp given =
     let covered = λ (name : List ℕ). not (bytes_eq name (codes "authorization")) in
     let names = map lower_name (all_lines method headers body stamp) in
     ap (filter covered) (sent_names-unsigned method target headers body stamp)
-    ∙ filter_all covered (sorted_by (slice_cmp nat_cmp) names)
-    (list_all-sorted_by (slice_cmp nat_cmp) covered names ∙ all_covered method headers body stamp given)
+    ∙ filter_all covered (sorted_by byte_order names)
+    (list_all-sorted_by byte_order covered names ∙ all_covered method headers body stamp given)
 
 -- the names that are added, each once
 added_names_size : (tells : Bool) (body stamp : List ℕ) → distinct_size (map lower_name (hash_line body ∷ stamp_line stamp ∷ cond tells (length_line body ∷ []) [])) ≡ 32 + (if tells then 15 else 0)
@@ -158,9 +157,9 @@ signed_size : (method target : List ℕ) (headers : List HeaderLine) (body stamp
 unfolding signed_by
 signed_size method target headers body stamp given =
     let names = map lower_name (all_lines method headers body stamp) in
-    let sorted = sorted_by (slice_cmp nat_cmp) names in
+    let sorted = sorted_by byte_order names in
     let size : distinct_size sorted ≡ distinct_size (map lower_name headers) + (32 + (if tells_length method body then 15 else 0)) =
-    count-sorted_by (slice_cmp nat_cmp) distinct_size distinct_size-count names ∙ all_names_size method headers body stamp given in
+    count-sorted_by byte_order distinct_size distinct_size-count names ∙ all_names_size method headers body stamp given in
     ap (λ ns. length (join_with_byte 59 (in_order ns)) + 1) (names_to_sign-unsigned method target headers body stamp given)
     ∙ joined_in_order sorted (omega (arith, size)) ∙ size
 

@@ -1,6 +1,5 @@
 pub mod LineLemmas
 pub mod HeadLemmas
-pub mod SortedLemmas
 pub mod ValueLemmas
 pub mod SignableLemmas
 pub mod ByteLemmas

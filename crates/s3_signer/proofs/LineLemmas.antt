@@ -4,10 +4,12 @@ use Rattle.std.specs.List.{insert, position_or_len}
 use Rattle.std.specs.declared.cmp.Ordering.{Ordering}
 use Rattle.std.specs.Ordering.{is_gt}
 use Rattle.std.proofs.lemmas.List.Sums.{position_or_len_is}
-use Rattle.std.proofs.lemmas.List.{drop_more, get_or-map, length-map}
+use Rattle.std.proofs.lemmas.List.{drop_more, get_or-map, length-map, map-append}
 use Rattle.std.specs.Borrow.{Bor}
 use Rattle.std.specs.Prelude.{if◌then◌else◌}
 use Rattle.s3_canonical.specs.Sorting.{insert_by, sorted_by}
+use Rattle.s3_signer.specs.declared.line.Line.{Line}
+use Rattle.s3_signer.specs.Line.{pair, pairs}
 use Rattle.s3_signer.specs.Request.{HeaderLine, added_lines, given_lines, hash_line, length_line, line_cmp, lower_line, stamp_line, tells_length}
 
 -- where none passes, the place is the end
@@ -63,3 +65,7 @@ given_in_order headers i d added some within =
     let more : drop (i - 1) (given_lines headers) ≡ get_or (given_lines headers) (i - 1) (given_line d) ∷ drop (i - 1 + 1) (given_lines headers) =
     drop_more (given_lines headers) (i - 1) (given_line d) (omega (arith, length-map headers given_line)) in
     rw (more, next, same) refl
+
+-- one more line at the end
+pub pairs_more : (lines : List Line) (line : Line) → pairs (lines ++ line ∷ []) ≡ pairs lines ++ pair line ∷ []
+pairs_more lines line = map-append pair lines (line ∷ [])

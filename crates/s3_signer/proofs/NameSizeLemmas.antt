@@ -3,23 +3,19 @@ use Rattle.std.proofs.Common.{◌≡◌, ℕ, ◌+◌, ◌<◌, Bool, true, fals
 use Rattle.std.specs.Prelude.{if◌then◌else◌}
 use Rattle.std.specs.declared.cmp.Ordering.{Ordering}
 use Rattle.std.specs.declared.cmp.Ordering.TheVariants.{Less, Equal, Greater}
-use Rattle.std.specs.Ordering.{nat_cmp, is_lt}
-use Rattle.std.specs.Cmp.Lexicographic.{slice_cmp}
+use Rattle.std.specs.Ordering.{is_lt}
 use Rattle.std.specs.List.{dedup, dedup_from, join_with_byte, list_all, list_any}
 use Rattle.std.specs.Str.{bytes_eq}
 use Rattle.std.proofs.lemmas.Bool.{and_parts, cases_Bool, cond-true, cond-false, false≢true, not-true, or_from, or_left}
 use Rattle.std.proofs.lemmas.Cmp.{nat_list_cmp_total, tied_itself}
 use Rattle.std.proofs.lemmas.List.Folds.{list_any-append}
 use Rattle.std.proofs.lemmas.Slice.Eq.{bytes_eq-Decides}
+use Rattle.s3_terms.specs.Names.{byte_order}
 use Rattle.s3_canonical.specs.Sorting.{sorted_by}
+use Rattle.s3_canonical.proofs.SortedLemmas.{IsCount, count-sorted_by}
 use Rattle.s3_signing.specs.Authorization.{rises}
 use Rattle.s3_signing.specs.Signing.{in_order}
-use Rattle.s3_signing.proofs.OrderLemmas.{rises-in_order}
-use Rattle.s3_signer.proofs.SortedLemmas.{IsCount, count-sorted_by}
-
-or_twice : (a b : Bool) → (a || b) ≡ (a || (a || b))
-or_twice true b = refl
-or_twice false b = refl
+use Rattle.s3_signing.proofs.OrderLemmas.{dedup_from-any, rises-in_order}
 
 zero_more : (n : ℕ) → 0 + n ≡ n
 zero_more n = omega arith
@@ -55,19 +51,19 @@ is_less Less h = refl
 is_less Equal h = absurd (false≢true h)
 is_less Greater h = absurd (false≢true h)
 
-not_next : (x y : List ℕ) → slice_cmp nat_cmp x y ≡ Less → bytes_eq y x ≡ false
+not_next : (x y : List ℕ) → byte_order x y ≡ Less → bytes_eq y x ≡ false
 not_next x y less =
     ⊎_elim
-    (λ same. absurd (false≢true (ap is_lt (sym (tied_itself nat_list_cmp_total x) ∙ ap (slice_cmp nat_cmp x) (sym ((bytes_eq-Decides y x).0 same)) ∙ less))))
+    (λ same. absurd (false≢true (ap is_lt (sym (tied_itself nat_list_cmp_total x) ∙ ap (byte_order x) (sym ((bytes_eq-Decides y x).0 same)) ∙ less))))
     (λ other. other)
     (cases_Bool (bytes_eq y x))
 
 -- a name that comes before names that rise is not among them
-before_risen : (x y : List ℕ) (names : List (List ℕ)) → slice_cmp nat_cmp x y ≡ Less → rises (y ∷ names) ≡ true → is_among x (y ∷ names) ≡ false
+before_risen : (x y : List ℕ) (names : List (List ℕ)) → byte_order x y ≡ Less → rises (y ∷ names) ≡ true → is_among x (y ∷ names) ≡ false
 before_risen x y [] less up = or_from (bytes_eq y x) false (not_next x y less) refl
 before_risen x y (z ∷ names) less up =
-    let both = and_parts (is_lt (slice_cmp nat_cmp y z)) (rises (z ∷ names)) up in
-    let further = nat_list_cmp_total.trans x y z less (is_less (slice_cmp nat_cmp y z) both.0) in
+    let both = and_parts (is_lt (byte_order y z)) (rises (z ∷ names)) up in
+    let further = nat_list_cmp_total.trans x y z less (is_less (byte_order y z) both.0) in
     or_from (bytes_eq y x) (is_among x (z ∷ names)) (not_next x y less) (before_risen x z names further both.1)
 
 -- names that rise take what each takes once
@@ -75,19 +71,10 @@ pub risen_size : (names : List (List ℕ)) → rises names ≡ true → plain_si
 risen_size [] up = refl
 risen_size (x ∷ []) up = refl
 risen_size (x ∷ y ∷ names) up =
-    let both = and_parts (is_lt (slice_cmp nat_cmp x y)) (rises (y ∷ names)) up in
-    let apart : is_among x (y ∷ names) ≡ false = before_risen x y names (is_less (slice_cmp nat_cmp x y) both.0) both.1 in
+    let both = and_parts (is_lt (byte_order x y)) (rises (y ∷ names)) up in
+    let apart : is_among x (y ∷ names) ≡ false = before_risen x y names (is_less (byte_order x y) both.0) both.1 in
     let share : (if is_among x (y ∷ names) then 0 else length x + 1) ≡ length x + 1 = cond-false (is_among x (y ∷ names)) 0 (length x + 1) apart in
     ap (λ n. length x + 1 + n) (risen_size (y ∷ names) both.1) ∙ ap (λ n. n + distinct_size (y ∷ names)) (sym share)
-
--- what is left of equal neighbours
-dedup_from-any : (p : List ℕ → Bool) (k : List ℕ) (xs : List (List ℕ)) → list_any p (dedup_from bytes_eq k xs) ≡ list_any p (k ∷ xs)
-dedup_from-any p k [] = refl
-dedup_from-any p k (x ∷ xs) =
-    ⊎_elim
-    (λ same. ap (list_any p) (cond-true (bytes_eq x k) (dedup_from bytes_eq k xs) (k ∷ dedup_from bytes_eq x xs) same) ∙ dedup_from-any p k xs ∙ or_twice (p k) (list_any p xs) ∙ ap (λ y. p k || (p y || list_any p xs)) (sym ((bytes_eq-Decides x k).0 same)))
-    (λ other. ap (list_any p) (cond-false (bytes_eq x k) (dedup_from bytes_eq k xs) (k ∷ dedup_from bytes_eq x xs) other) ∙ ap (λ b. p k || b) (dedup_from-any p x xs))
-    (cases_Bool (bytes_eq x k))
 
 -- the first of two neighbours that are the same adds nothing
 repeated_size : (k x : List ℕ) (xs : List (List ℕ)) → bytes_eq x k ≡ true → distinct_size (k ∷ x ∷ xs) ≡ distinct_size (k ∷ xs)
@@ -131,7 +118,7 @@ exchanged_size x y names =
     ∙ sym (ap (λ b. (if b then 0 else length x + 1) + distinct_size (y ∷ names)) second))
     (cases_Bool (bytes_eq x y))
 
-pub distinct_size-count : IsCount (slice_cmp nat_cmp) distinct_size
+pub distinct_size-count : IsCount byte_order distinct_size
 distinct_size-count = record {
   more = λ x xs ys same sizes. ap₂ (λ b n. (if b then 0 else length x + 1) + n) (same (λ o. bytes_eq o x)) sizes;
   exchange = exchanged_size;
@@ -141,8 +128,8 @@ distinct_size-count = record {
 pub in_order_size : (names : List (List ℕ)) → plain_size (in_order names) ≡ distinct_size names
 in_order_size names =
     risen_size (in_order names) (rises-in_order names)
-    ∙ distinct_size-dedup (sorted_by (slice_cmp nat_cmp) names)
-    ∙ count-sorted_by (slice_cmp nat_cmp) distinct_size distinct_size-count names
+    ∙ distinct_size-dedup (sorted_by byte_order names)
+    ∙ count-sorted_by byte_order distinct_size distinct_size-count names
 
 -- joined, they have no semicolon after the last
 joined_size : (names : List (List ℕ)) → 0 < plain_size names → length (join_with_byte 59 names) + 1 ≡ plain_size names

@@ -46,10 +46,12 @@ hash_added : (tells : Bool) (body stamp : List ℕ) → filter (is_named (codes 
 hash_added true body stamp = refl
 hash_added false body stamp = refl
 
+-- the values of such a name, of which these are the lines that were added
+pub added_values : (name method target : List ℕ) (headers : List HeaderLine) (body stamp : List ℕ) → ((line : HeaderLine) → may_be_given line ≡ true → is_named name line ≡ false) → list_all may_be_given headers ≡ true → (lines : List HeaderLine) → filter (is_named name) (added_lines method body stamp) ≡ lines → values_of name (parts_of (unsigned_head method target headers body stamp)) ≡ map read_value (map lower_line lines)
+added_values name method target headers body stamp other all lines are =
+    values_of-head name method target (unsigned_lines method headers body stamp)
+    ∙ ap (map read_value) (named_added name method headers body stamp other all ∙ ap (map lower_line) are)
+
 pub hash_values : (method target : List ℕ) (headers : List HeaderLine) (body stamp : List ℕ) → list_all may_be_given headers ≡ true → values_of (codes "x-amz-content-sha256") (parts_of (unsigned_head method target headers body stamp)) ≡ read_value (hash_line body) ∷ []
 hash_values method target headers body stamp all =
-    let name = codes "x-amz-content-sha256" in
-    values_of-head name method target (unsigned_lines method headers body stamp)
-    ∙ ap (map read_value) (
-    named_added name method headers body stamp (λ line given. (given_is_other line given).content_sha256) all
-    ∙ ap (map lower_line) (hash_added (tells_length method body) body stamp))
+    added_values (codes "x-amz-content-sha256") method target headers body stamp (λ line given. (given_is_other line given).content_sha256) all (hash_line body ∷ []) (hash_added (tells_length method body) body stamp)

@@ -14,14 +14,14 @@ use Rattle.s3_signing.specs.Signed.{IsReady}
 use Rattle.s3_signing.specs.Verdict.{checked_stamp, is_presigned, is_word, lower_name, only, sent_names, sent_stamp, sent_word, word_lines}
 use Rattle.s3_signing.proofs.OrderLemmas.{all_weaker}
 use Rattle.s3_signer.specs.Request.{HeaderLine, added_lines, body_limit, field_of, hash_line, head_of, is_signable, length_line, line_cmp, lower_line, may_be_given, stamp_line, tells_length, unsigned_head, unsigned_lines}
-use Rattle.s3_signer.proofs.ByteLemmas.{hash_digest}
+use Rattle.s3_signing.proofs.DigestLemmas.{sha256_text}
 use Rattle.s3_signer.proofs.FieldLemmas.{is_line, token_lower, unsigned_are_lines}
 use Rattle.s3_signer.proofs.HeadSizeLemmas.{sent_names-head}
-use Rattle.s3_signer.proofs.OwnLemmas.{given_is_other, hash_values, named_added}
+use Rattle.s3_signer.proofs.OwnLemmas.{added_values, given_is_other, hash_values}
 use Rattle.s3_signer.proofs.SignableLemmas.{signable_parts}
-use Rattle.s3_signer.proofs.SortedLemmas.{by_image, list_any-sorted_by}
+use Rattle.s3_canonical.proofs.SortedLemmas.{by_image, list_any-sorted_by}
 use Rattle.s3_signer.proofs.TrimLemmas.{trim_hash, trim_stamp}
-use Rattle.s3_signer.proofs.ValueLemmas.{all_lines, named-lower, read_value, unsigned_lines-map, values_of-head}
+use Rattle.s3_signer.proofs.ValueLemmas.{all_lines, named-lower, unsigned_lines-map}
 
 -- the names are tokens
 pub names_ready : (method target : List ℕ) (lines : List HeaderLine) → list_all is_line lines ≡ true → list_all is_token (sent_names (parts_of (head_of method target lines))) ≡ true
@@ -37,11 +37,7 @@ stamp_added false body stamp = refl
 
 stamp_values : (method target : List ℕ) (headers : List HeaderLine) (body stamp : List ℕ) → list_all may_be_given headers ≡ true → values_of (codes "x-amz-date") (parts_of (unsigned_head method target headers body stamp)) ≡ trim_ows (32 ∷ stamp) ∷ []
 stamp_values method target headers body stamp all =
-    let name = codes "x-amz-date" in
-    values_of-head name method target (unsigned_lines method headers body stamp)
-    ∙ ap (map read_value) (
-    named_added name method headers body stamp (λ line given. (given_is_other line given).date) all
-    ∙ ap (map lower_line) (stamp_added (tells_length method body) body stamp))
+    added_values (codes "x-amz-date") method target headers body stamp (λ line given. (given_is_other line given).date) all (stamp_line stamp ∷ []) (stamp_added (tells_length method body) body stamp)
 
 stamp_ready : (method target : List ℕ) (headers : List HeaderLine) (body stamp : List ℕ) → list_all may_be_given headers ≡ true → is_stamp stamp ≡ true → sent_stamp (parts_of (unsigned_head method target headers body stamp)) ≡ Some stamp
 stamp_ready method target headers body stamp all stamped =
@@ -57,7 +53,7 @@ word_ready : (method target : List ℕ) (headers : List HeaderLine) (body stamp 
 word_ready method target headers body stamp all =
     ap (λ words. is_word (unwrap_or (slice_get words 0) [])) (hash_values method target headers body stamp all)
     ∙ ap is_word (trim_hash body)
-    ∙ or_left _ _ (or_left _ _ (hash_digest body))
+    ∙ or_left _ _ (or_left _ _ (sha256_text body))
 
 -- the host
 none_passes : {X : Type 0} (p : X → Bool) (xs : List X) → list_any p xs ≡ false → filter p xs ≡ []

@@ -1,7 +1,6 @@
 -- The lines of one name in a head, and their values.
 use Rattle.std.proofs.Common.{◌≡◌, ℕ, Bool, true, false, List, [], ◌∷◌, ◌++◌, map, filter, refl, sym, ap, ◌∙◌, ⊎_elim, cond}
-use Rattle.std.specs.Ordering.{nat_cmp, is_gt}
-use Rattle.std.specs.Cmp.Lexicographic.{slice_cmp}
+use Rattle.std.specs.Ordering.{is_gt}
 use Rattle.std.specs.Str.{bytes_eq, str_to_ascii_lowercase}
 use Rattle.std.specs.Char.{to_ascii_lowercase}
 use Rattle.std.proofs.lemmas.Bool.{cases_Bool, cond-true, cond-false, false≢true}
@@ -12,10 +11,11 @@ use Rattle.std.proofs.lemmas.Str.Ascii.{lowercase-lowercase}
 use Rattle.std.proofs.lemmas.Simd.{map-map}
 use Rattle.httparse.specs.Grammar.{trim_ows}
 use Rattle.httparse.specs.Spans.{name_and_value}
+use Rattle.s3_terms.specs.Names.{byte_order}
 use Rattle.s3_http_heads.specs.Parts.{is_named, parts_of, values_of}
 use Rattle.s3_canonical.specs.Sorting.{sorted_by}
 use Rattle.s3_signer.specs.Request.{HeaderLine, added_lines, field_of, hash_line, head_of, length_line, line_cmp, lower_line, stamp_line, tells_length, unsigned_lines}
-use Rattle.s3_signer.proofs.SortedLemmas.{PassesTies, by_image, filter-sorted_by, sorted_by-map}
+use Rattle.s3_canonical.proofs.SortedLemmas.{PassesTies, by_image, filter-sorted_by, sorted_by-map}
 
 filter-map : {X Y : Type 0} (p : Y → Bool) (f : X → Y) (xs : List X) → filter p (map f xs) ≡ map f (filter (λ x. p (f x)) xs)
 filter-map p f [] = refl
@@ -47,7 +47,7 @@ ties_of_name name x y named gt =
     (λ also.
     let first : str_to_ascii_lowercase x.0 ≡ name = (bytes_eq-Decides (str_to_ascii_lowercase x.0) name).0 named in
     let second : str_to_ascii_lowercase y.0 ≡ name = (bytes_eq-Decides (str_to_ascii_lowercase y.0) name).0 also in
-    let tied = ap (λ n. slice_cmp nat_cmp n (str_to_ascii_lowercase y.0)) first ∙ ap (slice_cmp nat_cmp name) second ∙ tied_itself nat_list_cmp_total name in
+    let tied = ap (λ n. byte_order n (str_to_ascii_lowercase y.0)) first ∙ ap (byte_order name) second ∙ tied_itself nat_list_cmp_total name in
     absurd (false≢true (sym (ap is_gt tied) ∙ gt)))
     (λ other. other)
     (cases_Bool (is_named name y))

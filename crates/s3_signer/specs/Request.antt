@@ -3,14 +3,13 @@
 use Rattle.std.specs.Prelude.{ℕ, Bool, not, ◌&&◌, ◌||◌, ◌==◌, nat_lt, nat_le, if◌then◌else◌, List, [], ◌∷◌, ◌++◌, map, filter, length, codes}
 use Rattle.std.specs.List.{list_all, list_any}
 use Rattle.std.specs.Fmt.{decimal}
-use Rattle.std.specs.Ordering.{nat_cmp}
-use Rattle.std.specs.Cmp.Lexicographic.{slice_cmp}
 use Rattle.std.specs.Str.{bytes_eq, is_utf8, str_to_ascii_lowercase}
 use Rattle.std.specs.declared.cmp.Ordering.{Ordering}
 use Rattle.std.specs.Borrow.{Bor}
 use Rattle.hex.specs.Hex.{encode_lower}
 use Rattle.sha2.specs.Sha256.{sha256}
 use Rattle.httparse.specs.Grammar.{Field, RequestHead, crlf, is_token, is_uri_byte, is_value_byte, print_request}
+use Rattle.s3_terms.specs.Names.{byte_order}
 use Rattle.s3_http_heads.specs.Text.{head_limit}
 use Rattle.s3_http_heads.specs.Parts.{is_named, line_limit, parts_of}
 use Rattle.s3_canonical.specs.Sorting.{sorted_by}
@@ -29,9 +28,9 @@ given_lines headers = map (λ (h : Bor (List ℕ) × Bor (List ℕ)). (h.0.now, 
 abbrev pub lower_line : HeaderLine → HeaderLine
 lower_line line = (str_to_ascii_lowercase line.0, line.1)
 
--- the order of lines: by their names, byte by byte
+-- the order of lines: by their names
 abbrev pub line_cmp : HeaderLine → HeaderLine → Ordering
-line_cmp a b = slice_cmp nat_cmp a.0 b.0
+line_cmp a b = byte_order a.0 b.0
 
 -- the size of the body is told where there is a body, and by the methods that always send one (RFC
 -- 9110, section 8.6)

@@ -2,8 +2,8 @@
 
 ghost use Rattle.std.specs.Prelude.{◌≡◌, ◌≤◌, ◌++◌, IfOk, OnOk, length, not};
 ghost use Rattle.std.specs.List.{position_or_len};
-ghost use Rattle.std.specs.Ordering.{is_gt, nat_cmp};
-ghost use Rattle.std.specs.Cmp.Lexicographic.{slice_cmp};
+ghost use Rattle.std.specs.Ordering.{is_gt};
+ghost use Rattle.s3_terms.specs.Names.{byte_order};
 ghost use Rattle.httparse.specs.Grammar.{print_field};
 ghost use Rattle.s3_canonical.specs.Sorting.{insert_by};
 ghost use Rattle.s3_signer.specs.Line.{pair, pairs};
@@ -43,7 +43,7 @@ impl Line {
 
 // Whether the first name comes after the second one, byte by byte.
 fn comes_after(first: &[u8], second: &[u8]) -> bool
-    ensures { result ≡ is_gt (slice_cmp nat_cmp first.now second.now) }
+    ensures { result ≡ is_gt (byte_order first.now second.now) }
 {
     matches!(first.cmp(&second), Ordering::Greater)
 }
@@ -51,7 +51,7 @@ fn comes_after(first: &[u8], second: &[u8]) -> bool
 // The place of the first line whose name is not below this one; the count of lines where all are.
 fn place_of(lines: &[Line], name: &[u8]) -> usize
     ensures value { result
-        ≡ position_or_len (λ line. not (is_gt (slice_cmp nat_cmp name.now line.name.items))) lines.now }
+        ≡ position_or_len (λ line. not (is_gt (byte_order name.now line.name.items))) lines.now }
     ensures within { result ≤ length lines.now }
 {
     for (place, line) in lines.iter().enumerate() {

@@ -1,10 +1,11 @@
 //! A signed request, and whether there is one.
 
-ghost use Rattle.std.specs.Prelude.{◌≡◌, true, IfOk};
+ghost use Rattle.std.specs.Prelude.{◌≡◌, ◌∷◌, ◌++◌, [], ℕ, List, true, codes, IfOk};
 ghost use Rattle.httparse.specs.Grammar.{RequestHead, print_request};
+ghost use Rattle.s3_terms.specs.Moment.{is_stamp};
 ghost use Rattle.s3_http_heads.specs.Parts.{IsHead, parts_of};
 ghost use Rattle.s3_signer.specs.Line.{pairs};
-ghost use Rattle.s3_signer.specs.Request.{given_lines, head_of, is_signable, request_text};
+ghost use Rattle.s3_signer.specs.Request.{given_lines, head_of, is_signable, request_text, unsigned_head, unsigned_lines};
 ghost use Rattle.s3_signer.specs.Verified.{IsVerifiedRequest};
 
 use crate::checks::{are_given_lines, are_value_texts, is_request_line, keeps_limits};
@@ -14,7 +15,7 @@ use crate::lines::unsigned_lines;
 use s3_http_heads::Head;
 use s3_signing::sign_head;
 use s3_terms::{NoMemory, Stamp};
-use std::alloc::Global;
+use std::alloc::{AllocError, Global};
 
 /// Whether [`signed_request`] may be called with these parts, under any secret:
 ///
@@ -58,6 +59,47 @@ fn read_head(alloc: Global, method: &[u8], target: &[u8], lines: &[Line]) -> Res
     }
 }
 
+// The lines of a request but that of the authorization, and their head, which is read back from its
+// text: where the request may be signed, it is the one that is signed.
+fn unsigned_head(
+    alloc: Global,
+    method: &[u8],
+    target: &[u8],
+    headers: &[(&[u8], &[u8])],
+    body: &[u8],
+    stamp: Stamp,
+) -> Result<(Vec<Line>, Head), NoMemory>
+    ensures lines { IfOk result
+        (λ p. pairs p.0.items ≡ unsigned_lines method.now (given_lines headers.now) body.now stamp) }
+    ensures head { (id region : List ℕ)
+        → is_signable id region method.now target.now (given_lines headers.now) body.now stamp ≡ true
+        → IfOk result (λ p. p.1 ≡ parts_of (unsigned_head method.now target.now (given_lines headers.now) body.now stamp)) }
+    ensures stamp { is_stamp stamp ≡ true }
+{
+    let lines = unsigned_lines(alloc, method, headers, body, stamp.text())?;
+    let head = read_head(alloc, method, target, &lines)?;
+    Ok((lines, head))
+}
+
+// The text of a request with these lines and that of the authorization, which is the last.
+#[tactic(auto, using(crate::proofs::LineLemmas::pairs_more))]
+fn request_text(
+    alloc: Global,
+    method: &[u8],
+    target: &[u8],
+    mut lines: Vec<Line>,
+    authorization: &[u8],
+    body: &[u8],
+) -> Result<Vec<u8>, AllocError>
+    ensures { IfOk result (λ text. text.items ≡ print_request (head_of method.now target.now
+        (pairs lines.items ++ (codes "authorization", authorization.now) ∷ [])) ++ body.now) }
+{
+    lines.push(Line::new(alloc, b"authorization", authorization)?)?;
+    let mut text = head_text(alloc, method, target, &lines)?;
+    text.extend_from_slice(body)?;
+    Ok(text)
+}
+
 /// A whole request, signed by the access key `id` with its `secret` for the `region` (AWS Signature
 /// Version 4, "Add the signature to the request"), as the bytes that a client sends: the request line,
 /// the header lines, the empty line and the body.
@@ -91,11 +133,7 @@ pub fn signed_request(
     ensures verified { IfOk result (λ text. IsVerifiedRequest id.now secret.now region.now
         method.now target.now (given_lines headers.now) body.now stamp text.items) }
 {
-    let mut lines = unsigned_lines(alloc, method, headers, body, stamp.text())?;
-    let head = read_head(alloc, method, target, &lines)?;
+    let (lines, head) = unsigned_head(alloc, method, target, headers, body, stamp)?;
     let value = sign_head(alloc, id, secret, region, &head, stamp)?;
-    lines.push(Line::new(alloc, b"authorization", &value)?)?;
-    let mut text = head_text(alloc, method, target, &lines)?;
-    text.extend_from_slice(body)?;
-    Ok(text)
+    Ok(request_text(alloc, method, target, lines, &value, body)?)
 }

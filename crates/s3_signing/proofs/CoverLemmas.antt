@@ -7,6 +7,7 @@ use Rattle.std.specs.Str.{bytes_eq, str_to_ascii_lowercase}
 use Rattle.std.proofs.lemmas.Bool.{cases_Bool, false≢true, both_ways, true_from_ne_false, and_parts, and_from, or_from}
 use Rattle.std.proofs.lemmas.Bool.Decides.{nat_tests}
 use Rattle.std.proofs.lemmas.List.Elements.{All-filter}
+use Rattle.std.proofs.lemmas.List.Splits.{join_with_byte-slice_split}
 use Rattle.std.proofs.lemmas.List.Sums.{AllPass-from_list_all, list_all-from_AllPass}
 use Rattle.std.proofs.lemmas.Map.Views.{any-filter_same}
 use Rattle.std.proofs.lemmas.Slice.Eq.{bytes_eq-Decides}
@@ -91,9 +92,10 @@ signed_by-form head tokens host =
     (ap (list_all is_signed_name) is ∙ covered_names head tokens)
     (ap rises is ∙ rises-in_order (names_to_sign head))
 
--- and no comma
-pub signed_by-lacks : (head : HeadParts) → list_all is_token (sent_names head) ≡ true → lacks 44 (signed_by head) ≡ true
-unfolding signed_by
-signed_by-lacks head tokens =
-    joined_all (λ b. not (b == 44)) 59 refl (in_order (names_to_sign head))
-    (all_weaker is_signed_name (lacks 44) no_comma (in_order (names_to_sign head)) (covered_names head tokens))
+-- names of this form have no comma
+pub names_lack : (signed : List ℕ) → are_signed_names signed ≡ true → lacks 44 signed ≡ true
+names_lack signed form =
+    let names = (and_parts (list_all is_signed_name (signed_names signed)) (rises (signed_names signed)) form).0 in
+    ap (lacks 44) (sym (join_with_byte-slice_split 59 signed))
+    ∙ joined_all (λ b. not (b == 44)) 59 refl (signed_names signed)
+    (all_weaker is_signed_name (lacks 44) no_comma (signed_names signed) names)

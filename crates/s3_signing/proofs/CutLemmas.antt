@@ -1,5 +1,5 @@
 -- A list cut at an element, as the parts that `slice_split` gives.
-use Rattle.std.proofs.Common.{◌≡◌, ℕ, ◌+◌, ◌<◌, ◌≤◌, ◌≢◌, Bool, true, false, List, [], ◌∷◌, length, take, drop, refl, arith, cond, nat_lt, Option, Some, None, MatchOption, position}
+use Rattle.std.proofs.Common.{◌≡◌, ℕ, ◌+◌, ◌<◌, ◌≤◌, ◌≢◌, Bool, true, false, List, [], ◌∷◌, length, take, drop, refl, sym, subst, arith, cond, nat_lt, Option, Some, None, MatchOption, position}
 use Rattle.std.specs.List.{slice_split, before_first, position_or_len}
 use Rattle.std.proofs.lemmas.List.Splits.{slice_split_none, slice_split_first}
 use Rattle.std.proofs.lemmas.List.Sums.{fails_before_first}
@@ -18,7 +18,7 @@ pub record Cut (p : ℕ → Bool) (xs : List ℕ) (at : ℕ) : Type 0 where
   pub parts : slice_split p xs ≡ take at xs ∷ slice_split p (drop (at + 1) xs)
   pub before : before_first p xs ≡ take at xs
 
-abbrev pub CutsAt : (ℕ → Bool) → List ℕ → Option ℕ → Type 0
+abbrev CutsAt : (ℕ → Bool) → List ℕ → Option ℕ → Type 0
 CutsAt p xs place = MatchOption place (Uncut p xs) (Cut p xs)
 
 uncut : (p : ℕ → Bool) (xs : List ℕ) → length xs ≤ position_or_len p xs → Uncut p xs
@@ -34,8 +34,15 @@ cuts p xs true h =
 cuts p xs false h = uncut p xs (grind (arith, nat_tests))
 
 -- the first place of a byte is where the first part ends
-pub CutsAt-position : (p : ℕ → Bool) (xs : List ℕ) → CutsAt p xs (position p xs)
+CutsAt-position : (p : ℕ → Bool) (xs : List ℕ) → CutsAt p xs (position p xs)
 CutsAt-position p xs = cuts p xs (nat_lt (position_or_len p xs) (length xs)) refl
+
+-- what is known where it was found, and where it was not
+pub cut_found : (p : ℕ → Bool) (xs : List ℕ) (at : ℕ) → Some at ≡ position p xs → Cut p xs at
+cut_found p xs at is = subst (CutsAt p xs) (sym is) (CutsAt-position p xs)
+
+pub cut_nowhere : (p : ℕ → Bool) (xs : List ℕ) → None ≡ position p xs → Uncut p xs
+cut_nowhere p xs is = subst (CutsAt p xs) (sym is) (CutsAt-position p xs)
 
 -- another count of parts says nothing
 pub not_three : (parts : List (List ℕ)) → length parts ≢ 3 → three_parts parts ≡ None

@@ -1,9 +1,9 @@
--- A code of HMAC is written as 64 lower-case hexadecimal digits.
-use Rattle.std.proofs.Common.{◌≡◌, ℕ, zero, suc, ◌/◌, ◌%◌, ◌*◌, ◌^◌, ◌<◌, Bool, true, nat_lt, List, [], ◌∷◌, length, refl, ap, ◌∙◌, arith}
+-- A hash and a code of HMAC are written as 64 lower-case hexadecimal digits.
+use Rattle.std.proofs.Common.{◌≡◌, ℕ, zero, suc, ◌/◌, ◌%◌, ◌*◌, ◌^◌, ◌<◌, ◌==◌, Bool, true, false, nat_lt, List, [], ◌∷◌, length, refl, ap, ◌∙◌, arith}
 use Rattle.std.specs.Prelude.{slice_index}
 use Rattle.std.specs.Int.{to_be_bytes, w32}
 use Rattle.std.specs.List.{list_all}
-use Rattle.std.proofs.lemmas.Bool.{and_parts, and_from, agree_below_at, ltb-true, lt-ltb, eq-eqb}
+use Rattle.std.proofs.lemmas.Bool.{and_parts, and_from, agree_below_at, ltb-true, lt-ltb, eq-eqb, eqb-true}
 use Rattle.std.proofs.lemmas.List.Folds.{list_all-append}
 use Rattle.hex.specs.Hex.{encode_with, encode_lower, lower_digits}
 use Rattle.hex.proofs.HexLemmas.{length-encode_with}
@@ -11,7 +11,10 @@ use Rattle.sha2.specs.Sha256.{sha256, digest_bytes}
 use Rattle.sha2.proofs.Facts256.{length-sha256}
 use Rattle.s3_terms.specs.Names.{is_lower_hex}
 use Rattle.s3_hmac.specs.Hmac.{hmac}
+use Rattle.s3_http_heads.specs.Parts.{HeadParts}
 use Rattle.s3_signing.specs.Authorization.{is_hex_digest}
+use Rattle.s3_signing.specs.Signature.{signature_of}
+use Rattle.s3_signing.proofs.JoinLemmas.{lacks, lacks_failing}
 
 abbrev is_byte : ℕ → Bool
 is_byte b = nat_lt b 256
@@ -58,6 +61,24 @@ digest_text bytes size all =
     (eq-eqb (length (encode_lower bytes)) 64 (length-encode_with lower_digits bytes ∙ ap (λ n. 2 * n) size))
     (encoded_all bytes all)
 
-pub hmac_text : (key message : List ℕ) → is_hex_digest (encode_lower (hmac key message)) ≡ true
+pub sha256_text : (message : List ℕ) → is_hex_digest (encode_lower (sha256 message)) ≡ true
+sha256_text message = digest_text (sha256 message) (length-sha256 message) (sha256_all message)
+
+hmac_text : (key message : List ℕ) → is_hex_digest (encode_lower (hmac key message)) ≡ true
 unfolding hmac
-hmac_text key message = digest_text (hmac key message) (length-sha256 _) (sha256_all _)
+hmac_text key message = sha256_text _
+
+-- and so is a signature
+pub signature_text : (secret stamp region : List ℕ) (head : HeadParts) (signed word : List ℕ) → is_hex_digest (signature_of secret stamp region head signed word) ≡ true
+unfolding signature_of
+signature_text secret stamp region head signed word = hmac_text _ _
+
+-- how many digits a digest has, and what they are
+pub digest_parts : (text : List ℕ) → is_hex_digest text ≡ true → (length text ≡ 64) × (list_all is_lower_hex text ≡ true)
+digest_parts text digest =
+    let both = and_parts (length text == 64) (list_all is_lower_hex text) digest in
+    (eqb-true (length text) 64 both.0, both.1)
+
+-- a digest lacks what is no digit
+pub digest_lacks : (c : ℕ) → is_lower_hex c ≡ false → (text : List ℕ) → is_hex_digest text ≡ true → lacks c text ≡ true
+digest_lacks c other text digest = lacks_failing is_lower_hex c other text (digest_parts text digest).1

@@ -4,13 +4,13 @@ pub mod TargetLemmas
 pub mod SignedLemmas
 pub mod WordLemmas
 pub mod CompareLemmas
-pub mod FaultLemmas
 pub mod VerdictLemmas
 pub mod NameLemmas
 pub mod OrderLemmas
 pub mod JoinLemmas
 pub mod DigestLemmas
 pub mod CoverLemmas
+pub mod SpellingLemmas
 pub mod ReadBackLemmas
 pub mod OtherLineLemmas
 pub mod EnoughLemmas

@@ -3,15 +3,14 @@ use Rattle.std.proofs.Common.{◌≡◌, ℕ, ◌+◌, ◌<◌, Bool, true, fals
 use Rattle.std.specs.Prelude.{codes}
 use Rattle.std.specs.List.{dedup, dedup_from}
 use Rattle.std.specs.List.Sorted.{IsSorted}
-use Rattle.std.specs.Ordering.{nat_cmp}
 use Rattle.std.specs.Str.{bytes_eq, str_to_ascii_lowercase}
-use Rattle.std.specs.Cmp.Lexicographic.{slice_cmp}
 use Rattle.std.proofs.lemmas.Cmp.{nat_list_cmp_total}
 use Rattle.std.proofs.lemmas.List.{take_more, map-append, get_or-map, length-map}
 use Rattle.std.proofs.lemmas.List.Elements.{filter-append}
 use Rattle.std.proofs.lemmas.List.Sorted.{IsPermutation-map}
 use Rattle.std.proofs.lemmas.Map.Lookups.{exact_bytes}
 use Rattle.std.proofs.lemmas.Option.{get_or_from_slice_get, slice_get_within}
+use Rattle.s3_terms.specs.Names.{byte_order}
 use Rattle.s3_canonical.specs.Sorting.{sorted_by}
 use Rattle.s3_canonical.proofs.SortingLemmas.{sorted_by-unique, IsSorted-map}
 use Rattle.s3_signing.specs.declared.names.Name.{Name}
@@ -65,6 +64,6 @@ dedup-texts same is [] = refl
 dedup-texts same is (x ∷ names) = dedup_from-texts same is x names
 
 -- names that were sorted are their texts in order
-pub sorted-texts : (names sorted : List Name) → IsPermutation names sorted → IsSorted (λ x y. slice_cmp nat_cmp (name_text x) (name_text y)) sorted → texts sorted ≡ sorted_by (slice_cmp nat_cmp) (texts names)
+pub sorted-texts : (names sorted : List Name) → IsPermutation names sorted → IsSorted (λ x y. byte_order (name_text x) (name_text y)) sorted → texts sorted ≡ sorted_by byte_order (texts names)
 sorted-texts names sorted same up =
-    sorted_by-unique (slice_cmp nat_cmp) nat_list_cmp_total exact_bytes (texts names) (texts sorted) (IsPermutation-map name_text names sorted same) (IsSorted-map name_text (slice_cmp nat_cmp) sorted up)
+    sorted_by-unique byte_order nat_list_cmp_total exact_bytes (texts names) (texts sorted) (IsPermutation-map name_text names sorted same) (IsSorted-map name_text byte_order sorted up)

@@ -2,55 +2,29 @@
 use Rattle.std.proofs.Common.{◌≡◌, ℕ, Bool, true, false, not, ◌&&◌, ◌||◌, List, [], ◌∷◌, refl, sym, ap, ◌∙◌, subst, ⊎_elim}
 use Rattle.std.specs.declared.cmp.Ordering.{Ordering}
 use Rattle.std.specs.declared.cmp.Ordering.TheVariants.{Less, Equal, Greater}
-use Rattle.std.specs.Ordering.{nat_cmp, ordering_reverse, is_gt, is_lt}
+use Rattle.std.specs.Ordering.{is_gt, is_lt}
 use Rattle.std.specs.Cmp.{IsTotalOrder}
-use Rattle.std.specs.Cmp.Lexicographic.{slice_cmp}
 use Rattle.std.specs.List.{list_any, list_all, dedup, dedup_from}
 use Rattle.std.specs.Str.{bytes_eq}
 use Rattle.std.proofs.lemmas.Bool.{cases_Bool, cond-true, cond-false, false≢true, and_parts, and_from, or_left, or_right}
 use Rattle.std.proofs.lemmas.List.Elements.{All-weaker}
 use Rattle.std.proofs.lemmas.List.Sums.{AllPass-from_list_all, list_all-from_AllPass}
-use Rattle.std.proofs.lemmas.Cmp.{nat_list_cmp_total}
+use Rattle.std.proofs.lemmas.Cmp.{nat_list_cmp_total, nat_list_eq_equiv}
 use Rattle.std.proofs.lemmas.Map.Lookups.{exact_bytes}
 use Rattle.std.proofs.lemmas.Slice.Eq.{bytes_eq-Decides}
+use Rattle.s3_terms.specs.Names.{byte_order}
 use Rattle.s3_canonical.specs.Sorting.{insert_by, sorted_by}
+use Rattle.s3_canonical.proofs.SortedLemmas.{all_by_any, here, list_any-sorted_by, past}
+use Rattle.s3_canonical.proofs.SortingLemmas.{one_way}
 use Rattle.s3_signing.specs.Authorization.{rises}
 use Rattle.s3_signing.specs.Signing.{in_order}
-
-or_exchanged : (a b c : Bool) → (a || (b || c)) ≡ (b || (a || c))
-or_exchanged true true c = refl
-or_exchanged true false c = refl
-or_exchanged false b c = refl
 
 or_twice : (a b : Bool) → (a || b) ≡ (a || (a || b))
 or_twice true b = refl
 or_twice false b = refl
 
-and_by_or : (a b : Bool) → (a && not b) ≡ not (not a || b)
-and_by_or true b = refl
-and_by_or false b = refl
-
--- all pass where none fails
-all_by_any : {X : Type 0} (p : X → Bool) (xs : List X) → list_all p xs ≡ not (list_any (λ x. not (p x)) xs)
-all_by_any p [] = refl
-all_by_any p (x ∷ xs) = ap (λ b. p x && b) (all_by_any p xs) ∙ and_by_or (p x) (list_any (λ y. not (p y)) xs)
-
--- an element that is put in
-insert-any : {X : Type 0} (cmp : X → X → Ordering) (p : X → Bool) (x : X) (ys : List X) → list_any p (insert_by cmp x ys) ≡ (p x || list_any p ys)
-insert-any cmp p x [] = refl
-insert-any cmp p x (y ∷ ys) =
-    ⊎_elim
-    (λ gt. ap (list_any p) (cond-true (is_gt (cmp x y)) (y ∷ insert_by cmp x ys) (x ∷ y ∷ ys) gt) ∙ ap (λ b. p y || b) (insert-any cmp p x ys) ∙ or_exchanged (p y) (p x) (list_any p ys))
-    (λ le. ap (list_any p) (cond-false (is_gt (cmp x y)) (y ∷ insert_by cmp x ys) (x ∷ y ∷ ys) le))
-    (cases_Bool (is_gt (cmp x y)))
-
-sorted-any : {X : Type 0} (cmp : X → X → Ordering) (p : X → Bool) (xs : List X) → list_any p (sorted_by cmp xs) ≡ list_any p xs
-unfolding sorted_by
-sorted-any cmp p [] = refl
-sorted-any cmp p (x ∷ xs) = insert-any cmp p x (sorted_by cmp xs) ∙ ap (λ b. p x || b) (sorted-any cmp p xs)
-
 -- what is left of equal neighbours
-dedup_from-any : (p : List ℕ → Bool) (k : List ℕ) (xs : List (List ℕ)) → list_any p (dedup_from bytes_eq k xs) ≡ (p k || list_any p xs)
+pub dedup_from-any : (p : List ℕ → Bool) (k : List ℕ) (xs : List (List ℕ)) → list_any p (dedup_from bytes_eq k xs) ≡ (p k || list_any p xs)
 dedup_from-any p k [] = refl
 dedup_from-any p k (x ∷ xs) =
     ⊎_elim
@@ -64,7 +38,7 @@ dedup-any p (x ∷ xs) = dedup_from-any p x xs
 
 -- a test that some name passes: the names in order are those of the list
 pub list_any-in_order : (p : List ℕ → Bool) (names : List (List ℕ)) → list_any p (in_order names) ≡ list_any p names
-list_any-in_order p names = dedup-any p (sorted_by (slice_cmp nat_cmp) names) ∙ sorted-any (slice_cmp nat_cmp) p names
+list_any-in_order p names = dedup-any p (sorted_by byte_order names) ∙ list_any-sorted_by byte_order p names
 
 -- a test that all names pass
 pub list_all-in_order : (p : List ℕ → Bool) (names : List (List ℕ)) → list_all p (in_order names) ≡ list_all p names
@@ -72,8 +46,8 @@ list_all-in_order p names =
     all_by_any p (in_order names) ∙ ap not (list_any-in_order (λ name. not (p name)) names) ∙ sym (all_by_any p names)
 
 -- a name is itself
-bytes_eq-same : (x : List ℕ) → bytes_eq x x ≡ true
-bytes_eq-same x = (bytes_eq-Decides x x).1 refl
+pub bytes_eq-same : (x : List ℕ) → bytes_eq x x ≡ true
+bytes_eq-same = nat_list_eq_equiv.refl
 
 -- a test that is weaker is passed by more
 pub all_weaker : {X : Type 0} (p q : X → Bool) → ((x : X) → p x ≡ true → q x ≡ true) → (xs : List X) → list_all p xs ≡ true → list_all q xs ≡ true
@@ -112,25 +86,17 @@ abbrev climbs_all : {X : Type 0} → (X → X → Ordering) → List X → Bool
 climbs_all cmp [] = true
 climbs_all cmp (x ∷ xs) = climbs cmp x xs
 
-is_gt-back : (o : Ordering) → is_gt o ≡ true → is_gt (ordering_reverse o) ≡ false
-is_gt-back Less h = absurd (false≢true h)
-is_gt-back Equal h = absurd (false≢true h)
-is_gt-back Greater h = refl
-
 module _ {X : Type 0} (cmp : X → X → Ordering) (total : IsTotalOrder cmp) where
-  not_back : (x y : X) → is_gt (cmp x y) ≡ true → not (is_gt (cmp y x)) ≡ true
-  not_back x y gt = ap (λ o. not (is_gt o)) (total.antisymm y x) ∙ ap not (is_gt-back (cmp x y) gt)
-
   climbs-insert : (k x : X) (ys : List X) → not (is_gt (cmp k x)) ≡ true → climbs cmp k ys ≡ true → climbs cmp k (insert_by cmp x ys) ≡ true
   climbs-insert k x [] low up = and_from _ _ low refl
   climbs-insert k x (y ∷ ys) low up =
       let both = and_parts (not (is_gt (cmp k y))) (climbs cmp y ys) up in
       ⊎_elim
       (λ gt.
-      ap (climbs cmp k) (cond-true (is_gt (cmp x y)) (y ∷ insert_by cmp x ys) (x ∷ y ∷ ys) gt)
-      ∙ and_from _ _ both.0 (climbs-insert y x ys (not_back x y gt) both.1))
+      ap (climbs cmp k) (past cmp x y ys gt)
+      ∙ and_from _ _ both.0 (climbs-insert y x ys (ap not (one_way cmp total x y gt)) both.1))
       (λ le.
-      ap (climbs cmp k) (cond-false (is_gt (cmp x y)) (y ∷ insert_by cmp x ys) (x ∷ y ∷ ys) le)
+      ap (climbs cmp k) (here cmp x y ys le)
       ∙ and_from _ _ low (and_from _ _ (ap not le) both.1))
       (cases_Bool (is_gt (cmp x y)))
 
@@ -139,10 +105,10 @@ module _ {X : Type 0} (cmp : X → X → Ordering) (total : IsTotalOrder cmp) wh
   climbs_all-insert x (y ∷ ys) up =
       ⊎_elim
       (λ gt.
-      ap (climbs_all cmp) (cond-true (is_gt (cmp x y)) (y ∷ insert_by cmp x ys) (x ∷ y ∷ ys) gt)
-      ∙ climbs-insert y x ys (not_back x y gt) up)
+      ap (climbs_all cmp) (past cmp x y ys gt)
+      ∙ climbs-insert y x ys (ap not (one_way cmp total x y gt)) up)
       (λ le.
-      ap (climbs_all cmp) (cond-false (is_gt (cmp x y)) (y ∷ insert_by cmp x ys) (x ∷ y ∷ ys) le)
+      ap (climbs_all cmp) (here cmp x y ys le)
       ∙ and_from _ _ (ap not le) up)
       (cases_Bool (is_gt (cmp x y)))
 
@@ -157,43 +123,43 @@ less_from Less low apart = refl
 less_from Equal low apart = absurd (apart refl)
 less_from Greater low apart = absurd (false≢true low)
 
-before_next : (k x : List ℕ) → not (is_gt (slice_cmp nat_cmp k x)) ≡ true → bytes_eq x k ≡ false → is_lt (slice_cmp nat_cmp k x) ≡ true
+before_next : (k x : List ℕ) → not (is_gt (byte_order k x)) ≡ true → bytes_eq x k ≡ false → is_lt (byte_order k x) ≡ true
 before_next k x low other =
-    less_from (slice_cmp nat_cmp k x) low
+    less_from (byte_order k x) low
     (λ tie. false≢true (sym other ∙ ap (λ y. bytes_eq x y) (exact_bytes k x tie) ∙ bytes_eq-same x))
 
 -- the neighbours that are left rise
-rises-dedup_from : (j k : List ℕ) (xs : List (List ℕ)) → is_lt (slice_cmp nat_cmp j k) ≡ true → climbs (slice_cmp nat_cmp) k xs ≡ true → rises (j ∷ dedup_from bytes_eq k xs) ≡ true
+rises-dedup_from : (j k : List ℕ) (xs : List (List ℕ)) → is_lt (byte_order j k) ≡ true → climbs byte_order k xs ≡ true → rises (j ∷ dedup_from bytes_eq k xs) ≡ true
 rises-dedup_from j k [] less up = and_from _ _ less refl
 rises-dedup_from j k (x ∷ xs) less up =
-    let both = and_parts (not (is_gt (slice_cmp nat_cmp k x))) (climbs (slice_cmp nat_cmp) x xs) up in
+    let both = and_parts (not (is_gt (byte_order k x))) (climbs byte_order x xs) up in
     ⊎_elim
     (λ same.
     ap (λ names. rises (j ∷ names)) (cond-true (bytes_eq x k) (dedup_from bytes_eq k xs) (k ∷ dedup_from bytes_eq x xs) same)
-    ∙ rises-dedup_from j k xs less (subst (λ y. climbs (slice_cmp nat_cmp) y xs ≡ true) ((bytes_eq-Decides x k).0 same) both.1))
+    ∙ rises-dedup_from j k xs less (subst (λ y. climbs byte_order y xs ≡ true) ((bytes_eq-Decides x k).0 same) both.1))
     (λ other.
     ap (λ names. rises (j ∷ names)) (cond-false (bytes_eq x k) (dedup_from bytes_eq k xs) (k ∷ dedup_from bytes_eq x xs) other)
     ∙ and_from _ _ less (rises-dedup_from k x xs (before_next k x both.0 other) both.1))
     (cases_Bool (bytes_eq x k))
 
-rises-kept : (k : List ℕ) (xs : List (List ℕ)) → climbs (slice_cmp nat_cmp) k xs ≡ true → rises (dedup_from bytes_eq k xs) ≡ true
+rises-kept : (k : List ℕ) (xs : List (List ℕ)) → climbs byte_order k xs ≡ true → rises (dedup_from bytes_eq k xs) ≡ true
 rises-kept k [] up = refl
 rises-kept k (x ∷ xs) up =
-    let both = and_parts (not (is_gt (slice_cmp nat_cmp k x))) (climbs (slice_cmp nat_cmp) x xs) up in
+    let both = and_parts (not (is_gt (byte_order k x))) (climbs byte_order x xs) up in
     ⊎_elim
     (λ same.
     ap rises (cond-true (bytes_eq x k) (dedup_from bytes_eq k xs) (k ∷ dedup_from bytes_eq x xs) same)
-    ∙ rises-kept k xs (subst (λ y. climbs (slice_cmp nat_cmp) y xs ≡ true) ((bytes_eq-Decides x k).0 same) both.1))
+    ∙ rises-kept k xs (subst (λ y. climbs byte_order y xs ≡ true) ((bytes_eq-Decides x k).0 same) both.1))
     (λ other.
     ap rises (cond-false (bytes_eq x k) (dedup_from bytes_eq k xs) (k ∷ dedup_from bytes_eq x xs) other)
     ∙ rises-dedup_from k x xs (before_next k x both.0 other) both.1)
     (cases_Bool (bytes_eq x k))
 
-rises-dedup : (xs : List (List ℕ)) → climbs_all (slice_cmp nat_cmp) xs ≡ true → rises (dedup bytes_eq xs) ≡ true
+rises-dedup : (xs : List (List ℕ)) → climbs_all byte_order xs ≡ true → rises (dedup bytes_eq xs) ≡ true
 rises-dedup [] up = refl
 rises-dedup (x ∷ xs) up = rises-kept x xs up
 
 -- names in order rise
 pub rises-in_order : (names : List (List ℕ)) → rises (in_order names) ≡ true
 rises-in_order names =
-    rises-dedup (sorted_by (slice_cmp nat_cmp) names) (climbs_all-sorted (slice_cmp nat_cmp) nat_list_cmp_total names)
+    rises-dedup (sorted_by byte_order names) (climbs_all-sorted byte_order nat_list_cmp_total names)

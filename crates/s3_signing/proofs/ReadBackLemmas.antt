@@ -1,82 +1,43 @@
 -- The value that a signer writes is read as the parts that it was written of.
-use Rattle.std.proofs.Common.{◌≡◌, ℕ, true, false, not, ◌&&◌, ◌==◌, nat_le, nat_lt, List, [], ◌∷◌, ◌++◌, length, append_assoc, refl, ap, ◌∙◌, codes, Some, None}
+use Rattle.std.proofs.Common.{◌≡◌, ℕ, Bool, true, false, not, ◌&&◌, ◌||◌, ◌==◌, nat_le, nat_lt, List, [], ◌∷◌, ◌++◌, length, append_assoc, refl, ap, ◌∙◌, codes, Some}
 use Rattle.std.specs.Char.{is_ascii_digit}
-use Rattle.std.specs.List.{list_all, slice_split, join_with_byte}
-use Rattle.std.proofs.lemmas.Bool.{and_parts, and_from, cond-true}
+use Rattle.std.specs.List.{list_all, join_with_byte}
+use Rattle.std.proofs.lemmas.Bool.{and_parts, and_from, or_from}
 use Rattle.httparse.specs.Grammar.{is_token}
-use Rattle.s3_terms.specs.Names.{is_lower_hex}
 use Rattle.s3_terms.specs.Settings.{is_access_key_id, is_region, is_id_byte, is_region_byte}
 use Rattle.s3_terms.specs.Moment.{is_stamp, is_stamp_form, is_stamp_date, is_stamp_time, stamp_date}
 use Rattle.s3_terms.proofs.MomentLemmas.{date_digits}
 use Rattle.s3_http_heads.specs.Parts.{HeadParts, is_sent}
-use Rattle.s3_signing.specs.Authorization.{Parts, authorization_of, three_parts, with_scope, are_parts, is_hex_digest}
+use Rattle.s3_signing.specs.Authorization.{Parts, authorization_of}
 use Rattle.s3_signing.specs.Signature.{signature_of}
-use Rattle.s3_signing.specs.Signing.{signed_by, authorization_text}
+use Rattle.s3_signing.specs.Signing.{authorization_text, credential_text, signed_by}
+use Rattle.s3_signing.specs.Spelling.{is_plain, spelling}
 use Rattle.s3_signing.specs.Verdict.{sent_names, sent_word}
-use Rattle.s3_signing.proofs.CoverLemmas.{signed_by-form, signed_by-lacks}
-use Rattle.s3_signing.proofs.DigestLemmas.{hmac_text}
-use Rattle.s3_signing.proofs.JoinLemmas.{lacks, lacks_failing, split_joined, joined_all}
+use Rattle.s3_signing.proofs.CoverLemmas.{signed_by-form}
+use Rattle.s3_signing.proofs.DigestLemmas.{signature_text}
+use Rattle.s3_signing.proofs.JoinLemmas.{other_than}
+use Rattle.s3_signing.proofs.OrderLemmas.{all_weaker}
+use Rattle.s3_signing.proofs.SpellingLemmas.{read_spelling}
 
--- parts of a credential for S3
-abbrev parts_with : List ℕ → List ℕ → List ℕ → List ℕ → List ℕ → Parts
-parts_with id date region signed signature = record {
+-- what the authorization of a signer says
+abbrev pub signer_parts : List ℕ → List ℕ → List ℕ → HeadParts → List ℕ → Parts
+signer_parts id secret region head stamp = record {
   id = id;
-  date = date;
+  date = stamp_date stamp;
   region = region;
   service = codes "s3";
-  signed = signed;
-  signature = signature;
+  signed = signed_by head;
+  signature = signature_of secret stamp region head (signed_by head) (sent_word head);
 }
 
--- the parts of a credential, and the credential
-abbrev scope_parts : List ℕ → List ℕ → List ℕ → List (List ℕ)
-scope_parts id date region = id ∷ date ∷ region ∷ codes "s3" ∷ codes "aws4_request" ∷ []
+joined_parts : (credential signed signature : List ℕ) → codes "AWS4-HMAC-SHA256 Credential=" ++ credential ++ codes ", SignedHeaders=" ++ signed ++ codes ", Signature=" ++ signature ≡ join_with_byte 44 ((codes "AWS4-HMAC-SHA256 Credential=" ++ credential) ∷ (codes " SignedHeaders=" ++ signed) ∷ (codes " Signature=" ++ signature) ∷ [])
+joined_parts credential signed signature = simp append_assoc
 
-abbrev credential_with : List ℕ → List ℕ → List ℕ → List ℕ
-credential_with id date region = join_with_byte 47 (scope_parts id date region)
-
--- the text of three such parts
-abbrev text_with : List ℕ → List ℕ → List ℕ → List ℕ
-text_with credential signed signature =
-    codes "AWS4-HMAC-SHA256 Credential=" ++ credential ++ codes ", SignedHeaders=" ++ signed
-    ++ codes ", Signature=" ++ signature
-
--- what stands before, between and behind its commas
-abbrev pieces_with : List ℕ → List ℕ → List ℕ → List (List ℕ)
-pieces_with credential signed signature =
-    (codes "AWS4-HMAC-SHA256 Credential=" ++ credential)
-    ∷ (codes " SignedHeaders=" ++ signed)
-    ∷ (codes " Signature=" ++ signature)
-    ∷ []
-
-joined_pieces : (credential signed signature : List ℕ) → text_with credential signed signature ≡ join_with_byte 44 (pieces_with credential signed signature)
-joined_pieces credential signed signature = simp append_assoc
-
-cut_text : (credential signed signature : List ℕ) → list_all (lacks 44) (credential ∷ signed ∷ signature ∷ []) ≡ true → slice_split (λ b. b == 44) (text_with credential signed signature) ≡ pieces_with credential signed signature
-cut_text credential signed signature none =
-    ap (slice_split (λ b. b == 44)) (joined_pieces credential signed signature)
-    ∙ split_joined 44
-    (codes "AWS4-HMAC-SHA256 Credential=" ++ credential)
-    ((codes " SignedHeaders=" ++ signed) ∷ (codes " Signature=" ++ signature) ∷ [])
-    none
-
--- what stands behind the names of the three parts
-named_parts : (credential signed signature : List ℕ) → three_parts (pieces_with credential signed signature) ≡ with_scope signed signature (slice_split (λ b. b == 47) credential)
-named_parts credential signed signature = refl
-
--- a credential is cut at its four slashes
-cut_credential : (id date region : List ℕ) → list_all (lacks 47) (id ∷ date ∷ region ∷ []) ≡ true → slice_split (λ b. b == 47) (credential_with id date region) ≡ scope_parts id date region
-cut_credential id date region none =
-    split_joined 47 id (date ∷ region ∷ codes "s3" ∷ codes "aws4_request" ∷ []) none
-
--- parts that hold what the form asks for are read back
-read_text : (id date region signed signature : List ℕ) → list_all (lacks 47) (id ∷ date ∷ region ∷ []) ≡ true → list_all (lacks 44) (credential_with id date region ∷ signed ∷ signature ∷ []) ≡ true → are_parts (parts_with id date region signed signature) ≡ true → authorization_of (text_with (credential_with id date region) signed signature) ≡ Some (parts_with id date region signed signature)
-unfolding authorization_of
-read_text id date region signed signature no_slash no_comma form =
-    ap three_parts (cut_text (credential_with id date region) signed signature no_comma)
-    ∙ named_parts (credential_with id date region) signed signature
-    ∙ ap (with_scope signed signature) (cut_credential id date region no_slash)
-    ∙ cond-true (are_parts (parts_with id date region signed signature)) (Some (parts_with id date region signed signature)) None form
+-- what a signer writes spells it: one space stands behind the scheme and behind each comma
+written_spelling : (id secret region : List ℕ) (head : HeadParts) (stamp : List ℕ) → authorization_text id secret region head stamp ≡ spelling (signer_parts id secret region head stamp) (record { credential = 0; signed = 1; signature = 1 })
+unfolding authorization_text
+written_spelling id secret region head stamp =
+    joined_parts (credential_text id stamp region) (signed_by head) (signature_of secret stamp region head (signed_by head) (sent_word head))
 
 -- what the bytes of an id, a region and a stamp's date are
 id_bytes : (id : List ℕ) → is_access_key_id id ≡ true → list_all is_id_byte id ≡ true
@@ -100,41 +61,23 @@ date_bytes stamp h =
     date_digits stamp
     (and_parts (is_stamp_form stamp) (is_stamp_date stamp) (and_parts (is_stamp_form stamp && is_stamp_date stamp) (is_stamp_time stamp) h).0).0
 
--- so a byte that is none of these is not in a credential's first parts
-first_parts_lack : (c : ℕ) → is_id_byte c ≡ false → is_ascii_digit c ≡ false → is_region_byte c ≡ false → (id region stamp : List ℕ) → is_access_key_id id ≡ true → is_region region ≡ true → is_stamp stamp ≡ true → list_all (lacks c) (id ∷ stamp_date stamp ∷ region ∷ []) ≡ true
-first_parts_lack c no_id no_digit no_region id region stamp of_id of_region of_stamp =
-    and_from _ _
-    (lacks_failing is_id_byte c no_id id (id_bytes id of_id))
-    (and_from _ _
-    (lacks_failing is_ascii_digit c no_digit (stamp_date stamp) (date_bytes stamp of_stamp))
-    (and_from _ _
-    (lacks_failing is_region_byte c no_region region (region_bytes region of_region))
-    refl))
+-- so the credential is plain
+plain_bytes : (p : ℕ → Bool) → p 47 ≡ false → p 44 ≡ false → (text : List ℕ) → list_all p text ≡ true → is_plain text ≡ true
+plain_bytes p no_slash no_comma =
+    all_weaker p (λ b. not (b == 47 || b == 44))
+    (λ b passes. ap not (or_from _ _ (other_than p 47 no_slash b passes) (other_than p 44 no_comma b passes)))
 
-credential_lacks : (id region stamp : List ℕ) → is_access_key_id id ≡ true → is_region region ≡ true → is_stamp stamp ≡ true → lacks 44 (credential_with id (stamp_date stamp) region) ≡ true
-credential_lacks id region stamp of_id of_region of_stamp =
-    joined_all (λ b. not (b == 44)) 47 refl
-    (scope_parts id (stamp_date stamp) region)
-    (first_parts_lack 44 refl refl refl id region stamp of_id of_region of_stamp)
-
--- a signature is a digest's digits
-signature_form : (secret stamp region : List ℕ) (head : HeadParts) (signed word : List ℕ) → is_hex_digest (signature_of secret stamp region head signed word) ≡ true
-unfolding signature_of
-signature_form secret stamp region head signed word = hmac_text _ _
-
-signature_lacks : (signature : List ℕ) → is_hex_digest signature ≡ true → lacks 44 signature ≡ true
-signature_lacks signature h =
-    lacks_failing is_lower_hex 44 refl signature (and_parts (length signature == 64) (list_all is_lower_hex signature) h).1
+credential_plain : (id region stamp : List ℕ) → is_access_key_id id ≡ true → is_region region ≡ true → is_stamp stamp ≡ true → list_all is_plain (id ∷ stamp_date stamp ∷ region ∷ codes "s3" ∷ []) ≡ true
+credential_plain id region stamp of_id of_region of_stamp =
+    and_from _ _ (plain_bytes is_id_byte refl refl id (id_bytes id of_id))
+    (and_from _ _ (plain_bytes is_ascii_digit refl refl (stamp_date stamp) (date_bytes stamp of_stamp))
+    (and_from _ _ (plain_bytes is_region_byte refl refl region (region_bytes region of_region)) refl))
 
 -- what a signer writes is read as its id, the scope, the names that it covers, and the signature
-pub reads_back : (id secret region : List ℕ) (head : HeadParts) (stamp : List ℕ) → is_access_key_id id ≡ true → is_region region ≡ true → is_stamp stamp ≡ true → list_all is_token (sent_names head) ≡ true → is_sent (codes "host") head ≡ true → authorization_of (authorization_text id secret region head stamp) ≡ Some (record { id = id; date = stamp_date stamp; region = region; service = codes "s3"; signed = signed_by head; signature = signature_of secret stamp region head (signed_by head) (sent_word head) })
-unfolding authorization_text
+pub reads_back : (id secret region : List ℕ) (head : HeadParts) (stamp : List ℕ) → is_access_key_id id ≡ true → is_region region ≡ true → is_stamp stamp ≡ true → list_all is_token (sent_names head) ≡ true → is_sent (codes "host") head ≡ true → authorization_of (authorization_text id secret region head stamp) ≡ Some (signer_parts id secret region head stamp)
 reads_back id secret region head stamp of_id of_region of_stamp tokens host =
-    let form = signature_form secret stamp region head (signed_by head) (sent_word head) in
-    let signature = signature_of secret stamp region head (signed_by head) (sent_word head) in
-    read_text id (stamp_date stamp) region (signed_by head) signature
-    (first_parts_lack 47 refl refl refl id region stamp of_id of_region of_stamp)
-    (and_from _ _
-    (credential_lacks id region stamp of_id of_region of_stamp)
-    (and_from _ _ (signed_by-lacks head tokens) (and_from _ _ (signature_lacks signature form) refl)))
-    (and_from _ _ (and_from _ _ (id_some id of_id) (signed_by-form head tokens host)) form)
+    ap authorization_of (written_spelling id secret region head stamp)
+    ∙ read_spelling (signer_parts id secret region head stamp)
+    (and_from _ _ (and_from _ _ (id_some id of_id) (signed_by-form head tokens host)) (signature_text secret stamp region head (signed_by head) (sent_word head)))
+    (credential_plain id region stamp of_id of_region of_stamp)
+    (record { credential = 0; signed = 1; signature = 1 })

@@ -4,12 +4,11 @@ use Rattle.std.specs.Prelude.{codes, is_some, length, option_and_then, unwrap_or
 use Rattle.std.specs.List.{list_all}
 use Rattle.std.specs.Str.{bytes_eq}
 use Rattle.std.proofs.lemmas.Bool.{cases_Bool, and_parts}
-use Rattle.std.proofs.lemmas.Cmp.{nat_list_eq_equiv}
 use Rattle.std.proofs.lemmas.Slice.Eq.{bytes_eq-Decides}
 use Rattle.s3_terms.specs.declared.code.Code.TheVariants.{InvalidURI, AccessDenied}
 use Rattle.s3_terms.specs.Fault.{first_fault, unless_refused}
 use Rattle.s3_terms.specs.Moment.{is_stamp, stamp_seconds, stamp_date}
-use Rattle.s3_terms.specs.Settings.{Settings, Credentials, are_settings, are_keys, are_credentials, is_access_key_id, is_secret, is_region, secret_of}
+use Rattle.s3_terms.specs.Settings.{Settings, Credentials, are_settings, are_access_keys, are_credentials, is_access_key_id, is_secret, is_region, secret_of}
 use Rattle.s3_http_heads.specs.Parts.{HeadParts, is_sent, values_of}
 use Rattle.s3_http_heads.proofs.NameLemmas.{sent_is}
 use Rattle.s3_canonical.specs.Target.{is_unreadable}
@@ -20,27 +19,14 @@ use Rattle.s3_signing.specs.Signed.{Knows, IsReady, IsSigned, IsVerifiedWith, pr
 use Rattle.s3_signing.specs.Signing.{authorization_text, signed_by}
 use Rattle.s3_signing.specs.Verdict.{checked_stamp, head_verdict, is_near, is_presigned, is_word, only, proved_by, sent_authorization, sent_parts, sent_stamp, sent_word, word_lines}
 use Rattle.s3_signing.proofs.EnoughLemmas.{signs_covered, signs_enough_for}
+use Rattle.s3_signing.proofs.OrderLemmas.{bytes_eq-same}
 use Rattle.s3_signing.proofs.OtherLineLemmas.{signature_same, values_of_other}
-use Rattle.s3_signing.proofs.ReadBackLemmas.{reads_back}
-use Rattle.s3_signing.proofs.FaultLemmas.{fault_later}
+use Rattle.s3_signing.proofs.ReadBackLemmas.{reads_back, signer_parts}
+use Rattle.s3_terms.proofs.FaultLemmas.{fault_later}
 use Rattle.s3_signing.proofs.VerdictLemmas.{judged_late}
 use Rattle.s3_signing.proofs.WordLemmas.{one_word}
 
--- what the authorization of a signer says
-abbrev signer_parts : List ℕ → List ℕ → List ℕ → HeadParts → List ℕ → Parts
-signer_parts id secret region head stamp = record {
-  id = id;
-  date = stamp_date stamp;
-  region = region;
-  service = codes "s3";
-  signed = signed_by head;
-  signature = signature_of secret stamp region head (signed_by head) (sent_word head);
-}
-
 -- ---- what is known of a signer and of a stamp
-
-bytes_eq-same : (xs : List ℕ) → bytes_eq xs xs ≡ true
-bytes_eq-same = nat_list_eq_equiv.refl
 
 id_of_credentials : (c : Credentials) → are_credentials c ≡ true → is_access_key_id c.id ≡ true
 unfolding are_credentials
@@ -57,9 +43,9 @@ id_of_secret (c ∷ keys) id secret are is =
     ]
 
 keys_of_settings : (settings : Settings) → are_settings settings ≡ true → list_all are_credentials settings.keys ≡ true
-unfolding are_settings are_keys
+unfolding are_settings are_access_keys
 keys_of_settings settings are =
-    let keys : are_keys settings.keys ≡ true = (and_parts _ _ (and_parts _ _ (and_parts _ _ are).0).0).1 in
+    let keys : are_access_keys settings.keys ≡ true = (and_parts _ _ (and_parts _ _ (and_parts _ _ are).0).0).1 in
     (and_parts _ _ (and_parts _ _ keys).0).1
 
 region_of_settings : (settings : Settings) → are_settings settings ≡ true → is_region settings.region ≡ true

@@ -9,11 +9,13 @@ use Rattle.s3_terms.specs.declared.code.Code.{Code}
 use Rattle.s3_terms.specs.declared.code.Code.TheVariants.{InternalError, InvalidArgument, InvalidRequest, NotImplemented}
 use Rattle.s3_terms.specs.Fault.{first_fault, unless_refused}
 use Rattle.s3_terms.specs.Settings.{Settings}
+use Rattle.s3_terms.specs.Moment.{stamp_date}
 use Rattle.s3_http_heads.specs.Parts.{HeadParts, is_sent}
 use Rattle.s3_signing.specs.Authorization.{Parts}
 use Rattle.s3_signing.specs.Groups.{target_faults, line_faults, scope_faults, form_faults, word_faults, signature_faults, unsigned_faults, authorization_faults}
-use Rattle.s3_signing.specs.Verdict.{Proved, WasVerified, faults_before_signature, head_faults, head_verdict, is_word, proved_by, sent_parts, sent_word, stamp_of, word_lines}
-use Rattle.s3_signing.proofs.FaultLemmas.{fault_first, fault_later, is_internal, never_first, no_first, none_early, none_later, refusal, unrefused}
+use Rattle.s3_signing.specs.Signature.{signing_key}
+use Rattle.s3_signing.specs.Verdict.{Proved, WasVerified, faults_before_signature, head_faults, head_verdict, is_word, proved_by, proved_with, secret_behind, sent_parts, sent_word, stamp_of, word_lines}
+use Rattle.s3_terms.proofs.FaultLemmas.{fault_first, fault_later, is_internal, never_first, no_first, none_early, none_later, refusal, unrefused}
 
 -- a text without a fault of its form is a word
 form_of_word : (word : List ℕ) → first_fault (form_faults word) ≡ None → is_word word ≡ true
@@ -85,6 +87,17 @@ module _ (settings : Settings) (head : HeadParts) (moment : ℕ) where
       judged_late =
           ap (λ r. unless_refused r (proved_by settings head (sent_parts head) (stamp_of head))) (ap first_fault joined ∙ past_lines late_faults)
           ∙ ap₂ (λ (b : Parts) (t : List ℕ). unless_refused (first_fault (authorization_faults settings head moment b t)) (proved_by settings head b t)) sent stamped
+
+      -- a fault of theirs
+      pub refused_late : (e : Code) → first_fault (authorization_faults settings head moment a stamp) ≡ Some e → head_verdict settings head moment ≡ Err e
+      refused_late e is = judged_late ∙ ap (λ r. unless_refused r (proved_by settings head a stamp)) is
+
+      -- and none
+      pub verified_late : (key word : List ℕ) → first_fault (authorization_faults settings head moment a stamp) ≡ None → key ≡ signing_key (secret_behind settings a) (stamp_date stamp) settings.region → word ≡ sent_word head → head_verdict settings head moment ≡ Ok (proved_with a stamp settings.region key word)
+      verified_late key word none key_is word_is =
+          judged_late
+          ∙ ap (λ r. unless_refused r (proved_by settings head a stamp)) none
+          ∙ sym (ap₂ (λ k w. Ok (proved_with a stamp settings.region k w)) key_is word_is)
 
       -- also on whether there is a fault before the signature
       pub unsigned_late : first_fault (unsigned_faults settings head moment a stamp) ≡ None → first_fault (faults_before_signature settings head moment) ≡ None

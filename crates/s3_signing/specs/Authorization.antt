@@ -3,13 +3,13 @@ use Rattle.std.specs.Prelude.{ℕ, Bool, true, not, ◌&&◌, ◌==◌, nat_eq, 
 use Rattle.std.specs.List.{list_all, list_any, slice_split, starts_with}
 use Rattle.std.specs.Char.{is_ascii_uppercase}
 use Rattle.std.specs.Str.{bytes_eq}
-use Rattle.std.specs.Ordering.{nat_cmp, is_lt}
-use Rattle.std.specs.Cmp.Lexicographic.{slice_cmp}
+use Rattle.std.specs.Ordering.{is_lt}
 use Rattle.httparse.specs.Grammar.{is_token}
-use Rattle.s3_terms.specs.Names.{is_lower_hex}
+use Rattle.s3_terms.specs.Names.{byte_order, is_lower_hex}
 use Rattle.s3_canonical.specs.Request.{signed_names}
 
--- the parts of an authorization; the signed names are as they were sent, joined by semicolons
+-- the parts of an authorization: the access key's id with its scope, the signed names as they were sent,
+-- joined by semicolons, and the signature
 pub record Parts : Type 0 where
   pub id : List ℕ
   pub date : List ℕ
@@ -17,6 +17,40 @@ pub record Parts : Type 0 where
   pub service : List ℕ
   pub signed : List ℕ
   pub signature : List ℕ
+
+-- the name of a signed header: a token of RFC 9110, section 5.6.2, without capital letters
+abbrev pub is_signed_name : List ℕ → Bool
+is_signed_name name = is_token name && not (list_any is_ascii_uppercase name)
+
+-- each name comes before the next one
+abbrev pub rises : List (List ℕ) → Bool
+rises [] = true
+rises (x ∷ []) = true
+rises (x ∷ y ∷ rest) = is_lt (byte_order x y) && rises (y ∷ rest)
+
+-- the names, joined by semicolons, may stand as the signed ones
+abbrev pub are_signed_names : List ℕ → Bool
+are_signed_names signed = list_all is_signed_name (signed_names signed) && rises (signed_names signed)
+
+-- 64 lower-case hexadecimal digits
+abbrev pub is_hex_digest : List ℕ → Bool
+is_hex_digest text = length text == 64 && list_all is_lower_hex text
+
+-- the parts hold what the form asks for
+abbrev pub are_parts : Parts → Bool
+are_parts p = nat_lt 0 (length p.id) && are_signed_names p.signed && is_hex_digest p.signature
+
+-- the parts, if they do
+abbrev pub checked_parts : Parts → Option Parts
+checked_parts p = if are_parts p then Some p else None
+
+-- the parts with this credential, which was cut at its slashes: `id/date/region/service/aws4_request`
+abbrev pub with_credential : List ℕ → List ℕ → List (List ℕ) → Option Parts
+with_credential signed signature (id ∷ date ∷ region ∷ service ∷ last ∷ []) =
+    if bytes_eq last (codes "aws4_request")
+    then checked_parts (record { id = id; date = date; region = region; service = service; signed = signed; signature = signature })
+    else None
+with_credential signed signature other = None
 
 -- the text behind a beginning that it has to have
 abbrev pub behind : List ℕ → List ℕ → Option (List ℕ)
@@ -31,57 +65,27 @@ skip_spaces (b ∷ rest) = if b == 32 then skip_spaces rest else b ∷ rest
 abbrev pub scheme : List ℕ
 scheme = codes "AWS4-HMAC-SHA256 "
 
--- the name of a signed header: a token of RFC 9110, section 5.6.2, without capital letters
-abbrev pub is_signed_name : List ℕ → Bool
-is_signed_name name = is_token name && not (list_any is_ascii_uppercase name)
+-- the credential of the first part, behind the scheme and more spaces
+abbrev pub credential_at : List ℕ → Option (List ℕ)
+credential_at text = option_and_then (λ rest. behind (codes "Credential=") (skip_spaces rest)) (behind scheme text)
 
--- each name comes before the next one, byte by byte
-abbrev pub rises : List (List ℕ) → Bool
-rises [] = true
-rises (x ∷ []) = true
-rises (x ∷ y ∷ rest) = is_lt (slice_cmp nat_cmp x y) && rises (y ∷ rest)
-
-abbrev pub are_signed_names : List ℕ → Bool
-are_signed_names signed = list_all is_signed_name (signed_names signed) && rises (signed_names signed)
-
--- 64 lower-case hexadecimal digits
-abbrev pub is_hex_digest : List ℕ → Bool
-is_hex_digest text = length text == 64 && list_all is_lower_hex text
-
--- the parts hold what the form asks for
-abbrev pub are_parts : Parts → Bool
-are_parts p = nat_lt 0 (length p.id) && are_signed_names p.signed && is_hex_digest p.signature
-
-abbrev pub checked : Parts → Option Parts
-checked p = if are_parts p then Some p else None
-
--- `id/date/region/service/aws4_request`
-abbrev pub with_scope : List ℕ → List ℕ → List (List ℕ) → Option Parts
-with_scope signed signature (id ∷ date ∷ region ∷ service ∷ last ∷ []) =
-    if bytes_eq last (codes "aws4_request")
-    then checked (record { id = id; date = date; region = region; service = service; signed = signed; signature = signature })
-    else None
-with_scope signed signature other = None
-
--- what the three parts between the commas name: the id with its scope, the signed names, the signature;
--- spaces may follow the scheme and each comma
-abbrev pub scope_at : List ℕ → Option (List ℕ)
-scope_at text = option_and_then (λ rest. behind (codes "Credential=") (skip_spaces rest)) (behind scheme text)
-
+-- the signed names of the second part, behind spaces
 abbrev pub signed_at : List ℕ → Option (List ℕ)
 signed_at text = behind (codes "SignedHeaders=") (skip_spaces text)
 
+-- the signature of the third part, behind spaces
 abbrev pub signature_at : List ℕ → Option (List ℕ)
 signature_at text = behind (codes "Signature=") (skip_spaces text)
 
+-- what three parts say, and no other number of them
 abbrev pub three_parts : List (List ℕ) → Option Parts
 three_parts (first ∷ second ∷ third ∷ []) =
-    option_and_then (λ scope.
+    option_and_then (λ credential.
     option_and_then (λ signed.
-    option_and_then (λ signature. with_scope signed signature (slice_split (λ b. b == 47) scope))
-    (signature_at third)) (signed_at second)) (scope_at first)
+    option_and_then (λ signature. with_credential signed signature (slice_split (λ b. b == 47) credential))
+    (signature_at third)) (signed_at second)) (credential_at first)
 three_parts other = None
 
--- the parts that a value of the form has
+-- the parts that a value says: it is cut at its commas
 unfoldable pub authorization_of : List ℕ → Option Parts
 authorization_of text = three_parts (slice_split (λ b. b == 44) text)

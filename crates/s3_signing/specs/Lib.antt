@@ -1,4 +1,5 @@
 pub mod Authorization
+pub mod Spelling
 pub mod Signature
 pub mod Verdict
 pub mod Groups

@@ -2,8 +2,7 @@
 use Rattle.std.specs.Prelude.{ℕ, not, List, ◌∷◌, ◌++◌, filter, codes}
 use Rattle.std.specs.List.{dedup, join_with_byte}
 use Rattle.std.specs.Str.{bytes_eq}
-use Rattle.std.specs.Ordering.{nat_cmp}
-use Rattle.std.specs.Cmp.Lexicographic.{slice_cmp}
+use Rattle.s3_terms.specs.Names.{byte_order}
 use Rattle.s3_terms.specs.Moment.{stamp_date}
 use Rattle.s3_http_heads.specs.Parts.{HeadParts}
 use Rattle.s3_canonical.specs.Sorting.{sorted_by}
@@ -16,7 +15,7 @@ names_to_sign head = filter (λ name. not (bytes_eq name (codes "authorization")
 
 -- the names from the least to the greatest, each once
 abbrev pub in_order : List (List ℕ) → List (List ℕ)
-in_order names = dedup bytes_eq (sorted_by (slice_cmp nat_cmp) names)
+in_order names = dedup bytes_eq (sorted_by byte_order names)
 
 -- the names that a signer covers, joined by semicolons
 unfoldable pub signed_by : HeadParts → List ℕ

@@ -14,6 +14,7 @@ use Rattle.s3_canonical.specs.Request.{signed_names}
 use Rattle.s3_signing.specs.Authorization.{authorization_of, is_hex_digest}
 use Rattle.s3_signing.specs.Authorization as authorization
 use Rattle.s3_signing.specs.Signature.{signing_key, signature_of}
+use Rattle.s3_signing.specs.Word.{signed_chunks, unsigned_payload}
 
 -- the parameter is the signature of a presigned request
 abbrev pub is_query_signature : List ℕ × List ℕ → Bool
@@ -59,8 +60,7 @@ word_lines head = values_of (codes "x-amz-content-sha256") head
 -- the three forms of that word: the body's hash, no hash at all, or chunks that are signed
 abbrev pub is_word : List ℕ → Bool
 is_word word =
-    is_hex_digest word || bytes_eq word (codes "UNSIGNED-PAYLOAD")
-    || bytes_eq word (codes "STREAMING-AWS4-HMAC-SHA256-PAYLOAD")
+    is_hex_digest word || bytes_eq word unsigned_payload || bytes_eq word signed_chunks
 
 -- a header that has to be signed where it was sent
 abbrev pub is_amz_name : List ℕ → Bool
@@ -148,15 +148,16 @@ pub record Proved : Type 0 where
   pub seed : List ℕ
   pub word : List ℕ
 
+-- what an authorization has proved with a stamp, a region, a key and a word
+abbrev pub proved_with : authorization.Parts → List ℕ → List ℕ → List ℕ → List ℕ → Proved
+proved_with a stamp region key word =
+    record { stamp = stamp; region = region; key = key; seed = a.signature; word = word }
+
 -- what the head has proved, if nothing is wrong with it
 abbrev pub proved_by : Settings → HeadParts → authorization.Parts → List ℕ → Proved
-proved_by settings head a stamp = record {
-  stamp = stamp;
-  region = settings.region;
-  key = signing_key (secret_behind settings a) (stamp_date stamp) settings.region;
-  seed = a.signature;
-  word = sent_word head;
-}
+proved_by settings head a stamp =
+    let key = signing_key (secret_behind settings a) (stamp_date stamp) settings.region in
+    proved_with a stamp settings.region key (sent_word head)
 
 -- what the head has proved at this moment to a server of these settings, or the first fault
 unfoldable pub head_verdict : Settings → HeadParts → ℕ → Result Proved Code

@@ -1,13 +1,13 @@
 //! The value of the Authorization header, cut into its parts.
 
-ghost use Rattle.std.specs.Prelude.{◌≡◌, ◌≢◌, ◌==◌, ◌<◌, [], ◌∷◌, length, MatchOption, if◌then◌else◌};
+ghost use Rattle.std.specs.Prelude.{◌≡◌, ◌≢◌, ◌==◌, ◌<◌, ℕ, List, [], ◌∷◌, length, Some, MatchOption, if◌then◌else◌};
 ghost use Rattle.std.specs.List.{slice_split, list_all, list_any};
 ghost use Rattle.std.specs.Option.{ok_or, option_copied};
 ghost use Rattle.std.specs.Char.{is_ascii_uppercase};
-ghost use Rattle.std.specs.Ordering.{nat_cmp, is_lt};
-ghost use Rattle.std.specs.Cmp.Lexicographic.{slice_cmp};
-ghost use Rattle.s3_terms.specs.Names.{is_lower_hex};
-ghost use Rattle.s3_signing.specs.Authorization.{authorization_of, behind, skip_spaces, are_signed_names, is_signed_name, is_hex_digest, with_scope, scope_at, signed_at, signature_at, three_parts};
+ghost use Rattle.std.specs.Ordering.{is_lt};
+ghost use Rattle.s3_terms.specs.Names.{byte_order, is_lower_hex};
+ghost use Rattle.s3_signing.specs.Spelling.{Spells};
+ghost use Rattle.s3_signing.specs.Authorization.{Parts, authorization_of, behind, skip_spaces, are_signed_names, is_signed_name, is_hex_digest, with_credential, credential_at, signed_at, signature_at, three_parts};
 
 use crate::cut::cut_once;
 use httparse::is_token;
@@ -141,7 +141,7 @@ fn is_signed_name(name: &[u8]) -> bool
 
 // Whether the first text comes before the second one, byte by byte.
 fn comes_before(first: &[u8], second: &[u8]) -> bool
-    ensures { result ≡ is_lt (slice_cmp nat_cmp first.now second.now) }
+    ensures { result ≡ is_lt (byte_order first.now second.now) }
 {
     matches!(first.cmp(&second), Ordering::Less)
 }
@@ -211,10 +211,14 @@ fn cut_in_five(text: &[u8]) -> Option<(&[u8], &[u8], &[u8], &[u8], &[u8])>
 }
 
 // The parts of an authorization with this credential, if they hold what the form asks for.
-fn with_scope<'a>(signed: &'a [u8], signature: &[u8], scope: &'a [u8]) -> Option<Authorization<'a>>
-    ensures { result ≡ with_scope signed.now signature.now (slice_split (λ b. b == 47) scope.now) }
+fn with_credential<'a>(
+    signed: &'a [u8],
+    signature: &[u8],
+    credential: &'a [u8],
+) -> Option<Authorization<'a>>
+    ensures { result ≡ with_credential signed.now signature.now (slice_split (λ b. b == 47) credential.now) }
 {
-    let (id, date, region, service, last) = cut_in_five(scope)?;
+    let (id, date, region, service, last) = cut_in_five(credential)?;
     let signature = read_digest(signature)?;
     if last != b"aws4_request".as_slice() || id.is_empty() || !are_signed_names(signed) {
         return None;
@@ -230,8 +234,8 @@ fn with_scope<'a>(signed: &'a [u8], signature: &[u8], scope: &'a [u8]) -> Option
 }
 
 // The credential of the first part.
-fn scope_at(text: &[u8]) -> Option<&[u8]>
-    ensures { option_copied result ≡ scope_at text.now }
+fn credential_at(text: &[u8]) -> Option<&[u8]>
+    ensures { option_copied result ≡ credential_at text.now }
 {
     behind(b"Credential=", skip_spaces(behind(SCHEME, text)?))
 }
@@ -254,10 +258,10 @@ fn signature_at(text: &[u8]) -> Option<&[u8]>
 fn from_parts<'a>(first: &'a [u8], second: &'a [u8], third: &[u8]) -> Option<Authorization<'a>>
     ensures { result ≡ three_parts (first.now ∷ second.now ∷ third.now ∷ []) }
 {
-    let scope = scope_at(first)?;
+    let credential = credential_at(first)?;
     let signed = signed_at(second)?;
     let signature = signature_at(third)?;
-    with_scope(signed, signature, scope)
+    with_credential(signed, signature, credential)
 }
 
 // The parts of a value of the form.
@@ -268,3 +272,11 @@ fn read_parts(text: &[u8]) -> Option<Authorization<'_>>
     let (first, second, third) = cut_in_three(text)?;
     from_parts(first, second, third)
 }
+
+/// A text is read as the parts of an authorization just where it spells them: the scheme, spaces and
+/// the credential, a comma, spaces and the signed names, a comma, spaces and the signature. A law, with
+/// nothing to run.
+pub fn authorizations_are_spelled()
+    ensures read { (text : List ℕ) (p : Parts) → Spells text p → authorization_of text ≡ Some p }
+    ensures spelled { (text : List ℕ) (p : Parts) → authorization_of text ≡ Some p → Spells text p }
+{}

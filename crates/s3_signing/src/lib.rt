@@ -17,7 +17,7 @@ mod tests;
 mod verify;
 mod word;
 
-pub use authorization::Authorization;
+pub use authorization::{Authorization, authorizations_are_spelled};
 pub use key::signing_key;
 pub use region::{REGION_MAX, Region};
 pub use sign::sign_head;

@@ -8,7 +8,7 @@ ghost use Rattle.s3_hmac.specs.Hmac.{hmac};
 ghost use Rattle.s3_canonical.specs.Request.{canonical_request};
 ghost use Rattle.s3_signing.specs.Groups.{authorization_faults, cover_faults, scope_faults, signature_faults, unsigned_faults};
 ghost use Rattle.s3_signing.specs.Signature.{signing_key, string_to_sign};
-ghost use Rattle.s3_signing.specs.Verdict.{WasVerified, faults_before_signature, head_verdict, is_near, is_other_scope, is_word, secret_behind, sent_word};
+ghost use Rattle.s3_signing.specs.Verdict.{WasVerified, faults_before_signature, head_verdict, is_near, is_other_scope, is_word, proved_with, secret_behind, sent_word};
 ghost use Rattle.s3_signing.specs.Word.{word_text};
 
 use crate::authorization::Authorization;
@@ -225,6 +225,27 @@ fn judged(
     Ok((key, word))
 }
 
+// What a verified head has proved, in its own type.
+fn proved_with(
+    sent: &Authorization,
+    stamp: Stamp,
+    region: &[u8],
+    key: [u8; 32],
+    word: Word,
+) -> Verified
+    requires length { length region.now ≤ REGION_MAX }
+    requires kept { ∥ WasVerified (proved_with sent.now stamp region.now key (word_text word)) ∥₁ }
+    ensures { result ≡ proved_with sent.now stamp region.now key (word_text word) }
+{
+    Verified {
+        stamp,
+        region: Region::copy(region),
+        key,
+        seed: sent.signature(),
+        word,
+    }
+}
+
 /// Verifies a head that came at `moment` (AWS Signature Version 4; Amazon S3 API Reference,
 /// "Authenticating requests"): the target, the Authorization and `x-amz-date` lines, the scope, the
 /// key's id, the time, the payload word, the names that are signed and the signature are judged in
@@ -255,11 +276,5 @@ pub fn verify_head(
     check_target(head)?;
     let (sent, stamp) = sent_lines(head)?;
     let (key, word) = judged(alloc, config, head, moment, &sent, &stamp)?;
-    Ok(Verified {
-        stamp,
-        region: Region::copy(config.region()),
-        key,
-        seed: sent.signature(),
-        word,
-    })
+    Ok(proved_with(&sent, stamp, config.region(), key, word))
 }

@@ -7,11 +7,12 @@ use Rattle.std.specs.FinMap as map
 use Rattle.std.specs.Ordering.{eq_by_cmp}
 use Rattle.s3_segments.specs.Payload.{tag_of}
 use Rattle.s3_terms.specs.declared.code.Code.{Code}
+use Rattle.s3_terms.specs.Names.{byte_order}
 use Rattle.s3_requests.specs.declared.commands.Command.{Command}
 use Rattle.s3_requests.specs.declared.commands.Command.TheVariants as commands
 use Rattle.s3_store.specs.declared.object.Object.{Object}
 use Rattle.s3_store.specs.declared.answer.Outcome.TheVariants as outcomes
-use Rattle.s3_store.specs.Store.{State, Objects, byte_order, put_object, put_step, step}
+use Rattle.s3_store.specs.Store.{State, Objects, put_object, put_step, step}
 use Rattle.s3_store.specs.History.{Entry, IsAnswer, Legal, after, after_entry}
 use Rattle.s3_store.specs.Kept.{LeavesKey, PutsAreKept, RefusalsChangeNothing, GetsChangeNothing}
 use Rattle.s3_store.proofs.HistoryLemmas.{Legal-append}

@@ -6,10 +6,10 @@ use Rattle.s3_terms.specs.declared.code.Code.TheVariants.{NoSuchBucket}
 use Rattle.s3_requests.specs.declared.commands.Command.TheVariants as commands
 use Rattle.s3_store.specs.declared.object.Object.{Object}
 use Rattle.s3_store.specs.declared.answer.Outcome.TheVariants as outcomes
-use Rattle.s3_store.specs.Store.{State, Objects, refused, got, put_object, put_step, get_step, step}
+use Rattle.s3_store.specs.Store.{State, Objects, refused_step, got, put_object, put_step, get_step, step}
 
 module _ (s : State) (t : ℕ) (bucket key : List ℕ) where
-  pub get-no_bucket : map.get s bucket ≡ None → step s t (commands.GetObject bucket key) ≡ refused s NoSuchBucket
+  pub get-no_bucket : map.get s bucket ≡ None → step s t (commands.GetObject bucket key) ≡ refused_step s NoSuchBucket
   unfolding step
   get-no_bucket absent = ap (get_step s key) absent
 
@@ -17,7 +17,7 @@ module _ (s : State) (t : ℕ) (bucket key : List ℕ) where
   unfolding step
   get-found objects found there has = ap (get_step s key) there ∙ ap (got s) has
 
-  pub put-no_bucket : (body : List ℕ) → map.get s bucket ≡ None → step s t (commands.PutObject bucket key body) ≡ refused s NoSuchBucket
+  pub put-no_bucket : (body : List ℕ) → map.get s bucket ≡ None → step s t (commands.PutObject bucket key body) ≡ refused_step s NoSuchBucket
   unfolding step
   put-no_bucket body absent = ap (put_step s bucket key t body) absent
 

@@ -1,11 +1,9 @@
 -- The store: buckets of objects (Amazon S3 User Guide, "Amazon S3 objects overview"), and one step of
 -- it for each command (Amazon S3 API Reference, PutObject and GetObject).
 use Rattle.std.specs.Prelude.{ℕ, List, [], ◌∷◌, Option, Some, None}
-use Rattle.std.specs.declared.cmp.Ordering.{Ordering}
-use Rattle.std.specs.Ordering.{nat_cmp}
-use Rattle.std.specs.Cmp.Lexicographic.{slice_cmp}
 use Rattle.std.specs.FinMap as map
 use Rattle.s3_segments.specs.Payload.{tag_of}
+use Rattle.s3_terms.specs.Names.{byte_order}
 use Rattle.s3_terms.specs.declared.code.Code.{Code}
 use Rattle.s3_terms.specs.declared.code.Code.TheVariants.{NoSuchBucket, NoSuchKey}
 use Rattle.s3_requests.specs.declared.commands.Command.{Command}
@@ -13,10 +11,6 @@ use Rattle.s3_requests.specs.declared.commands.Command.TheVariants as commands
 use Rattle.s3_store.specs.declared.object.Object.{Object}
 use Rattle.s3_store.specs.declared.answer.Outcome.{Outcome}
 use Rattle.s3_store.specs.declared.answer.Outcome.TheVariants as outcomes
-
--- the order of names and keys: byte by byte
-abbrev pub byte_order : List ℕ → List ℕ → Ordering
-byte_order = slice_cmp nat_cmp
 
 -- the objects of a bucket, by their keys
 abbrev pub Objects : Type 0
@@ -36,8 +30,8 @@ abbrev pub Stepped : Type 0
 Stepped = State × Outcome
 
 -- a refusal leaves the store as it was
-abbrev pub refused : State → Code → Stepped
-refused s code = (s, outcomes.Refused code)
+abbrev pub refused_step : State → Code → Stepped
+refused_step s code = (s, outcomes.Refused code)
 
 -- the object that a put makes of a body at moment t
 abbrev pub put_object : ℕ → List ℕ → Object
@@ -46,18 +40,18 @@ put_object t body = record { tag = tag_of body; moment = t; body = body }
 -- PutObject, where the bucket is absent or has these objects: the new object is under the key, in the
 -- place of the one that was there
 abbrev pub put_step : State → List ℕ → List ℕ → ℕ → List ℕ → Option Objects → Stepped
-put_step s bucket key t body None = refused s NoSuchBucket
+put_step s bucket key t body None = refused_step s NoSuchBucket
 put_step s bucket key t body (Some objects) =
     (map.insert s bucket (map.insert objects key (put_object t body)), outcomes.Put (tag_of body))
 
 -- the object that was found under a key, as it was put, or NoSuchKey
 abbrev pub got : State → Option Object → Stepped
-got s None = refused s NoSuchKey
+got s None = refused_step s NoSuchKey
 got s (Some object) = (s, outcomes.Got object)
 
 -- GetObject, where the bucket is absent or has these objects
 abbrev pub get_step : State → List ℕ → Option Objects → Stepped
-get_step s key None = refused s NoSuchBucket
+get_step s key None = refused_step s NoSuchBucket
 get_step s key (Some objects) = got s (map.get objects key)
 
 -- one step: what a command at moment t leaves, and what comes of it

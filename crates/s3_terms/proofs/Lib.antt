@@ -1,5 +1,7 @@
+pub mod DigitLemmas
+pub mod FaultLemmas
+pub mod IdLemmas
 pub mod MomentLemmas
 pub mod NameLemmas
-pub mod NumberLemmas
 pub mod SettingLemmas
 pub mod StampLemmas

@@ -1,4 +1,5 @@
 pub mod Code
+pub mod Digits
 pub mod Fault
 pub mod Moment
 pub mod Names

@@ -1,15 +1,24 @@
 -- The names of buckets and keys (Amazon S3 User Guide, "Bucket naming rules" and "Naming objects"),
 -- and the ids that this server gives to versions and uploads. The prefixes and suffixes that S3
 -- reserves for itself, as `xn--` and `-s3alias`, are names like others here.
-use Rattle.std.specs.Prelude.{ℕ, zero, suc, ◌-◌, ◌/◌, ◌%◌, ◌^◌, ◌<◌, Bool, not, ◌&&◌, ◌||◌, ◌==◌, nat_lt, nat_le, if◌then◌else◌, List, [], ◌∷◌, ◌++◌, length, drop, slice_index, codes, Option, Some, None, option_map, ⊤}
+use Rattle.std.specs.Prelude.{ℕ, ◌-◌, ◌^◌, ◌<◌, Bool, not, ◌&&◌, ◌||◌, ◌==◌, nat_lt, nat_le, if◌then◌else◌, List, [], ◌∷◌, length, drop, slice_index, codes, Option, Some, None, is_none, option_map, option_and_then, ⊤}
+use Rattle.std.specs.declared.cmp.Ordering.{Ordering}
+use Rattle.std.specs.Ordering.{nat_cmp}
+use Rattle.std.specs.Cmp.Lexicographic.{slice_cmp}
 use Rattle.std.specs.List.{list_all, list_any, slice_split}
-use Rattle.std.specs.Char.{is_ascii_digit, digit_char}
+use Rattle.std.specs.Char.{is_ascii_digit}
 use Rattle.std.specs.Str.{is_utf8, bytes_eq}
 use Rattle.std.specs.Str.Parse.{digits_value}
+use Rattle.s3_terms.specs.Digits.{decimal_number, number_digits}
+use Rattle.s3_terms.specs.Fault.{first_fault}
 use Rattle.s3_terms.specs.declared.code.Code.{Code}
 use Rattle.s3_terms.specs.declared.code.Code.TheVariants.{InvalidURI, KeyTooLongError}
 use Rattle.s3_terms.specs.declared.ids.VersionId.{VersionId}
 use Rattle.s3_terms.specs.declared.ids.VersionId.TheVariants.{Null, Numbered}
+
+-- the order of texts: byte by byte, a beginning before what goes on
+abbrev pub byte_order : List ℕ → List ℕ → Ordering
+byte_order = slice_cmp nat_cmp
 
 -- a lower-case letter or a digit
 abbrev pub is_letter_or_digit : ℕ → Bool
@@ -60,30 +69,26 @@ is_bucket_name name = has_name_length name && has_name_bytes name && has_name_en
 abbrev pub key_limit : ℕ
 key_limit = 1024
 
--- a key: 1 to 1,024 bytes of UTF-8
-unfoldable pub is_key : List ℕ → Bool
-is_key key = is_utf8 key && nat_le 1 (length key) && nat_le (length key) key_limit
-
 -- why bytes are no key, the first fault in this order: they are no UTF-8, too long, or empty
 unfoldable pub key_fault : List ℕ → Option Code
 key_fault key =
-    if not (is_utf8 key) then Some InvalidURI
-    else (if nat_lt key_limit (length key) then Some KeyTooLongError
-    else (if length key == 0 then Some InvalidURI
-    else None))
+    first_fault (
+    (not (is_utf8 key), InvalidURI)
+    ∷ (nat_lt key_limit (length key), KeyTooLongError)
+    ∷ (length key == 0, InvalidURI)
+    ∷ [])
+
+-- a key: 1 to 1,024 bytes of UTF-8
+unfoldable pub is_key : List ℕ → Bool
+is_key key = is_none (key_fault key)
 
 -- a lower-case hexadecimal digit
 abbrev pub is_lower_hex : ℕ → Bool
 is_lower_hex b = is_ascii_digit b || (nat_le 97 b && nat_le b 102)
 
--- the last digits of a number in lower-case hexadecimal, as many as there are places
-unfoldable pub hex_digits : ℕ → ℕ → List ℕ
-hex_digits zero n = []
-hex_digits (suc places) n = hex_digits places (n / 16) ++ digit_char (n % 16) ∷ []
-
 -- the id that a letter and the sixteen digits of a number make
 unfoldable pub numbered_id : ℕ → ℕ → List ℕ
-numbered_id letter number = letter ∷ hex_digits 16 number
+numbered_id letter number = letter ∷ number_digits number
 
 -- a letter and then sixteen lower-case hexadecimal digits
 unfoldable pub is_numbered_id : ℕ → List ℕ → Bool
@@ -117,12 +122,10 @@ abbrev pub HasSmallNumber : VersionId → Type 0
 HasSmallNumber Null = ⊤
 HasSmallNumber (Numbered number) = number < 2 ^ 64
 
--- one to five decimal digits that spell a number from 1 to 10,000
-unfoldable pub is_part_number : List ℕ → Bool
-is_part_number text =
-    nat_le 1 (length text) && nat_le (length text) 5 && list_all is_ascii_digit text
-    && nat_le 1 (digits_value 10 text) && nat_le (digits_value 10 text) 10_000
+-- a part's number: 1 to 10,000
+abbrev pub as_part_number : ℕ → Option ℕ
+as_part_number number = if nat_le 1 number && nat_le number 10_000 then Some number else None
 
--- the part number that a text spells
+-- the part number that one to five decimal digits spell
 unfoldable pub part_number : List ℕ → Option ℕ
-part_number text = if is_part_number text then Some (digits_value 10 text) else None
+part_number text = option_and_then as_part_number (decimal_number 5 text)

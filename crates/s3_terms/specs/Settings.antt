@@ -51,8 +51,8 @@ all_different [] = true
 all_different (x ∷ xs) = not (list_any (bytes_eq x) xs) && all_different xs
 
 -- 1 to 64 access keys, whose ids are distinct
-unfoldable pub are_keys : List Credentials → Bool
-are_keys keys =
+unfoldable pub are_access_keys : List Credentials → Bool
+are_access_keys keys =
     nat_le 1 (length keys) && nat_le (length keys) 64 && list_all are_credentials keys
     && all_different (map (λ (c : Credentials). c.id) keys)
 
@@ -63,7 +63,7 @@ are_opening_buckets buckets = list_all is_bucket_name buckets && all_different b
 -- the settings that a server accepts
 unfoldable pub are_settings : Settings → Bool
 are_settings s =
-    is_region s.region && are_keys s.keys && nat_le s.body_limit greatest_body && are_opening_buckets s.buckets
+    is_region s.region && are_access_keys s.keys && nat_le s.body_limit greatest_body && are_opening_buckets s.buckets
 
 -- the secret of an id, if it is configured
 abbrev pub secret_of : List Credentials → List ℕ → Option (List ℕ)

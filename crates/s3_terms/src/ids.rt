@@ -1,10 +1,8 @@
-ghost use Rattle.std.specs.Prelude.{◌≡◌, ℕ, ◌<◌, ◌≤◌, ◌^◌, ◌++◌, ◌∷◌, Some, IfSome, IsTrue, drop, length, codes};
-ghost use Rattle.std.specs.Char.{digit_char};
+ghost use Rattle.std.specs.Prelude.{◌≡◌, ℕ, ◌<◌, ◌≤◌, ◌^◌, ◌∷◌, Some, IfSome, IsTrue, drop, length, codes};
 ghost use Rattle.std.specs.List.{list_all};
-ghost use Rattle.std.specs.Str.Parse.{AllDigits, digits_value};
-ghost use Rattle.s3_terms.specs.Names.{is_lower_hex, hex_digits, numbered_id, is_numbered_id, number_of_id, upload_id_text, upload_id, version_id_text, version_id, HasSmallNumber, part_number};
+ghost use Rattle.s3_terms.specs.Names.{is_lower_hex, numbered_id, is_numbered_id, number_of_id, upload_id_text, upload_id, version_id_text, version_id, HasSmallNumber, part_number};
 
-use crate::names::has_digits_alone;
+use crate::digits::{decimal_number, number_digits, number_from};
 use std::marker::Model;
 
 /// The greatest number of a part.
@@ -13,11 +11,8 @@ const PART_MAX: u64 = 10_000;
 /// The most decimal digits that spell a part's number.
 const PART_DIGITS: usize = 5;
 
-/// The hexadecimal digits of an id's number.
-const NUMBER_DIGITS: usize = 16;
-
-/// The letter and the digits of an id with a number.
-const ID_LEN: usize = 1 + NUMBER_DIGITS;
+/// The letter and the sixteen digits of an id with a number.
+const ID_LEN: usize = 17;
 
 /// The number of an upload's part, from 1 to 10,000.
 #[derive(Clone, Copy, Debug, PartialEq, Eq, PartialOrd, Ord)]
@@ -38,14 +33,11 @@ impl Model for PartNumber {
 impl PartNumber {
     /// Reads one to five decimal digits, leading zeros among them; `None` where the text is anything
     /// else, or the number out of range.
-    #[tactic(auto, using(crate::proofs::NumberLemmas::decimal_digits, crate::proofs::NumberLemmas::decimal_room), unfolding(crate::specs::Names::part_number, crate::specs::Names::is_part_number))]
+    #[tactic(auto, unfolding(crate::specs::Names::part_number))]
     pub fn read(text: &[u8]) -> Option<PartNumber>
         ensures { result ≡ part_number text.now }
     {
-        if text.is_empty() || text.len() > PART_DIGITS || !has_digits_alone(text) {
-            return None;
-        }
-        let number = number_from(10, text);
+        let number = decimal_number(text, PART_DIGITS)?;
         if number < 1 || number > PART_MAX {
             return None;
         }
@@ -190,7 +182,7 @@ impl IdText {
         ensures { result ≡ numbered_id letter number }
     {
         let mut bytes = [letter; ID_LEN];
-        bytes[1..].copy_from_slice(&hex(number));
+        bytes[1..].copy_from_slice(&number_digits(number));
         IdText { bytes, len: ID_LEN }
     }
 
@@ -203,7 +195,7 @@ impl IdText {
     }
 }
 
-#[tactic(auto, using(crate::proofs::NumberLemmas::hex_all_digits, crate::proofs::NumberLemmas::hex_room, crate::proofs::NumberLemmas::id_spelled), unfolding(crate::specs::Names::number_of_id))]
+#[tactic(auto, using(crate::proofs::DigitLemmas::hex_all_digits, crate::proofs::DigitLemmas::hex_room, crate::proofs::IdLemmas::id_spelled), unfolding(crate::specs::Names::number_of_id))]
 fn read_number(letter: u8, text: &[u8]) -> Option<u64>
     ensures value { result ≡ number_of_id letter text.now }
     ensures spelled { IfSome result (λ number. text.now ≡ numbered_id letter number) }
@@ -239,45 +231,6 @@ fn has_lower_hex(byte: u8) -> bool
     ensures { result ≡ is_lower_hex byte }
 {
     matches!(byte, b'0'..=b'9' | b'a'..=b'f')
-}
-
-#[tactic(auto, using(crate::proofs::NumberLemmas::digit_below, crate::proofs::NumberLemmas::number_so_far, std::proofs::lemmas::Int::Digits::digits_value_more))]
-fn number_from(radix: u32, digits: &[u8]) -> u64
-    requires lower_bound { 2 ≤ radix }
-    requires upper_bound { radix ≤ 36 }
-    requires digits { AllDigits radix digits.now }
-    requires room { digits_value radix digits.now < 2 ^ 64 }
-    ensures { result ≡ digits_value radix digits.now }
-{
-    let mut number: u64 = 0;
-    for byte in digits {
-        let digit = (*byte as char).to_digit(radix).unwrap();
-        number = number * u64::from(radix) + u64::from(digit);
-    }
-    number
-}
-
-fn hex(number: u64) -> [u8; NUMBER_DIGITS]
-    ensures { result ≡ hex_digits 16 number }
-{
-    let mut digits = [0; NUMBER_DIGITS];
-    let mut left = number;
-    for place in 0..NUMBER_DIGITS {
-        digits[NUMBER_DIGITS - 1 - place] = hex_digit((left % 16) as u8);
-        left /= 16;
-    }
-    digits
-}
-
-fn hex_digit(value: u8) -> u8
-    requires { value < 16 }
-    ensures { result ≡ digit_char value }
-{
-    if value < 10 {
-        b'0' + value
-    } else {
-        b'a' + (value - 10)
-    }
 }
 
 #[cfg(test)]

@@ -5,6 +5,7 @@ ghost use Rattle.std.specs.Str.Parse.{digits_value};
 ghost use Rattle.jiff_core.specs.Date.{epoch_day};
 ghost use Rattle.s3_terms.specs.Moment.{last_moment, is_stamp, is_stamp_form, stamp_seconds, stamp_date, stamp_year, stamp_month, stamp_day, stamp_hour, stamp_minute, stamp_second, is_day, day_number, is_time, second_of_day, is_stamp_date, stamp_day_number, is_stamp_time, stamp_second_of_day, OneStampForEachMoment};
 
+use crate::digits::has_digits_alone;
 use jiff_core::civil::{Date, Time};
 use std::marker::Model;
 
@@ -151,17 +152,10 @@ fn has_form(text: &[u8]) -> bool
     ensures { result ≡ is_stamp_form text.now }
 {
     text.len() == 16
-        && are_digits(&text[..8])
+        && has_digits_alone(&text[..8])
         && text[8] == b'T'
-        && are_digits(&text[9..15])
+        && has_digits_alone(&text[9..15])
         && text[15] == b'Z'
-}
-
-// Whether all bytes are decimal digits.
-fn are_digits(text: &[u8]) -> bool
-    ensures { result ≡ list_all is_ascii_digit text.now }
-{
-    text.iter().all(|byte| byte.is_ascii_digit())
 }
 
 // The days from 1970-01-01 to the date of a text of the right form, if there is such a day.

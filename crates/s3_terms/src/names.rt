@@ -1,16 +1,13 @@
-ghost use Rattle.std.specs.Prelude.{◌≡◌, ◌≤◌, ◌-◌, ◌==◌, ◌&&◌, false, IsUtf8, IsAscii, Some, IsTrue, IfOk, OnOk, IfSome, IfNone, IsOkUnless, IsErrOf, length, slice_index, nat_eq, refl};
-ghost use Rattle.std.specs.Char.{is_ascii_digit};
+ghost use Rattle.std.specs.Prelude.{◌≡◌, ◌≤◌, ◌-◌, ◌==◌, ◌&&◌, false, IsUtf8, IsAscii, Some, IsTrue, IfOk, OnOk, IfSome, IfNone, IsOkUnless, IsErrOf, length, slice_index};
 ghost use Rattle.std.specs.List.{list_all};
 ghost use Rattle.std.specs.Str.{is_utf8};
-ghost use Rattle.std.specs.Ordering.{nat_cmp};
-ghost use Rattle.std.specs.Cmp.{partial_equiv_from_equiv};
-ghost use Rattle.std.specs.Cmp.Lexicographic.{pointwise, slice_cmp, nat_list_eq_equiv, nat_list_cmp_total, texts_ties, texts_po};
 ghost use Rattle.s3_terms.specs.Names.{is_letter_or_digit, is_name_byte, dotted, is_number, has_empty_part, is_address_form, has_name_length, has_name_bytes, has_name_ends, has_name_parts, is_bucket_name, key_fault, is_key};
 
 use crate::code::Code;
+use crate::digits::has_digits_alone;
 use crate::memory::NoMemory;
+use crate::text::Text;
 use std::alloc::Global;
-use std::cmp::Ordering;
 use std::marker::Model;
 use std::str;
 
@@ -25,9 +22,9 @@ const KEY_MAX: usize = 1024;
 
 /// The name of a bucket (Amazon S3 User Guide, "Bucket naming rules"). A contract sees it as its
 /// bytes, and it is ordered by them.
-#[derive(Debug, Drop)]
+#[derive(Debug, Drop, PartialEq, Eq, PartialOrd, Ord)]
 pub struct BucketName {
-    name: Vec<u8>,
+    name: Text,
 }
 
 impl Model for BucketName {
@@ -36,9 +33,11 @@ impl Model for BucketName {
 
     ghost Value = { List ℕ };
 
-    ghost view = { λ b. b.name.items };
+    ghost view = { λ b. b.name };
 
-    ghost invariant = { λ b. IsTrue (is_bucket_name b.name.items) };
+    ghost invariant = { λ b. IsTrue (is_bucket_name b.name) };
+
+    ghost inverse = { λ name. record { name = name } };
 }
 
 impl BucketName {
@@ -53,7 +52,7 @@ impl BucketName {
         if !is_valid_name(name) {
             return Err(Code::InvalidBucketName);
         }
-        let name = Vec::from_slice(alloc, name)?;
+        let name = Text::of(alloc, name)?;
         Ok(BucketName { name })
     }
 
@@ -66,61 +65,23 @@ impl BucketName {
         ensures lower_bound { 3 ≤ length self.now }
         ensures upper_bound { length self.now ≤ 63 }
     {
-        self.name.as_slice()
+        self.name.as_bytes()
     }
 
     /// A copy of the name.
     pub fn copy(&self) -> Result<BucketName, NoMemory>
         ensures { IfOk result (λ copied. copied ≡ self.now) }
     {
-        let name = self.name.clone()?;
+        let name = self.name.copy()?;
         Ok(BucketName { name })
-    }
-}
-
-impl PartialEq for BucketName {
-    ghost eq = { pointwise nat_eq };
-
-    ghost laws = { partial_equiv_from_equiv nat_list_eq_equiv };
-
-    fn eq(&self, other: &BucketName) -> bool {
-        self.name == other.name
-    }
-}
-
-impl Eq for BucketName {
-    ghost laws = { nat_list_eq_equiv };
-}
-
-impl PartialOrd for BucketName {
-    ghost partial_cmp = { λ a b. Some (slice_cmp nat_cmp a b) };
-
-    ghost laws = { texts_po };
-
-    fn partial_cmp(&self, other: &BucketName) -> Option<Ordering> {
-        Some(self.cmp(other))
-    }
-}
-
-impl Ord for BucketName {
-    ghost cmp = { slice_cmp nat_cmp };
-
-    ghost total = { nat_list_cmp_total };
-
-    ghost matches_partial_cmp = { λ a b. refl };
-
-    ghost matches_eq = { texts_ties };
-
-    fn cmp(&self, other: &BucketName) -> Ordering {
-        self.name.cmp(&other.name)
     }
 }
 
 /// The key of an object (Amazon S3 User Guide, "Naming objects"): 1 to 1,024 bytes of UTF-8. A
 /// contract sees it as its bytes, and it is ordered by them.
-#[derive(Debug, Drop)]
+#[derive(Debug, Drop, PartialEq, Eq, PartialOrd, Ord)]
 pub struct Key {
-    text: Vec<u8>,
+    text: Text,
 }
 
 impl Model for Key {
@@ -129,9 +90,11 @@ impl Model for Key {
 
     ghost Value = { List ℕ };
 
-    ghost view = { λ key. key.text.items };
+    ghost view = { λ key. key.text };
 
-    ghost invariant = { λ key. IsTrue (is_key key.text.items) };
+    ghost invariant = { λ key. IsTrue (is_key key.text) };
+
+    ghost inverse = { λ text. record { text = text } };
 }
 
 impl Key {
@@ -147,12 +110,12 @@ impl Key {
         if let Some(code) = fault_of_key(key) {
             return Err(code);
         }
-        let text = Vec::from_slice(alloc, key)?;
+        let text = Text::of(alloc, key)?;
         Ok(Key { text })
     }
 
     /// The bytes of the key.
-    #[tactic(auto, using(crate::proofs::NameLemmas::texts), unfolding(crate::specs::Names::is_key))]
+    #[tactic(auto, using(crate::proofs::NameLemmas::texts), unfolding(crate::specs::Names::key_fault, crate::specs::Names::is_key))]
     pub fn as_bytes(&self) -> &[u8]
         ensures value { result.now ≡ self.now }
         ensures valid { IsTrue (is_key self.now) }
@@ -160,53 +123,15 @@ impl Key {
         ensures lower_bound { 1 ≤ length self.now }
         ensures upper_bound { length self.now ≤ 1_024 }
     {
-        self.text.as_slice()
+        self.text.as_bytes()
     }
 
     /// A copy of the key.
     pub fn copy(&self) -> Result<Key, NoMemory>
         ensures { IfOk result (λ copied. copied ≡ self.now) }
     {
-        let text = self.text.clone()?;
+        let text = self.text.copy()?;
         Ok(Key { text })
-    }
-}
-
-impl PartialEq for Key {
-    ghost eq = { pointwise nat_eq };
-
-    ghost laws = { partial_equiv_from_equiv nat_list_eq_equiv };
-
-    fn eq(&self, other: &Key) -> bool {
-        self.text == other.text
-    }
-}
-
-impl Eq for Key {
-    ghost laws = { nat_list_eq_equiv };
-}
-
-impl PartialOrd for Key {
-    ghost partial_cmp = { λ a b. Some (slice_cmp nat_cmp a b) };
-
-    ghost laws = { texts_po };
-
-    fn partial_cmp(&self, other: &Key) -> Option<Ordering> {
-        Some(self.cmp(other))
-    }
-}
-
-impl Ord for Key {
-    ghost cmp = { slice_cmp nat_cmp };
-
-    ghost total = { nat_list_cmp_total };
-
-    ghost matches_partial_cmp = { λ a b. refl };
-
-    ghost matches_eq = { texts_ties };
-
-    fn cmp(&self, other: &Key) -> Ordering {
-        self.text.cmp(&other.text)
     }
 }
 
@@ -305,21 +230,13 @@ fn has_four_parts(name: &[u8]) -> bool
 fn has_decimal_parts(name: &[u8]) -> bool
     ensures { result ≡ list_all is_number (dotted name.now) }
 {
-    name.split(|byte| *byte == b'.')
-        .all(|part| is_decimal(part))
+    name.split(|byte| *byte == b'.').all(|part| is_number(part))
 }
 
-fn is_decimal(part: &[u8]) -> bool
+fn is_number(part: &[u8]) -> bool
     ensures { result ≡ is_number part.now }
 {
     !part.is_empty() && has_digits_alone(part)
-}
-
-/// Decimal digits and nothing else.
-pub(crate) fn has_digits_alone(text: &[u8]) -> bool
-    ensures { result ≡ list_all is_ascii_digit text.now }
-{
-    text.iter().all(|byte| byte.is_ascii_digit())
 }
 
 #[cfg(test)]

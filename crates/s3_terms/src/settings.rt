@@ -2,7 +2,7 @@ ghost use Rattle.std.specs.Prelude.{◌≡◌, ◌≤◌, ◌==◌, ◌||◌, �
 ghost use Rattle.std.specs.List.{list_all, list_any};
 ghost use Rattle.std.specs.Str.{bytes_eq};
 ghost use Rattle.s3_terms.specs.Names.{is_bucket_name};
-ghost use Rattle.s3_terms.specs.Settings.{is_id_byte, is_access_key_id, is_secret, are_credentials, is_region_byte, is_region, all_different, are_keys, are_opening_buckets, are_settings, secret_of};
+ghost use Rattle.s3_terms.specs.Settings.{is_id_byte, is_access_key_id, is_secret, are_credentials, is_region_byte, is_region, all_different, are_access_keys, are_opening_buckets, are_settings, secret_of};
 
 use crate::names::{BucketName, may_end_name};
 use std::marker::Model;
@@ -240,9 +240,9 @@ fn secret_among<'a>(keys: &'a [Credential], id: &[u8]) -> Option<&'a [u8]>
     None
 }
 
-#[tactic(auto, unfolding(crate::specs::Settings::are_keys))]
+#[tactic(auto, unfolding(crate::specs::Settings::are_access_keys))]
 fn are_valid_keys(keys: &[Credential]) -> bool
-    ensures { result ≡ are_keys keys.now }
+    ensures { result ≡ are_access_keys keys.now }
 {
     if keys.is_empty() || keys.len() > KEYS_MAX {
         return false;

@@ -1,7 +1,7 @@
 use Rattle.std.proofs.Common.{◌++◌, ◌∙◌, inl, inr}
 use Rattle.std.proofs.lemmas.Result.{err_from_is_err_and}
 use Rattle.s3_signing.specs.Groups.{scope_faults, word_faults, cover_faults, signature_faults}
-use Rattle.s3_signing.proofs.FaultLemmas.{fault_first, fault_later}
+use Rattle.s3_terms.proofs.FaultLemmas.{fault_first, fault_later}
 use Rattle.s3_signing.proofs.verify.judged.Goals as goal
 
 pub returns-in_err-word : goal.returns-in_err-word

@@ -1,4 +1,4 @@
-use Rattle.s3_terms.proofs.NumberLemmas.{id_form, id_number}
+use Rattle.s3_terms.proofs.IdLemmas.{id_form, id_number}
 use Rattle.s3_terms.proofs.ids.read_number.Goals as goal
 
 pub returns-then-not-has_id_form-clause-found : goal.returns-then-not-has_id_form-clause-found

@@ -1,7 +1,7 @@
 use Rattle.std.proofs.Common.{◌≡◌, sym, ◌∙◌, codes, false, Some, None}
 use Rattle.std.specs.Str.{bytes_eq}
 use Rattle.std.specs.Cmp.Lexicographic.{same_text}
-use Rattle.s3_terms.proofs.NumberLemmas.{version_of_null, version_of_number, null_alone}
+use Rattle.s3_terms.proofs.IdLemmas.{version_of_null, version_of_number, null_alone}
 use Rattle.s3_terms.proofs.ids.VersionId.read.Goals as goal
 
 pub returns-then-eq-clause-value : goal.returns-then-eq-clause-value

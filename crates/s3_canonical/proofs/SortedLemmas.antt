@@ -1,15 +1,19 @@
 -- What sorting keeps: what all elements pass, how many they are, and each class that the order ties.
-use Rattle.std.proofs.Common.{◌≡◌, ℕ, suc, Bool, true, false, ◌&&◌, ◌||◌, List, [], ◌∷◌, map, filter, length, refl, sym, ap, ◌∙◌, ⊎_elim, cond}
+use Rattle.std.proofs.Common.{◌≡◌, ℕ, suc, Bool, true, false, not, ◌&&◌, ◌||◌, List, [], ◌∷◌, map, filter, length, refl, sym, ap, ◌∙◌, ⊎_elim, cond}
 use Rattle.std.specs.declared.cmp.Ordering.{Ordering}
 use Rattle.std.specs.Ordering.{is_gt}
 use Rattle.std.specs.List.{list_all, list_any}
 use Rattle.std.proofs.lemmas.Bool.{cases_Bool, cond-true, cond-false}
 use Rattle.s3_canonical.specs.Sorting.{insert_by, sorted_by}
 
-and_exchanged : (a b c : Bool) → (a && (b && c)) ≡ (b && (a && c))
-and_exchanged true b c = refl
-and_exchanged false true c = refl
-and_exchanged false false c = refl
+and_by_or : (a b : Bool) → (a && not b) ≡ not (not a || b)
+and_by_or true b = refl
+and_by_or false b = refl
+
+-- all pass where none fails
+pub all_by_any : {X : Type 0} (p : X → Bool) (xs : List X) → list_all p xs ≡ not (list_any (λ x. not (p x)) xs)
+all_by_any p [] = refl
+all_by_any p (x ∷ xs) = ap (λ b. p x && b) (all_by_any p xs) ∙ and_by_or (p x) (list_any (λ y. not (p y)) xs)
 
 or_exchanged : (a b c : Bool) → (a || (b || c)) ≡ (b || (a || c))
 or_exchanged true true c = refl
@@ -17,26 +21,12 @@ or_exchanged true false c = refl
 or_exchanged false b c = refl
 
 module _ {X : Type 0} (cmp : X → X → Ordering) where
-  past : (x y : X) (ys : List X) → is_gt (cmp x y) ≡ true → insert_by cmp x (y ∷ ys) ≡ y ∷ insert_by cmp x ys
+  -- an element goes past one that is below it, and stands before any other
+  pub past : (x y : X) (ys : List X) → is_gt (cmp x y) ≡ true → insert_by cmp x (y ∷ ys) ≡ y ∷ insert_by cmp x ys
   past x y ys gt = cond-true _ _ _ gt
 
-  here : (x y : X) (ys : List X) → is_gt (cmp x y) ≡ false → insert_by cmp x (y ∷ ys) ≡ x ∷ y ∷ ys
+  pub here : (x y : X) (ys : List X) → is_gt (cmp x y) ≡ false → insert_by cmp x (y ∷ ys) ≡ x ∷ y ∷ ys
   here x y ys le = cond-false _ _ _ le
-
-  list_all-insert_by : (p : X → Bool) (x : X) (ys : List X) → list_all p (insert_by cmp x ys) ≡ list_all p (x ∷ ys)
-  list_all-insert_by p x [] = refl
-  list_all-insert_by p x (y ∷ ys) =
-      ⊎_elim
-      (λ gt. ap (list_all p) (past x y ys gt) ∙ ap (λ b. p y && b) (list_all-insert_by p x ys) ∙ and_exchanged (p y) (p x) (list_all p ys))
-      (λ le. ap (list_all p) (here x y ys le))
-      (cases_Bool (is_gt (cmp x y)))
-
-  -- a test of all elements
-  pub list_all-sorted_by : (p : X → Bool) (xs : List X) → list_all p (sorted_by cmp xs) ≡ list_all p xs
-  unfolding sorted_by
-  list_all-sorted_by p [] = refl
-  list_all-sorted_by p (x ∷ xs) =
-      list_all-insert_by p x (sorted_by cmp xs) ∙ ap (λ b. p x && b) (list_all-sorted_by p xs)
 
   list_any-insert_by : (p : X → Bool) (x : X) (ys : List X) → list_any p (insert_by cmp x ys) ≡ list_any p (x ∷ ys)
   list_any-insert_by p x [] = refl
@@ -52,6 +42,11 @@ module _ {X : Type 0} (cmp : X → X → Ordering) where
   list_any-sorted_by p [] = refl
   list_any-sorted_by p (x ∷ xs) =
       list_any-insert_by p x (sorted_by cmp xs) ∙ ap (λ b. p x || b) (list_any-sorted_by p xs)
+
+  -- and of all of them
+  pub list_all-sorted_by : (p : X → Bool) (xs : List X) → list_all p (sorted_by cmp xs) ≡ list_all p xs
+  list_all-sorted_by p xs =
+      all_by_any p (sorted_by cmp xs) ∙ ap not (list_any-sorted_by (λ x. not (p x)) xs) ∙ sym (all_by_any p xs)
 
   -- a count to which an element adds by itself, and by what others there are
   pub record IsCount (count : List X → ℕ) : Type 0 where
@@ -74,19 +69,10 @@ module _ {X : Type 0} (cmp : X → X → Ordering) where
       count-insert_by count is x (sorted_by cmp xs)
       ∙ is.more x (sorted_by cmp xs) xs (λ p. list_any-sorted_by p xs) (count-sorted_by count is xs)
 
-  length-insert_by : (x : X) (ys : List X) → length (insert_by cmp x ys) ≡ suc (length ys)
-  length-insert_by x [] = refl
-  length-insert_by x (y ∷ ys) =
-      ⊎_elim
-      (λ gt. ap length (past x y ys gt) ∙ ap suc (length-insert_by x ys))
-      (λ le. ap length (here x y ys le))
-      (cases_Bool (is_gt (cmp x y)))
-
   -- how many there are
   pub length-sorted_by : (xs : List X) → length (sorted_by cmp xs) ≡ length xs
-  unfolding sorted_by
-  length-sorted_by [] = refl
-  length-sorted_by (x ∷ xs) = length-insert_by x (sorted_by cmp xs) ∙ ap suc (length-sorted_by xs)
+  length-sorted_by =
+      count-sorted_by length (record { more = λ x xs ys same_any same. ap suc same; exchange = λ x y ys. refl })
 
   -- the test passes elements only that the order ties
   abbrev pub PassesTies : (X → Bool) → Type 0
