@@ -1,90 +1,77 @@
--- Which operation a head asks for (Amazon S3 API Reference, "Actions"; addresses are path-style:
--- Amazon S3 User Guide, "Path-style requests"), and the faults of routing in their order. Operations
--- that this server does not have yet are NotImplemented, and so is every query.
-use Rattle.std.specs.Prelude.{ℕ, Bool, ◌&&◌, ◌||◌, ◌==◌, nat_lt, if◌then◌else◌, List, [], ◌∷◌, length, codes, Option, Some, None, Result, Ok, Err}
+-- Which operation a head asks for, on which bucket and which key (addresses are path-style: Amazon S3
+-- User Guide, "Path-style requests"), and the faults of routing in their order. Operations that this
+-- server does not have yet are NotImplemented, and so is every query.
+use Rattle.std.specs.Prelude.{ℕ, Bool, not, ◌&&◌, ◌==◌, nat_lt, if◌then◌else◌, List, [], ◌∷◌, length, is_none, Option, Some, Result}
 use Rattle.std.specs.List.{before_first, after_first}
-use Rattle.std.specs.Str.{bytes_eq}
+use Rattle.std.specs.Str.{is_utf8}
 use Rattle.percent_encoding.specs.Percent.{percent_decode}
-use Rattle.s3_terms.specs.Names.{is_bucket_name, key_fault}
-use Rattle.s3_terms.specs.Fault.{first_fault, unless_refused, ◌>>=◌}
+use Rattle.s3_terms.specs.Names.{is_bucket_name, key_limit}
+use Rattle.s3_terms.specs.Fault.{first_fault, unless_refused}
 use Rattle.s3_terms.specs.declared.code.Code.{Code}
-use Rattle.s3_terms.specs.declared.code.Code.TheVariants.{NotImplemented, MethodNotAllowed, InvalidBucketName}
-use Rattle.s3_http_heads.specs.Parts.{HeadParts, path_of, query_of, is_sent}
+use Rattle.s3_terms.specs.declared.code.Code.TheVariants.{NotImplemented, MethodNotAllowed, InvalidBucketName, InvalidURI, KeyTooLongError}
+use Rattle.s3_http_heads.specs.Parts.{HeadParts, path_of, query_of}
+use Rattle.s3_requests.specs.declared.operations.Operation.{Operation}
+use Rattle.s3_requests.specs.declared.operations.Operation.TheVariants as operations
 use Rattle.s3_requests.specs.declared.plans.Plan.{Plan}
 use Rattle.s3_requests.specs.declared.plans.Plan.TheVariants as plans
 use Rattle.s3_requests.specs.declared.commands.Command.{Command}
 use Rattle.s3_requests.specs.declared.commands.Command.TheVariants as commands
+use Rattle.s3_requests.specs.Operations.{method_of, service_operation, bucket_operation, key_operation, is_missing}
 
 -- the path behind its first slash
 abbrev pub address_of : HeadParts → List ℕ
-address_of parts = after_first (λ b. b == 47) (path_of parts.target)
+address_of head = after_first (λ b. b == 47) (path_of head.target)
 
-abbrev pub has_method : List ℕ → HeadParts → Bool
-has_method name parts = bytes_eq parts.method name
+-- the bucket stands before its next slash and the key behind that, with their escapes read
+abbrev pub bucket_of : HeadParts → List ℕ
+bucket_of head = percent_decode (before_first (λ b. b == 47) (address_of head))
 
--- refused are a query, and the path `/`, which is the service: its one operation, a GET, does not exist
--- here yet
-unfoldable pub address_at : HeadParts → Result (List ℕ) Code
-address_at parts =
-    let is_service = length (address_of parts) == 0 in
-    unless_refused (first_fault (
-    (nat_lt 0 (length (query_of parts.target)), NotImplemented)
-    ∷ (is_service && has_method (codes "GET") parts, NotImplemented)
-    ∷ (is_service, MethodNotAllowed)
-    ∷ [])) (address_of parts)
+abbrev pub key_of : HeadParts → List ℕ
+key_of head = percent_decode (after_first (λ b. b == 47) (address_of head))
 
--- the bucket stands before the next slash, with its escapes read
-unfoldable pub bucket_at : List ℕ → Result (List ℕ) Code
-bucket_at address =
-    let bucket = percent_decode (before_first (λ b. b == 47) address) in
-    if is_bucket_name bucket then Ok bucket else Err InvalidBucketName
+abbrev pub has_query : HeadParts → Bool
+has_query head = nat_lt 0 (length (query_of head.target))
 
--- the key is all that stands behind that slash, with its escapes read; where there is nothing, the
--- bucket is meant
-abbrev pub some_key : List ℕ → Result (Option (List ℕ)) Code
-some_key key = unless_refused (key_fault key) (Some key)
+-- the path `/` is the service
+abbrev pub is_service : HeadParts → Bool
+is_service head = length (address_of head) == 0
 
-abbrev pub checked_key : List ℕ → Result (Option (List ℕ)) Code
-checked_key key = if length key == 0 then Ok None else some_key key
+-- where the key is empty, the bucket is meant
+abbrev pub names_key : HeadParts → Bool
+names_key head = not (length (key_of head) == 0)
 
-unfoldable pub key_at : List ℕ → Result (Option (List ℕ)) Code
-key_at address = checked_key (percent_decode (after_first (λ b. b == 47) address))
+-- the operation of S3 that the head asks for, if it has one
+abbrev pub operation_of : HeadParts → Option Operation
+operation_of head =
+    let method = method_of head.method in
+    if is_service head then service_operation method
+    else (if names_key head then key_operation method head
+    else bucket_operation method)
 
--- a put that copies another object
-abbrev pub is_copy : HeadParts → Bool
-is_copy parts = has_method (codes "PUT") parts && is_sent (codes "x-amz-copy-source") parts
+-- all that can be wrong with what a head asks for, and its code, in their order
+unfoldable pub routing_faults : HeadParts → List (Bool × Code)
+routing_faults head =
+    (has_query head, NotImplemented)
+    ∷ (is_service head && is_missing (operation_of head), NotImplemented)
+    ∷ (is_service head, MethodNotAllowed)
+    ∷ (not (is_bucket_name (bucket_of head)), InvalidBucketName)
+    ∷ (not (is_utf8 (key_of head)), InvalidURI)
+    ∷ (nat_lt key_limit (length (key_of head)), KeyTooLongError)
+    ∷ (is_missing (operation_of head), NotImplemented)
+    ∷ (is_none (operation_of head), MethodNotAllowed)
+    ∷ []
 
--- the operations on a bucket that S3 has, none of which this server has yet
-abbrev pub is_bucket_operation : HeadParts → Bool
-is_bucket_operation parts =
-    has_method (codes "PUT") parts || has_method (codes "GET") parts || has_method (codes "POST") parts
-    || has_method (codes "HEAD") parts || has_method (codes "DELETE") parts
+-- the operations that this server has, with their arguments: where nothing refuses, what is no put is a get
+abbrev pub planned : Option Operation → List ℕ → List ℕ → Plan
+planned (Some operations.PutObject) bucket key = plans.PutObject bucket key
+planned other bucket key = plans.GetObject bucket key
 
-abbrev pub bucket_fault : HeadParts → Code
-bucket_fault parts = if is_bucket_operation parts then NotImplemented else MethodNotAllowed
+abbrev pub plan_of : HeadParts → Plan
+plan_of head = planned (operation_of head) (bucket_of head) (key_of head)
 
--- and some of those on a key
-abbrev pub is_other_key_operation : HeadParts → Bool
-is_other_key_operation parts = is_copy parts || has_method (codes "HEAD") parts || has_method (codes "DELETE") parts
-
-unfoldable pub operation_at : HeadParts → List ℕ → List ℕ → Result Plan Code
-operation_at parts bucket key =
-    if is_other_key_operation parts then Err NotImplemented
-    else (if has_method (codes "PUT") parts then Ok (plans.PutObject bucket key)
-    else (if has_method (codes "GET") parts then Ok (plans.GetObject bucket key)
-    else Err MethodNotAllowed))
-
-abbrev pub planned : HeadParts → List ℕ → Option (List ℕ) → Result Plan Code
-planned parts bucket None = Err (bucket_fault parts)
-planned parts bucket (Some key) = operation_at parts bucket key
-
--- a head is routed in this order: its query and its service, its bucket, its key, its method
+-- what the head asks for, or the first fault
 unfoldable pub route_of : HeadParts → Result Plan Code
-route_of parts = do
-  address ← address_at parts
-  bucket ← bucket_at address
-  key ← key_at address
-  planned parts bucket key
+route_of head = unless_refused (first_fault (routing_faults head)) (plan_of head)
 
 -- the operation with the body that came; a body that an operation has no use for is left out
 abbrev pub command_of : Plan → List ℕ → Command

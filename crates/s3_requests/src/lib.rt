@@ -2,8 +2,11 @@
 #![tactic(auto)]
 
 mod commands;
+mod operations;
 mod plans;
 mod routing;
+#[cfg(test)]
+mod tests;
 
 pub use commands::Command;
 pub use plans::Plan;
