@@ -1,14 +1,15 @@
--- What devices tell over two calls.
-use Rattle.std.proofs.Common.{◌≡◌, ℕ, List, [], ◌∷◌, ◌++◌, append_assoc, codes, Option, Some, None, ◌∙◌, sym}
-use Rattle.std.specs.Io.KnownBytes.{Appends, Keeps}
+-- How a task ends.
+use Rattle.std.proofs.Common.{◌≡◌, ℕ, List, Option, Result, Ok, Err, inr}
+use Rattle.std.specs.Prelude.{IfErr, OnErr}
+use Rattle.s3_settings.specs.declared.fault.Fault.{Fault}
+use Rattle.s3_settings.specs.declared.fault.Fault.TheVariants.{OutputFailed}
+use Rattle.s3_settings.specs.Devices.{AppendsBeginning}
+use Rattle.s3d.specs.declared.words.Task.{Task}
+use Rattle.s3d.specs.Run.{IsTaskText, IsTaskFault}
 
--- bytes that were appended stay
-pub appends_kept : (old between new : Option (List ℕ)) (bytes : List ℕ) → Appends old between bytes → Keeps between new → Appends old new bytes
-appends_kept None between new bytes a k = tt
-appends_kept (Some xs) None new bytes a k = absurd a
-appends_kept (Some xs) (Some ys) None bytes a k = absurd k
-appends_kept (Some xs) (Some ys) (Some zs) bytes a k = k ∙ a
+-- the output took a beginning of a task's text
+pub cut_short : {T : Type 0} (known : List ℕ → Option (List ℕ)) (input before after : Option (List ℕ)) (task : Task) (text : List ℕ) (r : Result T Fault) → IsTaskText known input task text → IfErr r (λ fault. fault ≡ OutputFailed) → OnErr r (AppendsBeginning before after text) → IfErr r (IsTaskFault known input before after task)
+cut_short known input before after task text (Ok x) is failed part = tt
+cut_short known input before after task text (Err fault) is failed part = inr (failed, record { text = text; is = is; gained = part })
 
--- the line of a fault, as it is printed
-pub line_said : (text : List ℕ) → codes "s3d: " ++ (text ++ 10 ∷ []) ≡ codes "s3d: " ++ text ++ 10 ∷ []
-line_said text = sym (append_assoc (codes "s3d: ") text (10 ∷ []))
+pub ruleset runs = cut_short

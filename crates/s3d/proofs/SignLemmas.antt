@@ -6,12 +6,12 @@ use Rattle.std.specs.List.{list_all}
 use Rattle.std.specs.Prelude.{IsTrue}
 use Rattle.s3_terms.specs.Moment.{is_stamp, stamp_seconds}
 use Rattle.s3_terms.specs.Settings.{Settings}
-use Rattle.s3d.specs.declared.fault.Fault.{Fault}
-use Rattle.s3d.specs.declared.fault.Fault.TheVariants.{CannotRead, BadKeysLine, BadSetting, InputFailed, OutputFailed, OutOfMemory}
-use Rattle.s3d.specs.declared.settings.Setup.{Setup}
+use Rattle.s3_settings.specs.declared.fault.Fault.{Fault}
+use Rattle.s3_settings.specs.declared.fault.Fault.TheVariants.{CannotRead, BadKeysLine, BadSetting, InputFailed, OutputFailed, OutOfMemory}
+use Rattle.s3_settings.specs.declared.settings.Setup.{Setup}
 use Rattle.s3d.specs.declared.sign.Draft.{Draft}
 use Rattle.s3d.specs.declared.words.SignOptions.{SignOptions}
-use Rattle.s3d.specs.Settings.{IsSetupOf, IsConfigured, IsConfigFault}
+use Rattle.s3_settings.specs.Settings.{IsSetupOf, IsConfigured, IsConfigFault}
 use Rattle.s3d.specs.Sign.{texts_of, has_colon, IsDraftOf, IsPrepared, IsRequestFault, IsSignFault}
 
 -- a word without a colon

@@ -3,17 +3,16 @@
 use Rattle.std.specs.Prelude.{◌≡◌, ◌⊎◌, ⊤, ℕ, Bool, true, false, IsTrue, ◌&&◌, ◌==◌, List, [], ◌∷◌, map, codes, Option, Some, None, is_some, IfSome, option_map, position}
 use Rattle.std.specs.List.{list_all, before_first, after_first}
 use Rattle.std.specs.Borrow.{Bor}
-use Rattle.std.specs.Io.KnownBytes.{Appends}
 use Rattle.s3_terms.specs.Moment.{is_stamp, stamp_seconds}
 use Rattle.s3_terms.specs.Settings.{Settings, secret_of}
 use Rattle.s3_signer.specs.Request.{HeaderLine, given_lines, is_signable, request_text}
-use Rattle.s3d.specs.declared.fault.Fault.{Fault}
-use Rattle.s3d.specs.declared.fault.Fault.TheVariants.{CannotRead, BadKeysLine, BadSetting, InputFailed, OutputFailed, OutOfMemory}
-use Rattle.s3d.specs.declared.settings.Setup.{Setup}
+use Rattle.s3_settings.specs.declared.fault.Fault.{Fault}
+use Rattle.s3_settings.specs.declared.fault.Fault.TheVariants.{CannotRead, BadKeysLine, BadSetting, InputFailed, OutputFailed, OutOfMemory}
+use Rattle.s3_settings.specs.declared.settings.Setup.{Setup}
 use Rattle.s3d.specs.declared.sign.Draft.{Draft}
 use Rattle.s3d.specs.declared.words.SignOptions.{SignOptions}
-use Rattle.s3d.specs.Fault.{IsReadFault}
-use Rattle.s3d.specs.Settings.{are_options, IsSetupOf, IsConfigured, HasConfigFault}
+use Rattle.s3_settings.specs.Fault.{IsReadFault}
+use Rattle.s3_settings.specs.Settings.{are_options, IsSetupOf, IsConfigured, HasConfigFault}
 
 -- the texts behind references
 abbrev pub texts_of : List (Bor (List ℕ)) → List (List ℕ)
@@ -104,10 +103,6 @@ pub record IsTextOf (known : List ℕ → Option (List ℕ)) (o : SignOptions) (
   pub prepared : IsPrepared known o draft settings stamp
   pub request : IsRequestOf known settings draft stamp text
 
--- a signing is done: the output gained that text
-abbrev pub IsSigned : (List ℕ → Option (List ℕ)) → Option (List ℕ) → Option (List ℕ) → SignOptions → Type 0
-IsSigned known before after o = (text : List ℕ) × IsTextOf known o text × Appends before after text
-
 -- the options are right, and there are no settings for this reason
 abbrev pub HasDraftAndConfigFault : (List ℕ → Option (List ℕ)) → SignOptions → Fault → Type 0
 HasDraftAndConfigFault known o fault = (draft : Draft) × IsDraftOf o draft × HasConfigFault known o.common fault
@@ -118,11 +113,7 @@ HasRequestFault known o fault =
     (draft : Draft) × (settings : Settings) × (stamp : List ℕ)
     × IsPrepared known o draft settings stamp × IsRequestFault known settings draft stamp fault
 
--- there is a request
-abbrev pub HasRequest : (List ℕ → Option (List ℕ)) → SignOptions → Type 0
-HasRequest known o = (text : List ℕ) × IsTextOf known o text
-
--- why a signing fails, each fault only where none that comes before it is there
+-- why a signing has no such text, each fault only where none that comes before it is there
 abbrev pub IsSignFault : (List ℕ → Option (List ℕ)) → SignOptions → Fault → Type 0
 IsSignFault known o BadSetting =
     ((are_options o.common && are_sign_options o) ≡ false)
@@ -131,5 +122,5 @@ IsSignFault known o (CannotRead path) =
     HasDraftAndConfigFault known o (CannotRead path) ⊎ HasRequestFault known o (CannotRead path)
 IsSignFault known o (BadKeysLine number) = HasDraftAndConfigFault known o (BadKeysLine number)
 IsSignFault known o InputFailed = ⊥
-IsSignFault known o OutputFailed = HasRequest known o
+IsSignFault known o OutputFailed = ⊥
 IsSignFault known o OutOfMemory = ⊤

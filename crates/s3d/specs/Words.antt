@@ -6,7 +6,7 @@ use Rattle.clap.specs.declared.builder.action.ArgAction.TheVariants.{Append}
 use Rattle.clap.specs.declared.builder.arg.Arg.{Arg}
 use Rattle.clap.specs.declared.builder.texts.Texts.TheVariants.{One}
 use Rattle.std.specs.Borrow.{Bor}
-use Rattle.s3d.specs.declared.words.Options.{Options}
+use Rattle.s3_settings.specs.declared.options.Options.{Options}
 use Rattle.s3d.specs.declared.words.SignOptions.{SignOptions}
 use Rattle.s3d.specs.declared.words.Task.{Task}
 use Rattle.s3d.specs.declared.words.Task.TheVariants.{Replay, Sign}

@@ -3,19 +3,14 @@
 //! the work over any devices.
 #![tactic(auto)]
 
-mod devices;
-mod fault;
-mod files;
-mod keys;
 mod run;
-mod settings;
 mod sign;
 #[cfg(test)]
 mod tests;
 mod words;
 
-use files::Files;
 use run::run_words;
+use s3_settings::Files;
 use std::alloc::Global;
 use std::process::ExitCode;
 use std::{env, fs, io};

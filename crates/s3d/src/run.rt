@@ -1,19 +1,16 @@
-ghost use Rattle.std.specs.Prelude.{◌≡◌, ◌≢◌, ◌≤◌, OnOk, IfErr, IsTrue, map, true};
-ghost use Rattle.std.specs.Io.KnownBytes.{Appends};
-ghost use Rattle.s3d.specs.Fault.{line_of};
-ghost use Rattle.s3d.specs.Run.{IsAnswered, IsReplayFault, IsDone, IsTaskDone, is_before_input, is_signing, HasFailed, IsTaskFault};
+ghost use Rattle.std.specs.Prelude.{◌≡◌, ◌≢◌, ◌≤◌, IfOk, OnOk, IfErr, IsTrue, map, true};
+ghost use Rattle.s3_settings.specs.Devices.{AppendsBeginning};
+ghost use Rattle.s3_settings.specs.Fault.{line_of};
+ghost use Rattle.s3d.specs.Run.{IsReplayed, IsReplayFault, IsDone, IsTaskText, IsTextFault, IsTaskDone, IsTaskFault, is_before_input, is_signing, IsRunFault, HasFailed};
 ghost use Rattle.s3d.specs.Words.{AreRightWords, AreSignWords};
 
-use crate::devices::{read_input, write_output};
-use crate::fault::Fault;
-use crate::files::Files;
-use crate::settings::{Setup, configure};
-use crate::sign::sign;
-use crate::words::{Options, Task, read_words};
+use crate::sign::signed_text;
+use crate::words::{Task, read_words};
 use s3_session::replay_one;
+use s3_settings::{Fault, Files, Options, Setup, configure, read_input, write_output};
 use std::alloc::Global;
 use std::convert::AsStr;
-use std::io::{self, Read, Write};
+use std::io::{Read, Write};
 
 /// The status of a run that did its work.
 const DONE: u8 = 0;
@@ -42,7 +39,7 @@ pub fn run_words<S: AsStr, F: Files, R: Read, W: Write, E: Write>(
     ensures usage { result ≡ 2 → ¬ AreRightWords (map S.text words.now) }
     ensures untouched { result ≡ 2 → (input.new ≡ input.old) × (output.new ≡ output.old) }
     ensures input { AreSignWords (map S.text words.now) → input.new ≡ input.old }
-    ensures failed { result ≡ 1 → HasFailed (map S.text words.now) (F.known files.now) (input.new ≡ input.old) (output.new ≡ output.old) }
+    ensures failed { result ≡ 1 → HasFailed (IsRunFault (map S.text words.now) (F.known files.now) (R.remaining input.old) (W.contents output.old) (W.contents output.new)) (E.contents errors.old) (E.contents errors.new) (input.new ≡ input.old) (output.new ≡ output.old) }
 {
     match read_words(alloc, words) {
         Ok(task) => match work(alloc, &task, files, input, output) {
@@ -61,21 +58,15 @@ pub fn run_words<S: AsStr, F: Files, R: Read, W: Write, E: Write>(
 
 /// Tells a fault and answers its status; where it cannot be told, the status says enough.
 fn failed<E: Write>(errors: &mut E, fault: Fault<'_>) -> u8
-    ensures { result ≡ FAILED }
+    ensures status { result ≡ FAILED }
+    ensures told { AppendsBeginning (E.contents errors.old) (E.contents errors.new) (line_of fault.entry) }
 {
-    let _ = tell(errors, fault);
+    let _ = fault.tell(errors);
     FAILED
 }
 
-/// Writes the line of a fault.
-#[tactic(auto, using(crate::proofs::RunLemmas::line_said))]
-fn tell<E: Write>(errors: &mut E, fault: Fault<'_>) -> io::Result<()>
-    ensures { OnOk result (Appends (E.contents errors.old) (E.contents errors.new) (line_of fault.entry)) }
-{
-    writeln!(errors, "s3d: {fault}")
-}
-
 /// Does what the words ask for.
+#[tactic(auto, using(crate::proofs::RunLemmas::runs))]
 fn work<'a, F: Files, R: Read, W: Write>(
     alloc: Global,
     task: &Task<'a>,
@@ -84,34 +75,48 @@ fn work<'a, F: Files, R: Read, W: Write>(
     output: &mut W,
 ) -> Result<(), Fault<'a>>
     ensures done { OnOk result (IsTaskDone (F.known files.now) (R.remaining input.old) (W.contents output.old) (W.contents output.new) task.now) }
-    ensures refused { IfErr result (IsTaskFault (F.known files.now) task.now) }
+    ensures refused { IfErr result (IsTaskFault (F.known files.now) (R.remaining input.old) (W.contents output.old) (W.contents output.new) task.now) }
     ensures unread { IfErr result (λ fault. IsTrue (is_before_input fault) → input.new ≡ input.old) }
     ensures unwritten { IfErr result (λ fault. fault ≢ Fault.OutputFailed → output.new ≡ output.old) }
     ensures input { is_signing task.now ≡ true → input.new ≡ input.old }
 {
+    let text = task_text(alloc, task, files, input)?;
+    write_output(output, text.as_slice())
+}
+
+/// What the words ask to write.
+fn task_text<'a, F: Files, R: Read>(
+    alloc: Global,
+    task: &Task<'a>,
+    files: &F,
+    input: &mut R,
+) -> Result<Vec<u8>, Fault<'a>>
+    ensures value { IfOk result (λ text. IsTaskText (F.known files.now) (R.remaining input.old) task.now text.items) }
+    ensures refused { IfErr result (IsTextFault (F.known files.now) task.now) }
+    ensures unread { IfErr result (λ fault. IsTrue (is_before_input fault) → input.new ≡ input.old) }
+    ensures input { is_signing task.now ≡ true → input.new ≡ input.old }
+{
     match task {
-        Task::Replay(options) => replay(alloc, options, files, input, output),
-        Task::Sign(options) => sign(alloc, options, files, output),
+        Task::Replay(options) => replay(alloc, options, files, input),
+        Task::Sign(options) => signed_text(alloc, options, files),
     }
 }
 
-/// Answers the one connection whose bytes are `input`, and writes what it is answered.
-fn replay<'a, F: Files, R: Read, W: Write>(
+/// What the one connection is answered whose bytes are `input`.
+fn replay<'a, F: Files, R: Read>(
     alloc: Global,
     options: &Options<'a>,
     files: &F,
     input: &mut R,
-    output: &mut W,
-) -> Result<(), Fault<'a>>
-    ensures done { OnOk result (IsAnswered (F.known files.now) (R.remaining input.old) (W.contents output.old) (W.contents output.new) options.now) }
+) -> Result<Vec<u8>, Fault<'a>>
+    ensures value { IfOk result (λ text. IsReplayed (F.known files.now) (R.remaining input.old) options.now text.items) }
     ensures refused { IfErr result (IsReplayFault (F.known files.now) options.now) }
     ensures unread { IfErr result (λ fault. IsTrue (is_before_input fault) → input.new ≡ input.old) }
-    ensures unwritten { IfErr result (λ fault. fault ≢ Fault.OutputFailed → output.new ≡ output.old) }
 {
     let setup = Setup::read(alloc, options)?;
     let moment = setup.moment;
     let config = configure(alloc, setup, files)?;
     let bytes = read_input(alloc, input)?;
     let answers = replay_one(alloc, &config, bytes.as_slice(), moment)?;
-    write_output(output, answers.as_slice())
+    Ok(answers)
 }

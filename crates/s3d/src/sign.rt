@@ -1,19 +1,14 @@
-ghost use Rattle.std.specs.Prelude.{◌≡◌, ◌≢◌, IfOk, OnOk, IfErr, MatchOption, false, true};
+ghost use Rattle.std.specs.Prelude.{◌≡◌, IfOk, OnOk, IfErr, MatchOption, position, false, true};
 ghost use Rattle.std.specs.List.{list_all};
 ghost use Rattle.s3_signer.specs.Request.{given_lines};
-ghost use Rattle.s3d.specs.Fault.{MemoryOr};
-ghost use Rattle.s3d.specs.Sign.{texts_of, has_colon, line_of_word, header_lines, are_sign_options, IsDraftOf, IsBodyOf, IsBodyFault, IsRequestOf, IsRequestFault, IsTextOf, IsSigned, IsSignFault};
+ghost use Rattle.s3_settings.specs.Fault.{MemoryOr};
+ghost use Rattle.s3d.specs.Sign.{texts_of, is_colon, has_colon, line_of_word, header_lines, are_sign_options, IsDraftOf, IsBodyOf, IsBodyFault, IsRequestOf, IsRequestFault, IsTextOf, IsSignFault};
 
-use crate::devices::{read_file, write_output};
-use crate::fault::Fault;
-use crate::files::Files;
-use crate::keys::first_place;
-use crate::settings::{Setup, configure};
 use crate::words::SignOptions;
+use s3_settings::{Fault, Files, Setup, configure, read_file};
 use s3_signer::{is_signable, signed_request};
 use s3_terms::{Config, Stamp};
 use std::alloc::Global;
-use std::io::Write;
 
 /// A request that is to be signed.
 #[derive(Drop)]
@@ -79,28 +74,20 @@ fn name_and_value(word: &str) -> Option<(&[u8], &[u8])>
     ensures { MatchOption result (has_colon word.now ≡ false) (λ line. (has_colon word.now ≡ true) × ((line.0.now, line.1.now) ≡ line_of_word word.now)) }
 {
     let bytes = word.as_bytes();
-    let at = first_place(bytes, b':')?;
+    let at = first_colon(bytes)?;
     Some((&bytes[..at], &bytes[at + 1..]))
 }
 
-/// Writes the signed request that the options describe.
-pub fn sign<'a, F: Files, W: Write>(
-    alloc: Global,
-    options: &SignOptions<'a>,
-    files: &F,
-    output: &mut W,
-) -> Result<(), Fault<'a>>
-    ensures done { OnOk result (IsSigned (F.known files.now) (W.contents output.old) (W.contents output.new) options.now) }
-    ensures refused { IfErr result (IsSignFault (F.known files.now) options.now) }
-    ensures unwritten { IfErr result (λ fault. fault ≢ Fault.OutputFailed → output.new ≡ output.old) }
+/// The place of the first `:`.
+fn first_colon(text: &[u8]) -> Option<usize>
+    ensures { result ≡ position is_colon text.now }
 {
-    let text = signed_text(alloc, options, files)?;
-    write_output(output, text.as_slice())
+    text.iter().position(|byte| *byte == b':')
 }
 
 /// The signed request that the options describe.
 #[tactic(auto, using(crate::proofs::SignLemmas::signing))]
-fn signed_text<'a, F: Files>(
+pub fn signed_text<'a, F: Files>(
     alloc: Global,
     options: &SignOptions<'a>,
     files: &F,

@@ -5,6 +5,7 @@ ghost use Rattle.s3d.specs.Words.{option_rule, required_rule, default_rule, many
 
 use clap::error::ErrorKind;
 use clap::{Arg, ArgAction, ArgMatches, Command, Error};
+use s3_settings::Options;
 use std::alloc::{AllocError, Global};
 use std::convert::AsStr;
 
@@ -26,23 +27,6 @@ pub enum Task<'a> {
     Sign(SignOptions<'a>),
 }
 
-/// The options that each subcommand has, each as it was written.
-#[derive(Clone, Copy, Debug)]
-pub struct Options<'a> {
-    /// The path of the keys file.
-    pub keys: Option<&'a str>,
-    /// The region that signatures name.
-    pub region: &'a str,
-    /// The least size of a part that is not the last one, in bytes.
-    pub min_part: &'a str,
-    /// The greatest size of a body, in bytes.
-    pub body_limit: &'a str,
-    /// The name of the bucket that is there from the start.
-    pub bucket: Option<&'a str>,
-    /// The moment of every message, in seconds since 1970.
-    pub moment: Option<&'a str>,
-}
-
 /// The options of `s3d sign`, each as it was written.
 #[derive(Debug, Drop)]
 pub struct SignOptions<'a> {
@@ -62,19 +46,18 @@ pub struct SignOptions<'a> {
     pub headers: Vec<&'a str>,
 }
 
-impl<'a> Options<'a> {
-    #[tactic(auto, using(crate::proofs::WordsLemmas::rows))]
-    fn of_matches(matches: &ArgMatches<'a>) -> Options<'a>
-        ensures { HasOptions (rows_of (found_of matches.now)) result }
-    {
-        Options {
-            keys: matches.get_str("keys"),
-            region: matches.get_str("region").unwrap_or(REGION),
-            min_part: matches.get_str("min-part").unwrap_or(MIN_PART),
-            body_limit: matches.get_str("body-limit").unwrap_or(BODY_LIMIT),
-            bucket: matches.get_str("bucket"),
-            moment: matches.get_str("moment"),
-        }
+/// The options that each subcommand has.
+#[tactic(auto, using(crate::proofs::WordsLemmas::rows))]
+fn common_options<'a>(matches: &ArgMatches<'a>) -> Options<'a>
+    ensures { HasOptions (rows_of (found_of matches.now)) result }
+{
+    Options {
+        keys: matches.get_str("keys"),
+        region: matches.get_str("region").unwrap_or(REGION),
+        min_part: matches.get_str("min-part").unwrap_or(MIN_PART),
+        body_limit: matches.get_str("body-limit").unwrap_or(BODY_LIMIT),
+        bucket: matches.get_str("bucket"),
+        moment: matches.get_str("moment"),
     }
 }
 
@@ -85,7 +68,7 @@ impl<'a> SignOptions<'a> {
     {
         let headers = all_values(alloc, matches, "header")?;
         Ok(SignOptions {
-            common: Options::of_matches(matches),
+            common: common_options(matches),
             id: matches.get_str("id"),
             method: matches.get_str("method"),
             target: matches.get_str("target"),
@@ -124,7 +107,7 @@ pub fn read_words<'a, S: AsStr>(alloc: Global, words: &'a [S]) -> Result<Task<'a
         Err(error) => return Err(error),
     };
     if let Some(options) = matches.subcommand_matches("replay") {
-        return Ok(Task::Replay(Options::of_matches(options)));
+        return Ok(Task::Replay(common_options(options)));
     }
     match matches.subcommand_matches("sign") {
         Some(options) => Ok(Task::Sign(SignOptions::of_matches(alloc, options)?)),
@@ -147,7 +130,7 @@ fn command<'a>(alloc: Global) -> Result<Command<'a>, AllocError>
     ensures app { IfOk result (λ command. app_of command ≡ s3d_app) }
 {
     Command::new(alloc, "s3d")
-        .about("A server of the Amazon S3 REST API with signed chunked uploads")
+        .about("Answers and signs requests of the Amazon S3 REST API")
         .subcommand_required(true)
         .arg_required_else_help(true)
         .subcommand(replay_command(alloc)?)?

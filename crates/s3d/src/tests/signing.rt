@@ -1,6 +1,7 @@
-use super::{Broken, FILES, GOT_REPLY, PUT_REPLY, Shelf, replayed, told};
-use crate::run::run_words;
+use super::messages::{PUT_REPLY, assert_replayed, got};
+use super::{Broken, assert_fails, ran};
 use std::alloc::Global;
+use std::str;
 use std::test::Fail;
 
 // Whose key signs, and when.
@@ -13,21 +14,19 @@ const SIGNER: [&str; 6] = [
     "1369353600",
 ];
 
-// The status of a signing, whose input cannot be read, and what it writes.
-fn signed(alloc: Global, request: &[&str]) -> Result<(u8, Vec<u8>), Fail> {
+// The words of a signing.
+fn signing<'a>(alloc: Global, request: &[&'a str]) -> Result<Vec<&'a str>, Fail> {
     let mut words = vec![in alloc; "s3d", "sign"]?;
     words.extend_from_slice(SIGNER.as_slice())?;
     words.extend_from_slice(request)?;
+    Ok(words)
+}
+
+// The status of a signing, whose input cannot be read, and what it writes.
+fn signed(alloc: Global, request: &[&str]) -> Result<(u8, Vec<u8>), Fail> {
+    let words = signing(alloc, request)?;
     let mut output: Vec<u8> = Vec::new(alloc);
-    let mut errors: Vec<u8> = Vec::new(alloc);
-    let status = run_words(
-        alloc,
-        words.as_slice(),
-        &Shelf(&FILES),
-        &mut Broken,
-        &mut output,
-        &mut errors,
-    );
+    let (status, _errors) = ran(alloc, words.as_slice(), &mut Broken, &mut output);
     Ok((status, output))
 }
 
@@ -97,12 +96,19 @@ fn signed_requests_are_answered(rt: HostRuntime) -> Result<(), Fail> {
     assert_eq!(rt; put.as_slice(), PUT_TEXT);
     let (status, get) = signed(rt.alloc(), GET.as_slice())?;
     assert_eq!(rt; status, 0);
-    let (status, output) = replayed(rt.alloc(), &[put.as_slice(), get.as_slice()]);
-    assert_eq!(rt; status, 0);
-    let mut expected = PUT_REPLY.to_vec(rt.alloc())?;
-    expected.extend_from_slice(GOT_REPLY)?;
-    assert_eq!(rt; output.as_slice(), expected.as_slice());
-    Ok(())
+    let (put, get) = (
+        str::from_utf8(put.as_slice())?,
+        str::from_utf8(get.as_slice())?,
+    );
+    let second = got(rt.alloc(), 1)?;
+    let replies = [PUT_REPLY, second.as_str()];
+    assert_replayed(
+        &rt,
+        rt.alloc(),
+        "what was signed",
+        &[put, get],
+        replies.as_slice(),
+    )
 }
 
 // Where two things are wrong the first in order is told.
@@ -196,29 +202,15 @@ fn signing_faults(rt: HostRuntime) -> Result<(), Fail> {
     ];
     for (line, words) in faults {
         let words: Vec<&str> = words.split(' ').collect(rt.alloc())?;
-        let (status, text) = told(rt.alloc(), words.as_slice());
-        assert_eq!(rt; status, 1, "at {words:?}");
-        let wanted = format!(in rt.alloc(); "s3d: {line}\n")?;
-        assert_eq!(rt; text.as_slice(), wanted.as_bytes(), "at {words:?}");
+        assert_fails(&rt, rt.alloc(), words.as_slice(), line)?;
     }
     Ok(())
 }
 
 #[test]
 fn failing_output(rt: HostRuntime) -> Result<(), Fail> {
-    let alloc = rt.alloc();
-    let mut words = vec![in alloc; "s3d", "sign"]?;
-    words.extend_from_slice(SIGNER.as_slice())?;
-    words.extend_from_slice(GET.as_slice())?;
-    let mut errors: Vec<u8> = Vec::new(alloc);
-    let status = run_words(
-        alloc,
-        words.as_slice(),
-        &Shelf(&FILES),
-        &mut Broken,
-        &mut Broken,
-        &mut errors,
-    );
+    let words = signing(rt.alloc(), GET.as_slice())?;
+    let (status, errors) = ran(rt.alloc(), words.as_slice(), &mut Broken, &mut Broken);
     assert_eq!(rt; status, 1);
     assert_eq!(rt; errors.as_slice(), b"s3d: output failed\n".as_slice());
     Ok(())

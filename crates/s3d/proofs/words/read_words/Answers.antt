@@ -11,8 +11,8 @@ returns-in-Err-clause-refused g c =
 
 pub returns-in-Some-clause-value : goal.returns-in-Some-clause-value
 returns-in-Some-clause-value g c =
-    read_from _ _ c.in-Ok.matches (codes "replay") (λ rows. HasOptions rows c.of_matches.result) (rows_of (found_of c.in-Some.options.now)) c.in_ok-command.ensures.app
-    c.in-Ok.ensures.ok.2 c.in-Ok.ensures.kinds (c.in-Some.ensures.found.0 refl) c.in-Some.ensures.rows c.of_matches.ensures
+    read_from _ _ c.in-Ok.matches (codes "replay") (λ rows. HasOptions rows c.common_options.result) (rows_of (found_of c.in-Some.options.now)) c.in_ok-command.ensures.app
+    c.in-Ok.ensures.ok.2 c.in-Ok.ensures.kinds (c.in-Some.ensures.found.0 refl) c.in-Some.ensures.rows c.common_options.ensures
 
 pub returns-in-Some-subcommand_matches-clause-value : goal.returns-in-Some-subcommand_matches-clause-value
 returns-in-Some-subcommand_matches-clause-value g c =

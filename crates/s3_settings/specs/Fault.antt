@@ -1,8 +1,8 @@
 -- What the program says when it ends with status 1: one line on the standard error.
 use Rattle.std.specs.Prelude.{◌≡◌, ◌⊎◌, ⊤, ℕ, List, [], ◌∷◌, ◌++◌, codes}
 use Rattle.std.specs.Fmt.{decimal}
-use Rattle.s3d.specs.declared.fault.Fault.{Fault}
-use Rattle.s3d.specs.declared.fault.Fault.TheVariants.{CannotRead, BadKeysLine, BadSetting, InputFailed, OutputFailed, OutOfMemory}
+use Rattle.s3_settings.specs.declared.fault.Fault.{Fault}
+use Rattle.s3_settings.specs.declared.fault.Fault.TheVariants.{CannotRead, BadKeysLine, BadSetting, InputFailed, OutputFailed, OutOfMemory}
 
 -- the text of a fault
 abbrev pub text_of : Fault → List ℕ

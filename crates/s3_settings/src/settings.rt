@@ -1,16 +1,14 @@
 ghost use Rattle.std.specs.Prelude.{◌≡◌, true, false, IfOk, IfErr, OnOk, IsTrue, option_map, option_to_list};
-ghost use Rattle.std.specs.List.{list_all};
-ghost use Rattle.std.specs.Char.{is_ascii_digit};
 ghost use Rattle.s3_terms.specs.Settings.{are_settings, is_region, is_region_byte};
-ghost use Rattle.s3d.specs.Fault.{MemoryOr};
-ghost use Rattle.s3d.specs.Settings.{is_number, number_of, option_moment, is_bucket_option, are_options, IsSetupOf, settings_of, IsConfigured, IsConfigFault};
+ghost use Rattle.s3_settings.specs.Fault.{MemoryOr};
+ghost use Rattle.s3_settings.specs.Settings.{option_number, option_moment, is_bucket_option, are_options, IsSetupOf, settings_of, IsConfigured, IsConfigFault};
 
 use crate::devices::read_file;
 use crate::fault::Fault;
 use crate::files::Files;
 use crate::keys::read_keys;
-use crate::words::Options;
-use s3_terms::{BucketName, Code, Config, Credential, Moment};
+use crate::options::Options;
+use s3_terms::{BucketName, Code, Config, Credential, Moment, decimal_number};
 use std::alloc::{AllocError, Global};
 
 /// The most digits of a number.
@@ -96,27 +94,10 @@ fn in_list(alloc: Global, name: Option<BucketName>) -> Result<Vec<BucketName>, A
 }
 
 /// The number that an option says in 1 to 12 decimal digits.
-#[tactic(auto, using(crate::proofs::NumberLemmas::number_read), unfolding(crate::specs::Settings::number_of))]
 fn number(text: &str) -> Option<u64>
-    ensures { result ≡ number_of text.now }
+    ensures { result ≡ option_number text.now }
 {
-    if !is_number(text.as_bytes()) {
-        return None;
-    }
-    text.parse().ok()
-}
-
-#[tactic(auto, unfolding(crate::specs::Settings::is_number))]
-fn is_number(text: &[u8]) -> bool
-    ensures { result ≡ is_number text.now }
-{
-    !text.is_empty() && text.len() <= DIGITS_MAX && has_digits_alone(text)
-}
-
-fn has_digits_alone(text: &[u8]) -> bool
-    ensures { result ≡ list_all is_ascii_digit text.now }
-{
-    text.iter().all(|byte| byte.is_ascii_digit())
+    decimal_number(text.as_bytes(), DIGITS_MAX)
 }
 
 /// The moment that an option says.

@@ -1,25 +1,28 @@
-ghost use Rattle.std.specs.Prelude.{◌≡◌, ◌<◌, ◌==◌, ◌∷◌, [], length, map, position, Ok, IfOk, IfErr, IfSome, MatchOption};
-ghost use Rattle.s3d.specs.Keys.{lines_of, key_of_line, has_id, new_key, credentials_of, line_of_key, IsKeysFault};
+ghost use Rattle.std.specs.Prelude.{◌≡◌, ◌+◌, ◌<◌, ◌==◌, ◌∷◌, [], length, map, position, Some, None, IfOk, IfErr, IfSome, MatchOption};
+ghost use Rattle.s3_settings.specs.Keys.{lines_of, key_of_line, has_id, new_key, line_of_key, SayKeys, IsKeysFault};
+ghost use Rattle.s3_settings.specs.Fault.{MemoryOr};
+ghost use Rattle.s3_settings.specs.declared.fault.Fault.TheVariants.{BadKeysLine};
 
 use crate::fault::Fault;
 use s3_terms::Credential;
 use std::alloc::{AllocError, Global};
 
-/// The credentials that a keys file says, in its order, or its first bad line. A line is an id, one
-/// space, and as the secret all bytes up to LF, which the last line may lack. Compares each id with
-/// those before it.
-#[tactic(auto, using(crate::proofs::KeysLemmas::keys), unfolding(crate::specs::Keys::credentials_of))]
+/// The credentials that a keys file of this text says, in its order. A line is an id, one space, and
+/// as the secret all bytes up to LF, which the last line may lack; no id stands on two lines.
+/// `BadKeysLine` has the number of the first line, from 1, that breaks one of these rules. Compares
+/// each id with those before it.
+#[tactic(auto, using(crate::proofs::KeysLemmas::keys))]
 pub fn read_keys<'a>(alloc: Global, text: &[u8]) -> Result<Vec<Credential>, Fault<'a>>
-    ensures value { IfOk result (λ keys. credentials_of text.now ≡ Ok keys.items) }
+    ensures value { IfOk result (λ keys. SayKeys (lines_of text.now) keys.items) }
     ensures spelled { IfOk result (λ keys. lines_of text.now ≡ map line_of_key keys.items) }
-    ensures refused { IfErr result (IsKeysFault (credentials_of text.now)) }
+    ensures refused { IfErr result (IsKeysFault text.now) }
 {
     let mut keys: Vec<Credential> = Vec::new(alloc);
     let mut left = text;
     while let Some((line, rest)) = next_line(left) {
-        match new_key(alloc, keys.as_slice(), line)? {
-            Some(key) => keys.push(key)?,
-            None => return Err(Fault::BadKeysLine(keys.len() + 1)),
+        match new_key(alloc, keys.as_slice(), line) {
+            Ok(key) => keys.push(key)?,
+            Err(fault) => return Err(fault),
         }
         left = rest;
     }
@@ -41,18 +44,16 @@ fn next_line(text: &[u8]) -> Option<(&[u8], &[u8])>
     }
 }
 
-/// The credential that a line says, unless one of `keys` has its id.
+/// The credential that a line says after those that say `keys`; `BadKeysLine` where it says none, or one
+/// of `keys` has its id.
 #[tactic(auto, unfolding(crate::specs::Keys::new_key))]
-fn new_key(
-    alloc: Global,
-    keys: &[Credential],
-    line: &[u8],
-) -> Result<Option<Credential>, AllocError>
-    ensures { IfOk result (λ key. key ≡ new_key keys.now line.now) }
+fn new_key<'a>(alloc: Global, keys: &[Credential], line: &[u8]) -> Result<Credential, Fault<'a>>
+    ensures value { IfOk result (λ key. new_key keys.now line.now ≡ Some key) }
+    ensures refused { IfErr result (MemoryOr (BadKeysLine (length keys.now + 1)) (new_key keys.now line.now ≡ None)) }
 {
     match key_of_line(alloc, line)? {
-        Some(key) if !has_id(keys, key.id()) => Ok(Some(key)),
-        _ => Ok(None),
+        Some(key) if !has_id(keys, key.id()) => Ok(key),
+        _ => Err(Fault::BadKeysLine(keys.len() + 1)),
     }
 }
 
@@ -70,7 +71,7 @@ fn key_of_line(alloc: Global, line: &[u8]) -> Result<Option<Credential>, AllocEr
 }
 
 /// The first place of a byte.
-pub fn first_place(text: &[u8], byte: u8) -> Option<usize>
+fn first_place(text: &[u8], byte: u8) -> Option<usize>
     ensures { result ≡ position (λ b. b == byte) text.now }
 {
     text.iter().position(|b| *b == byte)

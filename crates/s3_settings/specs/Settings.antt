@@ -1,24 +1,18 @@
 -- What the options on the settings say, and the settings that they and the keys file make.
-use Rattle.std.specs.Prelude.{◌≡◌, ⊤, ℕ, Bool, true, false, IsTrue, ◌&&◌, nat_le, if◌then◌else◌, List, length, Option, Some, None, is_some, IfSome, option_map, option_to_list, Ok, Err}
-use Rattle.std.specs.List.{list_all}
-use Rattle.std.specs.Char.{is_ascii_digit}
-use Rattle.std.specs.Str.Parse.{digits_value}
+use Rattle.std.specs.Prelude.{◌≡◌, ⊤, ℕ, Bool, true, false, IsTrue, ◌&&◌, nat_le, if◌then◌else◌, List, Option, Some, None, is_some, IfSome, option_map, option_to_list}
+use Rattle.s3_terms.specs.Digits.{decimal_number}
 use Rattle.s3_terms.specs.Names.{is_bucket_name}
 use Rattle.s3_terms.specs.Moment.{last_moment}
 use Rattle.s3_terms.specs.Settings.{Settings, Credentials, are_settings}
-use Rattle.s3d.specs.declared.fault.Fault.{Fault}
-use Rattle.s3d.specs.declared.fault.Fault.TheVariants.{CannotRead, BadKeysLine, BadSetting, OutOfMemory}
-use Rattle.s3d.specs.declared.words.Options.{Options}
-use Rattle.s3d.specs.declared.settings.Setup.{Setup}
-use Rattle.s3d.specs.Keys.{credentials_of}
+use Rattle.s3_settings.specs.declared.fault.Fault.{Fault}
+use Rattle.s3_settings.specs.declared.fault.Fault.TheVariants.{CannotRead, BadKeysLine, BadSetting, OutOfMemory}
+use Rattle.s3_settings.specs.declared.options.Options.{Options}
+use Rattle.s3_settings.specs.declared.settings.Setup.{Setup}
+use Rattle.s3_settings.specs.Keys.{lines_of, SayKeys, IsFirstBadLine}
 
--- 1 to 12 decimal digits
-unfoldable pub is_number : List ℕ → Bool
-is_number text = nat_le 1 (length text) && nat_le (length text) 12 && list_all is_ascii_digit text
-
--- the number that a text says
-unfoldable pub number_of : List ℕ → Option ℕ
-number_of text = if is_number text then Some (digits_value 10 text) else None
+-- the number that 1 to 12 decimal digits spell
+abbrev pub option_number : List ℕ → Option ℕ
+option_number text = decimal_number 12 text
 
 -- a number of seconds up to the end of the year 9999
 abbrev pub moment_of : Option ℕ → Option ℕ
@@ -28,7 +22,7 @@ moment_of (Some seconds) = if nat_le seconds last_moment then Some seconds else 
 -- the moment that an option says; without the option there is none
 abbrev pub option_moment : Option (List ℕ) → Option ℕ
 option_moment None = None
-option_moment (Some text) = moment_of (number_of text)
+option_moment (Some text) = moment_of (option_number text)
 
 -- no bucket, or one whose name is a bucket's
 abbrev pub is_bucket_option : Option (List ℕ) → Bool
@@ -38,7 +32,7 @@ is_bucket_option (Some name) = is_bucket_name name
 -- each option is of its form
 unfoldable pub are_options : Options → Bool
 are_options o =
-    is_some o.keys && is_some (number_of o.min_part.now) && is_some (number_of o.body_limit.now)
+    is_some o.keys && is_some (option_number o.min_part.now) && is_some (option_number o.body_limit.now)
     && is_some (option_moment (option_map (λ text. text.now) o.moment))
     && is_bucket_option (option_map (λ name. name.now) o.bucket)
 
@@ -47,8 +41,8 @@ pub record IsSetupOf (o : Options) (s : Setup) : Type 0 where
   pub valid : are_options o ≡ true
   pub keys : option_map (λ path. path.now) o.keys ≡ Some s.keys.now
   pub region : s.region.now ≡ o.region.now
-  pub min_part : number_of o.min_part.now ≡ Some s.min_part
-  pub body_limit : number_of o.body_limit.now ≡ Some s.body_limit
+  pub min_part : option_number o.min_part.now ≡ Some s.min_part
+  pub body_limit : option_number o.body_limit.now ≡ Some s.body_limit
   pub moment : option_moment (option_map (λ text. text.now) o.moment) ≡ Some s.moment
   pub bucket : option_map (λ name. name.now) o.bucket ≡ s.bucket
 
@@ -64,7 +58,7 @@ settings_of s keys = record {
 
 -- the keys file says these keys, where it is known
 abbrev pub HasKeys : Option (List ℕ) → List Credentials → Type 0
-HasKeys file keys = IfSome file (λ text. credentials_of text ≡ Ok keys)
+HasKeys file keys = IfSome file (λ text. SayKeys (lines_of text) keys)
 
 -- the settings are those of a setup and of the keys in its keys file
 pub record IsConfigured (file : Option (List ℕ)) (setup : Setup) (settings : Settings) : Type 0 where
@@ -75,15 +69,15 @@ pub record IsConfigured (file : Option (List ℕ)) (setup : Setup) (settings : S
 -- why there are no settings
 abbrev pub IsConfigFault : Option (List ℕ) → Setup → Fault → Type 0
 IsConfigFault file setup (CannotRead path) = path.now ≡ setup.keys.now
-IsConfigFault file setup (BadKeysLine number) = IfSome file (λ text. credentials_of text ≡ Err number)
+IsConfigFault file setup (BadKeysLine number) = IfSome file (λ text. IsFirstBadLine (lines_of text) number)
 IsConfigFault file setup BadSetting =
     (keys : List Credentials) × HasKeys file keys × (are_settings (settings_of setup keys) ≡ false)
 IsConfigFault file setup OutOfMemory = ⊤
 IsConfigFault file setup _ = ⊥
 
 -- these options have settings
-abbrev pub IsReady : (List ℕ → Option (List ℕ)) → Options → Type 0
-IsReady known options =
+abbrev pub HasSettings : (List ℕ → Option (List ℕ)) → Options → Type 0
+HasSettings known options =
     (setup : Setup) × (settings : Settings) × IsSetupOf options setup
     × IsConfigured (known setup.keys.now) setup settings
 

@@ -1,0 +1,2 @@
+pub mod DeviceLemmas
+pub mod KeysLemmas

@@ -1,0 +1,4 @@
+pub mod Devices
+pub mod Fault
+pub mod Keys
+pub mod Settings

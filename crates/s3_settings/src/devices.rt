@@ -1,0 +1,99 @@
+ghost use Rattle.std.specs.Prelude.{◌≡◌, ◌≢◌, ◌≤◌, ◌⊎◌, length, take, IfOk, OnOk, IfErr, OnErr, IfSome};
+ghost use Rattle.std.specs.Io.KnownBytes.{Appends, IsAtEnd, Keeps};
+ghost use Rattle.std.specs.IoError.{error_kind};
+ghost use Rattle.s3_settings.specs.Devices.{AppendsBeginning};
+ghost use Rattle.s3_settings.specs.Fault.{IsReadFault};
+
+use crate::fault::Fault;
+use crate::files::Files;
+use std::alloc::Global;
+use std::io::{self, ErrorKind, Read, Write};
+
+/// All bytes of the file at a path.
+pub fn read_file<'a, F: Files>(
+    alloc: Global,
+    files: &F,
+    path: &'a str,
+) -> Result<Vec<u8>, Fault<'a>>
+    ensures bytes { IfOk result (λ bytes. IfSome (F.known files.now path.entry.now) (λ text. bytes.items ≡ text)) }
+    ensures refused { IfErr result (IsReadFault path.entry.now) }
+{
+    match files.read(alloc, path) {
+        Ok(bytes) => Ok(bytes),
+        Err(error) => Err(fault_of(error, Fault::CannotRead(path))),
+    }
+}
+
+/// All that the input has left.
+pub fn read_input<'a, R: Read>(alloc: Global, input: &mut R) -> Result<Vec<u8>, Fault<'a>>
+    ensures bytes { IfOk result (λ bytes. IfSome (R.remaining input.old) (λ left. bytes.items ≡ left)) }
+    ensures end { OnOk result (IsAtEnd (R.remaining input.new)) }
+    ensures refused { IfErr result (λ fault. (fault ≡ Fault.OutOfMemory) ⊎ (fault ≡ Fault.InputFailed)) }
+{
+    let mut bytes = Vec::new(alloc);
+    match input.read_to_end(&mut bytes) {
+        Ok(_) => Ok(bytes),
+        Err(error) => Err(fault_of(error, Fault::InputFailed)),
+    }
+}
+
+/// Writes all of the bytes and flushes them. `OutputFailed` where the device fails, which has then
+/// taken a beginning of them.
+#[tactic(auto, using(crate::proofs::DeviceLemmas::devices))]
+pub fn write_output<'a, W: Write>(output: &mut W, bytes: &[u8]) -> Result<(), Fault<'a>>
+    ensures written { OnOk result (Appends (W.contents output.old) (W.contents output.new) bytes.now) }
+    ensures refused { IfErr result (λ fault. fault ≡ Fault.OutputFailed) }
+    ensures part { OnErr result (AppendsBeginning (W.contents output.old) (W.contents output.new) bytes.now) }
+{
+    write_bytes(output, bytes).map_err(|_| Fault::OutputFailed)?;
+    output.flush().map_err(|_| Fault::OutputFailed)
+}
+
+/// Writes all of the bytes, or a beginning of them where the device fails. `write_all` of the device
+/// itself does not say what it took before it failed.
+#[tactic(auto, using(crate::proofs::DeviceLemmas::devices))]
+pub(crate) fn write_bytes<W: Write>(output: &mut W, bytes: &[u8]) -> io::Result<()>
+    ensures written { OnOk result (Appends (W.contents output.old) (W.contents output.new) bytes.now) }
+    ensures part { OnErr result (AppendsBeginning (W.contents output.old) (W.contents output.new) bytes.now) }
+{
+    let mut left = bytes;
+    for _ in 0..u64::MAX {
+        if left.is_empty() {
+            return Ok(());
+        }
+        let count = write_some(output, left)?;
+        left = &left[count..];
+    }
+    Err(io::Error::from(ErrorKind::Interrupted))
+}
+
+/// Writes a beginning of the bytes, of which there are some, and answers how long it is: 0 where the
+/// device was interrupted. An error where it takes none.
+#[tactic(auto, using(crate::proofs::DeviceLemmas::kept))]
+fn write_some<W: Write>(output: &mut W, bytes: &[u8]) -> io::Result<usize>
+    ensures within { IfOk result (λ count. count ≤ length bytes.now) }
+    ensures taken { IfOk result (λ count. Appends (W.contents output.old) (W.contents output.new) (take count bytes.now)) }
+    ensures refused { OnErr result (Keeps (W.contents output.old) (W.contents output.new)) }
+{
+    match output.write(bytes) {
+        Ok(0) => Err(io::Error::from(ErrorKind::WriteZero)),
+        Ok(count) => Ok(count),
+        Err(error) => {
+            if error.kind() == ErrorKind::Interrupted {
+                return Ok(0);
+            }
+            Err(error)
+        }
+    }
+}
+
+/// What an error of a device means: want of memory, or else `other`.
+fn fault_of<'a>(error: io::Error, other: Fault<'a>) -> Fault<'a>
+    ensures memory { error_kind error ≡ ErrorKind.OutOfMemory → result ≡ Fault.OutOfMemory }
+    ensures other { error_kind error ≢ ErrorKind.OutOfMemory → result ≡ other.entry }
+{
+    match error.kind() {
+        ErrorKind::OutOfMemory => Fault::OutOfMemory,
+        _ => other,
+    }
+}

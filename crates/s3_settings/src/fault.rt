@@ -1,0 +1,124 @@
+ghost use Rattle.std.specs.Prelude.{◌≡◌, ◌++◌, Some, OnOk, OnErr};
+ghost use Rattle.std.specs.Io.KnownBytes.{Appends};
+ghost use Rattle.s3_settings.specs.Devices.{AppendsBeginning};
+ghost use Rattle.s3_settings.specs.Fault.{text_of, line_of};
+ghost use Rattle.s3_settings.specs.declared.fault.Fault.TheVariants.{OutOfMemory};
+
+use crate::devices::write_bytes;
+use itoa::Buffer;
+use s3_terms::NoMemory;
+use std::alloc::{AllocError, AllocFailed};
+use std::fmt;
+use std::io::{self, Write};
+
+/// Why the program ends with status 1. Its text is what the line on the standard error says after
+/// `s3d: `.
+#[derive(Clone, Copy, Debug, PartialEq, Eq)]
+pub enum Fault<'a> {
+    /// The file at this path could not be read.
+    CannotRead(&'a str),
+    /// The line of the keys file with this number, from 1, is no credential.
+    BadKeysLine(usize),
+    /// An option is out of its form, or the settings are none that a server accepts.
+    BadSetting,
+    /// The standard input could not be read.
+    InputFailed,
+    /// The standard output did not take everything.
+    OutputFailed,
+    /// There was no memory.
+    OutOfMemory,
+}
+
+impl<'a> Fault<'a> {
+    /// The text of the fault in two parts, of which the second may be in the buffer.
+    fn parts<'b>(&self, digits: &'b mut Buffer) -> (&'b str, &'b str)
+    where
+        'a: 'b,
+        ensures { result.0.now ++ result.1.now ≡ text_of self.now }
+    {
+        match self {
+            Fault::CannotRead(path) => ("cannot read ", path),
+            Fault::BadKeysLine(number) => ("bad keys line ", digits.format(*number)),
+            Fault::BadSetting => ("bad setting", ""),
+            Fault::InputFailed => ("input failed", ""),
+            Fault::OutputFailed => ("output failed", ""),
+            Fault::OutOfMemory => ("out of memory", ""),
+        }
+    }
+
+    /// Writes the line that tells the fault: `s3d: `, its text and a line end. Where the device fails,
+    /// it has taken a beginning of that.
+    pub fn tell<E: Write>(&self, errors: &mut E) -> io::Result<()>
+        ensures told { OnOk result (Appends (E.contents errors.old) (E.contents errors.new) (line_of self.now)) }
+        ensures gained { AppendsBeginning (E.contents errors.old) (E.contents errors.new) (line_of self.now) }
+    {
+        let mut digits = Buffer::new();
+        let (first, second) = self.parts(&mut digits);
+        write_four(errors, b"s3d: ", first.as_bytes(), second.as_bytes(), b"\n")
+    }
+}
+
+/// Writes four texts, one after the other.
+#[tactic(auto, using(crate::proofs::DeviceLemmas::pieces))]
+fn write_four<E: Write>(
+    errors: &mut E,
+    first: &[u8],
+    second: &[u8],
+    third: &[u8],
+    fourth: &[u8],
+) -> io::Result<()>
+    ensures told { OnOk result (Appends (E.contents errors.old) (E.contents errors.new) ((first.now ++ second.now) ++ (third.now ++ fourth.now))) }
+    ensures part { OnErr result (AppendsBeginning (E.contents errors.old) (E.contents errors.new) ((first.now ++ second.now) ++ (third.now ++ fourth.now))) }
+{
+    match write_both(errors, first, second) {
+        Ok(()) => write_both(errors, third, fourth),
+        Err(error) => Err(error),
+    }
+}
+
+/// Writes one text and then the other.
+#[tactic(auto, using(crate::proofs::DeviceLemmas::pieces))]
+fn write_both<E: Write>(errors: &mut E, first: &[u8], second: &[u8]) -> io::Result<()>
+    ensures told { OnOk result (Appends (E.contents errors.old) (E.contents errors.new) (first.now ++ second.now)) }
+    ensures part { OnErr result (AppendsBeginning (E.contents errors.old) (E.contents errors.new) (first.now ++ second.now)) }
+{
+    match write_bytes(errors, first) {
+        Ok(()) => write_bytes(errors, second),
+        Err(error) => Err(error),
+    }
+}
+
+impl fmt::Display for Fault<'_> {
+    ghost output = { λ fault. Some (text_of fault) };
+
+    fn fmt<W: fmt::Write>(&self, f: &mut fmt::Formatter<W>) -> fmt::Result {
+        let mut digits = Buffer::new();
+        let (first, second) = self.parts(&mut digits);
+        f.write_str(first)?;
+        f.write_str(second)
+    }
+}
+
+impl From<AllocError> for Fault<'_> {
+    ghost from_gives = { λ _ fault. fault ≡ OutOfMemory };
+
+    fn from(_e: AllocError) -> Self {
+        Fault::OutOfMemory
+    }
+}
+
+impl<T: Drop> From<AllocFailed<T>> for Fault<'_> {
+    ghost from_gives = { λ _ fault. fault ≡ OutOfMemory };
+
+    fn from(_e: AllocFailed<T>) -> Self {
+        Fault::OutOfMemory
+    }
+}
+
+impl From<NoMemory> for Fault<'_> {
+    ghost from_gives = { λ _ fault. fault ≡ OutOfMemory };
+
+    fn from(_e: NoMemory) -> Self {
+        Fault::OutOfMemory
+    }
+}
