@@ -107,40 +107,43 @@ fn assert_fails(rt: &impl Abort, alloc: Global, words: &[&str], fault: &str) -> 
 const REPLAY: [&str; 6] = ["s3d", "replay", "--keys", "keys", "--moment", "0"];
 
 /// The text has the part somewhere.
-fn holds(text: &[u8], part: &[u8]) -> bool {
-    text.windows(part.len()).any(|window| window == part)
+fn holds(text: &[u8], part: &str) -> bool {
+    match str::from_utf8(text) {
+        Ok(text) => text.contains(part),
+        Err(_) => false,
+    }
 }
 
 #[test]
 fn usage_faults(rt: HostRuntime) {
-    let words: [(&[&str], &[u8]); 10] = [
-        (&[], b"Usage: s3d <COMMAND>\n"),
-        (&["s3d"], b"Usage: s3d <COMMAND>\n"),
-        (&["s3d", "--help"], b"Usage: s3d <COMMAND>\n"),
-        (&["s3d", "replay"], b"not provided:\n  --keys <FILE>\n"),
+    let words: [(&[&str], &str); 10] = [
+        (&[], "Usage: s3d <COMMAND>\n"),
+        (&["s3d"], "Usage: s3d <COMMAND>\n"),
+        (&["s3d", "--help"], "Usage: s3d <COMMAND>\n"),
+        (&["s3d", "replay"], "not provided:\n  --keys <FILE>\n"),
         (
             &["s3d", "replay", "--help"],
-            b"Usage: s3d replay [OPTIONS] --keys <FILE>\n",
+            "Usage: s3d replay [OPTIONS] --keys <FILE>\n",
         ),
         (
             &["s3d", "replay", "--keys", "keys", "--unknown"],
-            b"error: unexpected argument '--unknown' found\n",
+            "error: unexpected argument '--unknown' found\n",
         ),
         (
             &["s3d", "replay", "--keys", "keys", "a:b"],
-            b"error: unexpected argument 'a:b' found\n",
+            "error: unexpected argument 'a:b' found\n",
         ),
-        (&["s3d", "sign", "--help"], b"--host <H> [NAME:VALUE]...\n"),
+        (&["s3d", "sign", "--help"], "--host <H> [NAME:VALUE]...\n"),
         (
             &[
                 "s3d", "sign", "--keys", "keys", "--id", "id", "--moment", "0", "--method", "GET",
                 "--target", "/",
             ],
-            b"not provided:\n  --host <H>\n",
+            "not provided:\n  --host <H>\n",
         ),
         (
             &["s3d", "serve"],
-            b"error: unrecognized subcommand 'serve'\n",
+            "error: unrecognized subcommand 'serve'\n",
         ),
     ];
     for (words, part) in words {
