@@ -1,4 +1,5 @@
 -- What a contract sees of an encoded parameter: its name and its value.
+-- Only clauses of private functions cite these, and nobody has to believe them.
 use Rattle.std.specs.Prelude.{ℕ, List, map}
 use Rattle.s3_canonical.specs.declared.parameter.Parameter.{Parameter}
 

@@ -1,4 +1,5 @@
 -- How the search for the end of a head text stands after each byte.
+-- Only clauses of private functions cite these, and nobody has to believe them.
 use Rattle.std.specs.Prelude.{ℕ, ◌==◌, if◌then◌else◌}
 
 -- how many bytes of an empty line a text ends with, one byte on

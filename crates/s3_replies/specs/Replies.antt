@@ -20,7 +20,8 @@ first_lines date closing number =
     ∷ line_if closing (codes "Connection", codes "close")
     ++ (codes "x-amz-request-id", number_digits number) ∷ []
 
--- the line that every reply ends with: the size of its body, also where that is not sent
+-- the last header line of every reply but the fixed one: the size of its body, also where that is not
+-- sent
 abbrev pub length_line : List ℕ → Line
 length_line body = (codes "Content-Length", count_text (length body))
 
@@ -91,7 +92,7 @@ Prints answer context text =
 abbrev pub closing : Context → Context
 closing context = record { moment = context.moment; head_only = context.head_only; closes = true }
 
--- the refusal of a message that did not come to the store: it has no number
+-- the refusal of a message that did not come to the store: 0 stands for no number
 abbrev pub unnumbered : Code → Answer
 unnumbered code = record { number = 0; outcome = outcomes.Refused code }
 

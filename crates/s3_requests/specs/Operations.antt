@@ -1,6 +1,6 @@
--- The table of S3's operations (Amazon S3 API Reference, "Actions"), by the method and by what the
--- address names. An operation that needs a query is not here yet.
-use Rattle.std.specs.Prelude.{ℕ, Bool, true, false, if◌then◌else◌, List, [], ◌∷◌, codes, Option, Some, None}
+-- The table of the operations that routing knows (Amazon S3 API Reference, "Actions", and POST Object),
+-- by the method and by what the address names. An operation that needs a query is not here.
+use Rattle.std.specs.Prelude.{ℕ, Bool, if◌then◌else◌, List, [], ◌∷◌, codes, Option, Some, None}
 use Rattle.std.specs.Str.{bytes_eq}
 use Rattle.s3_http_heads.specs.Parts.{HeadParts, is_sent}
 use Rattle.s3_requests.specs.declared.operations.Method.{Method}
@@ -46,10 +46,3 @@ key_operation Put head = first_row ((is_sent (codes "x-amz-copy-source") head, S
 key_operation Post head = None
 key_operation Delete head = Some DeleteObject
 key_operation Other head = None
-
--- an operation that this server does not have yet: all but two
-abbrev pub is_missing : Option Operation → Bool
-is_missing None = false
-is_missing (Some PutObject) = false
-is_missing (Some GetObject) = false
-is_missing (Some _) = true

@@ -105,7 +105,7 @@ fn some_key(alloc: Global, bytes: &[u8]) -> Result<Option<Key>, Code>
 
 // The plan of an operation on a key, if this server has it.
 fn key_plan(operation: Option<Operation>, bucket: BucketName, key: Key) -> Result<Plan, Code>
-    ensures { result ≡ stages.key_plan operation bucket key }
+    ensures { result ≡ rules.planned_by operation bucket key }
 {
     match operation {
         Some(Operation::PutObject) => Ok(Plan::PutObject { bucket, key }),

@@ -1,4 +1,5 @@
 -- One message of a replay: what it leaves in the store, and what it writes.
+-- Only clauses of private functions cite these, and nobody has to believe them.
 use Rattle.std.specs.Prelude.{◌≡◌, ℕ, true, List, ◌++◌, drop, length}
 use Rattle.s3_terms.specs.Settings.{Settings}
 use Rattle.s3_requests.specs.declared.commands.Command.{Command}

@@ -4,8 +4,9 @@ ghost use Rattle.s3_session.specs.Stays.{VerdictsStay};
 use s3_http_heads::{texts_say_one_thing, verdict_is_exact};
 use s3_replies::{refusals_are_unique, replies_are_unique};
 
-/// A law: a verdict that is reached on some bytes is the verdict on those bytes followed by anything,
-/// so that how a connection's bytes are cut into pieces decides nothing. There is nothing to run.
+/// A law: a verdict, other than open, that is reached before the bytes have ended is the verdict on those
+/// bytes followed by anything, so that how a connection's bytes are cut into pieces decides nothing. There
+/// is nothing to run.
 pub fn verdicts_stay()
     ensures { VerdictsStay }
 {
@@ -14,7 +15,7 @@ pub fn verdicts_stay()
 }
 
 /// A law: settings, moment, bytes and whether they end leave at most one verdict, with one rest, so that
-/// what `decide` gives is fixed by what it is given. There is nothing to run.
+/// what `decide` gives is fixed by what it is given, unless memory runs out. There is nothing to run.
 pub fn verdicts_are_one()
     ensures { OneVerdict }
 {

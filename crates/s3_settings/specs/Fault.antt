@@ -1,5 +1,5 @@
 -- What the program says when it ends with status 1: one line on the standard error.
-use Rattle.std.specs.Prelude.{◌≡◌, ◌⊎◌, ⊤, ℕ, List, [], ◌∷◌, ◌++◌, codes}
+use Rattle.std.specs.Prelude.{◌≡◌, ◌⊎◌, ⊤, ℕ, List, [], ◌∷◌, ◌++◌, codes, Option, None}
 use Rattle.std.specs.Fmt.{decimal}
 use Rattle.s3_settings.specs.declared.fault.Fault.{Fault}
 use Rattle.s3_settings.specs.declared.fault.Fault.TheVariants.{CannotRead, BadKeysLine, BadSetting, InputFailed, OutputFailed, OutOfMemory}
@@ -21,8 +21,8 @@ line_of fault = codes "s3d: " ++ text_of fault ++ 10 ∷ []
 abbrev pub MemoryOr : Fault → Type 0 → Fault → Type 0
 MemoryOr expected P fault = (fault ≡ OutOfMemory) ⊎ ((fault ≡ expected) × P)
 
--- why a file gives no bytes
-abbrev pub IsReadFault : List ℕ → Fault → Type 0
-IsReadFault path (CannotRead which) = which.now ≡ path
-IsReadFault path OutOfMemory = ⊤
-IsReadFault path _ = ⊥
+-- why a file at a path gives no bytes: there is none whose bytes are known, or memory ran out
+abbrev pub IsReadFault : Option (List ℕ) → List ℕ → Fault → Type 0
+IsReadFault file path (CannotRead which) = (which.now ≡ path) × (file ≡ None)
+IsReadFault file path OutOfMemory = ⊤
+IsReadFault file path _ = ⊥

@@ -1,6 +1,6 @@
 -- What a keys file says: one credential a line, which is an id, one space, and as the secret
 -- everything up to the line's end (LF), which the last line may lack. No id stands on two lines.
-use Rattle.std.specs.Prelude.{◌≡◌, ℕ, ◌+◌, ◌<◌, Bool, true, ◌==◌, if◌then◌else◌, List, [], ◌∷◌, ◌++◌, length, map, take, drop, Option, Some, None, option_and_then, position}
+use Rattle.std.specs.Prelude.{◌≡◌, ⊤, ℕ, ◌+◌, ◌<◌, Bool, true, ◌==◌, if◌then◌else◌, List, [], ◌∷◌, ◌++◌, length, map, take, drop, Option, Some, None, option_and_then, position}
 use Rattle.std.specs.List.{list_any, slice_split}
 use Rattle.std.specs.Str.{bytes_eq}
 use Rattle.s3_terms.specs.Settings.{Credentials, are_credentials, all_different}
@@ -41,11 +41,11 @@ pub record SayKeys (lines : List (List ℕ)) (keys : List Credentials) : Type 0 
   pub said : map key_of_line lines ≡ map Some keys
   pub different : all_different (ids_of keys) ≡ true
 
--- the lines say some keys
+-- each line says a key, and no id stands twice; so do no lines at all
 abbrev pub AreKeyLines : List (List ℕ) → Type 0
 AreKeyLines lines = (keys : List Credentials) × SayKeys lines keys
 
--- the first bad line has this number, from 1: the lines up to it say no keys, and any fewer say some
+-- the first bad line has this number, from 1: the lines up to it are no key lines, and any fewer are
 pub record IsFirstBadLine (lines : List (List ℕ)) (number : ℕ) : Type 0 where
   pub bad : ¬ AreKeyLines (take number lines)
   pub before : (count : ℕ) → count < number → AreKeyLines (take count lines)
@@ -53,6 +53,8 @@ pub record IsFirstBadLine (lines : List (List ℕ)) (number : ℕ) : Type 0 wher
 -- the line of a credential
 abbrev pub line_of_key : Credentials → List ℕ
 line_of_key key = key.id ++ 32 ∷ key.secret
+
+-- The next two serve clauses of private functions alone.
 
 -- one of the keys has this id
 abbrev pub has_id : List Credentials → List ℕ → Bool
@@ -66,5 +68,5 @@ new_key keys line =
 -- a fault says why a file of this text gives no keys: its first bad line, or want of memory
 abbrev pub IsKeysFault : List ℕ → Fault → Type 0
 IsKeysFault text (BadKeysLine number) = IsFirstBadLine (lines_of text) number
-IsKeysFault text OutOfMemory = Unit {0}
+IsKeysFault text OutOfMemory = ⊤
 IsKeysFault text _ = ⊥

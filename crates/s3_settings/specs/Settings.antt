@@ -68,7 +68,7 @@ pub record IsConfigured (file : Option (List ℕ)) (setup : Setup) (settings : S
 
 -- why there are no settings
 abbrev pub IsConfigFault : Option (List ℕ) → Setup → Fault → Type 0
-IsConfigFault file setup (CannotRead path) = path.now ≡ setup.keys.now
+IsConfigFault file setup (CannotRead path) = (path.now ≡ setup.keys.now) × (file ≡ None)
 IsConfigFault file setup (BadKeysLine number) = IfSome file (λ text. IsFirstBadLine (lines_of text) number)
 IsConfigFault file setup BadSetting =
     (keys : List Credentials) × HasKeys file keys × (are_settings (settings_of setup keys) ≡ false)

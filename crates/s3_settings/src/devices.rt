@@ -16,7 +16,7 @@ pub fn read_file<'a, F: Files>(
     path: &'a str,
 ) -> Result<Vec<u8>, Fault<'a>>
     ensures bytes { IfOk result (λ bytes. IfSome (F.known files.now path.entry.now) (λ text. bytes.items ≡ text)) }
-    ensures refused { IfErr result (IsReadFault path.entry.now) }
+    ensures refused { IfErr result (IsReadFault (F.known files.now path.entry.now) path.entry.now) }
 {
     match files.read(alloc, path) {
         Ok(bytes) => Ok(bytes),

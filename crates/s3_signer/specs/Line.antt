@@ -1,4 +1,5 @@
 -- What a contract sees of the header lines of a request: their names and their values.
+-- Only clauses of private functions cite these, and nobody has to believe them.
 use Rattle.std.specs.Prelude.{ℕ, List, map}
 use Rattle.s3_signer.specs.declared.line.Line.{Line}
 

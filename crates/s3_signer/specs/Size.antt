@@ -1,4 +1,5 @@
 -- The size of a signed head, counted part by part.
+-- Only clauses of private functions cite these, and nobody has to believe them.
 use Rattle.std.specs.Prelude.{ℕ, ◌+◌, Bool, if◌then◌else◌, List, [], ◌∷◌, length}
 use Rattle.std.specs.Fmt.{decimal}
 use Rattle.std.specs.List.{list_any}

@@ -54,11 +54,12 @@ abbrev pub signature_faults : Settings → HeadParts → Parts → List ℕ → 
 signature_faults settings head a stamp =
     cover_faults head a ++ (is_other_signature settings head a stamp, SignatureDoesNotMatch) ∷ []
 
--- those of an authorization and its stamp: before the signature is computed, and all
+-- those of an authorization and its stamp that show before the signature is computed
 abbrev pub unsigned_faults : Settings → HeadParts → ℕ → Parts → List ℕ → List (Bool × Code)
 unsigned_faults settings head moment a stamp =
     scope_faults settings moment a stamp ++ word_faults head ++ cover_faults head a
 
+-- the same, and the signature's
 abbrev pub authorization_faults : Settings → HeadParts → ℕ → Parts → List ℕ → List (Bool × Code)
 authorization_faults settings head moment a stamp =
     scope_faults settings moment a stamp ++ word_faults head ++ signature_faults settings head a stamp

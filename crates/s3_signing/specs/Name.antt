@@ -1,4 +1,5 @@
 -- What a contract sees of the names that a signer covers: their texts.
+-- Only clauses of private functions cite these, and nobody has to believe them.
 use Rattle.std.specs.Prelude.{ℕ, List, map}
 use Rattle.s3_signing.specs.declared.names.Name.{Name}
 

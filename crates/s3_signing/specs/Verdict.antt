@@ -34,10 +34,11 @@ abbrev pub sent_authorization : HeadParts → Option authorization.Parts
 sent_authorization head =
     option_and_then authorization_of (only (values_of (codes "authorization") head))
 
--- the stamp of the one x-amz-date line, if it is one
+-- the text, if it is a stamp
 abbrev pub checked_stamp : List ℕ → Option (List ℕ)
 checked_stamp text = if is_stamp text then Some text else None
 
+-- the stamp of the one x-amz-date line
 abbrev pub sent_stamp : HeadParts → Option (List ℕ)
 sent_stamp head = option_and_then checked_stamp (only (values_of (codes "x-amz-date") head))
 
@@ -90,7 +91,8 @@ signs_amz head signed = list_all (covers signed) (sent_names head)
 abbrev pub signs_enough : HeadParts → List ℕ → Bool
 signs_enough head signed = signs signed (codes "host") && signs_amz head signed
 
--- the secret of the authorization's id
+-- the secret of the authorization's id; empty where the id is not configured, which the table below
+-- refuses before it looks at the signature
 abbrev pub secret_behind : Settings → authorization.Parts → List ℕ
 secret_behind settings a = unwrap_or (secret_of settings.keys a.id) []
 
@@ -133,7 +135,7 @@ abbrev pub is_other_signature : Settings → HeadParts → authorization.Parts �
 is_other_signature settings head a stamp =
     not (bytes_eq a.signature (signature_of (secret_behind settings a) stamp settings.region head a.signed (sent_word head)))
 
--- and the signature itself at last
+-- all faults: those, and last a signature that is not the formula
 unfoldable pub head_faults : Settings → HeadParts → ℕ → List (Bool × Code)
 head_faults settings head moment =
     faults_before_signature settings head moment

@@ -107,7 +107,7 @@ upload_id_text number = numbered_id 117 number
 abbrev pub upload_id : List ℕ → Option ℕ
 upload_id text = number_of_id 117 text
 
--- the text of a version's id: `null` for one that was put while its bucket was unversioned or suspended,
+-- the text of a version's id: `null` for one that was made while its bucket was unversioned or suspended,
 -- else `v` and the number of the entry that made it
 abbrev pub version_id_text : VersionId → List ℕ
 version_id_text Null = codes "null"

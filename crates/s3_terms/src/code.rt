@@ -1,7 +1,8 @@
 ghost use Rattle.std.specs.Prelude.{◌≡◌};
 
-/// Why a request is refused: the error codes of the Amazon S3 API Reference ("Error responses") that
-/// this server answers, and a few of its own for faults that S3 leaves to HTTP.
+/// Why a request is refused: error codes of the Amazon S3 API Reference ("Error responses") that this
+/// server answers or is to answer, and three of its own: `MalformedHead`, `HeadTooLarge` and
+/// `MalformedBody`.
 #[derive(Clone, Copy, Debug, PartialEq, Eq)]
 pub enum Code {
     MalformedHead = 1,

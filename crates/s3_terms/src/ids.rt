@@ -57,7 +57,7 @@ impl PartNumber {
 /// The id of an object's version.
 #[derive(Clone, Copy, Debug, PartialEq, Eq, PartialOrd, Ord)]
 pub enum VersionId {
-    /// `null`: the version that was put while its bucket was unversioned or suspended.
+    /// `null`: the version that was made while its bucket was unversioned or suspended.
     Null,
     /// `v` and the number of the entry that made the version.
     Numbered(u64),

@@ -24,7 +24,8 @@ pub record IsReplayed (known : List ℕ → Option (List ℕ)) (input : Option (
   pub configured : IsConfigured (known setup.keys.now) setup settings
   pub answered : IfSome input (λ bytes. Replays settings setup.moment bytes out)
 
--- why a replay has no such text, each fault only where none that comes before it is there
+-- why a replay has no such text, each fault only where none that comes before it is there, but want of
+-- memory, which may come anywhere
 abbrev pub IsReplayFault : (List ℕ → Option (List ℕ)) → Options → Fault → Type 0
 IsReplayFault known options BadSetting = (are_options options ≡ false) ⊎ HasConfigFault known options BadSetting
 IsReplayFault known options (CannotRead path) = HasConfigFault known options (CannotRead path)
@@ -76,7 +77,7 @@ IsRunFault words known input before after fault =
     (fault ≡ OutOfMemory)
     ⊎ ((task : Task) × IsReadFrom words task × IsTaskFault known input before after task fault)
 
--- a run failed for some reason, and its line or a beginning of it was told; nothing is written unless
+-- a run failed for some reason, and its line or a beginning of it, which may be empty, was told; nothing is written unless
 -- the output failed, and nothing is read where the reason comes before the input
 pub record HasFailed (IsReason : Fault → Type 0) (errors errors_after : Option (List ℕ)) (unread unwritten : Type 0) : Type 0 where
   pub fault : Fault

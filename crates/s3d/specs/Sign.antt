@@ -33,7 +33,7 @@ line_of_word word = (before_first is_colon word, after_first is_colon word)
 abbrev pub header_lines : List ℕ → List (List ℕ) → List HeaderLine
 header_lines host words = (codes "host", host) ∷ map line_of_word words
 
--- each option is there, and each further word is a header line
+-- the options that a request needs are there, and each further word is a header line
 unfoldable pub are_sign_options : SignOptions → Bool
 are_sign_options o =
     is_some o.id && is_some o.method && is_some o.target && is_some o.host
@@ -54,9 +54,9 @@ IsBodyOf known None bytes = bytes ≡ []
 IsBodyOf known (Some path) bytes = IfSome (known path.now) (λ text. bytes ≡ text)
 
 -- why there is no body
-abbrev pub IsBodyFault : Option (Bor (List ℕ)) → Fault → Type 0
-IsBodyFault None fault = fault ≡ OutOfMemory
-IsBodyFault (Some path) fault = IsReadFault path.now fault
+abbrev pub IsBodyFault : (List ℕ → Option (List ℕ)) → Option (Bor (List ℕ)) → Fault → Type 0
+IsBodyFault known None fault = fault ≡ OutOfMemory
+IsBodyFault known (Some path) fault = IsReadFault (known path.now) path.now fault
 
 -- a request of the draft with this body, at this stamp, can be signed for a server of these settings
 abbrev pub is_signable_draft : Settings → Draft → List ℕ → List ℕ → Bool
@@ -79,7 +79,7 @@ IsRequestFault known settings draft stamp BadSetting =
     (secret_of settings.keys draft.id.now ≡ None)
     ⊎ ((body : List ℕ) × (is_some (secret_of settings.keys draft.id.now) ≡ true) × IsBodyOf known draft.body body × (is_signable_draft settings draft body stamp ≡ false))
 IsRequestFault known settings draft stamp (CannotRead path) =
-    (is_some (secret_of settings.keys draft.id.now) ≡ true) × IsBodyFault draft.body (CannotRead path)
+    (is_some (secret_of settings.keys draft.id.now) ≡ true) × IsBodyFault known draft.body (CannotRead path)
 IsRequestFault known settings draft stamp OutOfMemory = ⊤
 IsRequestFault known settings draft stamp _ = ⊥
 
@@ -113,7 +113,8 @@ HasRequestFault known o fault =
     (draft : Draft) × (settings : Settings) × (stamp : List ℕ)
     × IsPrepared known o draft settings stamp × IsRequestFault known settings draft stamp fault
 
--- why a signing has no such text, each fault only where none that comes before it is there
+-- why a signing has no such text, each fault only where none that comes before it is there, but want of
+-- memory, which may come anywhere
 abbrev pub IsSignFault : (List ℕ → Option (List ℕ)) → SignOptions → Fault → Type 0
 IsSignFault known o BadSetting =
     ((are_options o.common && are_sign_options o) ≡ false)

@@ -1,6 +1,6 @@
-//! The program `s3d`, a server of the Amazon S3 REST API. `s3d replay` answers one connection that
-//! stands whole on the standard input, and `s3d sign` writes one signed request. `run::run_words` does
-//! the work over any devices.
+//! The program `s3d`, which answers and signs requests of the Amazon S3 REST API. `s3d replay` answers
+//! one connection that stands whole on the standard input, and `s3d sign` writes one signed request.
+//! `run::run_words` does the work over any devices.
 #![tactic(auto)]
 
 mod run;

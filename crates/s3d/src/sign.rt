@@ -132,7 +132,7 @@ fn request<'a, F: Files>(
 /// The bytes of the file at the path; none without one.
 fn body<'a, F: Files>(alloc: Global, path: Option<&'a str>, files: &F) -> Result<Vec<u8>, Fault<'a>>
     ensures value { IfOk result (λ bytes. IsBodyOf (F.known files.now) path.entry bytes.items) }
-    ensures refused { IfErr result (IsBodyFault path.entry) }
+    ensures refused { IfErr result (IsBodyFault (F.known files.now) path.entry) }
 {
     match path {
         Some(path) => read_file(alloc, files, path),

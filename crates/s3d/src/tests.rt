@@ -45,12 +45,18 @@ impl Write for Broken {
     }
 }
 
-/// A device that has no memory.
+/// A device, and files, that have no memory.
 #[derive(Drop)]
 struct Full;
 
 impl Read for Full {
     fn read(&mut self, _buf: &mut [u8]) -> io::Result<usize> {
+        Err(io::Error::from(ErrorKind::OutOfMemory))
+    }
+}
+
+impl Files for Full {
+    fn read(&self, _alloc: Global, _path: &str) -> io::Result<Vec<u8>> {
         Err(io::Error::from(ErrorKind::OutOfMemory))
     }
 }
@@ -241,8 +247,13 @@ fn failing_devices(rt: HostRuntime) {
 
 #[test]
 fn no_memory(rt: HostRuntime) {
-    let mut output: Vec<u8> = Vec::new(rt.alloc());
-    let (status, errors) = ran(rt.alloc(), &REPLAY, &mut Full, &mut output);
+    let alloc = rt.alloc();
+    let mut output: Vec<u8> = Vec::new(alloc);
+    let (status, errors) = ran(alloc, &REPLAY, &mut Full, &mut output);
+    assert_eq!(rt; status, 1);
+    assert_eq!(rt; errors.as_slice(), b"s3d: out of memory\n".as_slice());
+    let mut errors = Vec::new(alloc);
+    let status = run_words(alloc, &REPLAY, &Full, &mut Full, &mut output, &mut errors);
     assert_eq!(rt; status, 1);
     assert_eq!(rt; errors.as_slice(), b"s3d: out of memory\n".as_slice());
 }
