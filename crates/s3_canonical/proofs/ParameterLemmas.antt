@@ -5,7 +5,7 @@ use Rattle.std.specs.List.Sorted.{IsSorted}
 use Rattle.std.proofs.lemmas.Cmp.{nat_list_cmp_total, on_total, then_total}
 use Rattle.std.proofs.lemmas.List.Sorted.{IsPermutation-map}
 use Rattle.std.proofs.lemmas.Map.Lookups.{CmpEqualImpliesEq, exact_bytes, exact_pairs}
-use Rattle.s3_terms.specs.Names.{byte_order}
+use Rattle.s3_text.specs.Order.{byte_order}
 use Rattle.s3_canonical.specs.declared.parameter.Parameter.{Parameter}
 use Rattle.s3_canonical.specs.Parameter.{pair, pairs}
 use Rattle.s3_canonical.specs.Target.{pair_cmp, sorted_pairs}

@@ -6,7 +6,7 @@ use Rattle.std.specs.List.{slice_split, before_first, after_first, join_with_byt
 use Rattle.std.specs.declared.cmp.Ordering.{Ordering}
 use Rattle.std.specs.Ordering.{ordering_then}
 use Rattle.percent_encoding.specs.Percent.{percent_decode}
-use Rattle.s3_terms.specs.Names.{byte_order}
+use Rattle.s3_text.specs.Order.{byte_order}
 use Rattle.s3_http_heads.specs.Parts.{path_of, query_of}
 use Rattle.s3_canonical.specs.Sorting.{sorted_by}
 use Rattle.s3_canonical.specs.Encoding.{encode_path, encode_query, has_bad_escape}

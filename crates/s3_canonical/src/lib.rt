@@ -7,8 +7,6 @@ mod encoding;
 mod parameter;
 mod request;
 mod target;
-#[cfg(test)]
-mod tests;
 mod text;
 
 pub use request::{headers, request_hash};

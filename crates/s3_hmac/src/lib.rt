@@ -5,7 +5,5 @@
 #![tactic(auto)]
 
 mod mac;
-#[cfg(test)]
-mod tests;
 
 pub use mac::{Mac, hmac, long_keys_are_hashed};

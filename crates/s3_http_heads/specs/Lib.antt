@@ -6,5 +6,5 @@ pub mod Message
 pub use Rattle.httparse.specs.Grammar
 pub use Rattle.httparse.specs.Spans
 pub use Rattle.s3_terms.specs.Code
-pub use Rattle.s3_terms.specs.Digits
+pub use Rattle.s3_text.specs.Digits
 pub use Rattle.s3_terms.specs.Fault

@@ -7,7 +7,8 @@ ghost use Rattle.s3_http_heads.specs.Framing.{is_count_once, announced, length_l
 
 use crate::Head;
 use crate::text::after_first;
-use s3_terms::{Code, decimal_number};
+use s3_terms::Code;
+use s3_text::decimal_number;
 
 /// The length in bytes of the body that follows this head, where at most `limit` bytes are accepted; 0
 /// where no Content-Length was sent.

@@ -4,8 +4,6 @@
 mod body_length;
 mod find;
 mod head;
-#[cfg(test)]
-mod tests;
 mod text;
 
 pub use body_length::{framing, messages_are_cut_once};

@@ -3,4 +3,4 @@ pub mod Status
 pub mod Replies
 pub use Rattle.s3_store.specs.Store
 pub use Rattle.s3_terms.specs.Code
-pub use Rattle.s3_terms.specs.Digits
+pub use Rattle.s3_text.specs.Digits

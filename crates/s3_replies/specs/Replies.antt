@@ -2,7 +2,7 @@
 -- response headers" and "Error responses"; documents are JSON here).
 use Rattle.std.specs.Prelude.{◌≡◌, ℕ, ◌==◌, Bool, true, if◌then◌else◌, List, [], ◌∷◌, ◌++◌, length, codes}
 use Rattle.s3_terms.specs.Code.{status_of, name_of, message_of}
-use Rattle.s3_terms.specs.Digits.{number_digits}
+use Rattle.s3_text.specs.Digits.{number_digits}
 use Rattle.s3_terms.specs.declared.code.Code.{Code}
 use Rattle.s3_store.specs.declared.object.Object.{Object}
 use Rattle.s3_store.specs.declared.answer.Answer.{Answer}

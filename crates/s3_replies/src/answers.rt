@@ -8,8 +8,8 @@ use crate::refusals::error_reply;
 use crate::status::status_line;
 use crate::texts::{date_of, quoted_tag};
 use arrayvec::ArrayVec;
+use s3_names::Tag;
 use s3_store::{Answer, Object, Outcome};
-use s3_terms::Tag;
 
 /// All of the reply to a put.
 fn put_reply(tag: &Tag, number: u64, closes: bool, date: &[u8; 29]) -> Reply

@@ -1,4 +1,4 @@
-use s3_terms::Moment;
+use s3_calendar::Moment;
 
 /// What a reply takes from the message that it answers.
 #[derive(Clone, Copy, Debug, PartialEq, Eq)]

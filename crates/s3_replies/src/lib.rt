@@ -9,8 +9,6 @@ mod laws;
 mod lines;
 mod refusals;
 mod status;
-#[cfg(test)]
-mod tests;
 mod texts;
 
 pub use answers::head_of;

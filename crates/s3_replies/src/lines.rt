@@ -7,7 +7,8 @@ ghost use Rattle.s3_replies.specs.Replies.{first_lines, default_type, sent_body}
 use crate::texts::quoted_tag;
 use arrayvec::ArrayVec;
 use itoa::Buffer;
-use s3_terms::{Tag, number_digits};
+use s3_names::Tag;
+use s3_text::number_digits;
 
 /// A reply while it is written.
 pub(crate) type Reply = ArrayVec<u8, 4096>;

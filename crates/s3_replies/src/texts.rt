@@ -5,7 +5,8 @@ ghost use Rattle.s3_replies.specs.Lines.{IsHttpDate, quoted};
 use crate::lines::write;
 use arrayvec::ArrayVec;
 use httpdate::HttpDate;
-use s3_terms::{Moment, Tag};
+use s3_calendar::Moment;
+use s3_names::Tag;
 
 /// The moment as a date of HTTP.
 pub(crate) fn date_of(moment: Moment) -> [u8; 29]

@@ -6,7 +6,7 @@ use Rattle.std.proofs.lemmas.Str.{IsUtf8-nil, is_utf8-from_IsUtf8}
 use Rattle.std.specs.List.{after_first}
 use Rattle.percent_encoding.specs.Percent.{percent_decode}
 use Rattle.s3_terms.specs.Fault.{first_fault, unless_refused, ◌>>=◌}
-use Rattle.s3_terms.specs.Names.{is_bucket_name, key_fault}
+use Rattle.s3_names.specs.Names.{is_bucket_name, key_fault}
 use Rattle.s3_terms.specs.declared.code.Code.{Code}
 use Rattle.s3_terms.specs.declared.code.Code.TheVariants.{NotImplemented, InvalidBucketName}
 use Rattle.s3_http_heads.specs.Parts.{HeadParts}

@@ -4,4 +4,4 @@ pub mod Stages
 pub use Rattle.s3_http_heads.specs.Parts
 pub use Rattle.s3_terms.specs.Code
 pub use Rattle.s3_terms.specs.Fault
-pub use Rattle.s3_terms.specs.Names
+pub use Rattle.s3_names.specs.Names

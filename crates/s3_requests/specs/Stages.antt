@@ -5,7 +5,7 @@ use Rattle.std.specs.Prelude.{ℕ, Bool, not, ◌==◌, nat_lt, if◌then◌else
 use Rattle.std.specs.List.{before_first, after_first}
 use Rattle.std.specs.Str.{is_utf8}
 use Rattle.percent_encoding.specs.Percent.{percent_decode}
-use Rattle.s3_terms.specs.Names.{is_bucket_name, key_fault, key_limit}
+use Rattle.s3_names.specs.Names.{is_bucket_name, key_fault, key_limit}
 use Rattle.s3_terms.specs.Fault.{first_fault, unless_refused, ◌>>=◌}
 use Rattle.s3_terms.specs.declared.code.Code.{Code}
 use Rattle.s3_terms.specs.declared.code.Code.TheVariants.{NotImplemented, MethodNotAllowed, InvalidBucketName, InvalidURI, KeyTooLongError}

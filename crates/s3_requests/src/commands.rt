@@ -1,5 +1,5 @@
+use s3_names::{BucketName, Key};
 use s3_segments::Payload;
-use s3_terms::{BucketName, Key};
 
 /// An operation with its arguments and the body that came with it: what takes a turn at the store.
 #[derive(Drop)]

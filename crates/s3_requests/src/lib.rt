@@ -5,8 +5,6 @@ mod commands;
 mod operations;
 mod plans;
 mod routing;
-#[cfg(test)]
-mod tests;
 
 pub use commands::Command;
 pub use plans::Plan;

@@ -1,4 +1,4 @@
-use s3_terms::{BucketName, Key};
+use s3_names::{BucketName, Key};
 
 /// What a head asks for, before the body is read: an operation with its arguments.
 #[derive(Drop)]

@@ -8,8 +8,9 @@ ghost use Rattle.s3_requests.specs.Stages as stages;
 use crate::operations::{Method, Operation, bucket_operation, key_operation, service_operation};
 use crate::{Command, Plan};
 use s3_http_heads::{Head, after_first, before_first};
+use s3_names::{BucketName, Key};
 use s3_segments::Payload;
-use s3_terms::{BucketName, Code, Key};
+use s3_terms::Code;
 use std::alloc::Global;
 
 /// The operation that a verified head asks for, with its bucket and its key (Amazon S3 User Guide,

@@ -46,18 +46,3 @@ impl Body {
         Ok(Body { bytes })
     }
 }
-
-#[cfg(test)]
-mod tests {
-    use super::Body;
-    use std::test::Fail;
-
-    #[test]
-    fn a_body_is_its_bytes(rt: HostRuntime) -> Result<(), Fail> {
-        let body = Body::new(b"hello".to_vec(rt.alloc())?);
-        let copy = body.copy(rt.alloc())?;
-        assert_eq!(rt; copy.size(), 5);
-        assert_eq!(rt; copy.as_slice(), b"hello".as_slice());
-        Ok(())
-    }
-}

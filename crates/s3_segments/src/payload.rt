@@ -2,7 +2,7 @@ ghost use Rattle.std.specs.Prelude.{◌≡◌, ℕ, List};
 ghost use Rattle.md5.specs.Md5.{md5};
 
 use crate::Body;
-use s3_terms::Tag;
+use s3_names::Tag;
 use std::marker::Model;
 
 /// The body of a message, once it has been read and found right, with the MD5 of its bytes. Contracts
@@ -45,24 +45,5 @@ impl Payload {
     {
         let Payload { body, digest: _ } = self;
         body
-    }
-}
-
-#[cfg(test)]
-mod tests {
-    use super::Payload;
-    use crate::Body;
-    use md5::{Digest, Md5};
-    use std::test::Fail;
-
-    // The MD5 is that of RFC 1321's test suite for "abc".
-    #[test]
-    fn a_payload_has_the_tag_of_its_bytes(rt: HostRuntime) -> Result<(), Fail> {
-        let body = Body::new(b"abc".to_vec(rt.alloc())?);
-        let digest = Md5::digest(body.as_slice());
-        let payload = Payload::new(body, digest);
-        assert_eq!(rt; payload.tag().text(), *b"900150983cd24fb0d6963f7d28e17f72");
-        assert_eq!(rt; payload.into_body().as_slice(), b"abc".as_slice());
-        Ok(())
     }
 }

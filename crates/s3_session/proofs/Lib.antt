@@ -4,3 +4,4 @@ pub mod StayLemmas
 pub mod VerdictLemmas
 pub mod SoundLemmas
 pub mod OutputLemmas
+pub mod TurnLemmas

@@ -1,7 +1,7 @@
 -- The bytes fix what a replay writes, where memory does not run out.
 use Rattle.std.proofs.Common.{◌≡◌, ℕ, suc, Bool, true, false, MatchBool, List, [], ◌∷◌, ◌++◌, map, sym, ap, subst, ◌∙◌, inl, inr}
 use Rattle.std.proofs.lemmas.Bool.{cases_Bool, MatchBool-at_true, MatchBool-at_false}
-use Rattle.s3_terms.specs.Settings.{Settings}
+use Rattle.s3_config.specs.Settings.{Settings}
 use Rattle.s3_terms.specs.declared.code.Code.{Code}
 use Rattle.s3_requests.specs.declared.commands.Command.{Command}
 use Rattle.s3_store.specs.Store.{State, opening, step}

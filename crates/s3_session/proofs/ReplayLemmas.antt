@@ -1,6 +1,6 @@
 -- A replay after some turns: what was answered and written, and how it may go on.
 use Rattle.std.proofs.Common.{◌≡◌, ℕ, ◌+◌, Bool, true, false, List, [], ◌∷◌, ◌++◌, map, length, refl, sym, ap, subst, ◌∙◌, append_assoc, append-nil, zero-add, arith, length-append, MatchBool}
-use Rattle.s3_terms.specs.Settings.{Settings}
+use Rattle.s3_config.specs.Settings.{Settings}
 use Rattle.s3_store.specs.Store.{State, opening, step}
 use Rattle.s3_store.specs.History.{Entry, Legal, IsAnswer, after, after_entry}
 use Rattle.s3_requests.specs.declared.commands.Command.{Command}

@@ -4,8 +4,8 @@ use Rattle.std.specs.Prelude.{not, nat_lt}
 use Rattle.std.specs.List.{AllByRecursion}
 use Rattle.std.proofs.lemmas.List.{take-append-drop, length-take-le, take_at, drop_at}
 use Rattle.std.proofs.lemmas.Bool.{cases_Bool, ltb-false, le-ltb, not-false}
-use Rattle.s3_terms.specs.Settings.{Settings}
-use Rattle.s3_terms.specs.Fault.{first_fault, unless_refused, ◌>>=◌}
+use Rattle.s3_config.specs.Settings.{Settings}
+use Rattle.s3_terms.specs.Fault.{first_fault, ◌>>=◌}
 use Rattle.s3_terms.specs.declared.code.Code.{Code}
 use Rattle.s3_terms.specs.declared.code.Code.TheVariants.{HeadTooLarge, MalformedHead}
 use Rattle.s3_http_heads.specs.Text.{found_in, skip_pairs}

@@ -1,6 +1,6 @@
 -- The same bytes have one verdict.
 use Rattle.std.proofs.Common.{◌≡◌, ℕ, Bool, List, sym, ap, ◌∙◌, inl, inr}
-use Rattle.s3_terms.specs.Settings.{Settings}
+use Rattle.s3_config.specs.Settings.{Settings}
 use Rattle.s3_http_heads.specs.Text.{found_in}
 use Rattle.s3_http_heads.specs.declared.find.Found.{Found}
 use Rattle.s3_http_heads.specs.declared.find.Found.TheVariants as found

@@ -1,7 +1,7 @@
 -- What a verdict on a connection's bytes says of them (RFC 9112, sections 2.1 and 6.2), and that the
 -- bytes fix what is written.
 use Rattle.std.specs.Prelude.{◌≡◌, IsTrue, ℕ, Bool, List, Ok}
-use Rattle.s3_terms.specs.Settings.{Settings}
+use Rattle.s3_config.specs.Settings.{Settings}
 use Rattle.s3_http_heads.specs.Parts.{HeadParts}
 use Rattle.s3_http_heads.specs.Message.{IsMessage}
 use Rattle.s3_requests.specs.declared.commands.Command.{Command}

@@ -5,7 +5,7 @@ use Rattle.std.specs.Str.{bytes_eq}
 use Rattle.hex.specs.Hex.{encode_lower}
 use Rattle.sha2.specs.Sha256.{sha256}
 use Rattle.s3_terms.specs.Fault.{first_fault, ◌>>=◌}
-use Rattle.s3_terms.specs.Settings.{Settings}
+use Rattle.s3_config.specs.Settings.{Settings}
 use Rattle.s3_terms.specs.declared.code.Code.{Code}
 use Rattle.s3_terms.specs.declared.code.Code.TheVariants.{NotImplemented, IncompleteBody, XAmzContentSHA256Mismatch, HeadTooLarge, MalformedHead}
 use Rattle.s3_http_heads.specs.Text.{found_in, skip_pairs}

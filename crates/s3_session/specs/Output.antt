@@ -1,6 +1,6 @@
 -- What a connection writes, as a relation on whole byte strings, and the commands that it brings.
 use Rattle.std.specs.Prelude.{◌≡◌, ℕ, ◌⊎◌, Bool, false, MatchBool, List, [], ◌∷◌, ◌++◌}
-use Rattle.s3_terms.specs.Settings.{Settings}
+use Rattle.s3_config.specs.Settings.{Settings}
 use Rattle.s3_terms.specs.declared.code.Code.{Code}
 use Rattle.s3_requests.specs.declared.commands.Command.{Command}
 use Rattle.s3_store.specs.declared.answer.Answer.{Answer}

@@ -2,7 +2,7 @@
 -- and its output.
 use Rattle.std.specs.Prelude.{◌≡◌, ℕ, Bool, true, false, MatchBool, List, [], ◌∷◌, map}
 use Rattle.std.specs.List.{AllByRecursion}
-use Rattle.s3_terms.specs.Settings.{Settings}
+use Rattle.s3_config.specs.Settings.{Settings}
 use Rattle.s3_requests.specs.declared.commands.Command.{Command}
 use Rattle.s3_store.specs.Store.{opening}
 use Rattle.s3_store.specs.History.{Entry, Legal}

@@ -1,6 +1,6 @@
 -- Verdicts are final: what was decided about a message stays decided, whatever bytes follow.
 use Rattle.std.specs.Prelude.{◌≢◌, ℕ, Bool, false, List, ◌++◌}
-use Rattle.s3_terms.specs.Settings.{Settings}
+use Rattle.s3_config.specs.Settings.{Settings}
 use Rattle.s3_session.specs.declared.verdict.Verdict.{Verdict}
 use Rattle.s3_session.specs.declared.verdict.Verdict.TheVariants as verdicts
 use Rattle.s3_session.specs.Message.{Judges}

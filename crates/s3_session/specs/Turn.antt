@@ -1,7 +1,8 @@
 -- One message of a replay: what it leaves in the store, and what it writes.
 -- Only clauses of private functions cite these, and nobody has to believe them.
-use Rattle.std.specs.Prelude.{◌≡◌, ℕ, true, List, ◌++◌, drop, length}
-use Rattle.s3_terms.specs.Settings.{Settings}
+use Rattle.std.specs.Prelude.{◌≡◌, ℕ, true, List, ◌++◌, drop, length, Result, Ok, Err}
+use Rattle.s3_config.specs.Settings.{Settings}
+use Rattle.s3_terms.specs.declared.memory.NoMemory.{NoMemory}
 use Rattle.s3_requests.specs.declared.commands.Command.{Command}
 use Rattle.s3_store.specs.Store.{State, step}
 use Rattle.s3_store.specs.declared.answer.Answer.{Answer}
@@ -31,6 +32,14 @@ IsAnswered settings moment number bytes old new context rest text =
     × Judges settings moment true bytes (verdicts.Sound context command, rest)
     × (new ≡ (step old moment command).0)
     × Prints (answer_of old moment number command) context text
+
+-- what came of the store's answer to a command, or of want of memory for it: these bytes come after
+-- the message
+abbrev pub IsReplied : Result Answer NoMemory → Context → List ℕ → Turn → List ℕ → Type 0
+IsReplied (Ok answer) context rest (turns.Answered replied after) text =
+    (replied ≡ context) × (after.now ≡ rest) × Prints answer context text
+IsReplied (Err e) context rest turns.Died text = text ≡ internal_error
+IsReplied answered context rest turn text = ⊥
 
 -- what one turn did: it found no more commands, or memory ran out, or a command was answered
 abbrev pub Turned : Settings → ℕ → ℕ → List ℕ → State → State → Turn → List ℕ → Type 0

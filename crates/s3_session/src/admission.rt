@@ -3,10 +3,12 @@ ghost use Rattle.s3_terms.specs.Fault.{Follows};
 ghost use Rattle.s3_session.specs.Message as rules;
 
 use crate::Admission;
+use s3_calendar::Moment;
+use s3_config::Config;
 use s3_http_heads::{Head, framing};
 use s3_requests::route;
 use s3_signing::{Verified, Word, verify_head};
-use s3_terms::{Code, Config, Moment};
+use s3_terms::Code;
 use std::alloc::Global;
 
 /// Judges a head that has been read: its framing, its signature, the word that stands for its body,

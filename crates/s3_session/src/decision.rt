@@ -1,15 +1,20 @@
-ghost use Rattle.std.specs.Prelude.{◌≡◌, ◌≤◌, IfOk, length, take, drop, []};
+ghost use Rattle.std.specs.Prelude.{◌≡◌, ◌≤◌, if◌then◌else◌, IfOk, length, take, drop, []};
 ghost use Rattle.s3_http_heads.specs.Text.{found_in, skip_pairs};
+ghost use Rattle.s3_http_heads.specs.Parts.{asks_head_only};
+ghost use Rattle.s3_requests.specs.Routing.{command_of};
 ghost use Rattle.s3_session.specs.Message as rules;
+ghost use Rattle.s3_session.specs.declared.verdict.Verdict.TheVariants as verdicts;
 
 use crate::admission::admit;
 use crate::{Admission, Verdict};
 use md5::Md5;
+use s3_calendar::Moment;
+use s3_config::Config;
 use s3_http_heads::{Found, Head, find_head, skipped, verdict_is_exact};
 use s3_replies::Context;
-use s3_requests::command;
+use s3_requests::{Command, Plan, command};
 use s3_segments::{Body, Payload};
-use s3_terms::{Code, Config, Moment, NoMemory};
+use s3_terms::{Code, NoMemory};
 use sha2::Sha256;
 use std::alloc::Global;
 
@@ -91,30 +96,72 @@ fn decide_body<'b>(
     ensures judged { IfOk result (λ d. (d.0, d.1.now) ≡ rules.body_decision head.now moment ended bytes.now admission) }
     ensures rest { IfOk result (λ d. rules.EndsOrGoesOn d.0 d.1.now) }
 {
-    let head_only = head.asks_head_only();
     if (bytes.len() as u64) < admission.size {
-        let verdict = if ended {
-            refusal(Code::IncompleteBody, moment, head_only)
-        } else {
-            Verdict::Open
-        };
+        let verdict = verdict_on_part(ended, moment, head.asks_head_only());
         return Ok((verdict, &[]));
     }
     let (body, rest) = bytes.split_at(admission.size as usize);
+    decide_whole(alloc, head, admission, body, rest, moment)
+}
+
+// The same, once the body is whole: these bytes come after it.
+fn decide_whole<'b>(
+    alloc: Global,
+    head: &Head,
+    admission: Admission,
+    body: &[u8],
+    rest: &'b [u8],
+    moment: Moment,
+) -> Result<(Verdict, &'b [u8]), NoMemory>
+    ensures judged { IfOk result (λ d. (d.0, d.1.now) ≡ (if rules.meets admission.word body.now
+        then (verdicts.Sound (rules.context_of head.now moment) (command_of admission.plan body.now), rest.entry.now)
+        else rules.refused_message Code.XAmzContentSHA256Mismatch moment (asks_head_only head.now))) }
+{
     if !meets(&admission.word, body) {
-        return Ok((
-            refusal(Code::XAmzContentSHA256Mismatch, moment, head_only),
-            &[],
-        ));
+        let head_only = head.asks_head_only();
+        let verdict = refusal(Code::XAmzContentSHA256Mismatch, moment, head_only);
+        return Ok((verdict, &[]));
     }
-    let payload = payload_of(alloc, body)?;
+    let verdict = sound_verdict(alloc, head, admission.plan, body, moment)?;
+    Ok((verdict, rest))
+}
+
+// The verdict on a message whose body is not whole.
+fn verdict_on_part(ended: bool, moment: Moment, head_only: bool) -> Verdict
+    ensures { (result, []) ≡ (if ended then rules.refused_message Code.IncompleteBody moment head_only else rules.open_yet) }
+{
+    if ended {
+        refusal(Code::IncompleteBody, moment, head_only)
+    } else {
+        Verdict::Open
+    }
+}
+
+// The verdict on a message that is whole and right.
+fn sound_verdict(
+    alloc: Global,
+    head: &Head,
+    plan: Plan,
+    body: &[u8],
+    moment: Moment,
+) -> Result<Verdict, NoMemory>
+    ensures { IfOk result (λ verdict. verdict ≡ verdicts.Sound (rules.context_of head.now moment) (command_of plan body.now)) }
+{
     let context = Context {
         moment,
-        head_only,
+        head_only: head.asks_head_only(),
         closes: head.closes(),
     };
-    let command = command(admission.plan, payload);
-    Ok((Verdict::Sound { context, command }, rest))
+    let command = command_with(alloc, plan, body)?;
+    Ok(Verdict::Sound { context, command })
+}
+
+// The command of an operation and this body.
+fn command_with(alloc: Global, plan: Plan, body: &[u8]) -> Result<Command, NoMemory>
+    ensures { IfOk result (λ asked. asked ≡ command_of plan body.now) }
+{
+    let payload = payload_of(alloc, body)?;
+    Ok(command(plan, payload))
 }
 
 // A refusal of the connection, which ends it.

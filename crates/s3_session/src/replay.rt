@@ -3,9 +3,11 @@ ghost use Rattle.s3_store.specs.Store.{opening};
 ghost use Rattle.s3_session.specs.Replay.{Replays};
 
 use crate::turn::{Turn, take_turn};
+use s3_calendar::Moment;
+use s3_config::Config;
 use s3_replies::internal_error_reply;
 use s3_store::{Store, one_more_entry};
-use s3_terms::{Config, Moment, NoMemory};
+use s3_terms::NoMemory;
 use std::alloc::Global;
 
 /// Replays one connection, whose bytes come in one piece and then end, over a store with the opening

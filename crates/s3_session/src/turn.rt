@@ -1,16 +1,18 @@
 ghost use Rattle.std.specs.Prelude.{◌≡◌, ◌++◌, ◌⊎◌, IfOk, OnOk, vec_len};
 ghost use Rattle.s3_replies.specs.Replies.{Prints, body_of, internal_error};
-ghost use Rattle.s3_session.specs.Turn.{IsLonger, added, Turned};
+ghost use Rattle.s3_session.specs.Turn.{IsLonger, added, IsReplied, Turned};
 
 use crate::Verdict;
 use crate::decision::decide;
+use s3_calendar::Moment;
+use s3_config::Config;
 use s3_replies::{Context, head_of, internal_error_reply, refusal};
 use s3_store::{Answer, Outcome, Store};
-use s3_terms::{Config, Moment, NoMemory};
+use s3_terms::NoMemory;
 use std::alloc::Global;
 
 /// What came of one turn of a replay.
-#[derive(Clone, Copy, Debug)]
+#[derive(Clone, Copy)]
 pub(crate) enum Turn<'b> {
     /// The bytes bring no more commands.
     Ended,
@@ -44,14 +46,29 @@ pub(crate) fn take_turn<'b>(
             out.extend_from_slice(refusal(code, &context).as_slice())?;
             Ok(Turn::Ended)
         }
-        Verdict::Sound { context, command } => match store.apply(alloc, command, moment, number) {
-            Ok(answer) => {
-                write_answer(out, &answer, &context)?;
-                Ok(Turn::Answered { context, rest })
-            }
-            Err(NoMemory) => die(out),
-        },
+        Verdict::Sound { context, command } => {
+            let answered = store.apply(alloc, command, moment, number);
+            reply_with(out, answered, context, rest)
+        }
     }
+}
+
+// Writes the reply to what the store answered, if it answered. These bytes come after its message.
+fn reply_with<'b>(
+    out: &mut Vec<u8>,
+    answered: Result<Answer, NoMemory>,
+    context: Context,
+    rest: &'b [u8],
+) -> Result<Turn<'b>, NoMemory>
+    ensures longer { OnOk result (IsLonger out.old.items out.new.items) }
+    ensures replied { IfOk result (λ turn. IsReplied answered context rest.entry.now turn
+        (added out.old.items out.new.items)) }
+{
+    let Ok(answer) = answered else {
+        return die(out);
+    };
+    write_answer(out, &answer, &context)?;
+    Ok(Turn::Answered { context, rest })
 }
 
 // Writes what stands for a reply where memory ran out.

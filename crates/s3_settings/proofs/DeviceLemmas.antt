@@ -1,8 +1,8 @@
 -- What devices tell over several calls.
-use Rattle.std.proofs.Common.{◌≡◌, ◌∙◌, ℕ, List, ◌++◌, length, take, drop, Some, None, codes, ◌-◌, ◌≤◌, [], ◌∷◌, Option, Result, Ok, Err, sym, ap, subst, arith, append_assoc, append-nil, take-append-drop}
+use Rattle.std.proofs.Common.{◌≡◌, ◌∙◌, ℕ, List, ◌++◌, length, take, drop, Some, None, codes, ◌-◌, [], ◌∷◌, Option, Result, Ok, Err, sym, ap, arith, append_assoc, append-nil, take-append-drop}
 use Rattle.std.proofs.lemmas.List.{take_all, take_rest}
-use Rattle.std.proofs.KnownBytes.{Appends-kept, Appends-trans}
-use Rattle.std.proofs.Math.Seq.{take-append_seam, take-append-add}
+use Rattle.std.proofs.KnownBytes.{Appends-trans}
+use Rattle.std.proofs.Math.Seq.{take-append-add}
 use Rattle.std.proofs.lemmas.List.{length-append, take-append-le}
 use Rattle.std.proofs.Transfers.{starts_with_length}
 use Rattle.std.specs.Prelude.{OnOk, OnErr}
@@ -27,14 +27,6 @@ pub ruleset kept = (nothing_taken, zero_kept)
 pub whole_taken : (before after : Option (List ℕ)) (bytes : List ℕ) → Appends before after bytes → AppendsBeginning before after bytes
 whole_taken before after bytes a = record { taken = bytes; first = take_all (length bytes) bytes (omega arith); gained = a }
 
--- what a device took stays
-pub beginning_kept : (before between after : Option (List ℕ)) (bytes : List ℕ) → Appends before between bytes → Keeps between after → AppendsBeginning before after bytes
-beginning_kept before between after bytes a k = whole_taken before after bytes (Appends-kept before between after bytes a k)
-
--- bytes that were taken before others are a beginning
-pub beginning_taken : (before after : Option (List ℕ)) (bytes done left : List ℕ) → bytes ≡ done ++ left → Appends before after done → AppendsBeginning before after bytes
-beginning_taken before after bytes done left e a = record { taken = done; first = ap (take (length done)) e ∙ take-append_seam done left; gained = a }
-
 -- one write more
 pub more_taken : (before between after : Option (List ℕ)) (bytes done left : List ℕ) (count : ℕ) → bytes ≡ done ++ left → Appends before between done → Appends between after (take count left) → (more : List ℕ) × (bytes ≡ more ++ take (length left - count) (drop count left)) × Appends before after more
 more_taken before between after bytes done left count e a b =
@@ -43,8 +35,6 @@ more_taken before between after bytes done left count e a b =
       e ∙ ap (λ (l : List ℕ). done ++ l) (sym (take-append-drop count left)) ∙ sym (append_assoc done (take count left) (drop count left)) ∙ ap (λ (l : List ℕ). (done ++ take count left) ++ l) (sym rest),
       Appends-trans before between after done (take count left) a b,
     )
-
-pub ruleset devices = (whole_taken, beginning_kept, beginning_taken, Appends-kept)
 
 -- a beginning of what follows some bytes is one of all
 starts_further : (front bytes taken : List ℕ) → StartsWith bytes taken → StartsWith (front ++ bytes) (front ++ taken)
@@ -62,7 +52,16 @@ pub part_of_more : (before between after : Option (List ℕ)) (first more : List
 part_of_more before between after first more a b =
     record { taken = first ++ b.taken; first = starts_further first more b.taken b.first; gained = Appends-trans before between after first b.taken a b.gained }
 
-pub ruleset pieces = (part_of_first, part_of_more, Appends-trans)
+-- the same by what the call for the other piece answered
+pub told_after : {T E : Type 0} (r : Result T E) (before between after : Option (List ℕ)) (first more : List ℕ)
+    → Appends before between first → OnOk r (Appends between after more) → OnOk r (Appends before after (first ++ more))
+told_after (Ok x) before between after first more a b = Appends-trans before between after first more a b
+told_after (Err e) before between after first more a b = tt
+
+pub part_after : {T E : Type 0} (r : Result T E) (before between after : Option (List ℕ)) (first more : List ℕ)
+    → Appends before between first → OnErr r (AppendsBeginning between after more) → OnErr r (AppendsBeginning before after (first ++ more))
+part_after (Ok x) before between after first more a b = tt
+part_after (Err e) before between after first more a b = part_of_more before between after first more a b
 
 -- a device that failed or not gained a beginning
 pub either_taken : {T E : Type 0} (r : Result T E) (before after : Option (List ℕ)) (bytes : List ℕ) → OnOk r (Appends before after bytes) → OnErr r (AppendsBeginning before after bytes) → AppendsBeginning before after bytes

@@ -10,7 +10,7 @@ use Rattle.std.proofs.lemmas.List.Elements.{All-from_get_or}
 use Rattle.std.proofs.lemmas.Bool.Decides.{nat_tests}
 use Rattle.std.proofs.lemmas.Bool.{eqb-true}
 use Rattle.std.proofs.lemmas.List.{map-append, length-map, take-map, take-append-le}
-use Rattle.s3_terms.specs.Settings.{Credentials, are_credentials, all_different}
+use Rattle.s3_config.specs.Settings.{Credentials, are_credentials, all_different}
 use Rattle.s3_settings.specs.declared.fault.Fault.{Fault}
 use Rattle.s3_settings.specs.declared.fault.Fault.TheVariants.{BadKeysLine}
 use Rattle.s3_settings.specs.Fault.{MemoryOr}

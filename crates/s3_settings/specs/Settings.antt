@@ -1,9 +1,9 @@
 -- What the options on the settings say, and the settings that they and the keys file make.
 use Rattle.std.specs.Prelude.{◌≡◌, ⊤, ℕ, Bool, true, false, IsTrue, ◌&&◌, nat_le, if◌then◌else◌, List, Option, Some, None, is_some, IfSome, option_map, option_to_list}
-use Rattle.s3_terms.specs.Digits.{decimal_number}
-use Rattle.s3_terms.specs.Names.{is_bucket_name}
-use Rattle.s3_terms.specs.Moment.{last_moment}
-use Rattle.s3_terms.specs.Settings.{Settings, Credentials, are_settings}
+use Rattle.s3_text.specs.Digits.{decimal_number}
+use Rattle.s3_names.specs.Names.{is_bucket_name}
+use Rattle.s3_calendar.specs.Moment.{last_moment}
+use Rattle.s3_config.specs.Settings.{Settings, Credentials, are_settings}
 use Rattle.s3_settings.specs.declared.fault.Fault.{Fault}
 use Rattle.s3_settings.specs.declared.fault.Fault.TheVariants.{CannotRead, BadKeysLine, BadSetting, OutOfMemory}
 use Rattle.s3_settings.specs.declared.options.Options.{Options}

@@ -39,7 +39,6 @@ pub fn read_input<'a, R: Read>(alloc: Global, input: &mut R) -> Result<Vec<u8>, 
 
 /// Writes all of the bytes and flushes them. `OutputFailed` where the device fails, which has then
 /// taken a beginning of them.
-#[tactic(auto, using(crate::proofs::DeviceLemmas::devices))]
 pub fn write_output<'a, W: Write>(output: &mut W, bytes: &[u8]) -> Result<(), Fault<'a>>
     ensures written { OnOk result (Appends (W.contents output.old) (W.contents output.new) bytes.now) }
     ensures refused { IfErr result (λ fault. fault ≡ Fault.OutputFailed) }
@@ -51,7 +50,6 @@ pub fn write_output<'a, W: Write>(output: &mut W, bytes: &[u8]) -> Result<(), Fa
 
 /// Writes all of the bytes, or a beginning of them where the device fails. `write_all` of the device
 /// itself does not say what it took before it failed.
-#[tactic(auto, using(crate::proofs::DeviceLemmas::devices))]
 pub(crate) fn write_bytes<W: Write>(output: &mut W, bytes: &[u8]) -> io::Result<()>
     ensures written { OnOk result (Appends (W.contents output.old) (W.contents output.new) bytes.now) }
     ensures part { OnErr result (AppendsBeginning (W.contents output.old) (W.contents output.new) bytes.now) }

@@ -13,7 +13,7 @@ use std::io::{self, Write};
 
 /// Why the program ends with status 1. Its text is what the line on the standard error says after
 /// `s3d: `.
-#[derive(Clone, Copy, Debug, PartialEq, Eq)]
+#[derive(Clone, Copy, PartialEq, Eq)]
 pub enum Fault<'a> {
     /// The file at this path could not be read.
     CannotRead(&'a str),
@@ -59,7 +59,6 @@ impl<'a> Fault<'a> {
 }
 
 /// Writes four texts, one after the other.
-#[tactic(auto, using(crate::proofs::DeviceLemmas::pieces))]
 fn write_four<E: Write>(
     errors: &mut E,
     first: &[u8],
@@ -77,7 +76,6 @@ fn write_four<E: Write>(
 }
 
 /// Writes one text and then the other.
-#[tactic(auto, using(crate::proofs::DeviceLemmas::pieces))]
 fn write_both<E: Write>(errors: &mut E, first: &[u8], second: &[u8]) -> io::Result<()>
     ensures told { OnOk result (Appends (E.contents errors.old) (E.contents errors.new) (first.now ++ second.now)) }
     ensures part { OnErr result (AppendsBeginning (E.contents errors.old) (E.contents errors.new) (first.now ++ second.now)) }

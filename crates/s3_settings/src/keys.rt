@@ -4,7 +4,7 @@ ghost use Rattle.s3_settings.specs.Fault.{MemoryOr};
 ghost use Rattle.s3_settings.specs.declared.fault.Fault.TheVariants.{BadKeysLine};
 
 use crate::fault::Fault;
-use s3_terms::Credential;
+use s3_config::Credential;
 use std::alloc::{AllocError, Global};
 
 /// The credentials that a keys file of this text says, in its order. A line is an id, one space, and

@@ -1,14 +1,18 @@
-ghost use Rattle.std.specs.Prelude.{◌≡◌, true, false, IfOk, IfErr, OnOk, IsTrue, option_map, option_to_list};
-ghost use Rattle.s3_terms.specs.Settings.{are_settings, is_region, is_region_byte};
+ghost use Rattle.std.specs.Prelude.{◌≡◌, true, false, Some, None, IfSome, IfOk, IfErr, OnOk, IsTrue, option_map, option_to_list};
+ghost use Rattle.s3_config.specs.Settings.{are_settings, is_region, is_region_byte};
 ghost use Rattle.s3_settings.specs.Fault.{MemoryOr};
-ghost use Rattle.s3_settings.specs.Settings.{option_number, option_moment, is_bucket_option, are_options, IsSetupOf, settings_of, IsConfigured, IsConfigFault};
+ghost use Rattle.s3_settings.specs.Settings.{option_number, option_moment, is_bucket_option, are_options, IsSetupOf, HasKeys, settings_of, IsConfigured, IsConfigFault};
 
 use crate::devices::read_file;
 use crate::fault::Fault;
 use crate::files::Files;
 use crate::keys::read_keys;
 use crate::options::Options;
-use s3_terms::{BucketName, Code, Config, Credential, Moment, decimal_number};
+use s3_calendar::Moment;
+use s3_config::{Config, Credential};
+use s3_names::BucketName;
+use s3_terms::Code;
+use s3_text::decimal_number;
 use std::alloc::{AllocError, Global};
 
 /// The most digits of a number.
@@ -38,19 +42,27 @@ impl<'a> Setup<'a> {
         ensures value { IfOk result (IsSetupOf options.now) }
         ensures refused { IfErr result (MemoryOr Fault.BadSetting (are_options options.now ≡ false)) }
     {
-        let keys = options.keys.ok_or(Fault::BadSetting)?;
-        let min_part = number(options.min_part).ok_or(Fault::BadSetting)?;
-        let body_limit = number(options.body_limit).ok_or(Fault::BadSetting)?;
-        let moment = moment(options.moment).ok_or(Fault::BadSetting)?;
+        let Some(parts) = fixed_parts(options) else {
+            return Err(Fault::BadSetting);
+        };
         let bucket = bucket(alloc, options.bucket)?;
         Ok(Setup {
-            keys,
+            keys: parts.keys,
             region: options.region,
-            min_part,
-            body_limit,
+            min_part: parts.min_part,
+            body_limit: parts.body_limit,
             bucket,
-            moment,
+            moment: parts.moment,
         })
+    }
+
+    /// The keys that the keys file says.
+    fn read_keys<F: Files>(&self, alloc: Global, files: &F) -> Result<Vec<Credential>, Fault<'a>>
+        ensures value { IfOk result (λ keys. HasKeys (F.known files.now self.now.keys.now) keys.items) }
+        ensures refused { IfErr result (IsConfigFault (F.known files.now self.now.keys.now) self.now) }
+    {
+        let text = read_file(alloc, files, self.keys)?;
+        read_keys(alloc, text.as_slice())
     }
 
     /// The settings that these options and keys make; `BadSetting` where no server accepts them.
@@ -74,9 +86,34 @@ pub fn configure<'a, F: Files>(
     ensures value { IfOk result (IsConfigured (F.known files.now setup.entry.keys.now) setup.entry) }
     ensures refused { IfErr result (IsConfigFault (F.known files.now setup.entry.keys.now) setup.entry) }
 {
-    let text = read_file(alloc, files, setup.keys)?;
-    let keys = read_keys(alloc, text.as_slice())?;
+    let keys = setup.read_keys(alloc, files)?;
     setup.into_config(alloc, keys)
+}
+
+/// What a setup has that takes no memory.
+#[derive(Clone, Copy)]
+struct FixedParts<'a> {
+    keys: &'a str,
+    min_part: u64,
+    body_limit: u64,
+    moment: Moment,
+}
+
+/// The parts that options say and that take no memory, if each of these options is there and of its form.
+#[tactic(auto, unfolding(crate::specs::Settings::are_options))]
+fn fixed_parts<'a>(options: &Options<'a>) -> Option<FixedParts<'a>>
+    ensures value { IfSome result (λ parts. (option_map (λ path. path.now) options.now.keys ≡ Some parts.keys.now)
+        × (option_number options.now.min_part.now ≡ Some parts.min_part)
+        × (option_number options.now.body_limit.now ≡ Some parts.body_limit)
+        × (option_moment (option_map (λ text. text.now) options.now.moment) ≡ Some parts.moment)) }
+    ensures refused { result ≡ None → are_options options.now ≡ false }
+{
+    Some(FixedParts {
+        keys: options.keys?,
+        min_part: number(options.min_part)?,
+        body_limit: number(options.body_limit)?,
+        moment: moment(options.moment)?,
+    })
 }
 
 /// A list of the name that is there.

@@ -11,12 +11,12 @@ use Rattle.std.proofs.lemmas.List.Folds.{list_all-append}
 use Rattle.hex.specs.Hex.{encode_lower}
 use Rattle.sha2.specs.Sha256.{sha256}
 use Rattle.httparse.specs.Grammar.{is_value_byte}
-use Rattle.s3_terms.specs.Names.{is_lower_hex}
+use Rattle.s3_text.specs.Characters.{is_lower_hex}
 use Rattle.s3_http_heads.specs.Parts.{HeadParts}
 use Rattle.s3_signing.specs.Signature.{signature_of}
 use Rattle.s3_signing.proofs.DigestLemmas.{digest_parts, sha256_text, signature_text}
 use Rattle.s3_signing.proofs.OrderLemmas.{all_weaker}
-use Rattle.s3_terms.specs.Moment.{is_stamp, is_stamp_date, is_stamp_form, is_stamp_time}
+use Rattle.s3_calendar.specs.Moment.{is_stamp, is_stamp_date, is_stamp_form, is_stamp_time}
 
 -- ---- digits
 

@@ -13,7 +13,7 @@ use Rattle.std.proofs.lemmas.Str.{IsUtf8-from_is_utf8}
 use Rattle.std.proofs.lemmas.Str.Ascii.{lowercase_is}
 use Rattle.httparse.specs.Grammar.{IsField, IsRequestHead, RequestHead, IsToken, is_token, is_token_byte, is_value_byte, print_request}
 use Rattle.s3_http_heads.specs.Parts.{HeadParts, IsHead, parts_of}
-use Rattle.s3_terms.specs.Moment.{is_stamp}
+use Rattle.s3_calendar.specs.Moment.{is_stamp}
 use Rattle.s3_signing.specs.Signing.{authorization_text}
 use Rattle.s3_signing.proofs.OrderLemmas.{all_weaker}
 use Rattle.s3_signer.specs.Request.{HeaderLine, added_lines, body_limit, field_of, hash_line, head_of, is_signable, length_line, line_cmp, lower_line, may_be_given, is_own_name, request_text, stamp_line, tells_length, unsigned_head, unsigned_lines}

@@ -12,7 +12,7 @@ use Rattle.std.proofs.lemmas.List.Folds.{list_all-append, list_all-map}
 use Rattle.std.proofs.lemmas.Simd.{map-map}
 use Rattle.httparse.specs.Grammar.{print_field, print_request}
 use Rattle.httparse.specs.Spans.{name_and_value}
-use Rattle.s3_terms.specs.Names.{byte_order}
+use Rattle.s3_text.specs.Order.{byte_order}
 use Rattle.s3_http_heads.specs.Parts.{HeadParts, parts_of}
 use Rattle.s3_http_heads.proofs.NameLemmas.{list_any-map}
 use Rattle.s3_canonical.specs.Sorting.{sorted_by}

@@ -10,7 +10,7 @@ use Rattle.std.proofs.lemmas.Bool.{and_parts, cases_Bool, cond-true, cond-false,
 use Rattle.std.proofs.lemmas.Cmp.{nat_list_cmp_total, tied_itself}
 use Rattle.std.proofs.lemmas.List.Folds.{list_any-append}
 use Rattle.std.proofs.lemmas.Slice.Eq.{bytes_eq-Decides}
-use Rattle.s3_terms.specs.Names.{byte_order}
+use Rattle.s3_text.specs.Order.{byte_order}
 use Rattle.s3_canonical.specs.Sorting.{sorted_by}
 use Rattle.s3_canonical.proofs.SortedLemmas.{IsCount, count-sorted_by}
 use Rattle.s3_signing.specs.Authorization.{rises}

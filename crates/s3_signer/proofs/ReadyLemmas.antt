@@ -6,7 +6,7 @@ use Rattle.std.proofs.lemmas.Bool.{and_parts, cases_Bool, cond-true, cond-false,
 use Rattle.std.proofs.lemmas.List.Folds.{list_all-map, list_any-append}
 use Rattle.httparse.specs.Grammar.{is_token, is_value_byte, trim_ows}
 use Rattle.httparse.specs.Spans.{name_and_value}
-use Rattle.s3_terms.specs.Moment.{is_stamp}
+use Rattle.s3_calendar.specs.Moment.{is_stamp}
 use Rattle.s3_http_heads.specs.Parts.{is_named, is_sent, parts_of, values_of}
 use Rattle.s3_http_heads.proofs.NameLemmas.{list_any-map}
 use Rattle.s3_canonical.specs.Sorting.{sorted_by}

@@ -11,8 +11,8 @@ use Rattle.std.proofs.lemmas.List.Elements.{filter-append}
 use Rattle.std.proofs.lemmas.List.Folds.{list_all-append}
 use Rattle.httparse.specs.Grammar.{is_token, is_token_byte, is_value_byte}
 use Rattle.httparse.specs.Spans.{name_and_value}
-use Rattle.s3_terms.specs.Names.{is_lower_hex}
-use Rattle.s3_terms.specs.Moment.{is_stamp}
+use Rattle.s3_text.specs.Characters.{is_lower_hex}
+use Rattle.s3_calendar.specs.Moment.{is_stamp}
 use Rattle.s3_http_heads.specs.Parts.{HeadParts, is_named, parts_of, values_of}
 use Rattle.s3_http_heads.specs.Framing.{announced, is_count_once}
 use Rattle.s3_signing.specs.Signature.{signature_of}

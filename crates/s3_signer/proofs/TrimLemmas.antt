@@ -11,8 +11,8 @@ use Rattle.std.proofs.lemmas.List.Folds.{list_all-append}
 use Rattle.hex.specs.Hex.{encode_lower}
 use Rattle.sha2.specs.Sha256.{sha256}
 use Rattle.httparse.specs.Grammar.{is_ows, skip_ows, trim_ows}
-use Rattle.s3_terms.specs.Names.{is_lower_hex}
-use Rattle.s3_terms.specs.Moment.{is_stamp}
+use Rattle.s3_text.specs.Characters.{is_lower_hex}
+use Rattle.s3_calendar.specs.Moment.{is_stamp}
 use Rattle.s3_http_heads.specs.Parts.{HeadParts}
 use Rattle.s3_signing.specs.Signature.{signature_of}
 use Rattle.s3_signing.specs.Signing.{authorization_text, credential_text, signed_by}

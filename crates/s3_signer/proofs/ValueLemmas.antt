@@ -11,7 +11,7 @@ use Rattle.std.proofs.lemmas.Str.Ascii.{lowercase-lowercase}
 use Rattle.std.proofs.lemmas.Simd.{map-map}
 use Rattle.httparse.specs.Grammar.{trim_ows}
 use Rattle.httparse.specs.Spans.{name_and_value}
-use Rattle.s3_terms.specs.Names.{byte_order}
+use Rattle.s3_text.specs.Order.{byte_order}
 use Rattle.s3_http_heads.specs.Parts.{is_named, parts_of, values_of}
 use Rattle.s3_canonical.specs.Sorting.{sorted_by}
 use Rattle.s3_signer.specs.Request.{HeaderLine, added_lines, field_of, hash_line, head_of, length_line, line_cmp, lower_line, stamp_line, tells_length, unsigned_lines}

@@ -5,7 +5,7 @@ use Rattle.std.proofs.lemmas.Bool.{and_from, leb-true, ltb-true}
 use Rattle.std.proofs.lemmas.List.{length-map}
 use Rattle.std.proofs.lemmas.List.Folds.{list_all-append}
 use Rattle.httparse.specs.Grammar.{is_token_byte, print_request}
-use Rattle.s3_terms.specs.Moment.{is_stamp}
+use Rattle.s3_calendar.specs.Moment.{is_stamp}
 use Rattle.s3_http_heads.specs.Text.{head_limit}
 use Rattle.s3_http_heads.specs.Parts.{HeadParts, parts_of}
 use Rattle.s3_http_heads.specs.Framing.{announced, is_count_once}

@@ -9,7 +9,7 @@ use Rattle.std.specs.Borrow.{Bor}
 use Rattle.hex.specs.Hex.{encode_lower}
 use Rattle.sha2.specs.Sha256.{sha256}
 use Rattle.httparse.specs.Grammar.{Field, RequestHead, crlf, is_token, is_uri_byte, is_value_byte, print_request}
-use Rattle.s3_terms.specs.Names.{byte_order}
+use Rattle.s3_text.specs.Order.{byte_order}
 use Rattle.s3_http_heads.specs.Text.{head_limit}
 use Rattle.s3_http_heads.specs.Parts.{is_named, line_limit, parts_of}
 use Rattle.s3_canonical.specs.Sorting.{sorted_by}

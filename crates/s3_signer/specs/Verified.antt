@@ -1,8 +1,8 @@
 -- What a signed request proves to a server (AWS Signature Version 4, "Add the signature to the
 -- request").
 use Rattle.std.specs.Prelude.{◌≡◌, ℕ, true, false, List, [], Ok}
-use Rattle.s3_terms.specs.Settings.{Settings}
-use Rattle.s3_terms.specs.Moment.{stamp_seconds}
+use Rattle.s3_config.specs.Settings.{Settings}
+use Rattle.s3_calendar.specs.Moment.{stamp_seconds}
 use Rattle.s3_http_heads.specs.Parts.{HeadParts, parts_of}
 use Rattle.s3_http_heads.specs.Message.{IsMessage}
 use Rattle.s3_signing.specs.Signed.{Knows, proved_by_signer}

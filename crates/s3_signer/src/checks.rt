@@ -1,7 +1,6 @@
 //! Whether the parts of a request are such that it can be signed.
 
 ghost use Rattle.std.specs.Prelude.{◌≡◌, ℕ, List, true, codes, filter, if◌then◌else◌, length, nat_lt};
-ghost use Rattle.std.specs.Str.{is_utf8};
 ghost use Rattle.std.specs.List.{list_all};
 ghost use Rattle.httparse.specs.Grammar.{is_uri_byte};
 ghost use Rattle.s3_http_heads.specs.Parts.{is_named, line_limit};
@@ -12,16 +11,10 @@ use crate::size::{is_small, same_name};
 use httparse::{is_header_value, is_token, is_uri_token};
 use s3_canonical::is_readable;
 use s3_http_heads::LINE_LIMIT;
+use s3_text::is_text;
 
 // The least size of a body that Content-Length cannot tell in 18 digits.
 const BODY_LIMIT: usize = 1_000_000_000_000_000_000;
-
-// Whether the bytes are UTF-8.
-fn is_text(bytes: &[u8]) -> bool
-    ensures { result ≡ is_utf8 bytes.now }
-{
-    str::from_utf8(bytes).is_ok()
-}
 
 // Whether all bytes may stand in a target.
 fn is_visible(target: &[u8]) -> bool

@@ -7,7 +7,5 @@ mod line;
 mod lines;
 mod request;
 mod size;
-#[cfg(test)]
-mod tests;
 
 pub use request::{is_signable, signed_request};

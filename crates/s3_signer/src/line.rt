@@ -3,7 +3,7 @@
 ghost use Rattle.std.specs.Prelude.{◌≡◌, ◌≤◌, ◌++◌, IfOk, OnOk, length, not};
 ghost use Rattle.std.specs.List.{position_or_len};
 ghost use Rattle.std.specs.Ordering.{is_gt};
-ghost use Rattle.s3_terms.specs.Names.{byte_order};
+ghost use Rattle.s3_text.specs.Order.{byte_order};
 ghost use Rattle.httparse.specs.Grammar.{print_field};
 ghost use Rattle.s3_canonical.specs.Sorting.{insert_by};
 ghost use Rattle.s3_signer.specs.Line.{pair, pairs};

@@ -2,7 +2,7 @@
 
 ghost use Rattle.std.specs.Prelude.{◌≡◌, ◌∷◌, ◌++◌, [], ℕ, List, true, codes, IfOk};
 ghost use Rattle.httparse.specs.Grammar.{RequestHead, print_request};
-ghost use Rattle.s3_terms.specs.Moment.{is_stamp};
+ghost use Rattle.s3_calendar.specs.Moment.{is_stamp};
 ghost use Rattle.s3_http_heads.specs.Parts.{IsHead, parts_of};
 ghost use Rattle.s3_signer.specs.Line.{pairs};
 ghost use Rattle.s3_signer.specs.Request.{given_lines, head_of, is_signable, request_text, unsigned_head, unsigned_lines};
@@ -12,9 +12,10 @@ use crate::checks::{are_given_lines, are_value_texts, is_request_line, keeps_lim
 use crate::head_text::head_text;
 use crate::line::Line;
 use crate::lines::unsigned_lines;
+use s3_calendar::Stamp;
 use s3_http_heads::Head;
 use s3_signing::sign_head;
-use s3_terms::{NoMemory, Stamp};
+use s3_terms::NoMemory;
 use std::alloc::{AllocError, Global};
 
 /// Whether [`signed_request`] may be called with these parts, under any secret:

@@ -9,7 +9,7 @@ use Rattle.hex.specs.Hex.{encode_with, encode_lower, lower_digits}
 use Rattle.hex.proofs.HexLemmas.{length-encode_with}
 use Rattle.sha2.specs.Sha256.{sha256, digest_bytes}
 use Rattle.sha2.proofs.Facts256.{length-sha256}
-use Rattle.s3_terms.specs.Names.{is_lower_hex}
+use Rattle.s3_text.specs.Characters.{is_lower_hex}
 use Rattle.s3_hmac.specs.Hmac.{hmac}
 use Rattle.s3_http_heads.specs.Parts.{HeadParts}
 use Rattle.s3_signing.specs.Authorization.{is_hex_digest}

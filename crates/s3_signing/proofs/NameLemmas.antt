@@ -10,7 +10,7 @@ use Rattle.std.proofs.lemmas.List.Elements.{filter-append}
 use Rattle.std.proofs.lemmas.List.Sorted.{IsPermutation-map}
 use Rattle.std.proofs.lemmas.Map.Lookups.{exact_bytes}
 use Rattle.std.proofs.lemmas.Option.{get_or_from_slice_get, slice_get_within}
-use Rattle.s3_terms.specs.Names.{byte_order}
+use Rattle.s3_text.specs.Order.{byte_order}
 use Rattle.s3_canonical.specs.Sorting.{sorted_by}
 use Rattle.s3_canonical.proofs.SortingLemmas.{sorted_by-unique, IsSorted-map}
 use Rattle.s3_signing.specs.declared.names.Name.{Name}

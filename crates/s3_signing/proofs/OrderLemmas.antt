@@ -12,7 +12,7 @@ use Rattle.std.proofs.lemmas.List.Sums.{AllPass-from_list_all, list_all-from_All
 use Rattle.std.proofs.lemmas.Cmp.{nat_list_cmp_total, nat_list_eq_equiv}
 use Rattle.std.proofs.lemmas.Map.Lookups.{exact_bytes}
 use Rattle.std.proofs.lemmas.Slice.Eq.{bytes_eq-Decides}
-use Rattle.s3_terms.specs.Names.{byte_order}
+use Rattle.s3_text.specs.Order.{byte_order}
 use Rattle.s3_canonical.specs.Sorting.{insert_by, sorted_by}
 use Rattle.s3_canonical.proofs.SortedLemmas.{all_by_any, here, list_any-sorted_by, past}
 use Rattle.s3_canonical.proofs.SortingLemmas.{one_way}

@@ -4,9 +4,9 @@ use Rattle.std.specs.Char.{is_ascii_digit}
 use Rattle.std.specs.List.{list_all, join_with_byte}
 use Rattle.std.proofs.lemmas.Bool.{and_parts, and_from, or_from}
 use Rattle.httparse.specs.Grammar.{is_token}
-use Rattle.s3_terms.specs.Settings.{is_access_key_id, is_region, is_id_byte, is_region_byte}
-use Rattle.s3_terms.specs.Moment.{is_stamp, is_stamp_form, is_stamp_date, is_stamp_time, stamp_date}
-use Rattle.s3_terms.proofs.MomentLemmas.{date_digits}
+use Rattle.s3_config.specs.Settings.{is_access_key_id, is_region, is_id_byte, is_region_byte}
+use Rattle.s3_calendar.specs.Moment.{is_stamp, is_stamp_form, is_stamp_date, is_stamp_time, stamp_date}
+use Rattle.s3_calendar.proofs.MomentLemmas.{date_digits}
 use Rattle.s3_http_heads.specs.Parts.{HeadParts, is_sent}
 use Rattle.s3_signing.specs.Authorization.{Parts, authorization_of}
 use Rattle.s3_signing.specs.Signature.{signature_of}

@@ -7,8 +7,8 @@ use Rattle.std.proofs.lemmas.Bool.{cases_Bool, and_parts}
 use Rattle.std.proofs.lemmas.Slice.Eq.{bytes_eq-Decides}
 use Rattle.s3_terms.specs.declared.code.Code.TheVariants.{InvalidURI, AccessDenied}
 use Rattle.s3_terms.specs.Fault.{first_fault, unless_refused}
-use Rattle.s3_terms.specs.Moment.{is_stamp, stamp_seconds, stamp_date}
-use Rattle.s3_terms.specs.Settings.{Settings, Credentials, are_settings, are_access_keys, are_credentials, is_access_key_id, is_secret, is_region, secret_of}
+use Rattle.s3_calendar.specs.Moment.{is_stamp, stamp_seconds, stamp_date}
+use Rattle.s3_config.specs.Settings.{Settings, Credentials, are_settings, are_access_keys, are_credentials, is_access_key_id, is_secret, is_region, secret_of}
 use Rattle.s3_http_heads.specs.Parts.{HeadParts, is_sent, values_of}
 use Rattle.s3_http_heads.proofs.NameLemmas.{sent_is}
 use Rattle.s3_canonical.specs.Target.{is_unreadable}

@@ -8,8 +8,8 @@ use Rattle.std.proofs.Math.Logic.{∥∥₁_elim}
 use Rattle.s3_terms.specs.declared.code.Code.{Code}
 use Rattle.s3_terms.specs.declared.code.Code.TheVariants.{InternalError, InvalidArgument, InvalidRequest, NotImplemented}
 use Rattle.s3_terms.specs.Fault.{first_fault, unless_refused}
-use Rattle.s3_terms.specs.Settings.{Settings}
-use Rattle.s3_terms.specs.Moment.{stamp_date}
+use Rattle.s3_config.specs.Settings.{Settings}
+use Rattle.s3_calendar.specs.Moment.{stamp_date}
 use Rattle.s3_http_heads.specs.Parts.{HeadParts, is_sent}
 use Rattle.s3_signing.specs.Authorization.{Parts}
 use Rattle.s3_signing.specs.Groups.{target_faults, line_faults, scope_faults, form_faults, word_faults, signature_faults, unsigned_faults, authorization_faults}

@@ -5,7 +5,8 @@ use Rattle.std.specs.Char.{is_ascii_uppercase}
 use Rattle.std.specs.Str.{bytes_eq}
 use Rattle.std.specs.Ordering.{is_lt}
 use Rattle.httparse.specs.Grammar.{is_token}
-use Rattle.s3_terms.specs.Names.{byte_order, is_lower_hex}
+use Rattle.s3_text.specs.Characters.{is_lower_hex}
+use Rattle.s3_text.specs.Order.{byte_order}
 use Rattle.s3_canonical.specs.Request.{signed_names}
 
 -- the parts of an authorization: the access key's id with its scope, the signed names as they were sent,

@@ -2,8 +2,8 @@
 -- in the groups in which the code looks for the faults. A lemma of proofs/ says that they make up the table.
 use Rattle.std.specs.Prelude.{ℕ, Bool, not, ◌&&◌, nat_eq, nat_le, List, [], ◌∷◌, ◌++◌, length, codes, is_none}
 use Rattle.std.specs.List.{starts_with}
-use Rattle.s3_terms.specs.Settings.{Settings, secret_of}
-use Rattle.s3_terms.specs.Moment.{stamp_seconds}
+use Rattle.s3_config.specs.Settings.{Settings, secret_of}
+use Rattle.s3_calendar.specs.Moment.{stamp_seconds}
 use Rattle.s3_terms.specs.declared.code.Code.{Code}
 use Rattle.s3_terms.specs.declared.code.Code.TheVariants.{InvalidURI, AccessDenied, AuthorizationHeaderMalformed, InvalidAccessKeyId, RequestTimeTooSkewed, InvalidRequest, InvalidArgument, NotImplemented, SignatureDoesNotMatch}
 use Rattle.s3_http_heads.specs.Parts.{HeadParts, is_sent}

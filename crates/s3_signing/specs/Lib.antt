@@ -8,8 +8,8 @@ pub mod Signed
 pub mod Word
 pub mod Name
 pub use Rattle.s3_terms.specs.Code
-pub use Rattle.s3_terms.specs.Settings
-pub use Rattle.s3_terms.specs.Moment
+pub use Rattle.s3_config.specs.Settings
+pub use Rattle.s3_calendar.specs.Moment
 pub use Rattle.s3_http_heads.specs.Parts
 pub use Rattle.s3_canonical.specs.Target
 pub use Rattle.s3_canonical.specs.Request

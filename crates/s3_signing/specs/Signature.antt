@@ -3,7 +3,7 @@ use Rattle.std.specs.Prelude.{ℕ, List, [], ◌∷◌, ◌++◌, codes}
 use Rattle.std.specs.List.{join_with_byte}
 use Rattle.hex.specs.Hex.{encode_lower}
 use Rattle.sha2.specs.Sha256.{sha256}
-use Rattle.s3_terms.specs.Moment.{stamp_date}
+use Rattle.s3_calendar.specs.Moment.{stamp_date}
 use Rattle.s3_hmac.specs.Hmac.{hmac}
 use Rattle.s3_http_heads.specs.Parts.{HeadParts}
 use Rattle.s3_canonical.specs.Request.{canonical_request}

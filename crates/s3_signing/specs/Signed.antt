@@ -3,8 +3,8 @@
 use Rattle.std.specs.Prelude.{◌≡◌, ℕ, true, false, not, List, [], ◌∷◌, filter, length, codes, Some, Ok}
 use Rattle.std.specs.List.{list_all}
 use Rattle.httparse.specs.Grammar.{is_token}
-use Rattle.s3_terms.specs.Settings.{Settings, are_settings, secret_of}
-use Rattle.s3_terms.specs.Moment.{stamp_seconds, stamp_date}
+use Rattle.s3_config.specs.Settings.{Settings, are_settings, secret_of}
+use Rattle.s3_calendar.specs.Moment.{stamp_seconds, stamp_date}
 use Rattle.s3_http_heads.specs.Parts.{HeadParts, is_named, is_sent, values_of}
 use Rattle.s3_canonical.specs.Target.{is_unreadable}
 use Rattle.s3_signing.specs.Signature.{signing_key, signature_of}

@@ -2,8 +2,8 @@
 use Rattle.std.specs.Prelude.{ℕ, not, List, ◌∷◌, ◌++◌, filter, codes}
 use Rattle.std.specs.List.{dedup, join_with_byte}
 use Rattle.std.specs.Str.{bytes_eq}
-use Rattle.s3_terms.specs.Names.{byte_order}
-use Rattle.s3_terms.specs.Moment.{stamp_date}
+use Rattle.s3_text.specs.Order.{byte_order}
+use Rattle.s3_calendar.specs.Moment.{stamp_date}
 use Rattle.s3_http_heads.specs.Parts.{HeadParts}
 use Rattle.s3_canonical.specs.Sorting.{sorted_by}
 use Rattle.s3_signing.specs.Signature.{scope_text, signature_of}

@@ -4,8 +4,8 @@ use Rattle.std.specs.Prelude.{◌≡◌, ℕ, ◌+◌, ◌≤◌, Bool, true, no
 use Rattle.std.specs.List.{list_any, list_all, starts_with}
 use Rattle.std.specs.Str.{bytes_eq, str_to_ascii_lowercase}
 use Rattle.s3_terms.specs.Fault.{first_fault, unless_refused}
-use Rattle.s3_terms.specs.Settings.{Settings, are_settings, secret_of}
-use Rattle.s3_terms.specs.Moment.{last_moment, is_stamp, stamp_seconds, stamp_date}
+use Rattle.s3_config.specs.Settings.{Settings, are_settings, secret_of}
+use Rattle.s3_calendar.specs.Moment.{last_moment, is_stamp, stamp_seconds, stamp_date}
 use Rattle.s3_terms.specs.declared.code.Code.{Code}
 use Rattle.s3_terms.specs.declared.code.Code.TheVariants.{InvalidURI, AccessDenied, AuthorizationHeaderMalformed, InvalidAccessKeyId, RequestTimeTooSkewed, InvalidRequest, InvalidArgument, NotImplemented, SignatureDoesNotMatch}
 use Rattle.s3_http_heads.specs.Parts.{HeadParts, values_of, first_value, is_sent}

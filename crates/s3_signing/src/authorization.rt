@@ -5,7 +5,8 @@ ghost use Rattle.std.specs.List.{slice_split, list_all, list_any};
 ghost use Rattle.std.specs.Option.{ok_or, option_copied};
 ghost use Rattle.std.specs.Char.{is_ascii_uppercase};
 ghost use Rattle.std.specs.Ordering.{is_lt};
-ghost use Rattle.s3_terms.specs.Names.{byte_order, is_lower_hex};
+ghost use Rattle.s3_text.specs.Characters.{is_lower_hex};
+ghost use Rattle.s3_text.specs.Order.{byte_order};
 ghost use Rattle.s3_signing.specs.Spelling.{Spells};
 ghost use Rattle.s3_signing.specs.Authorization.{Parts, authorization_of, behind, skip_spaces, are_signed_names, is_signed_name, is_hex_digest, with_credential, credential_at, signed_at, signature_at, three_parts};
 
@@ -179,15 +180,15 @@ pub(crate) fn read_digest(text: &[u8]) -> Option<[u8; 64]>
     text.try_into().ok()
 }
 
-// The three parts between the commas of the text, if it has just two.
-fn cut_in_three(text: &[u8]) -> Option<(&[u8], &[u8], &[u8])>
+// The three parts between these bytes of the text, if it has just two of them.
+fn cut_in_three(text: &[u8], byte: u8) -> Option<(&[u8], &[u8], &[u8])>
     ensures { MatchOption result
-        (length (slice_split (λ b. b == 44) text.now) ≢ 3)
-        (λ p. slice_split (λ b. b == 44) text.now ≡ p.0.now ∷ p.1.now ∷ p.2.now ∷ []) }
+        (length (slice_split (λ b. b == byte) text.now) ≢ 3)
+        (λ p. slice_split (λ b. b == byte) text.now ≡ p.0.now ∷ p.1.now ∷ p.2.now ∷ []) }
 {
-    let (first, rest) = cut_once(text, b',')?;
-    let (second, third) = cut_once(rest, b',')?;
-    match cut_once(third, b',') {
+    let (first, rest) = cut_once(text, byte)?;
+    let (second, third) = cut_once(rest, byte)?;
+    match cut_once(third, byte) {
         Some(_) => None,
         None => Some((first, second, third)),
     }
@@ -202,12 +203,8 @@ fn cut_in_five(text: &[u8]) -> Option<(&[u8], &[u8], &[u8], &[u8], &[u8])>
 {
     let (first, rest) = cut_once(text, b'/')?;
     let (second, rest) = cut_once(rest, b'/')?;
-    let (third, rest) = cut_once(rest, b'/')?;
-    let (fourth, fifth) = cut_once(rest, b'/')?;
-    match cut_once(fifth, b'/') {
-        Some(_) => None,
-        None => Some((first, second, third, fourth, fifth)),
-    }
+    let (third, fourth, fifth) = cut_in_three(rest, b'/')?;
+    Some((first, second, third, fourth, fifth))
 }
 
 // The parts of an authorization with this credential, if they hold what the form asks for.
@@ -269,7 +266,7 @@ fn from_parts<'a>(first: &'a [u8], second: &'a [u8], third: &[u8]) -> Option<Aut
 fn read_parts(text: &[u8]) -> Option<Authorization<'_>>
     ensures { result ≡ authorization_of text.now }
 {
-    let (first, second, third) = cut_in_three(text)?;
+    let (first, second, third) = cut_in_three(text, b',')?;
     from_parts(first, second, third)
 }
 

@@ -12,8 +12,6 @@ mod sign;
 mod signature;
 mod signed;
 mod target;
-#[cfg(test)]
-mod tests;
 mod verify;
 mod word;
 

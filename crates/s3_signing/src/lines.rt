@@ -10,8 +10,9 @@ ghost use Rattle.s3_signing.specs.Word.{word_text};
 
 use crate::authorization::Authorization;
 use crate::word::Word;
+use s3_calendar::Stamp;
 use s3_http_heads::Head;
-use s3_terms::{Code, Stamp};
+use s3_terms::Code;
 
 const WORD_NAME: &[u8] = b"x-amz-content-sha256";
 

@@ -1,9 +1,10 @@
 //! The authorization that a signer writes.
 
 ghost use Rattle.std.specs.Prelude.{◌≡◌, ◌++◌, ◌∷◌, false, codes, length, IfOk, IfErr};
+ghost use Rattle.std.specs.List.{flat_map};
 ghost use Rattle.s3_canonical.specs.Request.{canonical_request};
 ghost use Rattle.s3_canonical.specs.Target.{is_unreadable};
-ghost use Rattle.s3_terms.specs.Moment.{stamp_date};
+ghost use Rattle.s3_calendar.specs.Moment.{stamp_date};
 ghost use Rattle.s3_signing.specs.Signature.{scope_text, signature_of};
 ghost use Rattle.s3_signing.specs.Signed.{IsVerifiedWith};
 ghost use Rattle.s3_signing.specs.Signing.{authorization_text, credential_text, signed_by};
@@ -12,30 +13,20 @@ ghost use Rattle.s3_signing.specs.Verdict.{sent_word, word_lines};
 use crate::key::signing_key;
 use crate::names::signed_by;
 use crate::signature::signature;
+use s3_calendar::Stamp;
 use s3_canonical::request_hash;
 use s3_http_heads::Head;
-use s3_terms::{NoMemory, Stamp};
+use s3_terms::NoMemory;
 use std::alloc::{AllocError, Global};
 
-// `id/date/region/s3/aws4_request`.
-fn push_credential(
-    text: &mut Vec<u8>,
-    id: &[u8],
-    stamp: &Stamp,
-    region: &[u8],
-) -> Result<(), AllocError>
-    ensures { IfOk result (λ _. text.new.items ≡ text.old.items ++ credential_text id.now stamp.now region.now) }
+// The texts, one after the other.
+fn joined(alloc: Global, texts: &[&[u8]]) -> Result<Vec<u8>, AllocError>
+    ensures { IfOk result (λ text. text.items ≡ flat_map (λ t. t.now) texts.now) }
 {
-    text.extend_from_slice(id)?;
-    text.push(b'/')?;
-    text.extend_from_slice(stamp.date())?;
-    text.push(b'/')?;
-    text.extend_from_slice(region)?;
-    text.extend_from_slice(b"/s3/aws4_request")?;
-    Ok(())
+    texts.concat(alloc)
 }
 
-// The value with its three parts.
+// The value with its three parts, of which the first is `id/date/region/s3/aws4_request`.
 fn authorization(
     alloc: Global,
     id: &[u8],
@@ -48,14 +39,21 @@ fn authorization(
         ≡ codes "AWS4-HMAC-SHA256 Credential=" ++ credential_text id.now stamp.now region.now
         ++ codes ", SignedHeaders=" ++ signed.now ++ codes ", Signature=" ++ signature.now) }
 {
-    let mut text = Vec::new(alloc);
-    text.extend_from_slice(b"AWS4-HMAC-SHA256 Credential=")?;
-    push_credential(&mut text, id, stamp, region)?;
-    text.extend_from_slice(b", SignedHeaders=")?;
-    text.extend_from_slice(signed)?;
-    text.extend_from_slice(b", Signature=")?;
-    text.extend_from_slice(signature.as_slice())?;
-    Ok(text)
+    joined(
+        alloc,
+        &[
+            b"AWS4-HMAC-SHA256 Credential=",
+            id,
+            b"/",
+            stamp.date(),
+            b"/",
+            region,
+            b"/s3/aws4_request, SignedHeaders=",
+            signed,
+            b", Signature=",
+            signature,
+        ],
+    )
 }
 
 // The signature of a head that covers these names.

@@ -5,8 +5,8 @@ ghost use Rattle.hex.specs.Hex.{encode_lower};
 ghost use Rattle.s3_hmac.specs.Hmac.{hmac};
 ghost use Rattle.s3_signing.specs.Signature.{signing_text};
 
+use s3_calendar::Stamp;
 use s3_hmac::Mac;
-use s3_terms::Stamp;
 
 // The bytes in lower-case hexadecimal.
 fn lower_hex(bytes: &[u8; 32]) -> [u8; 64]

@@ -2,7 +2,7 @@
 
 ghost use Rattle.std.specs.Prelude.{◌≡◌, ◌≤◌, ◌⊎◌, true, not, length, None, Some, Err, MatchResult, IfOk, IfErr};
 ghost use Rattle.s3_terms.specs.Fault.{Follows, first_fault};
-ghost use Rattle.s3_terms.specs.Moment.{last_moment, stamp_date};
+ghost use Rattle.s3_calendar.specs.Moment.{last_moment, stamp_date};
 ghost use Rattle.hex.specs.Hex.{encode_lower};
 ghost use Rattle.s3_hmac.specs.Hmac.{hmac};
 ghost use Rattle.s3_canonical.specs.Request.{canonical_request};
@@ -20,9 +20,11 @@ use crate::signature::signature;
 use crate::signed::signs_enough;
 use crate::target::check_target;
 use crate::word::Word;
+use s3_calendar::{Moment, Stamp};
 use s3_canonical::request_hash;
+use s3_config::Config;
 use s3_http_heads::Head;
-use s3_terms::{Code, Config, Moment, Stamp};
+use s3_terms::Code;
 use std::alloc::Global;
 use std::marker::Model;
 
@@ -260,7 +262,7 @@ fn proved_with(
 /// `InvalidURI`, `AccessDenied`, `AuthorizationHeaderMalformed`, `InvalidAccessKeyId`,
 /// `RequestTimeTooSkewed`, `InvalidRequest`, `InvalidArgument`, `NotImplemented` and
 /// `SignatureDoesNotMatch` by that order, and `InternalError` where memory runs out.
-#[tactic(auto, unfolding(s3_terms::specs::Settings::are_settings, s3_terms::specs::Settings::is_region))]
+#[tactic(auto, unfolding(s3_config::specs::Settings::are_settings, s3_config::specs::Settings::is_region))]
 pub fn verify_head(
     alloc: Global,
     config: &Config,

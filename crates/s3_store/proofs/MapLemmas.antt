@@ -7,7 +7,7 @@ use Rattle.std.specs.FinMap.{FinMap, get, insert, find, from_entries, get-from_e
 use Rattle.std.specs.Map.{lookup}
 use Rattle.std.specs.Option.{IsSome}
 use Rattle.std.specs.Ordering.{eq_by_cmp}
-use Rattle.s3_terms.specs.Names.{byte_order}
+use Rattle.s3_text.specs.Order.{byte_order}
 
 -- what a tree with these entries has at a key
 abbrev pub value_at : {X : Type 0} → List (List ℕ × X) → List ℕ → Option X

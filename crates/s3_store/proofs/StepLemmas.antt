@@ -5,6 +5,8 @@ use Rattle.s3_segments.specs.Payload.{tag_of}
 use Rattle.s3_terms.specs.declared.code.Code.TheVariants.{NoSuchBucket}
 use Rattle.s3_requests.specs.declared.commands.Command.TheVariants as commands
 use Rattle.s3_store.specs.declared.object.Object.{Object}
+use Rattle.s3_store.specs.declared.answer.Answer.{Answer}
+use Rattle.s3_store.specs.declared.answer.Outcome.{Outcome}
 use Rattle.s3_store.specs.declared.answer.Outcome.TheVariants as outcomes
 use Rattle.s3_store.specs.Store.{State, Objects, refused_step, got, put_object, put_step, get_step, step}
 
@@ -38,3 +40,7 @@ get_step-state s key (Some objects) = got-state s (map.get objects key)
 pub get-state : (s : State) (t : ℕ) (bucket key : List ℕ) → (step s t (commands.GetObject bucket key)).0 ≡ s
 unfolding step
 get-state s t bucket key = get_step-state s key (map.get s bucket)
+
+-- equal outcomes under one number are equal answers
+pub answered : (n : ℕ) (a b : Outcome) → a ≡ b → ◌≡◌ {A = Answer} (record { number = n; outcome = a }) (record { number = n; outcome = b })
+answered n a b is = λ i. record { number = n; outcome = is i }

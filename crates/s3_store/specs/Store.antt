@@ -3,7 +3,7 @@
 use Rattle.std.specs.Prelude.{ℕ, List, [], ◌∷◌, Option, Some, None}
 use Rattle.std.specs.FinMap as map
 use Rattle.s3_segments.specs.Payload.{tag_of}
-use Rattle.s3_terms.specs.Names.{byte_order}
+use Rattle.s3_text.specs.Order.{byte_order}
 use Rattle.s3_terms.specs.declared.code.Code.{Code}
 use Rattle.s3_terms.specs.declared.code.Code.TheVariants.{NoSuchBucket, NoSuchKey}
 use Rattle.s3_requests.specs.declared.commands.Command.{Command}

@@ -1,5 +1,6 @@
 use crate::Object;
-use s3_terms::{Code, Tag};
+use s3_names::Tag;
+use s3_terms::Code;
 
 /// The store's answer to one command.
 #[derive(Drop)]

@@ -6,8 +6,6 @@ mod history;
 mod object;
 mod objects;
 mod store;
-#[cfg(test)]
-mod tests;
 
 pub use answer::{Answer, Outcome};
 pub use history::{one_more_entry, puts_are_kept, refusals_change_nothing};

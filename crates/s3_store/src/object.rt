@@ -1,7 +1,9 @@
 ghost use Rattle.std.specs.Prelude.{◌≡◌, IfOk};
 
+use s3_calendar::Moment;
+use s3_names::Tag;
 use s3_segments::{Body, Payload};
-use s3_terms::{Moment, NoMemory, Tag};
+use s3_terms::NoMemory;
 use std::alloc::Global;
 
 /// What is stored under a key: its tag, the moment at which it was made, and its bytes.

@@ -3,9 +3,11 @@ ghost use Rattle.std.specs.FinMap as map;
 
 use crate::objects::Objects;
 use crate::{Answer, Object, Outcome};
+use s3_calendar::Moment;
+use s3_names::{BucketName, Key};
 use s3_requests::Command;
 use s3_segments::Payload;
-use s3_terms::{BucketName, Code, Key, Moment, NoMemory};
+use s3_terms::{Code, NoMemory};
 use std::alloc::Global;
 use std::collections::BTreeMap;
 use std::marker::Model;
@@ -52,6 +54,7 @@ impl Store {
     /// costs the logarithm of how many there are.
     ///
     /// `NoMemory` leaves the store as it was, and nothing is answered.
+    #[tactic(auto, using(crate::proofs::StepLemmas::answered))]
     pub fn apply(
         &mut self,
         alloc: Global,
@@ -64,19 +67,25 @@ impl Store {
             answer ≡ record { number = number; outcome = (step self.old moment command).1 }) }
         ensures err { OnErr result (self.new ≡ self.old) }
     {
+        match self.take(alloc, command, moment) {
+            Ok(outcome) => Ok(Answer { number, outcome }),
+            Err(e) => Err(e),
+        }
+    }
+
+    /// Takes the step of `apply`.
+    fn take(&mut self, alloc: Global, command: Command, moment: Moment) -> Result<Outcome, NoMemory>
+        ensures state { OnOk result (self.new ≡ (step self.old moment command).0) }
+        ensures outcome { IfOk result (λ outcome. outcome ≡ (step self.old moment command).1) }
+        ensures err { OnErr result (self.new ≡ self.old) }
+    {
         match command {
             Command::PutObject {
                 bucket,
                 key,
                 payload,
-            } => match self.put(&bucket, key, payload, moment) {
-                Ok(outcome) => Ok(Answer { number, outcome }),
-                Err(e) => Err(e),
-            },
-            Command::GetObject { bucket, key } => match self.get(alloc, &bucket, &key) {
-                Ok(outcome) => Ok(Answer { number, outcome }),
-                Err(e) => Err(e),
-            },
+            } => self.put(&bucket, key, payload, moment),
+            Command::GetObject { bucket, key } => self.get(alloc, &bucket, &key),
         }
     }
 

@@ -1,9 +1,11 @@
 ghost use Rattle.std.specs.Prelude.{◌≡◌};
 
+use std::fmt;
+
 /// Why a request is refused: error codes of the Amazon S3 API Reference ("Error responses") that this
 /// server answers or is to answer, and three of its own: `MalformedHead`, `HeadTooLarge` and
 /// `MalformedBody`.
-#[derive(Clone, Copy, Debug, PartialEq, Eq)]
+#[derive(Clone, Copy, PartialEq, Eq)]
 pub enum Code {
     MalformedHead = 1,
     HeadTooLarge = 2,
@@ -172,5 +174,12 @@ impl Code {
             Code::EntityTooSmall => "A part is too small.",
             Code::InternalError => "",
         }
+    }
+}
+
+/// A code is printed by its name.
+impl fmt::Debug for Code {
+    fn fmt<W: fmt::Write>(&self, f: &mut fmt::Formatter<W>) -> fmt::Result {
+        f.write_str(self.name())
     }
 }

@@ -50,28 +50,3 @@ impl<T: Drop> From<AllocFailed<T>> for Code {
         Code::from(NoMemory)
     }
 }
-
-#[cfg(test)]
-mod tests {
-    use super::*;
-    use std::alloc::Global;
-
-    fn kept(alloc: Global) -> Result<Vec<u8>, NoMemory> {
-        let mut bytes = Vec::with_capacity(alloc, 1)?;
-        bytes.push(7)?;
-        Ok(bytes)
-    }
-
-    fn answered(alloc: Global) -> Result<Vec<u8>, Code> {
-        let mut bytes = Vec::with_capacity(alloc, 1)?;
-        bytes.push(7)?;
-        Ok(bytes)
-    }
-
-    #[test]
-    fn errors_convert(rt: HostRuntime) {
-        assert!(rt; kept(rt.alloc()).is_ok());
-        assert!(rt; answered(rt.alloc()).is_ok());
-        assert_eq!(rt; Code::from(NoMemory).number(), 34);
-    }
-}

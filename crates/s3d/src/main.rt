@@ -1,16 +1,10 @@
 //! The program `s3d`, which answers and signs requests of the Amazon S3 REST API. `s3d replay` answers
 //! one connection that stands whole on the standard input, and `s3d sign` writes one signed request.
-//! `run::run_words` does the work over any devices.
+//! `s3_tasks::run_words` does the work over any devices.
 #![tactic(auto)]
 
-mod run;
-mod sign;
-#[cfg(test)]
-mod tests;
-mod words;
-
-use run::run_words;
 use s3_settings::Files;
+use s3_tasks::run_words;
 use std::alloc::Global;
 use std::process::ExitCode;
 use std::{env, fs, io};

@@ -1,6 +1,6 @@
 use Rattle.std.proofs.Common.{codes}
 use Rattle.s3_replies.specs.Lines.{print_line, line_if}
-use Rattle.s3_terms.specs.Digits.{number_digits}
+use Rattle.s3_text.specs.Digits.{number_digits}
 use Rattle.s3_replies.proofs.ReplyLemmas.{lines_between}
 use Rattle.s3_replies.proofs.lines.write_first_lines.Goals as goal
 

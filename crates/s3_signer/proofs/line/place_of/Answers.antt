@@ -1,6 +1,6 @@
 use Rattle.std.proofs.Common.{not, arith}
 use Rattle.std.specs.Ordering.{is_gt}
-use Rattle.s3_terms.specs.Names.{byte_order}
+use Rattle.s3_text.specs.Order.{byte_order}
 use Rattle.s3_signer.specs.declared.line.Line.{Line}
 use Rattle.s3_signer.proofs.LineLemmas.{first_place, no_place}
 use Rattle.s3_signer.proofs.line.place_of.Goals as goal

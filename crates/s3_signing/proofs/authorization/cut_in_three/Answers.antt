@@ -6,4 +6,4 @@ pub returns-in-Some : goal.returns-in-Some
 returns-in-Some c =
     λ three.
     let longer = rw (c.in_ok-first.ensures.parts, c.in_ok-second.ensures.parts, c.in-Some.ensures.parts) at three in
-    omega (arith, longer, length-slice_split (λ (b : ℕ). b == 44) c.in-Some.field-0.1.now)
+    omega (arith, longer, length-slice_split (λ (b : ℕ). b == c.args.byte) c.in-Some.field-0.1.now)

@@ -1,0 +1,3 @@
+pub mod Command
+pub mod Matches
+pub mod Words

@@ -1,0 +1,126 @@
+-- The command line of the program, as `clap` reads it: its `fault_of` says what is wrong with some
+-- words, and its `subcommand_of` what they give.
+use Rattle.std.specs.Prelude.{◌≡◌, ◌⊎◌, true, List, [], ◌∷◌, map, codes, Some, option_map, unwrap_or}
+use Rattle.clap.specs.Words.{App, Row, Rule, Text, new_app, new_rule, with_rule, with_subcommand, subcommand_of, first_of, all_of, fault_of}
+use Rattle.clap.specs.declared.builder.action.ArgAction.TheVariants.{Append}
+use Rattle.clap.specs.declared.builder.arg.Arg.{Arg}
+use Rattle.clap.specs.declared.builder.texts.Texts.TheVariants.{One}
+use Rattle.std.specs.Borrow.{Bor}
+use Rattle.s3_settings.specs.declared.options.Options.{Options}
+use Rattle.s3_command_line.specs.declared.task.SignOptions.{SignOptions}
+use Rattle.s3_command_line.specs.declared.task.Task.{Task}
+use Rattle.s3_command_line.specs.declared.task.Task.TheVariants.{Replay, Sign}
+
+-- an option `--name VALUE`
+abbrev pub option_rule : Text → Rule
+option_rule name = record (new_rule name) { long = Some name; value_names = 1 }
+
+-- an option that has to be there
+abbrev pub required_rule : Text → Rule
+required_rule name = record (option_rule name) { required = true }
+
+-- an option that has a value also where it is not there
+abbrev pub default_rule : Text → Text → Rule
+default_rule name value = record (option_rule name) { defaults = value ∷ [] }
+
+-- words without a name, as many as there are
+abbrev pub many_rule : Text → Rule
+many_rule name = record (new_rule name) { action = Some Append; value_names = 1 }
+
+-- what help says of an argument: what it calls its value, and the text
+abbrev pub IsTold : Bor Text → Bor Text → Arg → Type 0
+IsTold value help arg = (arg.val_names ≡ One value) × (arg.help ≡ Some help)
+
+-- the values of options that are not there
+abbrev pub default_region : Text
+default_region = codes "us-east-1"
+
+abbrev pub default_min_part : Text
+default_min_part = codes "5242880"
+
+abbrev pub default_body_limit : Text
+default_body_limit = codes "67108864"
+
+-- the options of each subcommand on the settings
+abbrev pub with_settings : App → App
+with_settings a =
+    with_rule (with_rule (with_rule (with_rule (with_rule a
+    (required_rule (codes "keys")))
+    (default_rule (codes "region") default_region))
+    (default_rule (codes "min-part") default_min_part))
+    (default_rule (codes "body-limit") default_body_limit))
+    (option_rule (codes "bucket"))
+
+-- `s3d replay`
+abbrev pub replay_app : App
+replay_app = with_rule (with_settings (new_app (codes "replay"))) (option_rule (codes "moment"))
+
+-- `s3d sign`
+abbrev pub sign_app : App
+sign_app =
+    with_rule (with_rule (with_rule (with_rule (with_rule (with_rule (with_rule (with_settings (new_app (codes "sign")))
+    (required_rule (codes "id")))
+    (required_rule (codes "moment")))
+    (required_rule (codes "method")))
+    (required_rule (codes "target")))
+    (required_rule (codes "host")))
+    (option_rule (codes "body")))
+    (many_rule (codes "header"))
+
+-- `s3d` before it has a subcommand
+abbrev pub bare_app : App
+bare_app =
+    let top = (new_app (codes "s3d")).top in
+    record (new_app (codes "s3d")) { top = record top { subcommand_required = true; arg_required_else_help = true } }
+
+-- `s3d`
+abbrev pub s3d_app : App
+s3d_app = with_subcommand (with_subcommand bare_app replay_app.top) sign_app.top
+
+-- the words are right and ask for no help, and they name this subcommand
+abbrev pub AreWordsOf : Text → List Text → Type 0
+AreWordsOf name words =
+    (fault_of s3d_app words ≡ []) × (option_map (λ p. p.0) (subcommand_of s3d_app words) ≡ Some name)
+
+-- the words of a replay
+abbrev pub AreReplayWords : List Text → Type 0
+AreReplayWords words = AreWordsOf (codes "replay") words
+
+-- the words of a signing
+abbrev pub AreSignWords : List Text → Type 0
+AreSignWords words = AreWordsOf (codes "sign") words
+
+-- the words of one of them
+abbrev pub AreRightWords : List Text → Type 0
+AreRightWords words = AreReplayWords words ⊎ AreSignWords words
+
+-- the options are those of some matches
+pub record HasOptions (rows : List Row) (o : Options) : Type 0 where
+  pub keys : option_map (λ text. text.now) o.keys ≡ first_of (codes "keys") rows
+  pub region : o.region.now ≡ unwrap_or (first_of (codes "region") rows) default_region
+  pub min_part : o.min_part.now ≡ unwrap_or (first_of (codes "min-part") rows) default_min_part
+  pub body_limit : o.body_limit.now ≡ unwrap_or (first_of (codes "body-limit") rows) default_body_limit
+  pub bucket : option_map (λ text. text.now) o.bucket ≡ first_of (codes "bucket") rows
+  pub moment : option_map (λ text. text.now) o.moment ≡ first_of (codes "moment") rows
+
+-- the options of a signing are those of some matches
+pub record HasSignOptions (rows : List Row) (o : SignOptions) : Type 0 where
+  pub common : HasOptions rows o.common
+  pub id : option_map (λ text. text.now) o.id ≡ first_of (codes "id") rows
+  pub method : option_map (λ text. text.now) o.method ≡ first_of (codes "method") rows
+  pub target : option_map (λ text. text.now) o.target ≡ first_of (codes "target") rows
+  pub host : option_map (λ text. text.now) o.host ≡ first_of (codes "host") rows
+  pub body : option_map (λ text. text.now) o.body ≡ first_of (codes "body") rows
+  pub headers : map (λ text. text.now) o.headers.items ≡ unwrap_or (all_of (codes "header") rows) []
+
+-- the words are those of a subcommand, and this holds of the matches that they give it
+pub record Give (words : List Text) (name : Text) (Holds : List Row → Type 0) : Type 0 where
+  pub rows : List Row
+  pub right : AreWordsOf name words
+  pub given : option_map (λ p. p.1) (subcommand_of s3d_app words) ≡ Some rows
+  pub options : Holds rows
+
+-- the task is the one that the words ask for
+abbrev pub IsReadFrom : List Text → Task → Type 0
+IsReadFrom words (Replay options) = Give words (codes "replay") (λ rows. HasOptions rows options)
+IsReadFrom words (Sign options) = Give words (codes "sign") (λ rows. HasSignOptions rows options)

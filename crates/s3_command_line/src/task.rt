@@ -1,0 +1,106 @@
+ghost use Rattle.std.specs.Prelude.{◌≡◌, IfOk, MatchOption, [], map, unwrap_or};
+ghost use Rattle.clap.specs.Words.{all_of, found_of, rows_of};
+ghost use Rattle.s3_command_line.specs.Words.{HasOptions, HasSignOptions};
+ghost use Rattle.s3_command_line.specs.Matches.{AskFor, AskForNothing};
+
+use crate::command::{BODY_LIMIT, MIN_PART, REGION};
+use clap::ArgMatches;
+use s3_settings::Options;
+use std::alloc::{AllocError, Global};
+
+/// What the words of a command line ask for.
+#[derive(Drop)]
+pub enum Task<'a> {
+    /// To answer one connection.
+    Replay(Options<'a>),
+    /// To write one signed request.
+    Sign(SignOptions<'a>),
+}
+
+/// The options of `s3d sign`, each as it was written.
+#[derive(Drop)]
+pub struct SignOptions<'a> {
+    /// Those that each subcommand has.
+    pub common: Options<'a>,
+    /// The id of the access key that signs.
+    pub id: Option<&'a str>,
+    /// The method of the request.
+    pub method: Option<&'a str>,
+    /// Its target.
+    pub target: Option<&'a str>,
+    /// The value of its host line.
+    pub host: Option<&'a str>,
+    /// The path of the file that has its body.
+    pub body: Option<&'a str>,
+    /// Its further header lines, each as `NAME:VALUE`.
+    pub headers: Vec<&'a str>,
+}
+
+impl<'a> Task<'a> {
+    /// What the matches of the program's command line ask for; `None` where they have no subcommand.
+    pub(crate) fn of_matches(
+        alloc: Global,
+        matches: &ArgMatches<'a>,
+    ) -> Result<Option<Task<'a>>, AllocError>
+        ensures { IfOk result (λ task. MatchOption task (AskForNothing matches.now) (AskFor matches.now)) }
+    {
+        if let Some(options) = matches.subcommand_matches("replay") {
+            return Ok(Some(Task::Replay(common_options(options))));
+        }
+        match matches.subcommand_matches("sign") {
+            Some(options) => {
+                let options = SignOptions::of_matches(alloc, options)?;
+                Ok(Some(Task::Sign(options)))
+            }
+            None => Ok(None),
+        }
+    }
+}
+
+/// The options that each subcommand has.
+#[tactic(auto, using(crate::proofs::WordsLemmas::rows))]
+fn common_options<'a>(matches: &ArgMatches<'a>) -> Options<'a>
+    ensures { HasOptions (rows_of (found_of matches.now)) result }
+{
+    Options {
+        keys: matches.get_str("keys"),
+        region: matches.get_str("region").unwrap_or(REGION),
+        min_part: matches.get_str("min-part").unwrap_or(MIN_PART),
+        body_limit: matches.get_str("body-limit").unwrap_or(BODY_LIMIT),
+        bucket: matches.get_str("bucket"),
+        moment: matches.get_str("moment"),
+    }
+}
+
+impl<'a> SignOptions<'a> {
+    #[tactic(auto, using(crate::proofs::WordsLemmas::rows))]
+    fn of_matches(alloc: Global, matches: &ArgMatches<'a>) -> Result<SignOptions<'a>, AllocError>
+        ensures { IfOk result (HasSignOptions (rows_of (found_of matches.now))) }
+    {
+        let headers = all_values(alloc, matches, "header")?;
+        Ok(SignOptions {
+            common: common_options(matches),
+            id: matches.get_str("id"),
+            method: matches.get_str("method"),
+            target: matches.get_str("target"),
+            host: matches.get_str("host"),
+            body: matches.get_str("body"),
+            headers,
+        })
+    }
+}
+
+/// All values of an argument; none where it is not there.
+#[tactic(auto, using(crate::proofs::WordsLemmas::rows))]
+fn all_values<'a>(
+    alloc: Global,
+    matches: &ArgMatches<'a>,
+    name: &str,
+) -> Result<Vec<&'a str>, AllocError>
+    ensures { IfOk result (λ values. map (λ text. text.now) values.items ≡ unwrap_or (all_of name.now (rows_of (found_of matches.now))) []) }
+{
+    match matches.get_strs(name) {
+        Some(values) => Vec::from_slice(alloc, values),
+        None => Ok(Vec::new(alloc)),
+    }
+}

@@ -1,0 +1,2 @@
+pub mod IdLemmas
+pub mod NameLemmas

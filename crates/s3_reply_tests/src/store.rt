@@ -1,0 +1,206 @@
+//! What a store answers to commands, step by step.
+use md5::{Digest, Md5};
+use s3_calendar::Moment;
+use s3_names::{BucketName, Key};
+use s3_requests::Command;
+use s3_segments::{Body, Payload};
+use s3_store::{Answer, Object, Outcome, Store};
+use s3_terms::Code;
+use std::alloc::Global;
+use std::test::Fail;
+
+/// A command.
+#[derive(Clone, Copy)]
+enum Asked<'a> {
+    /// Put these bytes under the key of the bucket.
+    Put(&'a [u8], &'a [u8], &'a [u8]),
+    /// Get what stands under the key of the bucket.
+    Get(&'a [u8], &'a [u8]),
+}
+
+/// What has to come of it.
+#[derive(Clone, Copy)]
+enum Expected<'a> {
+    /// The object is stored, under a tag of this text.
+    Stored(&'a [u8]),
+    /// An object with these bytes, a tag of this text, and this moment in seconds.
+    Got(&'a [u8], &'a [u8], u64),
+    /// A refusal.
+    Refused(Code),
+}
+
+/// A command, the second at which it comes, and what has to come of it.
+type Step<'a> = (Asked<'a>, u64, Expected<'a>);
+
+// MD5s, as md5sum tells them.
+const HELLO_TAG: &[u8] = b"5d41402abc4b2a76b9719d911017c592";
+
+const ONE_TAG: &[u8] = b"f97c5d29941bfb1b2fdab0874906ab82";
+
+const TWO_TAG: &[u8] = b"b8a9f715dbb64fd5c56e7783c6820a61";
+
+const OTHER_TAG: &[u8] = b"795f3202b17cb6bc3d4b771d8c6c9eaf";
+
+/// 2013-05-24T00:00:00Z.
+const NOW: u64 = 1_369_353_600;
+
+fn opened(alloc: Global) -> Result<Store, Code> {
+    let mut names = Vec::new(alloc);
+    for name in [b"pail".as_slice(), b"vat", b"pail"] {
+        names.push(BucketName::read(alloc, name)?)?;
+    }
+    Ok(Store::open(alloc, names.as_slice())?)
+}
+
+fn payload_of(alloc: Global, bytes: &[u8]) -> Result<Payload, Code> {
+    let digest = Md5::digest(bytes);
+    let body = Body::new(Vec::from_slice(alloc, bytes)?);
+    Ok(Payload::new(body, digest))
+}
+
+fn put(alloc: Global, bucket: &[u8], key: &[u8], bytes: &[u8]) -> Result<Command, Code> {
+    let bucket = BucketName::read(alloc, bucket)?;
+    let key = Key::read(alloc, key)?;
+    let payload = payload_of(alloc, bytes)?;
+    Ok(Command::PutObject {
+        bucket,
+        key,
+        payload,
+    })
+}
+
+fn get(alloc: Global, bucket: &[u8], key: &[u8]) -> Result<Command, Code> {
+    let bucket = BucketName::read(alloc, bucket)?;
+    let key = Key::read(alloc, key)?;
+    Ok(Command::GetObject { bucket, key })
+}
+
+fn command_of(alloc: Global, asked: Asked) -> Result<Command, Code> {
+    match asked {
+        Asked::Put(bucket, key, bytes) => put(alloc, bucket, key, bytes),
+        Asked::Get(bucket, key) => get(alloc, bucket, key),
+    }
+}
+
+fn is_object(object: &Object, bytes: &[u8], tag: &[u8], seconds: u64) -> bool {
+    object.body.as_slice() == bytes
+        && object.tag.text().as_slice() == tag
+        && object.moment.seconds() == seconds
+}
+
+fn is_outcome(outcome: &Outcome, expected: Expected) -> bool {
+    match (outcome, expected) {
+        (Outcome::Put { tag }, Expected::Stored(text)) => tag.text().as_slice() == text,
+        (Outcome::Got { object }, Expected::Got(bytes, tag, seconds)) => {
+            is_object(object, bytes, tag, seconds)
+        }
+        (Outcome::Refused { code }, Expected::Refused(wanted)) => *code == wanted,
+        _ => false,
+    }
+}
+
+fn answer_to(
+    alloc: Global,
+    store: &mut Store,
+    number: u64,
+    asked: Asked,
+    seconds: u64,
+) -> Result<Answer, Fail> {
+    let moment = Moment::new(seconds).ok_or("no moment")?;
+    let command = command_of(alloc, asked)?;
+    Ok(store.apply(alloc, command, moment, number)?)
+}
+
+fn is_right(alloc: Global, store: &mut Store, number: u64, step: Step) -> Result<bool, Fail> {
+    let (asked, seconds, expected) = step;
+    let answer = answer_to(alloc, store, number, asked, seconds)?;
+    Ok(answer.number == number && is_outcome(&answer.outcome, expected))
+}
+
+/// The first step, from 0, of which something else comes, in a store with the buckets `pail` and `vat`.
+fn first_wrong(alloc: Global, steps: &[Step]) -> Result<Option<usize>, Fail> {
+    let mut store = opened(alloc)?;
+    for (at, step) in steps.iter().enumerate() {
+        if !is_right(alloc, &mut store, at as u64, *step)? {
+            return Ok(Some(at));
+        }
+    }
+    Ok(None)
+}
+
+const ONE_OBJECT: &[Step] = &[
+    (
+        Asked::Put(b"pail", b"k", b"hello"),
+        NOW,
+        Expected::Stored(HELLO_TAG),
+    ),
+    (
+        Asked::Get(b"pail", b"k"),
+        1_369_353_700,
+        Expected::Got(b"hello", HELLO_TAG, NOW),
+    ),
+];
+
+#[test]
+fn a_put_object_is_got(rt: HostRuntime) -> Result<(), Fail> {
+    assert_eq!(rt; first_wrong(rt.alloc(), ONE_OBJECT)?, None);
+    Ok(())
+}
+
+const THREE_OBJECTS: &[Step] = &[
+    (
+        Asked::Put(b"pail", b"k", b"one"),
+        NOW,
+        Expected::Stored(ONE_TAG),
+    ),
+    (
+        Asked::Put(b"vat", b"k", b"other"),
+        NOW,
+        Expected::Stored(OTHER_TAG),
+    ),
+    (
+        Asked::Put(b"pail", b"k", b"two"),
+        NOW,
+        Expected::Stored(TWO_TAG),
+    ),
+    (
+        Asked::Get(b"pail", b"k"),
+        NOW,
+        Expected::Got(b"two", TWO_TAG, NOW),
+    ),
+    (
+        Asked::Get(b"vat", b"k"),
+        NOW,
+        Expected::Got(b"other", OTHER_TAG, NOW),
+    ),
+];
+
+#[test]
+fn a_put_replaces_its_key_alone(rt: HostRuntime) -> Result<(), Fail> {
+    assert_eq!(rt; first_wrong(rt.alloc(), THREE_OBJECTS)?, None);
+    Ok(())
+}
+
+const NO_OBJECTS: &[Step] = &[
+    (
+        Asked::Get(b"pail", b"k"),
+        NOW,
+        Expected::Refused(Code::NoSuchKey),
+    ),
+    (
+        Asked::Put(b"tub", b"k", b"one"),
+        NOW,
+        Expected::Refused(Code::NoSuchBucket),
+    ),
+    (
+        Asked::Get(b"tub", b"k"),
+        NOW,
+        Expected::Refused(Code::NoSuchBucket),
+    ),
+];
+
+#[test]
+fn what_is_absent_is_refused(rt: HostRuntime) -> Result<(), Fail> {
+    assert_eq!(rt; first_wrong(rt.alloc(), NO_OBJECTS)?, None);
+    Ok(())
+}

@@ -1,0 +1,10 @@
+//! Tests of signatures: those that a server verifies, and those that the signer writes. There is
+//! nothing else here.
+#![tactic(auto)]
+
+#[cfg(test)]
+mod server;
+#[cfg(test)]
+mod signer;
+#[cfg(test)]
+mod signing;

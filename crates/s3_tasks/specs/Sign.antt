@@ -1,0 +1,127 @@
+-- What `s3d sign` writes, over the bytes that its files tell: `None` stands for those of a file that
+-- tells none.
+use Rattle.std.specs.Prelude.{◌≡◌, ◌⊎◌, ⊤, ℕ, Bool, true, false, IsTrue, ◌&&◌, ◌==◌, List, [], ◌∷◌, map, codes, Option, Some, None, is_some, IfSome, option_map, position}
+use Rattle.std.specs.List.{list_all, before_first, after_first}
+use Rattle.std.specs.Borrow.{Bor}
+use Rattle.s3_calendar.specs.Moment.{is_stamp, stamp_seconds}
+use Rattle.s3_config.specs.Settings.{Settings, secret_of}
+use Rattle.s3_signer.specs.Request.{HeaderLine, given_lines, is_signable, request_text}
+use Rattle.s3_settings.specs.declared.fault.Fault.{Fault}
+use Rattle.s3_settings.specs.declared.fault.Fault.TheVariants.{CannotRead, BadKeysLine, BadSetting, InputFailed, OutputFailed, OutOfMemory}
+use Rattle.s3_settings.specs.declared.settings.Setup.{Setup}
+use Rattle.s3_tasks.specs.declared.sign.Draft.{Draft}
+use Rattle.s3_command_line.specs.declared.task.SignOptions.{SignOptions}
+use Rattle.s3_settings.specs.Fault.{IsReadFault}
+use Rattle.s3_settings.specs.Settings.{are_options, IsSetupOf, IsConfigured, HasConfigFault}
+
+-- the texts behind references
+abbrev pub texts_of : List (Bor (List ℕ)) → List (List ℕ)
+texts_of = map (λ text. text.now)
+
+abbrev pub is_colon : ℕ → Bool
+is_colon b = b == 58
+
+-- the word has a `:`
+abbrev pub has_colon : List ℕ → Bool
+has_colon word = is_some (position is_colon word)
+
+-- the header line of a word NAME:VALUE: what stands before and after its first `:`
+abbrev pub line_of_word : List ℕ → HeaderLine
+line_of_word word = (before_first is_colon word, after_first is_colon word)
+
+-- the header lines of a request to this host: the host's, and those of the words
+abbrev pub header_lines : List ℕ → List (List ℕ) → List HeaderLine
+header_lines host words = (codes "host", host) ∷ map line_of_word words
+
+-- the options that a request needs are there, and each further word is a header line
+unfoldable pub are_sign_options : SignOptions → Bool
+are_sign_options o =
+    is_some o.id && is_some o.method && is_some o.target && is_some o.host
+    && list_all has_colon (texts_of o.headers.items)
+
+-- a draft has what the options say
+pub record IsDraftOf (o : SignOptions) (d : Draft) : Type 0 where
+  pub id : option_map (λ text. text.now) o.id ≡ Some d.id.now
+  pub method : option_map (λ text. text.now) o.method ≡ Some d.method.now
+  pub target : option_map (λ text. text.now) o.target ≡ Some d.target.now
+  pub headers : option_map (λ host. header_lines host.now (texts_of o.headers.items)) o.host ≡ Some (given_lines d.headers.items)
+  pub words : list_all has_colon (texts_of o.headers.items) ≡ true
+  pub body : option_map (λ path. path.now) o.body ≡ option_map (λ path. path.now) d.body
+
+-- the bytes are those of the file at the path, where they are known; without a path there are none
+abbrev pub IsBodyOf : (List ℕ → Option (List ℕ)) → Option (Bor (List ℕ)) → List ℕ → Type 0
+IsBodyOf known None bytes = bytes ≡ []
+IsBodyOf known (Some path) bytes = IfSome (known path.now) (λ text. bytes ≡ text)
+
+-- why there is no body
+abbrev pub IsBodyFault : (List ℕ → Option (List ℕ)) → Option (Bor (List ℕ)) → Fault → Type 0
+IsBodyFault known None fault = fault ≡ OutOfMemory
+IsBodyFault known (Some path) fault = IsReadFault (known path.now) path.now fault
+
+-- a request of the draft with this body, at this stamp, can be signed for a server of these settings
+abbrev pub is_signable_draft : Settings → Draft → List ℕ → List ℕ → Bool
+is_signable_draft settings draft body stamp =
+    is_signable draft.id.now settings.region draft.method.now draft.target.now (given_lines draft.headers.items) body stamp
+
+-- the text is the signed request of the draft: by the secret that the settings have for its id, with
+-- the bytes of its body's file
+pub record IsRequestOf (known : List ℕ → Option (List ℕ)) (settings : Settings) (draft : Draft) (stamp text : List ℕ) : Type 0 where
+  pub secret : List ℕ
+  pub bytes : List ℕ
+  pub owned : secret_of settings.keys draft.id.now ≡ Some secret
+  pub body : IsBodyOf known draft.body bytes
+  pub signable : is_signable_draft settings draft bytes stamp ≡ true
+  pub signed : text ≡ request_text draft.id.now secret settings.region draft.method.now draft.target.now (given_lines draft.headers.items) bytes stamp
+
+-- why there is none
+abbrev pub IsRequestFault : (List ℕ → Option (List ℕ)) → Settings → Draft → List ℕ → Fault → Type 0
+IsRequestFault known settings draft stamp BadSetting =
+    (secret_of settings.keys draft.id.now ≡ None)
+    ⊎ ((body : List ℕ) × (is_some (secret_of settings.keys draft.id.now) ≡ true) × IsBodyOf known draft.body body × (is_signable_draft settings draft body stamp ≡ false))
+IsRequestFault known settings draft stamp (CannotRead path) =
+    (is_some (secret_of settings.keys draft.id.now) ≡ true) × IsBodyFault known draft.body (CannotRead path)
+IsRequestFault known settings draft stamp OutOfMemory = ⊤
+IsRequestFault known settings draft stamp _ = ⊥
+
+-- the stamp is the one of the moment
+abbrev pub IsStampOf : ℕ → List ℕ → Type 0
+IsStampOf moment stamp = IsTrue (is_stamp stamp) × (stamp_seconds stamp ≡ moment)
+
+-- what the options ask for, the settings that they and the keys file make, and the stamp of the moment
+pub record IsPrepared (known : List ℕ → Option (List ℕ)) (o : SignOptions) (draft : Draft) (settings : Settings) (stamp : List ℕ) : Type 0 where
+  pub setup : Setup
+  pub asked : IsSetupOf o.common setup
+  pub drafted : IsDraftOf o draft
+  pub configured : IsConfigured (known setup.keys.now) setup settings
+  pub stamped : IsStampOf setup.moment stamp
+
+-- the text is the signed request that the options describe
+pub record IsTextOf (known : List ℕ → Option (List ℕ)) (o : SignOptions) (text : List ℕ) : Type 0 where
+  pub draft : Draft
+  pub settings : Settings
+  pub stamp : List ℕ
+  pub prepared : IsPrepared known o draft settings stamp
+  pub request : IsRequestOf known settings draft stamp text
+
+-- the options are right, and there are no settings for this reason
+abbrev pub HasDraftAndConfigFault : (List ℕ → Option (List ℕ)) → SignOptions → Fault → Type 0
+HasDraftAndConfigFault known o fault = (draft : Draft) × IsDraftOf o draft × HasConfigFault known o.common fault
+
+-- there are settings, and there is no request for this reason
+abbrev pub HasRequestFault : (List ℕ → Option (List ℕ)) → SignOptions → Fault → Type 0
+HasRequestFault known o fault =
+    (draft : Draft) × (settings : Settings) × (stamp : List ℕ)
+    × IsPrepared known o draft settings stamp × IsRequestFault known settings draft stamp fault
+
+-- why a signing has no such text, each fault only where none that comes before it is there, but want of
+-- memory, which may come anywhere
+abbrev pub IsSignFault : (List ℕ → Option (List ℕ)) → SignOptions → Fault → Type 0
+IsSignFault known o BadSetting =
+    ((are_options o.common && are_sign_options o) ≡ false)
+    ⊎ (HasDraftAndConfigFault known o BadSetting ⊎ HasRequestFault known o BadSetting)
+IsSignFault known o (CannotRead path) =
+    HasDraftAndConfigFault known o (CannotRead path) ⊎ HasRequestFault known o (CannotRead path)
+IsSignFault known o (BadKeysLine number) = HasDraftAndConfigFault known o (BadKeysLine number)
+IsSignFault known o InputFailed = ⊥
+IsSignFault known o OutputFailed = ⊥
+IsSignFault known o OutOfMemory = ⊤

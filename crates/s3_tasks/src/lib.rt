@@ -1,0 +1,8 @@
+//! What the program does: it reads the words of its command line, and answers one connection or signs one
+//! request, over any files and devices.
+#![tactic(auto)]
+
+mod run;
+mod sign;
+
+pub use run::run_words;

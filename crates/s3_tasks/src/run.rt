@@ -1,0 +1,165 @@
+ghost use Rattle.std.specs.Prelude.{◌≡◌, ◌≢◌, ◌≤◌, ◌⊎◌, IfOk, OnOk, IfErr, IfSome, IsTrue, map, true};
+ghost use Rattle.s3_session.specs.Replay.{Replays};
+ghost use Rattle.s3_settings.specs.Devices.{AppendsBeginning};
+ghost use Rattle.s3_settings.specs.Fault.{line_of};
+ghost use Rattle.s3_tasks.specs.Run.{IsReplayed, IsReplayFault, IsDone, IsTaskText, IsTextFault, IsTaskDone, IsTaskFault, is_before_input, is_signing, IsRunFault, HasFailed};
+ghost use Rattle.s3_command_line.specs.Words.{AreRightWords, AreSignWords};
+
+use crate::sign::signed_text;
+use s3_calendar::Moment;
+use s3_command_line::{Task, WordsError, read_words};
+use s3_config::Config;
+use s3_session::replay_one;
+use s3_settings::{Fault, Files, Options, Setup, configure, read_input, write_output};
+use std::alloc::Global;
+use std::convert::AsStr;
+use std::io::{Read, Write};
+
+/// The status of a run that did its work.
+const DONE: u8 = 0;
+
+/// The status of a run that failed.
+const FAILED: u8 = 1;
+
+/// The status of a run whose words were wrong or asked for help.
+const USAGE: u8 = 2;
+
+/// Runs the program on the words of its command line, of which the first is its name, and answers
+/// its exit status: 0 at the end of the work, 2 where the words are wrong or ask for help, with the
+/// text for the user on `errors`, and 1 otherwise, with one line there. That `errors` fails changes
+/// nothing.
+pub fn run_words<S: AsStr, F: Files, R: Read, W: Write, E: Write>(
+    alloc: Global,
+    words: &[S],
+    files: &F,
+    input: &mut R,
+    output: &mut W,
+    errors: &mut E,
+) -> u8
+    ensures status { result ≤ 2 }
+    ensures silent { result ≡ 0 → errors.new ≡ errors.old }
+    ensures done { result ≡ 0 → IsDone (map S.text words.now) (F.known files.now) (R.remaining input.old) (W.contents output.old) (W.contents output.new) }
+    ensures usage { result ≡ 2 → ¬ AreRightWords (map S.text words.now) }
+    ensures untouched { result ≡ 2 → (input.new ≡ input.old) × (output.new ≡ output.old) }
+    ensures input { AreSignWords (map S.text words.now) → input.new ≡ input.old }
+    ensures failed { result ≡ 1 → HasFailed (IsRunFault (map S.text words.now) (F.known files.now) (R.remaining input.old) (W.contents output.old) (W.contents output.new)) (E.contents errors.old) (E.contents errors.new) (input.new ≡ input.old) (output.new ≡ output.old) }
+{
+    match read_words(alloc, words) {
+        Ok(task) => run_task(alloc, &task, files, input, output, errors),
+        Err(error) => refused(errors, error),
+    }
+}
+
+/// Runs a task and answers its status; a fault is told.
+fn run_task<'a, F: Files, R: Read, W: Write, E: Write>(
+    alloc: Global,
+    task: &Task<'a>,
+    files: &F,
+    input: &mut R,
+    output: &mut W,
+    errors: &mut E,
+) -> u8
+    ensures status { (result ≡ DONE) ⊎ (result ≡ FAILED) }
+    ensures silent { result ≡ DONE → errors.new ≡ errors.old }
+    ensures done { result ≡ DONE → IsTaskDone (F.known files.now) (R.remaining input.old) (W.contents output.old) (W.contents output.new) task.now }
+    ensures failed { result ≡ FAILED → HasFailed (IsTaskFault (F.known files.now) (R.remaining input.old) (W.contents output.old) (W.contents output.new) task.now) (E.contents errors.old) (E.contents errors.new) (input.new ≡ input.old) (output.new ≡ output.old) }
+    ensures input { is_signing task.now ≡ true → input.new ≡ input.old }
+{
+    match work(alloc, task, files, input, output) {
+        Ok(()) => DONE,
+        Err(fault) => failed(errors, fault),
+    }
+}
+
+/// Tells why words ask for no task, and answers the status.
+fn refused<E: Write>(errors: &mut E, error: WordsError) -> u8
+    ensures status { (result ≡ USAGE) ⊎ (result ≡ FAILED) }
+    ensures usage { result ≡ USAGE → error ≢ WordsError.OutOfMemory }
+    ensures told { result ≡ FAILED → AppendsBeginning (E.contents errors.old) (E.contents errors.new) (line_of Fault.OutOfMemory) }
+{
+    match error {
+        WordsError::OutOfMemory => failed(errors, Fault::OutOfMemory),
+        WordsError::Usage(usage) => {
+            let _ = write!(errors, "{usage}");
+            USAGE
+        }
+    }
+}
+
+/// Tells a fault and answers its status; where it cannot be told, the status says enough.
+fn failed<E: Write>(errors: &mut E, fault: Fault<'_>) -> u8
+    ensures status { result ≡ FAILED }
+    ensures told { AppendsBeginning (E.contents errors.old) (E.contents errors.new) (line_of fault.entry) }
+{
+    let _ = fault.tell(errors);
+    FAILED
+}
+
+/// Does what the words ask for.
+#[tactic(auto, using(crate::proofs::RunLemmas::runs))]
+fn work<'a, F: Files, R: Read, W: Write>(
+    alloc: Global,
+    task: &Task<'a>,
+    files: &F,
+    input: &mut R,
+    output: &mut W,
+) -> Result<(), Fault<'a>>
+    ensures done { OnOk result (IsTaskDone (F.known files.now) (R.remaining input.old) (W.contents output.old) (W.contents output.new) task.now) }
+    ensures refused { IfErr result (IsTaskFault (F.known files.now) (R.remaining input.old) (W.contents output.old) (W.contents output.new) task.now) }
+    ensures unread { IfErr result (λ fault. IsTrue (is_before_input fault) → input.new ≡ input.old) }
+    ensures unwritten { IfErr result (λ fault. fault ≢ Fault.OutputFailed → output.new ≡ output.old) }
+    ensures input { is_signing task.now ≡ true → input.new ≡ input.old }
+{
+    let text = task_text(alloc, task, files, input)?;
+    write_output(output, text.as_slice())
+}
+
+/// What the words ask to write.
+fn task_text<'a, F: Files, R: Read>(
+    alloc: Global,
+    task: &Task<'a>,
+    files: &F,
+    input: &mut R,
+) -> Result<Vec<u8>, Fault<'a>>
+    ensures value { IfOk result (λ text. IsTaskText (F.known files.now) (R.remaining input.old) task.now text.items) }
+    ensures refused { IfErr result (IsTextFault (F.known files.now) task.now) }
+    ensures unread { IfErr result (λ fault. IsTrue (is_before_input fault) → input.new ≡ input.old) }
+    ensures input { is_signing task.now ≡ true → input.new ≡ input.old }
+{
+    match task {
+        Task::Replay(options) => replay(alloc, options, files, input),
+        Task::Sign(options) => signed_text(alloc, options, files),
+    }
+}
+
+/// What the one connection is answered whose bytes are `input`.
+fn replay<'a, F: Files, R: Read>(
+    alloc: Global,
+    options: &Options<'a>,
+    files: &F,
+    input: &mut R,
+) -> Result<Vec<u8>, Fault<'a>>
+    ensures value { IfOk result (λ text. IsReplayed (F.known files.now) (R.remaining input.old) options.now text.items) }
+    ensures refused { IfErr result (IsReplayFault (F.known files.now) options.now) }
+    ensures unread { IfErr result (λ fault. IsTrue (is_before_input fault) → input.new ≡ input.old) }
+{
+    let setup = Setup::read(alloc, options)?;
+    let moment = setup.moment;
+    let config = configure(alloc, setup, files)?;
+    answers(alloc, &config, moment, input)
+}
+
+/// What the connection of all the input is answered, under some settings at a moment.
+fn answers<'a, R: Read>(
+    alloc: Global,
+    config: &Config,
+    moment: Moment,
+    input: &mut R,
+) -> Result<Vec<u8>, Fault<'a>>
+    ensures value { IfOk result (λ text. IfSome (R.remaining input.old) (λ bytes. Replays config.now moment bytes text.items)) }
+    ensures refused { IfErr result (λ fault. (fault ≡ Fault.OutOfMemory) ⊎ (fault ≡ Fault.InputFailed)) }
+{
+    let bytes = read_input(alloc, input)?;
+    let answers = replay_one(alloc, config, bytes.as_slice(), moment)?;
+    Ok(answers)
+}

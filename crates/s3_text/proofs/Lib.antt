@@ -1,0 +1,2 @@
+pub mod CharacterLemmas
+pub mod DigitLemmas

@@ -1,3 +1,0 @@
-pub mod RunLemmas
-pub mod SignLemmas
-pub mod WordsLemmas

@@ -1,3 +1,0 @@
-pub mod Run
-pub mod Sign
-pub mod Words
