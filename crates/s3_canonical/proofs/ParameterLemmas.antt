@@ -22,3 +22,5 @@ pair_cmp_exact = exact_pairs byte_order byte_order exact_bytes exact_bytes
 pub pairs-sorted : (xs ys : List Parameter) → IsPermutation xs ys → IsSorted (λ p q. pair_cmp (pair p) (pair q)) ys → pairs ys ≡ sorted_pairs (pairs xs)
 pairs-sorted xs ys same up =
     sorted_by-unique pair_cmp pair_cmp_total pair_cmp_exact (pairs xs) (pairs ys) (IsPermutation-map pair xs ys same) (IsSorted-map pair pair_cmp ys up)
+
+pub ruleset sorting = (pairs-sorted)

@@ -65,6 +65,7 @@ fn join(alloc: Global, all: &[Parameter]) -> Result<Vec<u8>, AllocError>
 }
 
 // The parameters of the query, encoded, sorted and joined.
+#[tactic(auto, using(crate::proofs::ParameterLemmas::sorting))]
 pub(crate) fn sorted_query(alloc: Global, query: &[u8]) -> Result<Vec<u8>, AllocError>
     ensures { IfOk result (λ text. text.items ≡ join_with_byte 38
         (map print_pair (sorted_pairs (map encoded_pair (map pair_of (pieces_of query.now)))))) }

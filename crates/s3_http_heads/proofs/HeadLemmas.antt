@@ -1,5 +1,5 @@
 -- A text says one thing, and a connection's bytes are cut in one way.
-use Rattle.std.proofs.Common.{◌≡◌, ℕ, List, [], ◌++◌, take, drop, length, sym, ap, ◌∙◌, refl, subst}
+use Rattle.std.proofs.Common.{◌≡◌, ℕ, List, [], ◌++◌, take, drop, length, Some, sym, ap, ◌∙◌, refl, subst}
 use Rattle.std.proofs.lemmas.List.{take_at, drop_at}
 use Rattle.httparse.proofs.GrammarLemmas.{request_unique}
 use Rattle.s3_http_heads.specs.declared.find.Found.TheVariants.{Head}
@@ -21,10 +21,13 @@ same_fronts a b r q len joined = (
 same_len : (n m : ℕ) → Head n ≡ Head m → n ≡ m
 same_len n m e = cc
 
+same_count : (n m : ℕ) → Some n ≡ Some m → n ≡ m
+same_count n m e = cc
+
 pub message_unique : (bytes : List ℕ) (a b : HeadParts) (body other rest more : List ℕ)
     → IsMessage bytes a body rest → IsMessage bytes b other more → (a ≡ b) × (body ≡ other) × (rest ≡ more)
 message_unique bytes a b body other rest more x y =
     let texts = same_fronts x.text y.text (body ++ rest) (other ++ more) (same_len _ _ (sym x.found ∙ y.found)) (sym x.joined ∙ y.joined) in
     let parts = says_unique y.text a b (subst (λ t. Says t a) texts.0 x.says) y.says in
-    let bodies = same_fronts body other rest more (x.whole ∙ ap (λ p. announced (length_lines p)) parts ∙ sym y.whole) texts.1 in
+    let bodies = same_fronts body other rest more (same_count _ _ (sym x.whole ∙ ap (λ p. announced (length_lines p)) parts ∙ y.whole)) texts.1 in
     (parts, bodies.0, bodies.1)

@@ -1,5 +1,4 @@
 pub mod TextLemmas
 pub mod NameLemmas
-pub mod LengthLemmas
 pub mod VerdictLemmas
 pub mod HeadLemmas

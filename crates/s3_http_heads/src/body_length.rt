@@ -1,9 +1,9 @@
 //! How long the body of a message is, and what is wrong with that.
-ghost use Rattle.std.specs.Prelude.{◌≡◌, ◌≤◌, ◌==◌, nat_lt, if◌then◌else◌, Some, None, IfOk, List, ℕ, length, codes};
+ghost use Rattle.std.specs.Prelude.{◌≡◌, ◌≤◌, ◌==◌, ◌&&◌, not, nat_lt, Some, IfOk, List, ℕ, length, codes};
 ghost use Rattle.std.specs.List.{after_first};
 ghost use Rattle.s3_http_heads.specs.Message.{IsMessage};
 ghost use Rattle.s3_http_heads.specs.Parts.{HeadParts, is_sent};
-ghost use Rattle.s3_http_heads.specs.Framing.{is_count_once, announced, length_lines, names_key, needs_length, framing_of};
+ghost use Rattle.s3_http_heads.specs.Framing.{announced, length_lines, names_key, needs_length, framing_of};
 
 use crate::Head;
 use crate::text::after_first;
@@ -18,18 +18,17 @@ use s3_text::decimal_number;
 /// The first of these: `NotImplemented` for a Transfer-Encoding; `InvalidRequest` where Content-Length
 /// was sent several times or is not 1 to 18 decimal digits; `MissingContentLength` for a PUT of an
 /// object's bytes that has none; `EntityTooLarge` where it is over the limit.
+#[tactic(auto, unfolding(crate::specs::Framing::framing_of))]
 pub fn framing(head: &Head, limit: u64) -> Result<u64, Code>
     ensures value { result ≡ framing_of head.now limit }
-    ensures announced { IfOk result (λ n. n ≡ announced (length_lines head.now)) }
+    ensures announced { IfOk result (λ n. announced (length_lines head.now) ≡ Some n) }
     ensures within { IfOk result (λ n. n ≤ limit) }
 {
     if is_encoded(head) {
         return Err(Code::NotImplemented);
     }
-    let Some(length) = announced_length(head) else {
-        return Err(Code::InvalidRequest);
-    };
-    if needs_length(head) && !head.is_sent(b"content-length") {
+    let length = announced_length(head).ok_or(Code::InvalidRequest)?;
+    if lacks_length(head) {
         return Err(Code::MissingContentLength);
     }
     if limit < length {
@@ -45,9 +44,10 @@ fn is_encoded(head: &Head) -> bool
     head.is_sent(b"transfer-encoding")
 }
 
-// What Content-Length says: 0 where it was not sent, nothing where it is no single count.
-fn announced_length(head: &Head) -> Option<u64>
-    ensures { result ≡ (if is_count_once (length_lines head.now) then Some (announced (length_lines head.now)) else None) }
+/// What Content-Length says: 0 where it was not sent, nothing where it is no single count of 1 to 18
+/// decimal digits.
+pub fn announced_length(head: &Head) -> Option<u64>
+    ensures { result ≡ announced (length_lines head.now) }
 {
     if head.count(b"content-length") > 1 {
         return None;
@@ -56,6 +56,13 @@ fn announced_length(head: &Head) -> Option<u64>
         Some(value) => decimal_number(value, 18),
         None => Some(0),
     }
+}
+
+// Whether no length is told where one is needed.
+fn lacks_length(head: &Head) -> bool
+    ensures { result ≡ needs_length head.now && not (is_sent (codes "content-length") head.now) }
+{
+    needs_length(head) && !head.is_sent(b"content-length")
 }
 
 // Whether the head begins a put of an object's bytes, which has to say how many there are.

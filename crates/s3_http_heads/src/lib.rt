@@ -6,9 +6,9 @@ mod find;
 mod head;
 mod text;
 
-pub use body_length::{framing, messages_are_cut_once};
+pub use body_length::{announced_length, framing, messages_are_cut_once};
 pub use find::{
     Found, HEAD_LIMIT, find_head, pairs_may_be_dropped, skipped, verdict_is_exact, verdicts_stay,
 };
 pub use head::{Head, LINE_LIMIT, texts_say_one_thing};
-pub use text::{after_first, before_first, is_named};
+pub use text::{after_first, before_first, is_named, trimmed};

@@ -61,8 +61,8 @@ pub(crate) fn has_word(value: &[u8], word: &[u8]) -> bool
         .any(|part| is_named(trimmed(part), word))
 }
 
-// The bytes without the spaces and tabs at both ends.
-fn trimmed(bytes: &[u8]) -> &[u8]
+/// The bytes without the spaces and tabs at both ends.
+pub fn trimmed(bytes: &[u8]) -> &[u8]
     ensures { result.now ≡ trim_ows bytes.now }
 {
     trimmed_end(trimmed_start(bytes))

@@ -2,6 +2,7 @@
 use crate::devices::{Broken, fails, run_quietly};
 use crate::messages::{Reply, is_replayed, texts};
 use std::alloc::Global;
+use std::str;
 use std::test::Fail;
 
 /// The status of a signing, whose input cannot be read; what it writes is added to the output.
@@ -99,13 +100,15 @@ static GET: [&str; 14] = [
 
 static PUT_AND_GOT: [Reply; 2] = [Reply::Put, Reply::Got("1")];
 
-/// The put and the get are signed with status 0, and a replay of both, one after the other, is answered.
+/// The put and the get are signed with status 0 and as text, and a replay of both, one after the other,
+/// is answered.
 fn are_signed_and_answered(alloc: Global) -> Result<bool, Fail> {
     let wanted = texts(alloc, &PUT_AND_GOT)?;
     let mut requests: Vec<u8> = Vec::new(alloc);
     let put = sign(alloc, &PUT, &mut requests);
     let get = sign(alloc, &GET, &mut requests);
-    Ok(put == 0 && get == 0 && is_replayed(alloc, requests.as_slice(), wanted.as_str()))
+    let are_signed = put == 0 && get == 0 && str::from_utf8(requests.as_slice()).is_ok();
+    Ok(are_signed && is_replayed(alloc, requests.as_slice(), wanted.as_str()))
 }
 
 #[test]

@@ -1,2 +1,3 @@
-pub mod ReplyLemmas
+pub mod LineLemmas
+pub mod DocumentLemmas
 pub mod UniqueLemmas

@@ -6,8 +6,8 @@ use Rattle.s3_store.specs.declared.answer.Answer.{Answer}
 use Rattle.s3_store.specs.declared.answer.Outcome.{Outcome}
 use Rattle.s3_store.specs.declared.answer.Outcome.TheVariants.{Put, Got, Refused}
 use Rattle.s3_replies.specs.declared.context.Context.{Context}
-use Rattle.s3_replies.specs.Lines.{IsHttpDate}
-use Rattle.s3_replies.specs.Replies.{print_got, PrintsOutcome, Prints}
+use Rattle.s3_replies.specs.Date.{IsHttpDate}
+use Rattle.s3_replies.specs.Replies.{got_fields, print_reply, PrintsOutcome, Prints}
 
 pub IsHttpDate_unique : (t : ℕ) (a b : List ℕ) → IsHttpDate t a → IsHttpDate t b → a ≡ b
 IsHttpDate_unique t a b h k =
@@ -16,9 +16,9 @@ IsHttpDate_unique t a b h k =
 PrintsOutcome_unique : (number : ℕ) (outcome : Outcome) (context : Context) (date t u : List ℕ) → PrintsOutcome number outcome context date t → PrintsOutcome number outcome context date u → t ≡ u
 PrintsOutcome_unique number (Put tag) context date t u h k = h ∙ sym k
 PrintsOutcome_unique number (Got object) context date t u h k =
-    let print = print_got object number context.closes context.head_only date in
+    let print = λ (modified : List ℕ). print_reply (got_fields object number context.closes date modified) context.head_only object.body in
     h.2 ∙ ap print (IsHttpDate_unique object.moment h.0 k.0 h.1 k.1) ∙ sym k.2
-PrintsOutcome_unique number (Refused code) context date t u h k = h ∙ sym k
+PrintsOutcome_unique number (Refused code is_delete_marker) context date t u h k = h ∙ sym k
 
 pub Prints_unique : (answer : Answer) (context : Context) (t u : List ℕ) → Prints answer context t → Prints answer context u → t ≡ u
 Prints_unique answer context t u h k =

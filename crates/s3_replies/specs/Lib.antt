@@ -1,5 +1,8 @@
+pub mod Date
 pub mod Lines
 pub mod Status
+pub mod Head
+pub mod Document
 pub mod Replies
 pub use Rattle.s3_store.specs.Store
 pub use Rattle.s3_terms.specs.Code

@@ -1,9 +1,7 @@
--- The parts of a reply's head (RFC 9112, sections 4 and 5).
-use Rattle.std.specs.Prelude.{◌≡◌, ℕ, Bool, if◌then◌else◌, List, [], ◌∷◌, ◌++◌, codes}
+-- The header lines of a reply's head (RFC 9112, sections 4 and 5).
+use Rattle.std.specs.Prelude.{ℕ, ◌+◌, Bool, if◌then◌else◌, List, [], ◌∷◌, ◌++◌, length, map, codes, Option, Some, None, option_map}
+use Rattle.std.specs.Borrow.{Bor}
 use Rattle.std.specs.List.{flat_map}
-use Rattle.std.specs.Fmt.{decimal}
-use Rattle.httpdate.specs.declared.date.HttpDate.{HttpDate}
-use Rattle.httpdate.specs.Date.{unix_secs, date_text}
 
 -- the end of a line
 abbrev pub crlf : List ℕ
@@ -17,23 +15,41 @@ Line = List ℕ × List ℕ
 abbrev pub print_line : Line → List ℕ
 print_line line = line.0 ++ codes ": " ++ line.1 ++ crlf
 
--- a status line, the header lines, the empty line and the body
-unfoldable pub print_reply : List ℕ → List Line → List ℕ → List ℕ
-print_reply status lines body =
-    codes "HTTP/1.1 " ++ status ++ crlf ++ flat_map print_line lines ++ crlf ++ body
+-- some header lines, one after another
+unfoldable pub print_lines : List Line → List ℕ
+print_lines lines = flat_map print_line lines
 
--- the line where the test holds, and none otherwise
-abbrev pub line_if : Bool → Line → List Line
-line_if test line = if test then line ∷ [] else []
+-- the line with this name and value, where the test holds
+abbrev pub flag : List ℕ → List ℕ → Bool → List Line
+flag name value test = if test then (name, value) ∷ [] else []
+
+-- the line with this name, where there is a value
+abbrev pub optional : List ℕ → Option (List ℕ) → List Line
+optional name None = []
+optional name (Some value) = (name, value) ∷ []
 
 -- a text in double quotes
 abbrev pub quoted : List ℕ → List ℕ
 quoted text = 34 ∷ text ++ 34 ∷ []
 
--- the text is the moment as a date of HTTP (RFC 9110, section 5.6.7: IMF-fixdate)
-abbrev pub IsHttpDate : ℕ → List ℕ → Type 0
-IsHttpDate t text = (date : HttpDate) × (unix_secs date ≡ t) × (text ≡ date_text date)
+-- the value that a reference points to, where there is one
+abbrev pub value_of : Option (Bor (List ℕ)) → Option (List ℕ)
+value_of value = option_map (λ text. text.now) value
 
--- a number in decimal digits
-unfoldable pub count_text : ℕ → List ℕ
-count_text n = decimal n
+-- how long a value is that may be absent
+abbrev pub value_length : Option (List ℕ) → ℕ
+value_length None = 0
+value_length (Some value) = length value
+
+-- a piece of metadata as a header line
+abbrev pub metadata_line : List ℕ × List ℕ → Line
+metadata_line piece = (codes "x-amz-meta-" ++ piece.0, piece.1)
+
+-- the metadata that references point to
+abbrev pub pieces_of : List (Bor (List ℕ) × Bor (List ℕ)) → List (List ℕ × List ℕ)
+pieces_of metadata = map (λ piece. (piece.0.now, piece.1.now)) metadata
+
+-- how many bytes the names and the values of metadata have
+abbrev pub metadata_length : List (List ℕ × List ℕ) → ℕ
+metadata_length [] = 0
+metadata_length (piece ∷ rest) = length piece.0 + length piece.1 + metadata_length rest

@@ -1,3 +1,5 @@
+//! What a reply takes from the message that it answers.
+
 use s3_calendar::Moment;
 
 /// What a reply takes from the message that it answers.

@@ -2,16 +2,15 @@
 //! here takes memory or fails: all but the bytes of an object fits into 4,096 bytes.
 #![tactic(auto)]
 
-mod answers;
 mod context;
+mod date;
 mod document;
-mod laws;
+mod head;
 mod lines;
-mod refusals;
+mod replies;
 mod status;
-mod texts;
 
-pub use answers::head_of;
 pub use context::Context;
-pub use laws::{refusals_are_unique, replies_are_unique};
-pub use refusals::{INTERNAL_ERROR, internal_error_reply, refusal};
+pub use replies::{
+    INTERNAL_ERROR, head_of, internal_error_reply, refusal, refusals_are_unique, replies_are_unique,
+};

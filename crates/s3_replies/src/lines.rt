@@ -1,14 +1,11 @@
-ghost use Rattle.std.specs.Prelude.{◌≡◌, ◌+◌, ◌≤◌, ◌++◌, length, codes};
-ghost use Rattle.arrayvec.specs.ArrayVec.{array_vec_len};
-ghost use Rattle.std.specs.List.{flat_map};
-ghost use Rattle.s3_replies.specs.Lines.{print_line, line_if, quoted, count_text, crlf};
-ghost use Rattle.s3_replies.specs.Replies.{first_lines, default_type, sent_body};
+//! The header lines of a reply, written one after another.
 
-use crate::texts::quoted_tag;
+ghost use Rattle.std.specs.Prelude.{◌≡◌, ◌+◌, ◌*◌, ◌≤◌, ◌++◌, [], ◌∷◌, length, map, option_map, decimal};
+ghost use Rattle.arrayvec.specs.ArrayVec.{array_vec_len};
+ghost use Rattle.s3_replies.specs.Lines.{print_lines, flag, optional, quoted, value_of, value_length, metadata_line, pieces_of, metadata_length};
+
 use arrayvec::ArrayVec;
 use itoa::Buffer;
-use s3_names::Tag;
-use s3_text::number_digits;
 
 /// A reply while it is written.
 pub(crate) type Reply = ArrayVec<u8, 4096>;
@@ -23,9 +20,10 @@ pub(crate) fn write<const SIZE: usize>(out: &mut ArrayVec<u8, SIZE>, text: &[u8]
 }
 
 /// Appends a header line.
+#[tactic(auto, unfolding(crate::specs::Lines::print_lines))]
 pub(crate) fn write_line(out: &mut Reply, name: &str, value: &[u8])
     requires { array_vec_len out.old + length name.now + length value.now + 4 ≤ 4096 }
-    ensures items { out.new.items ≡ out.old.items ++ print_line (name.now, value.now) }
+    ensures items { out.new.items ≡ out.old.items ++ print_lines ((name.now, value.now) ∷ []) }
     ensures len { array_vec_len out.new
         ≡ array_vec_len out.old + length name.now + length value.now + 4 }
 {
@@ -35,68 +33,90 @@ pub(crate) fn write_line(out: &mut Reply, name: &str, value: &[u8])
     write(out, b"\r\n");
 }
 
-/// Appends the line with the size of the body, and the empty line that ends a head: 40 bytes at
-/// most.
-#[tactic(auto, unfolding(crate::specs::Lines::count_text))]
-pub(crate) fn write_length(out: &mut Reply, size: u64)
-    requires { array_vec_len out.old + 40 ≤ 4096 }
-    ensures items { out.new.items
-        ≡ out.old.items ++ print_line (codes "Content-Length", count_text size) ++ crlf }
-    ensures bound { array_vec_len out.new ≤ array_vec_len out.old + 40 }
+/// Appends the line where the test holds.
+#[tactic(auto, unfolding(crate::specs::Lines::print_lines))]
+pub(crate) fn write_flag(out: &mut Reply, name: &str, value: &str, test: bool)
+    requires { array_vec_len out.old + length name.now + length value.now + 4 ≤ 4096 }
+    ensures items { out.new.items ≡ out.old.items ++ print_lines (flag name.now value.now test) }
+    ensures bound { array_vec_len out.new
+        ≤ array_vec_len out.old + length name.now + length value.now + 4 }
 {
-    let mut digits = Buffer::new();
-    write_line(out, "Content-Length", digits.format(size).as_bytes());
-    write(out, b"\r\n");
-}
-
-/// Appends the line that a reply has which ends the connection: 19 bytes.
-fn write_closing(out: &mut Reply, closes: bool)
-    requires { array_vec_len out.old + 19 ≤ 4096 }
-    ensures items { out.new.items
-        ≡ out.old.items
-        ++ flat_map print_line (line_if closes (codes "Connection", codes "close")) }
-    ensures bound { array_vec_len out.new ≤ array_vec_len out.old + 19 }
-{
-    if closes {
-        write_line(out, "Connection", b"close");
+    if test {
+        write_line(out, name, value.as_bytes());
     }
 }
 
-/// Appends the lines that every reply begins with: 92 bytes at most.
-pub(crate) fn write_first_lines(out: &mut Reply, date: &[u8; 29], closes: bool, number: u64)
-    requires { array_vec_len out.old + 92 ≤ 4096 }
+/// Appends the line where there is a value.
+#[tactic(auto, unfolding(crate::specs::Lines::print_lines))]
+pub(crate) fn write_optional(out: &mut Reply, name: &str, value: Option<&[u8]>)
+    requires { array_vec_len out.old + length name.now + value_length (value_of value) + 4 ≤ 4096 }
     ensures items { out.new.items
-        ≡ out.old.items ++ flat_map print_line (first_lines date.now closes number) }
-    ensures bound { array_vec_len out.new ≤ array_vec_len out.old + 92 }
+        ≡ out.old.items ++ print_lines (optional name.now (value_of value.entry)) }
+    ensures bound { array_vec_len out.new
+        ≤ array_vec_len out.old + length name.now + value_length (value_of value.entry) + 4 }
 {
-    write_line(out, "Date", date);
-    write_closing(out, closes);
-    write_line(out, "x-amz-request-id", &number_digits(number));
+    if let Some(value) = value {
+        write_line(out, name, value);
+    }
 }
 
-/// Appends the lines that tell of an object, by its tag and the date at which it was made: 145
-/// bytes.
-pub(crate) fn write_object_lines(out: &mut Reply, tag: &Tag, modified: &[u8; 29])
-    requires { array_vec_len out.old + 145 ≤ 4096 }
-    ensures items { out.new.items
-        ≡ out.old.items ++ print_line (codes "ETag", quoted tag.now)
-        ++ print_line (codes "Last-Modified", modified.now)
-        ++ print_line (codes "Accept-Ranges", codes "bytes")
-        ++ print_line (codes "Content-Type", default_type) }
-    ensures bound { array_vec_len out.new ≤ array_vec_len out.old + 145 }
+/// Appends the line with the text in double quotes, where there is one.
+#[tactic(auto, unfolding(crate::specs::Lines::print_lines))]
+pub(crate) fn write_quoted(out: &mut Reply, name: &str, text: Option<&[u8]>)
+    requires { array_vec_len out.old + length name.now + value_length (value_of text) + 6 ≤ 4096 }
+    ensures items { out.new.items ≡ out.old.items
+        ++ print_lines (optional name.now (option_map quoted (value_of text.entry))) }
+    ensures bound { array_vec_len out.new
+        ≤ array_vec_len out.old + length name.now + value_length (value_of text.entry) + 6 }
 {
-    write_line(out, "ETag", quoted_tag(tag).as_slice());
-    write_line(out, "Last-Modified", modified);
-    write_line(out, "Accept-Ranges", b"bytes");
-    write_line(out, "Content-Type", b"binary/octet-stream");
+    if let Some(text) = text {
+        write(out, name.as_bytes());
+        write(out, b": \"");
+        write(out, text);
+        write(out, b"\"\r\n");
+    }
 }
 
-/// Appends the body, which a reply to a HEAD leaves out.
-pub(crate) fn write_body(out: &mut Reply, head_only: bool, body: &[u8])
-    requires { array_vec_len out.old + length body.now ≤ 4096 }
-    ensures { out.new.items ≡ out.old.items ++ sent_body head_only body.now }
+/// Appends the line with the number, where the test holds.
+pub(crate) fn write_number(out: &mut Reply, name: &str, number: u64, test: bool)
+    requires { array_vec_len out.old + length name.now + 24 ≤ 4096 }
+    ensures items { out.new.items
+        ≡ out.old.items ++ print_lines (flag name.now (decimal number) test) }
+    ensures bound { array_vec_len out.new ≤ array_vec_len out.old + length name.now + 24 }
 {
-    if !head_only {
-        write(out, body);
+    let mut digits = Buffer::new();
+    write_flag(out, name, digits.format(number), test);
+}
+
+/// Appends a line of metadata.
+#[tactic(auto, unfolding(crate::specs::Lines::print_lines))]
+fn write_piece(out: &mut Reply, name: &[u8], value: &[u8])
+    requires { array_vec_len out.old + length name.now + length value.now + 15 ≤ 4096 }
+    ensures items { out.new.items
+        ≡ out.old.items ++ print_lines (metadata_line (name.now, value.now) ∷ []) }
+    ensures len { array_vec_len out.new
+        ≡ array_vec_len out.old + length name.now + length value.now + 15 }
+{
+    write(out, b"x-amz-meta-");
+    write(out, name);
+    write(out, b": ");
+    write(out, value);
+    write(out, b"\r\n");
+}
+
+/// Appends the lines of metadata.
+#[tactic(auto, unfolding(crate::specs::Lines::print_lines))]
+pub(crate) fn write_metadata(out: &mut Reply, metadata: &[(&[u8], &[u8])])
+    requires { array_vec_len out.old + metadata_length (pieces_of metadata.now)
+        + 15 * length metadata.now ≤ 4096 }
+    ensures items { out.new.items
+        ≡ out.old.items ++ print_lines (map metadata_line (pieces_of metadata.now)) }
+    ensures bound { array_vec_len out.new
+        ≤ array_vec_len out.old + metadata_length (pieces_of metadata.now)
+        + 15 * length metadata.now }
+{
+    if let [(name, value), rest @ ..] = metadata {
+        write_piece(out, name, value);
+        write_metadata(out, rest);
     }
 }

@@ -92,10 +92,12 @@ const GET_REPLY: &[u8] = b"HTTP/1.1 200 OK\r\n\
     \r\n\
     hello";
 
-/// The moment, whether the message is a HEAD that ends its connection, and the refusal of a missing key.
-const REFUSALS: &[(u64, bool, &[u8])] = &[
+/// The moment, whether the message is a HEAD that ends its connection, whether a delete marker stands
+/// under the key, and the refusal of a missing key.
+const REFUSALS: &[(u64, bool, bool, &[u8])] = &[
     (
         MOMENT,
+        false,
         false,
         b"HTTP/1.1 404 Not Found\r\n\
         Date: Fri, 24 May 2013 00:00:00 GMT\r\n\
@@ -106,8 +108,22 @@ const REFUSALS: &[(u64, bool, &[u8])] = &[
         {\"Code\":\"NoSuchKey\",\"Message\":\"The key does not exist.\"}",
     ),
     (
+        MOMENT,
+        false,
+        true,
+        b"HTTP/1.1 404 Not Found\r\n\
+        Date: Fri, 24 May 2013 00:00:00 GMT\r\n\
+        x-amz-request-id: 00000000000000ff\r\n\
+        x-amz-delete-marker: true\r\n\
+        Content-Type: application/json\r\n\
+        Content-Length: 56\r\n\
+        \r\n\
+        {\"Code\":\"NoSuchKey\",\"Message\":\"The key does not exist.\"}",
+    ),
+    (
         0,
         true,
+        false,
         b"HTTP/1.1 404 Not Found\r\n\
         Date: Thu, 01 Jan 1970 00:00:00 GMT\r\n\
         Connection: close\r\n\
@@ -178,20 +194,27 @@ fn put_and_get_hello(rt: HostRuntime) -> Result<(), Fail> {
     Ok(())
 }
 
-/// A missing key is refused at this moment, to a HEAD that ends its connection or to another message
-/// that does not, with these bytes.
-fn is_refused(alloc: Global, moment: u64, is_last_head: bool, bytes: &[u8]) -> Result<bool, Fail> {
+/// A missing key, or one with a delete marker, is refused at this moment, to a HEAD that ends its
+/// connection or to another message that does not, with these bytes.
+fn is_refused(
+    alloc: Global,
+    moment: u64,
+    is_last_head: bool,
+    is_delete_marker: bool,
+    bytes: &[u8],
+) -> Result<bool, Fail> {
     let context = context_at(moment, is_last_head, is_last_head)?;
     let outcome = Outcome::Refused {
         code: Code::NoSuchKey,
+        is_delete_marker,
     };
     Ok(is_sent(alloc, 255, outcome, &context, bytes)?)
 }
 
 #[test]
 fn refusals_of_the_store(rt: HostRuntime) -> Result<(), Fail> {
-    for (moment, is_last_head, bytes) in REFUSALS {
-        assert!(rt; is_refused(rt.alloc(), *moment, *is_last_head, bytes)?);
+    for (moment, is_last_head, is_delete_marker, bytes) in REFUSALS {
+        assert!(rt; is_refused(rt.alloc(), *moment, *is_last_head, *is_delete_marker, bytes)?);
     }
     Ok(())
 }

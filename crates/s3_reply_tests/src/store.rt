@@ -41,6 +41,9 @@ const TWO_TAG: &[u8] = b"b8a9f715dbb64fd5c56e7783c6820a61";
 
 const OTHER_TAG: &[u8] = b"795f3202b17cb6bc3d4b771d8c6c9eaf";
 
+/// The least size of a part, which is Amazon's: 5 MiB.
+const LEAST_PART: u64 = 5_242_880;
+
 /// 2013-05-24T00:00:00Z.
 const NOW: u64 = 1_369_353_600;
 
@@ -94,7 +97,13 @@ fn is_outcome(outcome: &Outcome, expected: Expected) -> bool {
         (Outcome::Got { object }, Expected::Got(bytes, tag, seconds)) => {
             is_object(object, bytes, tag, seconds)
         }
-        (Outcome::Refused { code }, Expected::Refused(wanted)) => *code == wanted,
+        (
+            Outcome::Refused {
+                code,
+                is_delete_marker,
+            },
+            Expected::Refused(wanted),
+        ) => *code == wanted && !*is_delete_marker,
         _ => false,
     }
 }
@@ -108,7 +117,7 @@ fn answer_to(
 ) -> Result<Answer, Fail> {
     let moment = Moment::new(seconds).ok_or("no moment")?;
     let command = command_of(alloc, asked)?;
-    Ok(store.apply(alloc, command, moment, number)?)
+    Ok(store.apply(alloc, LEAST_PART, command, moment, number)?)
 }
 
 fn is_right(alloc: Global, store: &mut Store, number: u64, step: Step) -> Result<bool, Fail> {

@@ -1,6 +1,5 @@
 pub mod Operations
 pub mod Routing
-pub mod Stages
 pub use Rattle.s3_http_heads.specs.Parts
 pub use Rattle.s3_terms.specs.Code
 pub use Rattle.s3_terms.specs.Fault

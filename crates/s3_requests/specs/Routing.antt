@@ -1,14 +1,13 @@
 -- Which operation a head asks for, on which bucket and which key (addresses are path-style: Amazon S3
 -- User Guide, "Path-style requests"), and the faults of routing in their order. Operations that this
 -- server does not have are NotImplemented, and so is every query.
-use Rattle.std.specs.Prelude.{ℕ, Bool, not, ◌&&◌, ◌==◌, nat_lt, if◌then◌else◌, List, [], ◌∷◌, length, Option, Some, None, ok_or, Result}
+use Rattle.std.specs.Prelude.{ℕ, Bool, not, ◌==◌, nat_lt, List, length, Option, Some, None, ok_or, Result, Ok}
 use Rattle.std.specs.List.{before_first, after_first}
-use Rattle.std.specs.Str.{is_utf8}
 use Rattle.percent_encoding.specs.Percent.{percent_decode}
-use Rattle.s3_names.specs.Names.{is_bucket_name, key_limit}
-use Rattle.s3_terms.specs.Fault.{first_fault, unless_refused, ◌>>=◌}
+use Rattle.s3_names.specs.Names.{is_bucket_name, key_fault}
+use Rattle.s3_terms.specs.Fault.{refuse, unless_refused, ◌>>◌, ◌>>=◌}
 use Rattle.s3_terms.specs.declared.code.Code.{Code}
-use Rattle.s3_terms.specs.declared.code.Code.TheVariants.{NotImplemented, MethodNotAllowed, InvalidBucketName, InvalidURI, KeyTooLongError}
+use Rattle.s3_terms.specs.declared.code.Code.TheVariants.{NotImplemented, MethodNotAllowed, InvalidBucketName}
 use Rattle.s3_http_heads.specs.Parts.{HeadParts, path_of, query_of}
 use Rattle.s3_requests.specs.declared.operations.Operation.{Operation}
 use Rattle.s3_requests.specs.declared.operations.Operation.TheVariants as operations
@@ -18,44 +17,47 @@ use Rattle.s3_requests.specs.declared.commands.Command.{Command}
 use Rattle.s3_requests.specs.declared.commands.Command.TheVariants as commands
 use Rattle.s3_requests.specs.Operations.{method_of, service_operation, bucket_operation, key_operation}
 
+abbrev pub has_query : HeadParts → Bool
+has_query head = nat_lt 0 (length (query_of head.target))
+
 -- the path behind its first slash
 abbrev pub address_of : HeadParts → List ℕ
 address_of head = after_first (λ b. b == 47) (path_of head.target)
-
--- the bucket stands before its next slash and the key behind that, with their escapes read
-abbrev pub bucket_of : HeadParts → List ℕ
-bucket_of head = percent_decode (before_first (λ b. b == 47) (address_of head))
-
-abbrev pub key_of : HeadParts → List ℕ
-key_of head = percent_decode (after_first (λ b. b == 47) (address_of head))
-
-abbrev pub has_query : HeadParts → Bool
-has_query head = nat_lt 0 (length (query_of head.target))
 
 -- the path `/` is the service; a target begins with `/`, which is judged before
 abbrev pub is_service : HeadParts → Bool
 is_service head = length (address_of head) == 0
 
--- where the key is empty, the bucket is meant
-abbrev pub has_key : HeadParts → Bool
-has_key head = not (length (key_of head) == 0)
+-- the bucket stands before the next slash and the key behind that, with their escapes read
+abbrev pub bucket_of : List ℕ → List ℕ
+bucket_of address = percent_decode (before_first (λ b. b == 47) address)
 
--- the operation of the table that the head asks for, if there is one
-abbrev pub operation_of : HeadParts → Option Operation
-operation_of head =
-    let method = method_of head.method in
-    if is_service head then service_operation method
-    else (if has_key head then key_operation method head
-    else bucket_operation method)
+abbrev pub key_of : List ℕ → List ℕ
+key_of address = percent_decode (after_first (λ b. b == 47) address)
 
--- what can be wrong with the query and the address, and its code, in their order; the service has no bucket
-unfoldable pub routing_faults : HeadParts → List (Bool × Code)
-routing_faults head =
-    (has_query head, NotImplemented)
-    ∷ (not (is_service head) && not (is_bucket_name (bucket_of head)), InvalidBucketName)
-    ∷ (not (is_utf8 (key_of head)), InvalidURI)
-    ∷ (nat_lt key_limit (length (key_of head)), KeyTooLongError)
-    ∷ []
+-- what refuses an operation on the service or on a bucket, of which this server has none
+abbrev pub refusal_of : Option Operation → Code
+refusal_of None = MethodNotAllowed
+refusal_of (Some operation) = NotImplemented
+
+-- the address of a head that has no query and doesn't mean the service
+unfoldable pub address_at : HeadParts → Result (List ℕ) Code
+address_at head = do
+  refuse (has_query head) NotImplemented
+  refuse (is_service head) (refusal_of (service_operation (method_of head.method)))
+  Ok (address_of head)
+
+-- the bucket of an address
+unfoldable pub bucket_at : List ℕ → Result (List ℕ) Code
+bucket_at address = do
+  refuse (not (is_bucket_name (bucket_of address))) InvalidBucketName
+  Ok (bucket_of address)
+
+-- its key; where that is empty, the bucket is meant
+unfoldable pub key_at : HeadParts → List ℕ → Result (List ℕ) Code
+key_at head address = do
+  refuse (length (key_of address) == 0) (refusal_of (bucket_operation (method_of head.method)))
+  unless_refused (key_fault (key_of address)) (key_of address)
 
 -- the operations that this server has, with their arguments
 abbrev pub plan_for : Operation → List ℕ → List ℕ → Option Plan
@@ -69,11 +71,13 @@ planned_by asked_for bucket key = do
   operation ← ok_or asked_for MethodNotAllowed
   ok_or (plan_for operation bucket key) NotImplemented
 
--- what the head asks for: past the faults, the plan for its operation
+-- what the head asks for: the plan for the operation on its key
 unfoldable pub route_of : HeadParts → Result Plan Code
 route_of head = do
-  bucket ← unless_refused (first_fault (routing_faults head)) (bucket_of head)
-  planned_by (operation_of head) bucket (key_of head)
+  address ← address_at head
+  bucket ← bucket_at address
+  key ← key_at head address
+  planned_by (key_operation (method_of head.method) head) bucket key
 
 -- the operation with the body that came; a body that an operation has no use for is left out
 abbrev pub command_of : Plan → List ℕ → Command

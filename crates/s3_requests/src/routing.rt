@@ -1,9 +1,8 @@
 //! From a verified head to the operation that it asks for, and on to a command.
 ghost use Rattle.std.specs.Prelude.{◌≡◌, Ok, Err, IfOk, IfErr};
 ghost use Rattle.percent_encoding.specs.Percent.{percent_decode};
-ghost use Rattle.s3_terms.specs.Fault.{Follows};
+ghost use Rattle.s3_terms.specs.Fault.{Follows, FollowsPast};
 ghost use Rattle.s3_requests.specs.Routing as rules;
-ghost use Rattle.s3_requests.specs.Stages as stages;
 
 use crate::operations::{Method, Operation, bucket_operation, key_operation, service_operation};
 use crate::{Command, Plan};
@@ -15,13 +14,20 @@ use std::alloc::Global;
 
 /// The operation that a verified head asks for, with its bucket and its key (Amazon S3 User Guide,
 /// "Path-style requests"). A refusal is the first fault of routing in the order of
-/// `docs/PROTOCOL.md`; `InternalError` says that there was no memory for the names. The cost is linear
-/// in the target.
-#[tactic(auto, using(crate::proofs::StageLemmas::routed))]
+/// `docs/PROTOCOL.md`; `InternalError` says that there was no memory for the names, of an address that
+/// may have them: without a query, and not the service. The cost is linear in the target.
+#[tactic(auto, unfolding(crate::specs::Routing::route_of))]
 pub fn route(alloc: Global, head: &Head) -> Result<Plan, Code>
-    ensures { Follows result (rules.route_of head.now) }
+    ensures { FollowsPast (rules.address_at head.now) result (rules.route_of head.now) }
 {
-    route_in_stages(alloc, head)
+    let address = address_at(head)?;
+    let bucket = bucket_at(alloc, address)?;
+    let key = key_at(alloc, head, address)?;
+    key_plan(
+        key_operation(Method::read(head.method()), head),
+        bucket,
+        key,
+    )
 }
 
 /// The command of an operation and the body that came with its message. A body that the operation has
@@ -39,27 +45,11 @@ pub fn command(plan: Plan, payload: Payload) -> Command
     }
 }
 
-// Judges the address, its bucket, its key and the method in turn, and takes memory for each name only
-// once nothing before it is wrong.
-#[tactic(auto, unfolding(crate::specs::Stages::staged))]
-fn route_in_stages(alloc: Global, head: &Head) -> Result<Plan, Code>
-    ensures { Follows result (stages.staged head.now) }
-{
-    let address = address_at(head)?;
-    let bucket = bucket_at(alloc, address)?;
-    let key = key_at(alloc, address)?;
-    let method = Method::read(head.method());
-    match key {
-        Some(key) => key_plan(key_operation(method, head), bucket, key),
-        None => Err(refusal_of(bucket_operation(method))),
-    }
-}
-
 // The path behind its first slash, unless a query stands behind it or it is the service's.
-#[tactic(auto, unfolding(crate::specs::Stages::address_at))]
+#[tactic(auto, unfolding(crate::specs::Routing::address_at))]
 fn address_at(head: &Head) -> Result<&[u8], Code>
-    ensures ok { IfOk result (λ address. stages.address_at head.now ≡ Ok address.now) }
-    ensures err { IfErr result (λ code. stages.address_at head.now ≡ Err code) }
+    ensures ok { IfOk result (λ address. rules.address_at head.now ≡ Ok address.now) }
+    ensures err { IfErr result (λ code. rules.address_at head.now ≡ Err code) }
 {
     if !head.query().is_empty() {
         return Err(Code::NotImplemented);
@@ -74,34 +64,24 @@ fn address_at(head: &Head) -> Result<&[u8], Code>
 }
 
 // The bucket that an address names.
-#[tactic(auto, unfolding(crate::specs::Stages::bucket_at))]
+#[tactic(auto, unfolding(crate::specs::Routing::bucket_at))]
 fn bucket_at(alloc: Global, address: &[u8]) -> Result<BucketName, Code>
-    ensures { Follows result (stages.bucket_at address.now) }
+    ensures { Follows result (rules.bucket_at address.now) }
 {
     let name = decoded(alloc, before_first(address, b'/'))?;
     BucketName::read(alloc, name.as_slice())
 }
 
-// The key that an address names, if it names one.
-#[tactic(auto, unfolding(crate::specs::Stages::key_at))]
-fn key_at(alloc: Global, address: &[u8]) -> Result<Option<Key>, Code>
-    ensures { Follows result (stages.key_at address.now) }
+// The key that an address names; where that is empty, the bucket is meant.
+#[tactic(auto, unfolding(crate::specs::Routing::key_at))]
+fn key_at(alloc: Global, head: &Head, address: &[u8]) -> Result<Key, Code>
+    ensures { Follows result (rules.key_at head.now address.now) }
 {
     let key = decoded(alloc, after_first(address, b'/'))?;
     if key.is_empty() {
-        Ok(None)
-    } else {
-        some_key(alloc, key.as_slice())
+        return Err(refusal_of(bucket_operation(Method::read(head.method()))));
     }
-}
-
-fn some_key(alloc: Global, bytes: &[u8]) -> Result<Option<Key>, Code>
-    ensures { Follows result (stages.some_key bytes.now) }
-{
-    match Key::read(alloc, bytes) {
-        Ok(key) => Ok(Some(key)),
-        Err(code) => Err(code),
-    }
+    Key::read(alloc, key.as_slice())
 }
 
 // The plan of an operation on a key, if this server has it.
@@ -118,7 +98,7 @@ fn key_plan(operation: Option<Operation>, bucket: BucketName, key: Key) -> Resul
 
 // What refuses an operation on the service or on a bucket, of which this server has none.
 fn refusal_of(operation: Option<Operation>) -> Code
-    ensures { result ≡ stages.refusal_of operation }
+    ensures { result ≡ rules.refusal_of operation }
 {
     match operation {
         Some(_) => Code::NotImplemented,

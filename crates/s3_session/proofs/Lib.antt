@@ -1,7 +1,9 @@
 pub mod WordLemmas
+pub mod EarlyLemmas
 pub mod ReplayLemmas
 pub mod StayLemmas
 pub mod VerdictLemmas
 pub mod SoundLemmas
+pub mod ShorterLemmas
 pub mod OutputLemmas
 pub mod TurnLemmas

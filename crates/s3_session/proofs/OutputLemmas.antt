@@ -122,15 +122,15 @@ writes_at one settings moment ended bytes context command rest answer answers ou
 -- ---- one entry
 
 -- a command at a moment has one answer from a state under a number
-answers_once : (s : State) (n : ℕ) (e f : Entry) → IsAnswer s n e → IsAnswer s n f → f.moment ≡ e.moment → f.command ≡ e.command
+answers_once : (least : ℕ) (s : State) (n : ℕ) (e f : Entry) → IsAnswer least s n e → IsAnswer least s n f → f.moment ≡ e.moment → f.command ≡ e.command
     → f.answer ≡ e.answer
-answers_once s n e f x y moments commands =
-    let same : (step s f.moment f.command).1 ≡ (step s e.moment e.command).1 = cc in
-    let made : f.answer ≡ record { number = n; outcome = (step s e.moment e.command).1 } = rw (← same) y in
+answers_once least s n e f x y moments commands =
+    let same : (step least s n f.moment f.command).1 ≡ (step least s n e.moment e.command).1 = cc in
+    let made : f.answer ≡ record { number = n; outcome = (step least s n e.moment e.command).1 } = rw (← same) y in
     made ∙ sym x
 
-leaves_once : (s : State) (e f : Entry) → f.moment ≡ e.moment → f.command ≡ e.command → after_entry s f ≡ after_entry s e
-leaves_once s e f moments commands = cc
+leaves_once : (least : ℕ) (s : State) (e f : Entry) → f.answer ≡ e.answer → f.moment ≡ e.moment → f.command ≡ e.command → after_entry least s f ≡ after_entry least s e
+leaves_once least s e f answers moments commands = cc
 
 -- ---- all entries
 
@@ -141,13 +141,13 @@ commands_of entries = map (λ (e : Entry). e.command) entries
 abbrev WriteOnce : Settings → ℕ → Bool → List Entry → Type 0
 WriteOnce settings moment ended es =
     (fs : List Entry) (s : State) (n : ℕ) (bytes a b : List ℕ)
-    → Legal s n es → Legal s n fs
+    → Legal settings.min_part s n es → Legal settings.min_part s n fs
     → Answers settings moment ended false bytes es → Answers settings moment ended false bytes fs
     → Writes settings moment ended false bytes (answers_of es) a → Writes settings moment ended false bytes (answers_of fs) b
     → a ≡ b
 
 entry_once : OneVerdict → RepliesAreUnique → (settings : Settings) (moment : ℕ) (ended : Bool) (e : Entry) (es : List Entry) (f : Entry) (fs : List Entry) (s : State) (n : ℕ) (bytes a b : List ℕ)
-    → WriteOnce settings moment ended es → Legal s n (e ∷ es) → Legal s n (f ∷ fs)
+    → WriteOnce settings moment ended es → Legal settings.min_part s n (e ∷ es) → Legal settings.min_part s n (f ∷ fs)
     → Answers settings moment ended false bytes (e ∷ es) → Answers settings moment ended false bytes (f ∷ fs)
     → Writes settings moment ended false bytes (answers_of (e ∷ es)) a → Writes settings moment ended false bytes (answers_of (f ∷ fs)) b
     → a ≡ b
@@ -159,12 +159,12 @@ entry_once one replies settings moment ended e es f fs s n bytes a b next e_lega
     let mine = writes_at one settings moment ended bytes context e.command rest e.answer (answers_of es) a judged e_writes in
     let other = writes_at one settings moment ended bytes context e.command rest f.answer (answers_of fs) b judged f_writes in
     let moments : f.moment ≡ e.moment = f_answered.0.0 ∙ sym e_answered.0.0 in
-    let answers = answers_once s n e f e_legal.0 f_legal.0 moments brings.0 in
+    let answers = answers_once settings.min_part s n e f e_legal.0 f_legal.0 moments brings.0 in
     let texts : mine.0 ≡ other.0 = replies e.answer context mine.0 other.0 mine.2 (subst (λ (g : Answer). Prints g context other.0) answers other.2) in
     let mores : mine.1 ≡ other.1 = elim (cases_Bool context.closes) [
       | inl closing ↦ (MatchBool-at_true _ _ closing mine.4).1 ∙ sym (MatchBool-at_true _ _ closing other.4).1
-      | inr open_still ↦ next fs (after_entry s e) (suc n) rest mine.1 other.1 e_legal.1
-          (subst (λ (t : State). Legal t (suc n) fs) (leaves_once s e f moments brings.0) f_legal.1)
+      | inr open_still ↦ next fs (after_entry settings.min_part s e) (suc n) rest mine.1 other.1 e_legal.1
+          (subst (λ (t : State). Legal settings.min_part t (suc n) fs) (leaves_once settings.min_part s e f answers moments brings.0) f_legal.1)
           (e_answered.0.1, MatchBool-at_false _ _ open_still e_answered.1.3)
           (f_answered.0.1, MatchBool-at_false _ _ open_still brings.1)
           (MatchBool-at_false _ _ open_still mine.4)

@@ -1,18 +1,18 @@
 -- A sound verdict is about a sound message at the front of the bytes, and each of those has one.
 use Rattle.std.proofs.Common.{◌≡◌, ◌≢◌, ℕ, ◌≤◌, ◌&&◌, Bool, true, false, List, [], ◌∷◌, ◌++◌, take, drop, length, refl, sym, ap, subst, ◌∙◌, inl, inr, arith, length-append, Option, Some, None, Result, Ok, Err}
-use Rattle.std.specs.Prelude.{not, nat_lt}
+use Rattle.std.specs.Prelude.{codes, not, nat_lt, ok_or}
 use Rattle.std.specs.List.{AllByRecursion}
 use Rattle.std.proofs.lemmas.List.{take-append-drop, length-take-le, take_at, drop_at}
 use Rattle.std.proofs.lemmas.Bool.{cases_Bool, ltb-false, le-ltb, not-false}
 use Rattle.s3_config.specs.Settings.{Settings}
 use Rattle.s3_terms.specs.Fault.{first_fault, ◌>>=◌}
 use Rattle.s3_terms.specs.declared.code.Code.{Code}
-use Rattle.s3_terms.specs.declared.code.Code.TheVariants.{HeadTooLarge, MalformedHead}
+use Rattle.s3_terms.specs.declared.code.Code.TheVariants.{EntityTooLarge, HeadTooLarge, MalformedHead, MissingContentLength, NotImplemented}
 use Rattle.s3_http_heads.specs.Text.{found_in, skip_pairs}
 use Rattle.s3_http_heads.specs.declared.find.Found.{Found}
 use Rattle.s3_http_heads.specs.declared.find.Found.TheVariants as found
-use Rattle.s3_http_heads.specs.Parts.{HeadParts, Says, asks_head_only}
-use Rattle.s3_http_heads.specs.Framing.{framing_of, framing_faults, is_count_once, length_lines, announced}
+use Rattle.s3_http_heads.specs.Parts.{HeadParts, Says, asks_head_only, is_sent}
+use Rattle.s3_http_heads.specs.Framing.{framing_of, length_lines, announced, needs_length}
 use Rattle.s3_http_heads.specs.Message.{IsMessage}
 use Rattle.s3_signing.specs.Verdict.{head_verdict}
 use Rattle.s3_requests.specs.declared.commands.Command.{Command}
@@ -22,7 +22,7 @@ use Rattle.s3_session.specs.declared.verdict.Admission.{Admission}
 use Rattle.s3_session.specs.declared.verdict.Verdict.TheVariants as verdicts
 use Rattle.s3_session.specs.Message.{Decision, Judges, FoundJudged, TextJudged, open_yet, refused_message, meets, body_faults, judged, body_decision, admitted_decision, admission_of, hash_word, decision_of, text_at, behind_text, context_of}
 use Rattle.s3_session.specs.Laws.{IsSound, SoundMessages, SoundIsJudged}
-use Rattle.s3_terms.proofs.FaultLemmas.{no_first, unrefused}
+use Rattle.s3_terms.proofs.FaultLemmas.{no_first, one_value, stage_ok, test_ok}
 use Rattle.s3_session.proofs.StayLemmas.{IsExact}
 
 -- ---- faults
@@ -34,22 +34,26 @@ no_faults (fault ∷ faults) none =
     let one = no_first fault.0 fault.1 faults none in
     (one.0, no_faults faults one.1)
 
--- the first of two stages has refused nothing where both have not
-stage_ok : {A B : Type 0} (first : Result A Code) (next : A → Result B Code) (given : B) → first >>= next ≡ Ok given
-    → (value : A) × (first ≡ Ok value) × (next value ≡ Ok given)
-stage_ok (Ok value) next given e = (value, refl, e)
-stage_ok (Err code) next given e = absurd (cc)
-
 -- ---- the framing of a head that is admitted
 
--- a head whose framing is accepted has one count at most, and that is the size
-framed : (head : HeadParts) (limit size : ℕ) → framing_of head limit ≡ Ok size
-    → (is_count_once (length_lines head) ≡ true) × (size ≡ announced (length_lines head))
+-- the length behind tests that refuse nothing
+given_count : (count : Option ℕ) (code : Code) (next : ℕ → Result ℕ Code) (size : ℕ) → (ok_or count code >>= next) ≡ Ok size
+    → (n : ℕ) × (count ≡ Some n) × (next n ≡ Ok size)
+given_count (Some n) code next size e = (n, refl, e)
+given_count None code next size e = absurd (cc)
+
+one_count : (n m : ℕ) → Some n ≡ Some m → n ≡ m
+one_count n m e = cc
+
+-- a head whose framing is accepted announces its size
+framed : (head : HeadParts) (limit size : ℕ) → framing_of head limit ≡ Ok size → announced (length_lines head) ≡ Some size
 unfolding framing_of
 framed head limit size is =
-    let all = unrefused (first_fault (framing_faults head limit)) (announced (length_lines head)) size is in
-    let absent = no_faults (framing_faults head limit) all.0 in
-    (not-false (is_count_once (length_lines head)) absent.1.0, sym all.1)
+    let encoded = is_sent (codes "transfer-encoding") head in
+    let count = given_count (announced (length_lines head)) _ _ size (test_ok encoded NotImplemented _ size is).1 in
+    let lacks = needs_length head && not (is_sent (codes "content-length") head) in
+    let counted = test_ok lacks MissingContentLength _ size count.2 in
+    count.1 ∙ ap Some (one_value count.0 size (test_ok (nat_lt limit count.0) EntityTooLarge _ size counted.1).1)
 
 -- an admission has the size that the framing gives
 admitted_framed : (settings : Settings) (head : HeadParts) (moment : ℕ) (admission : Admission)
@@ -60,7 +64,7 @@ admitted_framed settings head moment admission is =
     let proved = stage_ok (head_verdict settings head moment) _ admission size.2 in
     let word = stage_ok (hash_word proved.0.word) _ admission proved.2 in
     let plan = stage_ok (route_of head) _ admission word.2 in
-    let same = (unrefused None _ admission plan.2).1 in
+    let same = one_value _ admission plan.2 in
     size.1 ∙ ap (λ (a : Admission). Ok a.size) same
 
 -- ---- what a sound verdict says
@@ -150,8 +154,7 @@ message_at settings moment n bytes head context command rest at within says h =
       found = at ∙ ap found.Head (sym (length-take-le n (skip_pairs bytes) within));
       joined = sym (ap (λ r. text_at n bytes ++ r) tail ∙ take-append-drop n (skip_pairs bytes));
       says = says;
-      counted = frames.0;
-      whole = length-take-le size behind h.body.within ∙ frames.1;
+      whole = frames ∙ ap Some (sym (length-take-le size behind h.body.within));
     }
 
 sound_at : IsExact → (settings : Settings) (moment : ℕ) (ended : Bool) (bytes rest : List ℕ) (context : Context) (command : Command) (f : Found)
@@ -210,7 +213,7 @@ text_judged : (settings : Settings) (moment : ℕ) (ended : Bool) (bytes rest : 
     → TextJudged settings moment ended s.message.text (s.body ++ rest) (sound context command rest)
 text_judged settings moment ended bytes rest context command s =
     let frames = framed s.head settings.body_limit s.admission.size (admitted_framed settings s.head moment s.admission s.admitted) in
-    let one = head_judged settings moment ended s.head s.body rest s.admission s.admitted (s.message.whole ∙ sym frames.1) s.met in
+    let one = head_judged settings moment ended s.head s.body rest s.admission s.admitted (one_count _ _ (sym s.message.whole ∙ frames)) s.met in
     let asks : sound context command rest ≡ sound (context_of s.head moment) (command_of s.admission.plan s.body) rest = rw (s.replied, s.asked) refl in
     inr (s.head, s.message.says, asks ∙ one)
 

@@ -13,12 +13,13 @@ use Rattle.s3_session.specs.declared.turn.Turn.{Turn}
 use Rattle.s3_session.specs.declared.turn.Turn.TheVariants as turns
 use Rattle.s3_session.specs.Message.{Judges}
 use Rattle.s3_session.specs.Turn.{answer_of, IsReplied, Turned}
+use Rattle.s3_session.proofs.EarlyLemmas.{sound_holds}
 
 module _ (settings : Settings) (moment number : ℕ) (bytes : List ℕ) (old new : State) (context : Context) (command : Command) (rest text : List ℕ) where
   turned : (answered : Result Answer NoMemory) (turn : Turn)
       → Judges settings moment true bytes (verdicts.Sound context command, rest)
-      → OnOk answered (new ≡ (step old moment command).0)
-      → IfOk answered (λ answer. answer ≡ answer_of old moment number command)
+      → OnOk answered (new ≡ (step settings.min_part old number moment command).0)
+      → IfOk answered (λ answer. answer ≡ answer_of settings old moment number command)
       → OnErr answered (new ≡ old)
       → IsReplied answered context rest turn text
       → Turned settings moment number bytes old new turn text
@@ -32,16 +33,19 @@ module _ (settings : Settings) (moment number : ℕ) (bytes : List ℕ) (old new
     subst (λ (a : Answer). Prints a shown text) is (subst (λ (k : Context). Prints answer k text) (sym replied.0) replied.2),
   )
   turned (Err e) turns.Ended judges state is same replied = absurd replied
-  turned (Err e) turns.Died judges state is same replied = (same, replied)
+  turned (Err e) turns.Died judges state is same replied = (same, sound_holds settings moment true bytes context command rest judges, replied)
   turned (Err e) (turns.Answered shown after) judges state is same replied = absurd replied
 
-  pub sound_turn : (verdict : Verdict) (answered : Result Answer NoMemory) (reply : Result Turn NoMemory)
+  pub sound_turn : (least : ℕ) → least ≡ settings.min_part → (verdict : Verdict) (answered : Result Answer NoMemory) (reply : Result Turn NoMemory)
       → Judges settings moment true bytes (verdict, rest) → verdict ≡ verdicts.Sound context command
-      → OnOk answered (new ≡ (step old moment command).0)
-      → IfOk answered (λ answer. answer ≡ answer_of old moment number command)
+      → OnOk answered (new ≡ (step least old number moment command).0)
+      → IfOk answered (λ answer. answer ≡ record { number = number; outcome = (step least old number moment command).1 })
       → OnErr answered (new ≡ old)
       → IfOk reply (λ turn. IsReplied answered context rest turn text)
       → IfOk reply (λ turn. Turned settings moment number bytes old new turn text)
-  sound_turn verdict answered (Ok turn) judges sound state is same replied =
-      turned answered turn (subst (λ (v : Verdict). Judges settings moment true bytes (v, rest)) sound judges) state is same replied
-  sound_turn verdict answered (Err e) judges sound state is same replied = replied
+  sound_turn least least_is verdict answered (Ok turn) judges sound state is same replied =
+      turned answered turn (subst (λ (v : Verdict). Judges settings moment true bytes (v, rest)) sound judges)
+      (subst (λ (l : ℕ). OnOk answered (new ≡ (step l old number moment command).0)) least_is state)
+      (subst (λ (l : ℕ). IfOk answered (λ (answer : Answer). answer ≡ record { number = number; outcome = (step l old number moment command).1 })) least_is is)
+      same replied
+  sound_turn least least_is verdict answered (Err e) judges sound state is same replied = replied

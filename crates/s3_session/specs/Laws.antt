@@ -18,6 +18,12 @@ OneVerdict =
     (settings : Settings) (moment : ℕ) (ended : Bool) (bytes : List ℕ) (d e : Decision)
     → Judges settings moment ended bytes d → Judges settings moment ended bytes e → d ≡ e
 
+-- settings, moment, bytes and whether they end can't be without a verdict
+abbrev pub VerdictsExist : Type 0
+VerdictsExist =
+    (settings : Settings) (moment : ℕ) (ended : Bool) (bytes : List ℕ)
+    → ¬ ((d : Decision) → ¬ (Judges settings moment ended bytes d))
+
 -- at the front of the bytes stands a whole message, and then the rest: its head is admitted, its body
 -- has the hash that the head's word says, and the context and the command are what they ask for
 pub record IsSound (settings : Settings) (moment : ℕ) (bytes : List ℕ) (context : Context) (command : Command) (rest : List ℕ) : Type 0 where

@@ -13,7 +13,7 @@ use Rattle.s3_http_heads.specs.declared.find.Found.{Found}
 use Rattle.s3_http_heads.specs.declared.find.Found.TheVariants as found
 use Rattle.s3_http_heads.specs.Parts.{HeadParts, Says, HasNoHead, closes, asks_head_only}
 use Rattle.s3_http_heads.specs.Framing.{framing_of}
-use Rattle.s3_signing.specs.Verdict.{head_verdict}
+use Rattle.s3_signing.specs.Verdict.{Checked, checked_head, head_verdict}
 use Rattle.s3_signing.specs.Word.{signed_chunks, unsigned_payload}
 use Rattle.s3_replies.specs.declared.context.Context.{Context}
 use Rattle.s3_session.specs.declared.verdict.Admission.{Admission}
@@ -27,6 +27,12 @@ is_other_word word = bytes_eq word unsigned_payload || bytes_eq word signed_chun
 
 abbrev pub hash_word : List ℕ → Result (List ℕ) Code
 hash_word word = if is_other_word word then Err NotImplemented else Ok word
+
+-- what is judged of a head without memory: its framing, and what shows before its signature
+unfoldable pub early_admission : Settings → HeadParts → ℕ → Result Checked Code
+early_admission settings head moment = do
+  size ← framing_of head settings.body_limit
+  checked_head settings head moment
 
 -- a head is judged in this order: its framing, its signature, its payload word, its routing
 unfoldable pub admission_of : Settings → HeadParts → ℕ → Result Admission Code
@@ -119,3 +125,13 @@ FoundJudged settings moment ended bytes (found.Head n) decision =
 unfoldable pub Judges : Settings → ℕ → Bool → List ℕ → Decision → Type 0
 Judges settings moment ended bytes decision =
     FoundJudged settings moment ended bytes (found_in bytes) decision
+
+-- what was found is a whole text that says a head
+abbrev pub FoundHead : List ℕ → Found → Type 0
+FoundHead bytes found.NeedMore = ⊥
+FoundHead bytes found.TooLarge = ⊥
+FoundHead bytes (found.Head n) = ¬ (HasNoHead (text_at n bytes))
+
+-- at the front of the bytes stands a whole text that says a head: only there may memory run out
+unfoldable pub HoldsHead : List ℕ → Type 0
+HoldsHead bytes = FoundHead bytes (found_in bytes)

@@ -7,7 +7,7 @@ use Rattle.s3_store.specs.declared.answer.Answer.{Answer}
 use Rattle.s3_replies.specs.declared.context.Context.{Context}
 use Rattle.s3_replies.specs.Replies.{Prints, PrintsRefusal, internal_error}
 use Rattle.s3_session.specs.declared.verdict.Verdict.TheVariants as verdicts
-use Rattle.s3_session.specs.Message.{open_yet, Judges}
+use Rattle.s3_session.specs.Message.{open_yet, Judges, HoldsHead}
 
 -- the bytes bring no command now: nothing is decided, or the message is refused
 abbrev pub BringsNone : Settings → ℕ → Bool → List ℕ → Type 0
@@ -36,11 +36,11 @@ EndsWith settings moment ended bytes out =
     × PrintsRefusal code context out))
 
 -- the output of a connection by its bytes and the answers that its commands were given: message by
--- message the printed answer, and nothing after a reply that closes; dead says that memory ran out,
--- which writes the fixed reply and ends the connection
+-- message the printed answer, and nothing after a reply that closes; dead says that memory ran out at
+-- a message whose head stands there, which writes the fixed reply and ends the connection
 abbrev pub Writes : Settings → ℕ → Bool → Bool → List ℕ → List Answer → List ℕ → Type 0
 Writes settings moment ended dead bytes [] out =
-    MatchBool dead (out ≡ internal_error) (EndsWith settings moment ended bytes out)
+    MatchBool dead (HoldsHead bytes × (out ≡ internal_error)) (EndsWith settings moment ended bytes out)
 Writes settings moment ended dead bytes (answer ∷ answers) out =
     (context : Context) × (command : Command) × (rest : List ℕ) × (text : List ℕ) × (more : List ℕ)
     × Judges settings moment ended bytes (verdicts.Sound context command, rest)

@@ -30,11 +30,12 @@ Answers settings moment ended dead bytes entries =
 
 -- the output of a whole connection at one moment, from the opening state: some legal history answers
 -- the connection's commands, and the output is its printed answers, message by message, and then the
--- refusal of the first message that is refused; dead says that memory ran out
+-- refusal of the first message that is refused; dead says that memory ran out at the message behind
+-- those, whose head stands there
 abbrev pub ReplaysAs : Bool → Settings → ℕ → List ℕ → List ℕ → Type 0
 ReplaysAs dead settings moment bytes out =
     (entries : List Entry)
-    × Legal (opening settings.buckets) 0 entries
+    × Legal settings.min_part (opening settings.buckets) 0 entries
     × Answers settings moment true dead bytes entries
     × Writes settings moment true dead bytes (map (λ (e : Entry). e.answer) entries) out
 

@@ -11,7 +11,7 @@ use Rattle.s3_replies.specs.Replies.{Prints, internal_error}
 use Rattle.s3_session.specs.declared.verdict.Verdict.TheVariants as verdicts
 use Rattle.s3_session.specs.declared.turn.Turn.{Turn}
 use Rattle.s3_session.specs.declared.turn.Turn.TheVariants as turns
-use Rattle.s3_session.specs.Message.{Judges}
+use Rattle.s3_session.specs.Message.{Judges, HoldsHead}
 use Rattle.s3_session.specs.Output.{BringsNone, EndsWith}
 
 -- the longer text is the shorter one and then what was added to it
@@ -22,16 +22,17 @@ abbrev pub IsLonger : List ℕ → List ℕ → Type 0
 IsLonger old new = new ≡ old ++ added old new
 
 -- the answer that the store gives to a command under this number
-abbrev pub answer_of : State → ℕ → ℕ → Command → Answer
-answer_of s moment number command = record { number = number; outcome = (step s moment command).1 }
+abbrev pub answer_of : Settings → State → ℕ → ℕ → Command → Answer
+answer_of settings s moment number command =
+    record { number = number; outcome = (step settings.min_part s number moment command).1 }
 
 -- the message is sound, and its command has taken one step of the store and been answered
 abbrev pub IsAnswered : Settings → ℕ → ℕ → List ℕ → State → State → Context → List ℕ → List ℕ → Type 0
 IsAnswered settings moment number bytes old new context rest text =
     (command : Command)
     × Judges settings moment true bytes (verdicts.Sound context command, rest)
-    × (new ≡ (step old moment command).0)
-    × Prints (answer_of old moment number command) context text
+    × (new ≡ (step settings.min_part old number moment command).0)
+    × Prints (answer_of settings old moment number command) context text
 
 -- what came of the store's answer to a command, or of want of memory for it: these bytes come after
 -- the message
@@ -41,11 +42,11 @@ IsReplied (Ok answer) context rest (turns.Answered replied after) text =
 IsReplied (Err e) context rest turns.Died text = text ≡ internal_error
 IsReplied answered context rest turn text = ⊥
 
--- what one turn did: it found no more commands, or memory ran out, or a command was answered
+-- what one turn did: it found no more commands, or memory ran out at a head, or a command was answered
 abbrev pub Turned : Settings → ℕ → ℕ → List ℕ → State → State → Turn → List ℕ → Type 0
 Turned settings moment number bytes old new turns.Ended text =
     (new ≡ old) × BringsNone settings moment true bytes × EndsWith settings moment true bytes text
 Turned settings moment number bytes old new turns.Died text =
-    (new ≡ old) × (text ≡ internal_error)
+    (new ≡ old) × HoldsHead bytes × (text ≡ internal_error)
 Turned settings moment number bytes old new (turns.Answered context rest) text =
     IsAnswered settings moment number bytes old new context rest.now text

@@ -1,5 +1,6 @@
-ghost use Rattle.std.specs.Prelude.{◌≡◌, IfOk, IfErr};
+ghost use Rattle.std.specs.Prelude.{◌≡◌, Err, OnOk, IsOk};
 ghost use Rattle.s3_terms.specs.Fault.{Follows};
+ghost use Rattle.s3_signing.specs.Verdict.{checked_head, head_verdict};
 ghost use Rattle.s3_session.specs.Message as rules;
 
 use crate::Admission;
@@ -13,16 +14,29 @@ use std::alloc::Global;
 
 /// Judges a head that has been read: its framing, its signature, the word that stands for its body,
 /// and its routing, in this order (`docs/PROTOCOL.md`, "Refusals"). The refusal is the first fault;
-/// `InternalError` says that memory ran out.
-#[tactic(auto, unfolding(crate::specs::Message::admission_of))]
+/// `InternalError` says that memory ran out, past all that shows before the signature.
+#[tactic(auto, unfolding(crate::specs::Message::admission_of, crate::specs::Message::early_admission))]
 pub fn admit(alloc: Global, config: &Config, head: &Head, moment: Moment) -> Result<Admission, Code>
-    ensures { Follows result (rules.admission_of config.now head.now moment) }
+    ensures admitted { Follows result (rules.admission_of config.now head.now moment) }
+    ensures early { OnOk result (IsOk (rules.early_admission config.now head.now moment)) }
+    ensures memory { (result ≡ Err Code.InternalError)
+        → IsOk (rules.early_admission config.now head.now moment) }
 {
     let size = framing(head, config.body_limit())?;
-    let verified = verify_head(alloc, config, head, moment)?;
+    let verified = verified(alloc, config, head, moment)?;
     let word = hash_word(&verified)?;
     let plan = route(alloc, head)?;
     Ok(Admission { size, word, plan })
+}
+
+// What a head proves: memory is wanted for its signature alone, past what shows before it.
+fn verified(alloc: Global, config: &Config, head: &Head, moment: Moment) -> Result<Verified, Code>
+    ensures verdict { Follows result (head_verdict config.now head.now moment) }
+    ensures early { OnOk result (IsOk (checked_head config.now head.now moment)) }
+    ensures memory { (result ≡ Err Code.InternalError)
+        → IsOk (checked_head config.now head.now moment) }
+{
+    verify_head(alloc, config, head, moment)
 }
 
 // The hash that stands for the body; the other payload modes are not there yet.

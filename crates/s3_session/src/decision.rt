@@ -1,6 +1,6 @@
-ghost use Rattle.std.specs.Prelude.{◌≡◌, ◌≤◌, if◌then◌else◌, IfOk, length, take, drop, []};
+ghost use Rattle.std.specs.Prelude.{◌≡◌, ◌≤◌, if◌then◌else◌, IfOk, OnErr, IsOk, IsTrue, length, take, drop, []};
 ghost use Rattle.s3_http_heads.specs.Text.{found_in, skip_pairs};
-ghost use Rattle.s3_http_heads.specs.Parts.{asks_head_only};
+ghost use Rattle.s3_http_heads.specs.Parts.{HasNoHead, asks_head_only};
 ghost use Rattle.s3_requests.specs.Routing.{command_of};
 ghost use Rattle.s3_session.specs.Message as rules;
 ghost use Rattle.s3_session.specs.declared.verdict.Verdict.TheVariants as verdicts;
@@ -21,7 +21,9 @@ use std::alloc::Global;
 /// Decides about the message at the front of a connection's bytes: `ended` says that no more bytes
 /// come. The second part of the answer is what comes after a sound message, and nothing otherwise.
 /// The cost is linear in the head and the body; the body's bytes are copied once, into the command.
-#[tactic(auto, unfolding(crate::specs::Message::Judges))]
+///
+/// `NoMemory` comes only where a whole text that says a head stands at the front.
+#[tactic(auto, unfolding(crate::specs::Message::Judges, crate::specs::Message::HoldsHead))]
 pub fn decide<'b>(
     alloc: Global,
     config: &Config,
@@ -31,6 +33,7 @@ pub fn decide<'b>(
 ) -> Result<(Verdict, &'b [u8]), NoMemory>
     ensures judged { IfOk result (λ d. rules.Judges config.now moment ended bytes.now (d.0, d.1.now)) }
     ensures rest { IfOk result (λ d. rules.EndsOrGoesOn d.0 d.1.now) }
+    ensures memory { OnErr result (rules.HoldsHead bytes.now) }
 {
     match find_head(bytes) {
         Found::NeedMore => Ok((Verdict::Open, &[])),
@@ -55,6 +58,7 @@ fn decide_text<'b>(
 ) -> Result<(Verdict, &'b [u8]), NoMemory>
     ensures judged { IfOk result (λ d. rules.TextJudged config.now moment ended text.now bytes.now (d.0, d.1.now)) }
     ensures rest { IfOk result (λ d. rules.EndsOrGoesOn d.0 d.1.now) }
+    ensures memory { OnErr result (¬ (HasNoHead text.now)) }
 {
     match Head::read(alloc, text) {
         Ok(head) => decide_head(alloc, config, &head, bytes, ended, moment),
@@ -75,6 +79,7 @@ fn decide_head<'b>(
 ) -> Result<(Verdict, &'b [u8]), NoMemory>
     ensures judged { IfOk result (λ d. (d.0, d.1.now) ≡ rules.decision_of config.now moment ended head.now bytes.now) }
     ensures rest { IfOk result (λ d. rules.EndsOrGoesOn d.0 d.1.now) }
+    ensures memory { OnErr result (IsOk (rules.early_admission config.now head.now moment)) }
 {
     match admit(alloc, config, head, moment) {
         Ok(admission) => decide_body(alloc, head, admission, bytes, ended, moment),
@@ -95,6 +100,8 @@ fn decide_body<'b>(
 ) -> Result<(Verdict, &'b [u8]), NoMemory>
     ensures judged { IfOk result (λ d. (d.0, d.1.now) ≡ rules.body_decision head.now moment ended bytes.now admission) }
     ensures rest { IfOk result (λ d. rules.EndsOrGoesOn d.0 d.1.now) }
+    ensures whole { OnErr result (admission.size ≤ length bytes.now) }
+    ensures met { OnErr result (IsTrue (rules.meets admission.word (take admission.size bytes.now))) }
 {
     if (bytes.len() as u64) < admission.size {
         let verdict = verdict_on_part(ended, moment, head.asks_head_only());
@@ -116,6 +123,7 @@ fn decide_whole<'b>(
     ensures judged { IfOk result (λ d. (d.0, d.1.now) ≡ (if rules.meets admission.word body.now
         then (verdicts.Sound (rules.context_of head.now moment) (command_of admission.plan body.now), rest.entry.now)
         else rules.refused_message Code.XAmzContentSHA256Mismatch moment (asks_head_only head.now))) }
+    ensures met { OnErr result (IsTrue (rules.meets admission.word body.now)) }
 {
     if !meets(&admission.word, body) {
         let head_only = head.asks_head_only();

@@ -1,4 +1,4 @@
-ghost use Rattle.s3_session.specs.Laws.{OneOutput, OneVerdict, SoundMessages, SoundIsJudged};
+ghost use Rattle.s3_session.specs.Laws.{OneOutput, OneVerdict, VerdictsExist, SoundMessages, SoundIsJudged};
 ghost use Rattle.s3_session.specs.Stays.{VerdictsStay};
 
 use s3_http_heads::{texts_say_one_thing, verdict_is_exact};
@@ -21,6 +21,12 @@ pub fn verdicts_are_one()
 {
     texts_say_one_thing();
 }
+
+/// A law: settings, moment, bytes and whether they end can't be without a verdict, so that `Judges` is
+/// empty nowhere, not even where `decide` runs out of memory. There is nothing to run.
+pub fn verdicts_exist()
+    ensures { VerdictsExist }
+{}
 
 /// A law: a sound verdict is about a whole message at the front of the bytes, which passed each test,
 /// and each such message has the sound verdict. There is nothing to run.

@@ -5,7 +5,7 @@ ghost use Rattle.s3_session.specs.Replay.{Replays};
 use crate::turn::{Turn, take_turn};
 use s3_calendar::Moment;
 use s3_config::Config;
-use s3_replies::internal_error_reply;
+use s3_http_heads::verdict_is_exact;
 use s3_store::{Store, one_more_entry};
 use s3_terms::NoMemory;
 use std::alloc::Global;
@@ -27,7 +27,8 @@ pub fn replay_one(
     Ok(out)
 }
 
-// Takes turns until the bytes bring no more commands, a reply closes, or memory runs out.
+// Takes turns until the bytes bring no more commands, a reply closes, or memory runs out. Each message
+// takes a byte at least.
 fn take_turns(
     alloc: Global,
     config: &Config,
@@ -41,8 +42,9 @@ fn take_turns(
     ensures { OnOk result (Replays config.now moment bytes.now out.new.items) }
 {
     one_more_entry();
+    verdict_is_exact();
     let mut rest = bytes;
-    for number in 0..u64::MAX {
+    for number in 0..bytes.len() as u64 {
         let Ok(turn) = take_turn(alloc, config, store, number, rest, moment, out) else {
             return Err(NoMemory);
         };
@@ -60,6 +62,5 @@ fn take_turns(
             }
         }
     }
-    out.extend_from_slice(internal_error_reply())?;
     Ok(())
 }

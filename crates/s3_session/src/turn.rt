@@ -37,19 +37,19 @@ pub(crate) fn take_turn<'b>(
     ensures turned { IfOk result (λ turn. Turned config.now moment number bytes.now store.old store.new turn
         (added out.old.items out.new.items)) }
 {
-    let Ok((verdict, rest)) = decide(alloc, config, bytes, true, moment) else {
-        return die(out);
-    };
-    match verdict {
-        Verdict::Open => Ok(Turn::Ended),
-        Verdict::Refused { code, context } => {
-            out.extend_from_slice(refusal(code, &context).as_slice())?;
-            Ok(Turn::Ended)
-        }
-        Verdict::Sound { context, command } => {
-            let answered = store.apply(alloc, command, moment, number);
-            reply_with(out, answered, context, rest)
-        }
+    match decide(alloc, config, bytes, true, moment) {
+        Err(e) => die(out, e),
+        Ok((verdict, rest)) => match verdict {
+            Verdict::Open => Ok(Turn::Ended),
+            Verdict::Refused { code, context } => {
+                out.extend_from_slice(refusal(code, &context).as_slice())?;
+                Ok(Turn::Ended)
+            }
+            Verdict::Sound { context, command } => {
+                let answered = store.apply(alloc, config.min_part(), command, moment, number);
+                reply_with(out, answered, context, rest)
+            }
+        },
     }
 }
 
@@ -64,15 +64,17 @@ fn reply_with<'b>(
     ensures replied { IfOk result (λ turn. IsReplied answered context rest.entry.now turn
         (added out.old.items out.new.items)) }
 {
-    let Ok(answer) = answered else {
-        return die(out);
-    };
-    write_answer(out, &answer, &context)?;
-    Ok(Turn::Answered { context, rest })
+    match answered {
+        Err(e) => die(out, e),
+        Ok(answer) => {
+            write_answer(out, &answer, &context)?;
+            Ok(Turn::Answered { context, rest })
+        }
+    }
 }
 
-// Writes what stands for a reply where memory ran out.
-fn die<'b>(out: &mut Vec<u8>) -> Result<Turn<'b>, NoMemory>
+// Ends the connection for want of memory: writes what stands for a reply.
+fn die<'b>(out: &mut Vec<u8>, _cause: NoMemory) -> Result<Turn<'b>, NoMemory>
     ensures died { IfOk result (λ turn. turn ≡ Turn.Died) }
     ensures written { OnOk result (out.new.items ≡ out.old.items ++ internal_error) }
 {

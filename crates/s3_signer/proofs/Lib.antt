@@ -1,15 +1,4 @@
 pub mod LineLemmas
-pub mod HeadLemmas
-pub mod ValueLemmas
-pub mod SignableLemmas
-pub mod ByteLemmas
-pub mod FieldLemmas
-pub mod OwnLemmas
-pub mod NameSizeLemmas
-pub mod HeadSizeLemmas
-pub mod HostLemmas
-pub mod HeadEndLemmas
-pub mod TrimLemmas
-pub mod ReadyLemmas
-pub mod SignedHeadLemmas
+pub mod MessageLemmas
+pub mod GrammarLemmas
 pub mod VerifiedLemmas

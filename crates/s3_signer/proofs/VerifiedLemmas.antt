@@ -1,100 +1,78 @@
--- A signed request is verified.
-use Rattle.std.proofs.Common.{◌≡◌, ℕ, ◌+◌, ◌<◌, ◌≤◌, true, List, [], ◌∷◌, ◌++◌, length, append-nil, refl, sym, ap, ◌∙◌, subst, arith, length-append}
-use Rattle.std.specs.List.{list_all}
-use Rattle.std.proofs.lemmas.Bool.{and_from, leb-true, ltb-true}
-use Rattle.std.proofs.lemmas.List.{length-map}
-use Rattle.std.proofs.lemmas.List.Folds.{list_all-append}
-use Rattle.httparse.specs.Grammar.{is_token_byte, print_request}
-use Rattle.s3_calendar.specs.Moment.{is_stamp}
-use Rattle.s3_http_heads.specs.Text.{head_limit}
-use Rattle.s3_http_heads.specs.Parts.{HeadParts, parts_of}
-use Rattle.s3_http_heads.specs.Framing.{announced, is_count_once}
-use Rattle.s3_http_heads.specs.Message.{IsMessage}
-use Rattle.s3_signing.specs.Signed.{IsVerifiedWith}
-use Rattle.s3_signing.specs.Signing.{authorization_text, signed_by}
-use Rattle.s3_signer.specs.Request.{HeaderLine, body_limit, field_of, head_of, head_size, is_signable, request_text, signed_head, tells_length, unsigned_head, unsigned_lines}
-use Rattle.s3_signer.specs.Verified.{IsVerifiedRequest}
-use Rattle.s3_signer.proofs.ByteLemmas.{length-stamp}
-use Rattle.s3_signer.proofs.FieldLemmas.{head_is, is_line, unsigned_are_lines}
-use Rattle.s3_signer.proofs.HeadEndLemmas.{found_head, skipped_head}
-use Rattle.s3_signer.proofs.HeadSizeLemmas.{authorization_size, printed_head_size, printed_size, printed_size-append}
-use Rattle.s3_signer.proofs.ReadyLemmas.{names_ready, unsigned_is_ready}
-use Rattle.s3_signer.proofs.SignableLemmas.{Signable, signable_parts}
-use Rattle.s3_signer.proofs.SignedHeadLemmas.{authorization_value, is_signed, length_is_count, length_is_told, length_values, own_line}
+-- A message that is ready for its signature and carries it is verified.
+use Rattle.std.proofs.Common.{◌≡◌, ℕ, Bool, true, false, not, List, [], ◌∷◌, ◌++◌, filter, length, append-nil, None, Some, refl, sym, ap, ◌∙◌, arith, subst, Ok, Err}
+use Rattle.std.specs.Prelude.{codes, IfOk, OnOk, Result, is_some, option_and_then, unwrap_or, slice_get}
+use Rattle.std.proofs.lemmas.Bool.{cond-true, or_left}
+use Rattle.std.proofs.lemmas.List.Elements.{filter-append}
+use Rattle.hex.specs.Hex.{encode_lower}
+use Rattle.sha2.specs.Sha256.{sha256}
+use Rattle.httparse.specs.Grammar.{RequestHead, print_request}
+use Rattle.httparse.specs.Spans.{name_and_value}
+use Rattle.s3_config.specs.Settings.{Settings}
+use Rattle.s3_calendar.specs.Moment.{is_stamp, stamp_seconds}
+use Rattle.s3_http_heads.specs.Parts.{HeadParts, Says, is_named, parts_of, values_of}
+use Rattle.s3_http_heads.proofs.NameLemmas.{sent_is}
+use Rattle.s3_signing.specs.Signed.{IsReady, IsVerifiedWith, Knows, other_lines}
+use Rattle.s3_signing.specs.Verdict.{checked_stamp, is_near, is_presigned, is_word, only}
+use Rattle.s3_signing.proofs.DigestLemmas.{sha256_text}
+use Rattle.s3_signer.specs.Line.{IsMessageOf, ReadsBack}
+use Rattle.s3_signer.specs.Request.{HeaderLine, IsReadyFor, field_of, head_of}
+use Rattle.s3_signer.specs.Verified.{IsVerifiedMessage}
+use Rattle.s3_signer.proofs.GrammarLemmas.{headers_more, said_names}
 
-module _ (id secret region method target : List ℕ) (headers : List HeaderLine) (body stamp : List ℕ) (signable : is_signable id region method target headers body stamp ≡ true) (stamped : is_stamp stamp ≡ true) where
-  parts : Signable id region method target headers body stamp
-  parts = signable_parts id region method target headers body stamp signable
+-- one value is a first value
+first_of_one : (values : List (List ℕ)) → length values ≡ 1 → is_some (slice_get values 0) ≡ true
+first_of_one [] one = absurd (omega arith)
+first_of_one (v ∷ values) one = refl
 
-  abbrev lines : List HeaderLine
-  lines = unsigned_lines method headers body stamp
+-- what is ready for the signature, and says so in its text
+is_ready : (told : Bool) (text body stamp : List ℕ) (head : HeadParts) → Says text head → IsReadyFor told (encode_lower (sha256 body)) stamp head → is_stamp stamp ≡ true → is_presigned head.target ≡ false → IsReady head stamp
+is_ready told text body stamp head says ready stamped plain = record {
+  names = said_names text head says;
+  readable = ready.readable;
+  unsigned_query = plain;
+  stamped = ap (λ values. option_and_then checked_stamp (only values)) ready.one_stamp ∙ cond-true (is_stamp stamp) (Some stamp) None stamped;
+  one_word = ap length ready.one_hash;
+  word = ap (λ words. is_word (unwrap_or (slice_get words 0) [])) ready.one_hash ∙ or_left _ _ (or_left _ _ (sha256_text body));
+  host = sym (sent_is (codes "host") head) ∙ first_of_one (values_of (codes "host") head) ready.one_host;
+}
 
-  abbrev unsigned : HeadParts
-  unsigned = parts_of (unsigned_head method target headers body stamp)
+-- the same of a head and a hash that were made so
+pub ready_along : (stamp : List ℕ) (told other : Bool) (hash digest : List ℕ) (h k : RequestHead) → told ≡ other → hash ≡ digest → h ≡ k → IsReadyFor told hash stamp (parts_of h) → IsReadyFor other digest stamp (parts_of k)
+ready_along stamp told other hash digest h k same_told same_hash same ready =
+    subst (λ x. IsReadyFor other digest stamp (parts_of x)) same
+    (subst (λ d. IsReadyFor other d stamp (parts_of h)) same_hash (subst (λ b. IsReadyFor b hash stamp (parts_of h)) same_told ready))
 
-  -- the value under any secret
-  abbrev value_of : List ℕ → List ℕ
-  value_of key = authorization_text id key region unsigned stamp
+module _ (method target : List ℕ) (lines : List HeaderLine) (value : List ℕ) where
+  abbrev pub unsigned : RequestHead
+  unsigned = head_of method target lines
 
-  abbrev signed_lines : List HeaderLine
-  signed_lines = lines ++ own_line (value_of secret) ∷ []
+  abbrev pub signed : RequestHead
+  signed = head_of method target (lines ++ (codes "authorization", value) ∷ [])
 
-  short : length body < body_limit
-  short = ltb-true (length body) body_limit parts.short
+  others_same : other_lines (parts_of signed) ≡ other_lines (parts_of unsigned)
+  others_same =
+      let is_other = λ (line : List ℕ × List ℕ). not (is_named (codes "authorization") line) in
+      ap (filter is_other) (headers_more method target lines ((codes "authorization", value) ∷ []))
+      ∙ filter-append is_other (parts_of unsigned).headers (name_and_value (field_of (codes "authorization", value)) ∷ [])
+      ∙ append-nil (filter is_other (parts_of unsigned).headers)
 
-  lines_are : list_all is_line lines ≡ true
-  lines_are = unsigned_are_lines method headers body stamp parts.given stamped short
+  -- heads, a hash and a value that are these
+  pub is_verified : (id secret region body stamp hash text : List ℕ) (told : Bool) (made whole : RequestHead) → made ≡ unsigned → whole ≡ signed → hash ≡ encode_lower (sha256 body) → is_stamp stamp ≡ true
+      → ReadsBack made → IsReadyFor told hash stamp (parts_of made) → IsVerifiedWith id secret region (parts_of made) stamp value
+      → text ≡ print_request whole ++ body → IsMessageOf whole body → values_of (codes "authorization") (parts_of whole) ≡ value ∷ []
+      → (settings : Settings) (moment : ℕ) → Knows settings id secret region → is_near (stamp_seconds stamp) moment ≡ true → is_presigned target ≡ false → IsVerifiedMessage settings moment secret region (parts_of unsigned) stamp body text
+  is_verified id secret region body stamp hash text told made whole of_made of_whole of_hash stamped says ready law written message own settings moment knows near plain =
+      let of_unsigned : IsVerifiedWith id secret region (parts_of unsigned) stamp value = subst (λ h. IsVerifiedWith id secret region (parts_of h) stamp value) of_made law in
+      subst (λ t. IsVerifiedMessage settings moment secret region (parts_of unsigned) stamp body t) (sym (written ∙ ap (λ h. print_request h ++ body) of_whole))
+      (record {
+        head = parts_of signed;
+        message = subst (λ h. IsMessageOf h body) of_whole message;
+        verdict = of_unsigned settings moment (parts_of signed) knows
+            (is_ready told (print_request unsigned) body stamp (parts_of unsigned) (subst ReadsBack of_made says) (ready_along stamp told told hash (encode_lower (sha256 body)) made unsigned refl of_hash of_made ready) stamped plain) near
+            (record { method = refl; target = refl; lines = others_same; own = ap (λ h. values_of (codes "authorization") (parts_of h)) (sym of_whole) ∙ own });
+      })
 
-  signed_lines_are : list_all is_line signed_lines ≡ true
-  unfolding is_token_byte
-  signed_lines_are =
-      let value = authorization_value id secret region unsigned stamp parts.id_bytes parts.region_bytes stamped (names_ready method target lines lines_are) in
-      list_all-append is_line lines (own_line (value_of secret) ∷ [])
-      ∙ and_from (list_all is_line lines) (list_all is_line (own_line (value_of secret) ∷ [])) lines_are
-      (and_from (is_line (own_line (value_of secret))) true value refl)
-
-  -- the secret does not change the size
-  sized : (key : List ℕ) → length (print_request (head_of method target (lines ++ own_line (value_of key) ∷ []))) ≡ length method + length target + printed_size lines + length id + length region + length (signed_by unsigned) + 177
-  sized key =
-      let whole = printed_head_size method target (lines ++ own_line (value_of key) ∷ []) in
-      let more = printed_size-append lines (own_line (value_of key) ∷ []) in
-      let own : printed_size (own_line (value_of key) ∷ []) ≡ 13 + length (value_of key) + 4 + 0 = refl in
-      omega (arith, whole, more, own, authorization_size id key region unsigned stamp (length-stamp stamp stamped))
-
-  small : length (print_request (head_of method target signed_lines)) ≤ head_limit
-  small = omega (arith, leb-true (head_size id region method target headers body stamp) head_limit parts.small, sized secret, sized [])
-
-  few : length signed_lines ≤ 64
-  few = omega (arith, ltb-true (length lines) 64 parts.few, length-append lines (own_line (value_of secret) ∷ []))
-
-  -- the bytes are one message, and what it says is the signed head
-  message : IsMessage (request_text id secret region method target headers body stamp) (parts_of (signed_head id secret region method target headers body stamp)) body []
-  message =
-      let text = print_request (head_of method target signed_lines) in
-      let counted = length_values method target headers body stamp (value_of secret) parts.given short in
-      record {
-        text = text;
-        found = found_head method target signed_lines body parts.token parts.visible signed_lines_are small;
-        joined = skipped_head method target signed_lines body parts.token;
-        says = (head_of method target signed_lines, ((head_is id region method target headers body stamp parts signed_lines signed_lines_are, sym (append-nil text)), omega (arith, few, length-map signed_lines field_of)), refl);
-        counted = ap is_count_once counted ∙ length_is_count (tells_length method body) (length body) short;
-        whole = length_is_told method body (tells_length method body) refl short ∙ ap announced (sym counted);
-      }
-
-  -- where the authorization is verified, so is the request
-  pub is_verified : IsVerifiedWith id secret region unsigned stamp (value_of secret) → IsVerifiedRequest id secret region method target headers body stamp (request_text id secret region method target headers body stamp)
-  is_verified law = λ settings moment knows near plain. record {
-    head = parts_of (signed_head id secret region method target headers body stamp);
-    message = message;
-    verdict = law settings moment (parts_of (signed_head id secret region method target headers body stamp)) knows
-        (unsigned_is_ready id region method target headers body stamp signable stamped plain) near
-        (is_signed id secret region method target headers body stamp unsigned parts.given);
-  }
-
-  -- the same of texts that were made so
-  pub written_is_verified : (head : HeadParts) (value text : List ℕ) → head ≡ unsigned → value ≡ authorization_text id secret region head stamp → IsVerifiedWith id secret region head stamp value → text ≡ request_text id secret region method target headers body stamp → IsVerifiedRequest id secret region method target headers body stamp text
-  written_is_verified head value text read signed law written =
-      let own : value ≡ value_of secret = signed ∙ ap (λ h. authorization_text id secret region h stamp) read in
-      let of_head : IsVerifiedWith id secret region unsigned stamp value = subst (λ h. IsVerifiedWith id secret region h stamp value) read law in
-      let of_value : IsVerifiedWith id secret region unsigned stamp (value_of secret) = subst (λ v. IsVerifiedWith id secret region unsigned stamp v) own of_head in
-      subst (λ t. IsVerifiedRequest id secret region method target headers body stamp t) (sym written) (is_verified of_value)
+-- a fact of a value, by two that hold where there is one
+pub ok_with : {X E : Type 0} (r : Result X E) (P Q : X → Type 0) (A B : Type 0) → IfOk r P → OnOk r A → OnOk r B → ((x : X) → P x → A → B → Q x) → IfOk r Q
+ok_with (Ok x) P Q A B p a b f = f x p a b
+ok_with (Err e) P Q A B p a b f = tt

@@ -1,17 +1,17 @@
 -- A signed request as bytes (RFC 9112, sections 2 to 5; AWS Signature Version 4, "Add the signature to
 -- the request").
-use Rattle.std.specs.Prelude.{ℕ, Bool, not, ◌&&◌, ◌||◌, ◌==◌, nat_lt, nat_le, if◌then◌else◌, List, [], ◌∷◌, ◌++◌, map, filter, length, codes}
-use Rattle.std.specs.List.{list_all, list_any}
+use Rattle.std.specs.Prelude.{◌≡◌, ℕ, Bool, false, ◌||◌, nat_lt, if◌then◌else◌, List, [], ◌∷◌, ◌++◌, map, length, codes}
 use Rattle.std.specs.Fmt.{decimal}
-use Rattle.std.specs.Str.{bytes_eq, is_utf8, str_to_ascii_lowercase}
+use Rattle.std.specs.Str.{bytes_eq, str_to_ascii_lowercase}
 use Rattle.std.specs.declared.cmp.Ordering.{Ordering}
 use Rattle.std.specs.Borrow.{Bor}
 use Rattle.hex.specs.Hex.{encode_lower}
 use Rattle.sha2.specs.Sha256.{sha256}
-use Rattle.httparse.specs.Grammar.{Field, RequestHead, crlf, is_token, is_uri_byte, is_value_byte, print_request}
+use Rattle.httparse.specs.Grammar.{Field, RequestHead, crlf, print_request}
 use Rattle.s3_text.specs.Order.{byte_order}
-use Rattle.s3_http_heads.specs.Text.{head_limit}
-use Rattle.s3_http_heads.specs.Parts.{is_named, line_limit, parts_of}
+use Rattle.s3_http_heads.specs.Parts.{HeadParts, parts_of, values_of}
+use Rattle.s3_http_heads.specs.Framing.{length_lines}
+use Rattle.s3_http_heads.specs.Message.{IsMessage}
 use Rattle.s3_canonical.specs.Sorting.{sorted_by}
 use Rattle.s3_canonical.specs.Target.{is_unreadable}
 use Rattle.s3_signing.specs.Signing.{authorization_text}
@@ -102,48 +102,20 @@ abbrev pub request_text : List ℕ → List ℕ → List ℕ → List ℕ → Li
 request_text id secret region method target headers body stamp =
     print_request (signed_head id secret region method target headers body stamp) ++ body
 
--- a name that is the signer's to write, its case aside
-abbrev pub is_own_name : List ℕ → Bool
-is_own_name name = list_any (bytes_eq (str_to_ascii_lowercase name)) (
-    codes "authorization" ∷ codes "content-length" ∷ codes "x-amz-content-sha256" ∷ codes "x-amz-date" ∷ [])
+-- what is signed can be read; it has one line of the host, and of the signer's own names just the lines that
+-- it adds itself: that of the body's size where that is told, and those of the hash and of the stamp
+pub record IsReadyFor (told : Bool) (hash stamp : List ℕ) (head : HeadParts) : Type 0 where
+  pub readable : is_unreadable head.target ≡ false
+  pub one_host : length (values_of (codes "host") head) ≡ 1
+  pub one_size : length (length_lines head) ≡ (if told then 1 else 0)
+  pub one_hash : values_of (codes "x-amz-content-sha256") head ≡ hash ∷ []
+  pub one_stamp : values_of (codes "x-amz-date") head ≡ stamp ∷ []
 
--- a line that may be given: a token and a value of the grammar, and no name of the signer's
-abbrev pub may_be_given : HeaderLine → Bool
-may_be_given line = is_token line.0 && list_all is_value_byte line.1 && not (is_own_name line.0)
-
--- the lines may be given, and one of them is the host (RFC 9112, section 3.2)
-abbrev pub are_given_lines : List HeaderLine → Bool
-are_given_lines headers =
-    list_all may_be_given headers && length (filter (is_named (codes "host")) headers) == 1
-
--- a method and a target of the grammar, and a target that can be read
-abbrev pub is_request_line : List ℕ → List ℕ → Bool
-is_request_line method target =
-    is_token method && nat_lt 0 (length target) && list_all is_uri_byte target && is_utf8 target
-    && not (is_unreadable target)
-
--- the id and the region stand in a value
-abbrev pub are_value_texts : List ℕ → List ℕ → Bool
-are_value_texts id region = list_all is_value_byte id && list_all is_value_byte region
-
--- the size of the signed head, which is the same under every secret
-abbrev pub head_size : List ℕ → List ℕ → List ℕ → List ℕ → List HeaderLine → List ℕ → List ℕ → ℕ
-head_size id region method target headers body stamp =
-    length (print_request (signed_head id [] region method target headers body stamp))
-
--- the least size of a body that Content-Length cannot tell in 18 digits
-abbrev pub body_limit : ℕ
-body_limit = 1_000_000_000_000_000_000
-
--- the head keeps the limits of a server, and so does the size of the body
-abbrev pub keeps_limits : List ℕ → List ℕ → List ℕ → List ℕ → List HeaderLine → List ℕ → List ℕ → Bool
-keeps_limits id region method target headers body stamp =
-    nat_lt (length (unsigned_lines method headers body stamp)) line_limit
-    && nat_le (head_size id region method target headers body stamp) head_limit
-    && nat_lt (length body) body_limit
-
--- the request can be signed, and what is written is a head of the grammar within the limits
-unfoldable pub is_signable : List ℕ → List ℕ → List ℕ → List ℕ → List HeaderLine → List ℕ → List ℕ → Bool
-is_signable id region method target headers body stamp =
-    is_request_line method target && are_given_lines headers && are_value_texts id region
-    && keeps_limits id region method target headers body stamp
+-- the request can be signed: what is signed is ready for it, and the request's text is one message that
+-- says what was asked for, which is the method, the target, HTTP/1.1, the lines in their order with each
+-- value without the spaces and tabs around it, and the body; one of its lines is an authorization, the
+-- signer's
+pub record IsSignable (id secret region method target : List ℕ) (headers : List HeaderLine) (body stamp : List ℕ) : Type 0 where
+  pub ready : IsReadyFor (tells_length method body) (encode_lower (sha256 body)) stamp (parts_of (unsigned_head method target headers body stamp))
+  pub message : IsMessage (request_text id secret region method target headers body stamp) (parts_of (signed_head id secret region method target headers body stamp)) body []
+  pub own : values_of (codes "authorization") (parts_of (signed_head id secret region method target headers body stamp)) ≡ authorization_of id secret region (unsigned_head method target headers body stamp) stamp ∷ []

@@ -1,11 +1,13 @@
 //! Whole signed requests, as the bytes that a client sends (RFC 9112; AWS Signature Version 4).
 #![tactic(auto)]
 
-mod checks;
 mod head_text;
 mod line;
 mod lines;
+mod message;
+mod ready;
 mod request;
-mod size;
+mod unsigned;
 
-pub use request::{is_signable, signed_request};
+pub use request::signed_request;
+pub use unsigned::Unsigned;

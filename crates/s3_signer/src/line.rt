@@ -1,20 +1,22 @@
 //! A header line, and its place among others.
 
-ghost use Rattle.std.specs.Prelude.{◌≡◌, ◌≤◌, ◌++◌, IfOk, OnOk, length, not};
+ghost use Rattle.std.specs.Prelude.{◌≡◌, ◌≤◌, ◌↔◌, ◌++◌, true, IfOk, OnOk, length, not};
 ghost use Rattle.std.specs.List.{position_or_len};
 ghost use Rattle.std.specs.Ordering.{is_gt};
 ghost use Rattle.s3_text.specs.Order.{byte_order};
 ghost use Rattle.httparse.specs.Grammar.{print_field};
+ghost use Rattle.httparse.specs.Spans.{name_and_value};
 ghost use Rattle.s3_canonical.specs.Sorting.{insert_by};
 ghost use Rattle.s3_signer.specs.Line.{pair, pairs};
 ghost use Rattle.s3_signer.specs.Request.{field_of, line_cmp, lower_line};
 
+use s3_http_heads::trimmed;
 use s3_terms::NoMemory;
 use std::alloc::{AllocError, Global};
 use std::cmp::Ordering;
 
 // A header line: its name in lower case, and its value.
-#[derive(Debug, Drop)]
+#[derive(Drop)]
 pub(crate) struct Line {
     name: Vec<u8>,
     value: Vec<u8>,
@@ -28,6 +30,14 @@ impl Line {
         let name = name.iter().map(|b| b.to_ascii_lowercase()).collect(alloc)?;
         let value = Vec::from_slice(alloc, value)?;
         Ok(Line { name, value })
+    }
+
+    // Whether it was read as it was written: with its name, and its value without the spaces and tabs
+    // around it.
+    pub(crate) fn reads_as(&self, name: &[u8], value: &[u8]) -> bool
+        ensures { (result ≡ true) ↔ ((name.now, value.now) ≡ name_and_value (field_of (pair self.now))) }
+    {
+        name == self.name.as_slice() && value == trimmed(&self.value)
     }
 
     // Writes `name: value` and the end of the line.

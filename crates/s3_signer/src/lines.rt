@@ -14,7 +14,7 @@ use sha2::{Digest, Sha256};
 use std::alloc::Global;
 
 // The SHA-256 of a body, in lower-case hexadecimal.
-fn hash_text(body: &[u8]) -> [u8; 64]
+pub(crate) fn hash_text(body: &[u8]) -> [u8; 64]
     ensures { result ≡ encode_lower (sha256 body.now) }
 {
     let mut text = [0; 64];
@@ -48,15 +48,16 @@ fn added_lines(
     alloc: Global,
     method: &[u8],
     body: &[u8],
+    hash: &[u8],
     stamp: &[u8],
 ) -> Result<Vec<Line>, NoMemory>
+    requires { hash.now ≡ encode_lower (sha256 body.now) }
     ensures { IfOk result (λ lines. pairs lines.items
         ≡ sorted_by line_cmp (added_lines method.now body.now stamp.now)) }
 {
-    let hash = hash_text(body);
     let mut lines = length_lines(alloc, method, body)?;
     add_line(alloc, b"x-amz-date", stamp, &mut lines)?;
-    add_line(alloc, b"x-amz-content-sha256", &hash, &mut lines)?;
+    add_line(alloc, b"x-amz-content-sha256", hash, &mut lines)?;
     Ok(lines)
 }
 
@@ -68,12 +69,14 @@ pub(crate) fn unsigned_lines(
     method: &[u8],
     headers: &[(&[u8], &[u8])],
     body: &[u8],
+    hash: &[u8],
     stamp: &[u8],
 ) -> Result<Vec<Line>, NoMemory>
+    requires { hash.now ≡ encode_lower (sha256 body.now) }
     ensures { IfOk result (λ lines. pairs lines.items
         ≡ unsigned_lines method.now (given_lines headers.now) body.now stamp.now) }
 {
-    let mut lines = added_lines(alloc, method, body, stamp)?;
+    let mut lines = added_lines(alloc, method, body, hash, stamp)?;
     for index in (0..headers.len()).rev() {
         let (name, value) = headers[index];
         add_line(alloc, name, value, &mut lines)?;

@@ -1,103 +1,84 @@
-//! A signed request, and whether there is one.
+//! A signed request.
 
-ghost use Rattle.std.specs.Prelude.{◌≡◌, ◌∷◌, ◌++◌, [], ℕ, List, true, codes, IfOk};
-ghost use Rattle.httparse.specs.Grammar.{RequestHead, print_request};
-ghost use Rattle.s3_calendar.specs.Moment.{is_stamp};
-ghost use Rattle.s3_http_heads.specs.Parts.{IsHead, parts_of};
-ghost use Rattle.s3_signer.specs.Line.{pairs};
-ghost use Rattle.s3_signer.specs.Request.{given_lines, head_of, is_signable, request_text, unsigned_head, unsigned_lines};
+ghost use Rattle.std.specs.Prelude.{◌≡◌, ◌∷◌, ◌++◌, [], codes, IfOk, OnOk, IsErrOf};
+ghost use Rattle.httparse.specs.Grammar.{print_request};
+ghost use Rattle.s3_http_heads.specs.Parts.{parts_of, values_of};
+ghost use Rattle.s3_signing.specs.Signed.{IsVerifiedWith};
+ghost use Rattle.s3_signing.specs.Signing.{authorization_text};
+ghost use Rattle.s3_signer.specs.Line.{IsMessageOf, ReadsBack, head_with, pairs};
+ghost use Rattle.s3_signer.specs.Request.{IsReadyFor, IsSignable, given_lines, request_text};
 ghost use Rattle.s3_signer.specs.Verified.{IsVerifiedRequest};
 
-use crate::checks::{are_given_lines, are_value_texts, is_request_line, keeps_limits};
-use crate::head_text::head_text;
 use crate::line::Line;
-use crate::lines::unsigned_lines;
+use crate::lines::{hash_text, tells_length, unsigned_lines};
+use crate::message::{head, message};
+use crate::ready::{has_one, is_ready};
+use crate::unsigned::Unsigned;
 use s3_calendar::Stamp;
-use s3_http_heads::Head;
 use s3_signing::sign_head;
-use s3_terms::NoMemory;
 use std::alloc::{AllocError, Global};
 
-/// Whether [`signed_request`] may be called with these parts, under any secret:
-///
-/// - the method is a token, and the target is UTF-8 without spaces and control bytes that begins with
-///   `/` and has two hexadecimal digits after each `%` (RFC 9110, section 5.6.2; RFC 9112, section 3.2);
-/// - each given header is a token and a value without control bytes but the tab, none is named
-///   `authorization`, `content-length`, `x-amz-content-sha256` or `x-amz-date`, and one is named `host`;
-/// - no control bytes but the tab stand in the key's id or in the region;
-/// - with the lines that are added the head has at most 64 lines and 16,384 bytes, and the body has
-///   fewer than 10 to the 18th bytes.
-///
-/// The case of a name does not count. Takes no memory, and time by the length of the head; each name is
-/// compared with those of the lines after it. The body is not looked at.
-#[tactic(auto, unfolding(crate::specs::Request::is_signable))]
-pub fn is_signable(
+// The value that signs the head of these lines.
+fn authorization(
+    alloc: Global,
     id: &[u8],
+    secret: &[u8],
     region: &[u8],
     method: &[u8],
     target: &[u8],
-    headers: &[(&[u8], &[u8])],
-    body: &[u8],
+    lines: &[Line],
+    told: bool,
+    hash: &[u8],
     stamp: Stamp,
-) -> bool
-    ensures { result ≡ is_signable id.now region.now method.now target.now (given_lines headers.now) body.now stamp }
+) -> Result<Vec<u8>, Unsigned>
+    ensures text { IfOk result (λ value. value.items
+        ≡ authorization_text id.now secret.now region.now (parts_of (head_with method.now target.now lines.now)) stamp) }
+    ensures verified { IfOk result (λ value. IsVerifiedWith id.now secret.now region.now
+        (parts_of (head_with method.now target.now lines.now)) stamp value.items) }
+    ensures ready { OnOk result (IsReadyFor told hash.now stamp (parts_of (head_with method.now target.now lines.now))) }
+    ensures says { OnOk result (ReadsBack (head_with method.now target.now lines.now)) }
+    ensures refused { IsErrOf result Unsigned.NotSignable
+        → ReadsBack (head_with method.now target.now lines.now)
+        → ¬ (IsReadyFor told hash.now stamp (parts_of (head_with method.now target.now lines.now))) }
 {
-    is_request_line(method, target)
-        && are_given_lines(headers)
-        && are_value_texts(id, region)
-        && keeps_limits(id, region, method, target, headers, body)
-}
-
-// What the text of a head of these lines says. Where that is a head, only memory can be wanting.
-fn read_head(alloc: Global, method: &[u8], target: &[u8], lines: &[Line]) -> Result<Head, NoMemory>
-    ensures { (h : RequestHead) → h ≡ head_of method.now target.now (pairs lines.now) → IsHead (print_request h) h
-        → IfOk result (λ head. head ≡ parts_of h) }
-{
-    let text = head_text(alloc, method, target, lines)?;
-    match Head::read(alloc, &text) {
-        Ok(head) => Ok(head),
-        Err(_) => Err(NoMemory),
+    let head = head(alloc, method, target, lines)?;
+    if !is_ready(&head, told, hash, stamp.text()) {
+        return Err(Unsigned::NotSignable);
     }
+    Ok(sign_head(alloc, id, secret, region, &head, stamp)?)
 }
 
-// The lines of a request but that of the authorization, and their head, which is read back from its
-// text: where the request may be signed, it is the one that is signed.
-fn unsigned_head(
-    alloc: Global,
-    method: &[u8],
-    target: &[u8],
-    headers: &[(&[u8], &[u8])],
-    body: &[u8],
-    stamp: Stamp,
-) -> Result<(Vec<Line>, Head), NoMemory>
-    ensures lines { IfOk result
-        (λ p. pairs p.0.items ≡ unsigned_lines method.now (given_lines headers.now) body.now stamp) }
-    ensures head { (id region : List ℕ)
-        → is_signable id region method.now target.now (given_lines headers.now) body.now stamp ≡ true
-        → IfOk result (λ p. p.1 ≡ parts_of (unsigned_head method.now target.now (given_lines headers.now) body.now stamp)) }
-    ensures stamp { is_stamp stamp ≡ true }
-{
-    let lines = unsigned_lines(alloc, method, headers, body, stamp.text())?;
-    let head = read_head(alloc, method, target, &lines)?;
-    Ok((lines, head))
-}
-
-// The text of a request with these lines and that of the authorization, which is the last.
+// The lines and that of the authorization, which is the last.
 #[tactic(auto, using(crate::proofs::LineLemmas::pairs_more))]
-fn request_text(
+fn authorized(alloc: Global, mut lines: Vec<Line>, value: &[u8]) -> Result<Vec<Line>, AllocError>
+    ensures { IfOk result (λ all. pairs all.items ≡ pairs lines.items ++ (codes "authorization", value.now) ∷ []) }
+{
+    lines.push(Line::new(alloc, b"authorization", value)?)?;
+    Ok(lines)
+}
+
+// The message of these lines, of which one is an authorization, of this value.
+fn signed_text(
     alloc: Global,
     method: &[u8],
     target: &[u8],
-    mut lines: Vec<Line>,
-    authorization: &[u8],
+    lines: &[Line],
+    value: &[u8],
     body: &[u8],
-) -> Result<Vec<u8>, AllocError>
-    ensures { IfOk result (λ text. text.items ≡ print_request (head_of method.now target.now
-        (pairs lines.items ++ (codes "authorization", authorization.now) ∷ [])) ++ body.now) }
+) -> Result<Vec<u8>, Unsigned>
+    ensures text { IfOk result
+        (λ text. text.items ≡ print_request (head_with method.now target.now lines.now) ++ body.now) }
+    ensures message { OnOk result (IsMessageOf (head_with method.now target.now lines.now) body.now) }
+    ensures own { OnOk result
+        (values_of (codes "authorization") (parts_of (head_with method.now target.now lines.now)) ≡ value.now ∷ []) }
+    ensures refused { IsErrOf result Unsigned.NotSignable
+        → IsMessageOf (head_with method.now target.now lines.now) body.now
+        → ¬ (values_of (codes "authorization") (parts_of (head_with method.now target.now lines.now)) ≡ value.now ∷ []) }
 {
-    lines.push(Line::new(alloc, b"authorization", authorization)?)?;
-    let mut text = head_text(alloc, method, target, &lines)?;
-    text.extend_from_slice(body)?;
+    let (text, head) = message(alloc, method, target, lines, body)?;
+    if !has_one(&head, b"authorization", value) {
+        return Err(Unsigned::NotSignable);
+    }
     Ok(text)
 }
 
@@ -114,7 +95,22 @@ fn request_text(
 /// Every server that has the key and stands in the region verifies what is written, while its clock is
 /// within 900 seconds of the stamp and unless the target carries a signature of its own.
 ///
-/// Hashes the body once and copies it once. Each line is compared with those before its place.
+/// Hashes the body once, copies it once and looks at it once more. Each line is compared with those before
+/// its place.
+///
+/// # Errors
+///
+/// `NotSignable` where what would be written is no message that says what was asked for, or has a line
+/// under one of the signer's names that the signer did not add. So a request can be signed if
+///
+/// - the method is a token, and the target is UTF-8 without spaces and control bytes that begins with
+///   `/` and has two hexadecimal digits after each `%` (RFC 9110, section 5.6.2; RFC 9112, section 3.2);
+/// - each given header is a token and a value without control bytes but the tab, none is named
+///   `authorization`, `content-length`, `x-amz-content-sha256` or `x-amz-date`, and one is named `host`,
+///   the case aside;
+/// - no control bytes but the tab stand in the key's id or in the region;
+/// - with the lines that are added the head has at most 64 lines and 16,384 bytes, and the body has
+///   fewer than 10 to the 18th bytes.
 pub fn signed_request(
     alloc: Global,
     id: &[u8],
@@ -125,16 +121,24 @@ pub fn signed_request(
     headers: &[(&[u8], &[u8])],
     body: &[u8],
     stamp: Stamp,
-) -> Result<Vec<u8>, NoMemory>
-    requires { is_signable id.now region.now method.now target.now (given_lines headers.now) body.now stamp ≡ true }
+) -> Result<Vec<u8>, Unsigned>
     ensures text { IfOk result (λ text. text.items
         ≡ request_text id.now secret.now region.now method.now target.now (given_lines headers.now) body.now stamp) }
+    ensures signable { OnOk result
+        (IsSignable id.now secret.now region.now method.now target.now (given_lines headers.now) body.now stamp) }
+    ensures refused { IsErrOf result Unsigned.NotSignable
+        → ¬ (IsSignable id.now secret.now region.now method.now target.now (given_lines headers.now) body.now stamp) }
 
     // What is written is verified, by every server that knows the signer.
     ensures verified { IfOk result (λ text. IsVerifiedRequest id.now secret.now region.now
         method.now target.now (given_lines headers.now) body.now stamp text.items) }
 {
-    let (lines, head) = unsigned_head(alloc, method, target, headers, body, stamp)?;
-    let value = sign_head(alloc, id, secret, region, &head, stamp)?;
-    Ok(request_text(alloc, method, target, lines, &value, body)?)
+    let hash = hash_text(body);
+    let told = tells_length(method, body);
+    let lines = unsigned_lines(alloc, method, headers, body, &hash, stamp.text())?;
+    let value = authorization(
+        alloc, id, secret, region, method, target, &lines, told, &hash, stamp,
+    )?;
+    let lines = authorized(alloc, lines, &value)?;
+    signed_text(alloc, method, target, &lines, &value, body)
 }

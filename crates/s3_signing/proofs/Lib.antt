@@ -2,9 +2,7 @@ pub mod CutLemmas
 pub mod SigningLemmas
 pub mod TargetLemmas
 pub mod SignedLemmas
-pub mod WordLemmas
 pub mod CompareLemmas
-pub mod VerdictLemmas
 pub mod NameLemmas
 pub mod OrderLemmas
 pub mod JoinLemmas
@@ -14,4 +12,5 @@ pub mod SpellingLemmas
 pub mod ReadBackLemmas
 pub mod OtherLineLemmas
 pub mod EnoughLemmas
+pub mod VerdictLemmas
 pub mod SignedHeadLemmas

@@ -1,30 +1,25 @@
 -- A head that carries its signer's authorization is verified by a server that knows the signer.
-use Rattle.std.proofs.Common.{◌≡◌, ℕ, true, false, arith, List, [], ◌∷◌, ◌++◌, refl, sym, ap, ◌∙◌, inl, inr, Option, Some, None, Ok, slice_get}
-use Rattle.std.specs.Prelude.{codes, is_some, length, option_and_then, unwrap_or}
+use Rattle.std.proofs.Common.{◌≡◌, ℕ, true, false, arith, List, [], ◌∷◌, refl, sym, ap, ◌∙◌, inl, inr, Option, Some, None, Ok, slice_get}
+use Rattle.std.specs.Prelude.{codes, is_some, length, ok_or, option_and_then}
 use Rattle.std.specs.List.{list_all}
 use Rattle.std.specs.Str.{bytes_eq}
 use Rattle.std.proofs.lemmas.Bool.{cases_Bool, and_parts}
 use Rattle.std.proofs.lemmas.Slice.Eq.{bytes_eq-Decides}
-use Rattle.s3_terms.specs.declared.code.Code.TheVariants.{InvalidURI, AccessDenied}
-use Rattle.s3_terms.specs.Fault.{first_fault, unless_refused}
+use Rattle.s3_terms.specs.declared.code.Code.TheVariants.{AccessDenied}
 use Rattle.s3_calendar.specs.Moment.{is_stamp, stamp_seconds, stamp_date}
 use Rattle.s3_config.specs.Settings.{Settings, Credentials, are_settings, are_access_keys, are_credentials, is_access_key_id, is_secret, is_region, secret_of}
 use Rattle.s3_http_heads.specs.Parts.{HeadParts, is_sent, values_of}
 use Rattle.s3_http_heads.proofs.NameLemmas.{sent_is}
 use Rattle.s3_canonical.specs.Target.{is_unreadable}
 use Rattle.s3_signing.specs.Authorization.{Parts, authorization_of}
-use Rattle.s3_signing.specs.Groups.{authorization_faults, line_faults, scope_faults, signature_faults, target_faults, word_faults}
-use Rattle.s3_signing.specs.Signature.{signature_of}
+use Rattle.s3_signing.specs.Signature.{signature_of, signing_key}
 use Rattle.s3_signing.specs.Signed.{Knows, IsReady, IsSigned, IsVerifiedWith, proved_by_signer}
 use Rattle.s3_signing.specs.Signing.{authorization_text, signed_by}
-use Rattle.s3_signing.specs.Verdict.{checked_stamp, head_verdict, is_near, is_presigned, is_word, only, proved_by, sent_authorization, sent_parts, sent_stamp, sent_word, word_lines}
+use Rattle.s3_signing.specs.Verdict.{Checked, authorization_at, check_target, checked_head, checked_stamp, head_verdict, is_near, is_presigned, is_word, key_proved, only, secret_at, sent_authorization, sent_stamp, sent_word, stamp_at, word_at, word_line, word_lines, word_of}
 use Rattle.s3_signing.proofs.EnoughLemmas.{signs_covered, signs_enough_for}
 use Rattle.s3_signing.proofs.OrderLemmas.{bytes_eq-same}
 use Rattle.s3_signing.proofs.OtherLineLemmas.{signature_same, values_of_other}
 use Rattle.s3_signing.proofs.ReadBackLemmas.{reads_back, signer_parts}
-use Rattle.s3_terms.proofs.FaultLemmas.{fault_later}
-use Rattle.s3_signing.proofs.VerdictLemmas.{judged_late}
-use Rattle.s3_signing.proofs.WordLemmas.{one_word}
 
 -- ---- what is known of a signer and of a stamp
 
@@ -94,78 +89,73 @@ module _ (head signed : HeadParts) (value : List ℕ) (carries : IsSigned head v
   words_same : word_lines signed ≡ word_lines head
   words_same = values_of_other head signed carries.lines (codes "x-amz-content-sha256") refl
 
-  word_same : sent_word signed ≡ sent_word head
-  word_same = ap (λ words. unwrap_or (slice_get words 0) []) words_same
-
   own_sent : is_sent (codes "authorization") signed ≡ true
   own_sent = sym (sent_is (codes "authorization") signed) ∙ ap (λ values. is_some (slice_get values 0)) carries.own
 
   own_parts : (parts : Parts) → authorization_of value ≡ Some parts → sent_authorization signed ≡ Some parts
   own_parts parts is = ap (λ values. option_and_then authorization_of (only values)) carries.own ∙ is
 
-  own_sent_parts : (parts : Parts) → authorization_of value ≡ Some parts → sent_parts signed ≡ parts
-  own_sent_parts parts is =
-      ap (λ sent. unwrap_or sent (record { id = []; date = []; region = []; service = []; signed = []; signature = [] })) (own_parts parts is)
+  -- ---- each stage of the verdict gives what the signer meant
 
-  -- ---- no fault is left
+  target_passes : is_unreadable head.target ≡ false → is_presigned head.target ≡ false → check_target signed ≡ Ok tt
+  unfolding check_target
+  target_passes readable unsigned = rw (carries.target, readable, unsigned) refl
 
-  no_target_fault : is_unreadable head.target ≡ false → is_presigned head.target ≡ false → first_fault (target_faults signed) ≡ None
-  no_target_fault readable unsigned =
-      ap (λ target. first_fault ((is_unreadable target, InvalidURI) ∷ (is_presigned target, AccessDenied) ∷ [])) carries.target
-      ∙ rw (readable, unsigned) refl
+  own_authorization : (parts : Parts) → authorization_of value ≡ Some parts → authorization_at signed ≡ Ok parts
+  unfolding authorization_at
+  own_authorization parts is = rw (own_sent, own_parts parts is) refl
 
-  no_line_fault : (parts : Parts) (stamp : List ℕ) → authorization_of value ≡ Some parts → sent_stamp head ≡ Some stamp → first_fault (line_faults signed) ≡ None
-  no_line_fault parts stamp is stamped =
-      rw (own_sent, own_parts parts is, stamp_same, stamped) refl
+  own_stamp : (stamp : List ℕ) → sent_stamp head ≡ Some stamp → stamp_at signed ≡ Ok stamp
+  unfolding stamp_at
+  own_stamp stamp is = ap (λ sent. ok_or sent AccessDenied) (stamp_same ∙ is)
 
-  no_word_fault : length (word_lines head) ≡ 1 → is_word (sent_word head) ≡ true → first_fault (word_faults signed) ≡ None
-  no_word_fault one sound =
-      let one_signed : length (word_lines signed) ≡ 1 = ap (λ (words : List (List ℕ)). length words) words_same ∙ one in
-      let sound_signed : is_word (sent_word signed) ≡ true = ap is_word word_same ∙ sound in
-      let first = get_within (word_lines signed) one_signed in
-      one_word signed first.0 first.1 one_signed ∙ rw sound_signed refl
+  own_line : length (word_lines head) ≡ 1 → word_line signed ≡ Ok (sent_word head)
+  unfolding word_line
+  own_line one =
+      let first = get_within (word_lines head) one in
+      rw (words_same, first.1, one) refl
+
+  own_word : length (word_lines head) ≡ 1 → is_word (sent_word head) ≡ true → word_at signed ≡ Ok (sent_word head)
+  unfolding word_at word_of
+  own_word one sound = rw (own_line one, sound) refl
 
   module _ (settings : Settings) (id secret region stamp : List ℕ) (knows : Knows settings id secret region) (ready : IsReady head stamp) where
+    -- what the signer wrote
+    abbrev meant : Parts
+    meant = signer_parts id secret region head stamp
+
     -- the signature is the same over either head
-    same_signature : signature_of secret stamp region signed (signed_by head) (sent_word signed) ≡ signature_of secret stamp region head (signed_by head) (sent_word head)
+    same_signature : signature_of secret stamp region signed (signed_by head) (sent_word head) ≡ signature_of secret stamp region head (signed_by head) (sent_word head)
     same_signature =
-        ap (signature_of secret stamp region signed (signed_by head)) word_same
-        ∙ signature_same head signed carries.lines carries.method carries.target secret stamp region (signed_by head) (sent_word head)
+        signature_same head signed carries.lines carries.method carries.target secret stamp region (signed_by head) (sent_word head)
         (signs_covered head ready.names ready.host)
 
-    -- so it covers enough, and is the formula
-    no_signature_fault : first_fault (signature_faults settings signed (signer_parts id secret region head stamp) stamp) ≡ None
-    no_signature_fault =
-        let enough = signs_enough_for head ready.names ready.host signed carries.lines in
-        rw (enough, knows.key, knows.place, same_signature, bytes_eq-same (signature_of secret stamp region head (signed_by head) (sent_word head))) refl
-
     -- the scope is the server's
-    no_scope_fault : (moment : ℕ) → is_near (stamp_seconds stamp) moment ≡ true → first_fault (scope_faults settings moment (signer_parts id secret region head stamp) stamp) ≡ None
-    no_scope_fault moment near =
+    own_secret : (moment : ℕ) → is_near (stamp_seconds stamp) moment ≡ true → secret_at settings moment meant stamp ≡ Ok secret
+    unfolding secret_at
+    own_secret moment near =
         rw (knows.place, bytes_eq-same region, bytes_eq-same (stamp_date stamp), knows.key, near) refl
 
-    no_late_fault : (moment : ℕ) → is_near (stamp_seconds stamp) moment ≡ true → first_fault (authorization_faults settings signed moment (signer_parts id secret region head stamp) stamp) ≡ None
-    no_late_fault moment near =
-        let parts = signer_parts id secret region head stamp in
-        let signature = signature_faults settings signed parts stamp in
-        fault_later (scope_faults settings moment parts stamp) (word_faults signed ++ signature) (no_scope_fault moment near)
-        ∙ fault_later (word_faults signed) signature (no_word_fault ready.one_word ready.word)
-        ∙ no_signature_fault
+    -- what is found in the head
+    abbrev found : Checked
+    found = record { sent = meant; stamp = stamp; secret = secret; word = sent_word head }
 
-    proved_same : proved_by settings signed (signer_parts id secret region head stamp) stamp ≡ proved_by_signer secret region head stamp
-    proved_same = rw (knows.key, knows.place, word_same) refl
+    -- of which enough is covered
+    own_checked : (moment : ℕ) → is_near (stamp_seconds stamp) moment ≡ true → authorization_of value ≡ Some meant → checked_head settings signed moment ≡ Ok found
+    unfolding checked_head
+    own_checked moment near is =
+        rw (target_passes ready.readable ready.unsigned_query, own_authorization meant is, own_stamp stamp ready.stamped, own_secret moment near, own_word ready.one_word ready.word, signs_enough_for head ready.names ready.host signed carries.lines) refl
+
+    -- and the signature is the formula
+    own_key : key_proved settings signed found ≡ Ok (signing_key secret (stamp_date stamp) region)
+    unfolding key_proved
+    own_key =
+        rw (knows.place, same_signature, bytes_eq-same (signature_of secret stamp region head (signed_by head) (sent_word head))) refl
 
     -- where the authorization reads back as what its signer meant, the head is verified
-    signed_is_verified : (moment : ℕ) → is_near (stamp_seconds stamp) moment ≡ true → authorization_of value ≡ Some (signer_parts id secret region head stamp) → head_verdict settings signed moment ≡ Ok (proved_by_signer secret region head stamp)
-    signed_is_verified moment near is =
-        let parts = signer_parts id secret region head stamp in
-        judged_late settings signed moment
-        (no_target_fault ready.readable ready.unsigned_query)
-        (no_line_fault parts stamp is ready.stamped)
-        parts stamp (own_sent_parts parts is)
-        (ap (λ text. unwrap_or text []) (stamp_same ∙ ready.stamped))
-        ∙ ap (λ fault. unless_refused fault (proved_by settings signed parts stamp)) (no_late_fault moment near)
-        ∙ ap Ok proved_same
+    signed_is_verified : (moment : ℕ) → is_near (stamp_seconds stamp) moment ≡ true → authorization_of value ≡ Some meant → head_verdict settings signed moment ≡ Ok (proved_by_signer secret region head stamp)
+    unfolding head_verdict
+    signed_is_verified moment near is = rw (own_checked moment near is, own_key, knows.place) refl
 
 -- so the value that a signer writes is one with which a head is verified
 pub IsVerifiedWith-written : (id secret region : List ℕ) (head : HeadParts) (stamp value : List ℕ) → value ≡ authorization_text id secret region head stamp → IsVerifiedWith id secret region head stamp value

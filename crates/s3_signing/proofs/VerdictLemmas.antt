@@ -1,124 +1,92 @@
--- What the faults of one group make of the verdict on a head.
-use Rattle.std.proofs.Common.{◌≡◌, ◌≢◌, ℕ, Bool, true, List, [], ◌∷◌, ◌++◌, None, Some, Ok, Err, refl, sym, ap, ap₂, ◌∙◌}
-use Rattle.std.specs.Prelude.{not, ◌&&◌, nat_eq, nat_le, length, codes}
+-- What is known of every verdict: what is wrong with a head is never said to be a want of memory, and the
+-- word of a verified head is one of the three forms.
+use Rattle.std.proofs.Common.{◌≡◌, ℕ, Bool, true, List, Ok, sym, ap, ◌∙◌, rules}
+use Rattle.std.specs.Prelude.{not, ◌&&◌, nat_eq, codes}
 use Rattle.std.specs.List.{starts_with}
 use Rattle.std.proofs.lemmas.Bool.{not-false}
 use Rattle.std.proofs.Math.Bool.{Bool-set}
 use Rattle.std.proofs.Math.Logic.{∥∥₁_elim}
-use Rattle.s3_terms.specs.declared.code.Code.{Code}
-use Rattle.s3_terms.specs.declared.code.Code.TheVariants.{InternalError, InvalidArgument, InvalidRequest, NotImplemented}
-use Rattle.s3_terms.specs.Fault.{first_fault, unless_refused}
+use Rattle.s3_terms.specs.declared.code.Code.TheVariants.{AccessDenied, NotImplemented, InvalidArgument}
+use Rattle.s3_terms.specs.Fault.{refuse, ◌>>◌}
 use Rattle.s3_config.specs.Settings.{Settings}
-use Rattle.s3_calendar.specs.Moment.{stamp_date}
-use Rattle.s3_http_heads.specs.Parts.{HeadParts, is_sent}
+use Rattle.s3_http_heads.specs.Parts.{HeadParts}
 use Rattle.s3_signing.specs.Authorization.{Parts}
-use Rattle.s3_signing.specs.Groups.{target_faults, line_faults, scope_faults, form_faults, word_faults, signature_faults, unsigned_faults, authorization_faults}
-use Rattle.s3_signing.specs.Signature.{signing_key}
-use Rattle.s3_signing.specs.Verdict.{Proved, WasVerified, faults_before_signature, head_faults, head_verdict, is_word, proved_by, proved_with, secret_behind, sent_parts, sent_word, stamp_of, word_lines}
-use Rattle.s3_terms.proofs.FaultLemmas.{fault_first, fault_later, is_internal, never_first, no_first, none_early, none_later, refusal, unrefused}
+use Rattle.s3_signing.specs.Verdict.{Checked, Proved, WasVerified, authorization_at, check_target, checked_head, head_verdict, is_word, key_proved, secret_at, signs_enough, stamp_at, word_at, word_line, word_of}
+use Rattle.s3_terms.proofs.FaultLemmas.{NeverInternal, bind_other, one_value, stage_ok, test_ok, then_ok, then_other}
 
--- a text without a fault of its form is a word
-form_of_word : (word : List ℕ) → first_fault (form_faults word) ≡ None → is_word word ≡ true
-form_of_word word none =
-    let other = no_first (not (is_word word) && starts_with nat_eq word (codes "STREAMING-")) NotImplemented ((not (is_word word), InvalidArgument) ∷ []) none in
-    not-false (is_word word) (no_first (not (is_word word)) InvalidArgument [] other.1).0
+-- ---- no stage says that memory ran out
 
--- and so is that of lines without a fault
-word_of_lines : (head : HeadParts) → first_fault (word_faults head) ≡ None → is_word (sent_word head) ≡ true
-word_of_lines head none =
-    let several = (nat_le 2 (length (word_lines head)), InvalidArgument) ∷ form_faults (sent_word head) in
-    let sent = no_first (not (is_sent (codes "x-amz-content-sha256") head)) InvalidRequest several none in
-    let one = no_first (nat_le 2 (length (word_lines head))) InvalidArgument (form_faults (sent_word head)) sent.1 in
-    form_of_word (sent_word head) one.1
+target_other : (head : HeadParts) → NeverInternal (check_target head)
+unfolding check_target
+target_other head is = search rules
+
+authorization_other : (head : HeadParts) → NeverInternal (authorization_at head)
+unfolding authorization_at
+authorization_other head is = search rules
+
+stamp_other : (head : HeadParts) → NeverInternal (stamp_at head)
+unfolding stamp_at
+stamp_other head is = search rules
+
+secret_other : (settings : Settings) (moment : ℕ) (sent : Parts) (stamp : List ℕ) → NeverInternal (secret_at settings moment sent stamp)
+unfolding secret_at
+secret_other settings moment sent stamp is = search rules
+
+line_other : (head : HeadParts) → NeverInternal (word_line head)
+unfolding word_line
+line_other head is = search rules
+
+form_tests : (sound streaming : Bool) (text : List ℕ) → NeverInternal (refuse (not sound && streaming) NotImplemented >> (refuse (not sound) InvalidArgument >> Ok text))
+form_tests sound streaming text is = search rules
+
+form_other : (text : List ℕ) → NeverInternal (word_of text)
+unfolding word_of
+form_other text = form_tests (is_word text) (starts_with nat_eq text (codes "STREAMING-")) text
+
+word_other : (head : HeadParts) → NeverInternal (word_at head)
+unfolding word_at
+word_other head = bind_other (word_line head) word_of (line_other head) form_other
+
+-- ---- what is known of a verdict
+
+-- a text that is read as a word is one
+word_of_is : (text word : List ℕ) → word_of text ≡ Ok word → is_word word ≡ true
+unfolding word_of
+word_of_is text word is =
+    let other = test_ok (not (is_word text) && starts_with nat_eq text (codes "STREAMING-")) NotImplemented _ word is in
+    let form = test_ok (not (is_word text)) InvalidArgument _ word other.1 in
+    ap is_word (sym (one_value text word form.1)) ∙ not-false (is_word text) form.0
 
 module _ (settings : Settings) (head : HeadParts) (moment : ℕ) where
-  -- what can be wrong with what was sent for an authorization and its stamp: before the signature is
-  -- computed, and in all
-  abbrev early_faults : List (Bool × Code)
-  early_faults = unsigned_faults settings head moment (sent_parts head) (stamp_of head)
+  -- so memory is wanted only where nothing is wrong before the signature
+  pub never_internal : NeverInternal (checked_head settings head moment)
+  unfolding checked_head
+  never_internal =
+      then_other (check_target head) _ (target_other head)
+      (bind_other (authorization_at head) _ (authorization_other head) (λ sent.
+      bind_other (stamp_at head) _ (stamp_other head) (λ stamp.
+      bind_other (secret_at settings moment sent stamp) _ (secret_other settings moment sent stamp) (λ secret.
+      bind_other (word_at head) _ (word_other head) (λ word is. search rules)))))
 
-  abbrev late_faults : List (Bool × Code)
-  late_faults = authorization_faults settings head moment (sent_parts head) (stamp_of head)
+  -- the word that was found in a head is one
+  word_found : (checked : Checked) → checked_head settings head moment ≡ Ok checked → is_word checked.word ≡ true
+  unfolding checked_head word_at
+  word_found checked is =
+      let sent = stage_ok (authorization_at head) _ checked (then_ok (check_target head) _ checked is) in
+      let stamp = stage_ok (stamp_at head) _ checked sent.2 in
+      let secret = stage_ok (secret_at settings moment sent.0 stamp.0) _ checked stamp.2 in
+      let word = stage_ok (word_at head) _ checked secret.2 in
+      let text = stage_ok (word_line head) _ word.0 word.1 in
+      let covered = test_ok (not (signs_enough head sent.0.signed)) AccessDenied _ checked word.2 in
+      ap (λ (c : Checked). is_word c.word) (sym (one_value _ checked covered.1)) ∙ word_of_is text.0 word.0 text.2
 
-  -- the groups make up the table
-  joined_before : faults_before_signature settings head moment ≡ target_faults head ++ line_faults head ++ early_faults
-  unfolding faults_before_signature
-  joined_before = refl
-
-  joined : head_faults settings head moment ≡ target_faults head ++ line_faults head ++ late_faults
-  unfolding head_faults faults_before_signature
-  joined = refl
-
-  -- a fault is the verdict
-  refused_by : (e : Code) → first_fault (head_faults settings head moment) ≡ Some e → head_verdict settings head moment ≡ Err e
-  unfolding head_verdict
-  refused_by e is = ap (λ r. unless_refused r (proved_by settings head (sent_parts head) (stamp_of head))) is
-
-  -- no fault has the code of a want of memory
-  pub never_internal : head_verdict settings head moment ≢ Err InternalError
-  unfolding head_verdict head_faults faults_before_signature is_internal
-  never_internal is =
-      never_first (head_faults settings head moment) refl
-      (refusal (first_fault (head_faults settings head moment)) (proved_by settings head (sent_parts head) (stamp_of head)) InternalError is)
-
-  -- a fault of the target
-  pub refused_target : (e : Code) → first_fault (target_faults head) ≡ Some e → head_verdict settings head moment ≡ Err e
-  refused_target e is =
-      refused_by e (ap first_fault joined ∙ fault_first (target_faults head) (line_faults head ++ late_faults) e is)
-
-  module _ (target : first_fault (target_faults head) ≡ None) where
-    -- past those, one of the lines
-    pub refused_line : (e : Code) → first_fault (line_faults head) ≡ Some e → head_verdict settings head moment ≡ Err e
-    refused_line e is =
-        refused_by e
-        (ap first_fault joined
-        ∙ fault_later (target_faults head) (line_faults head ++ late_faults) target
-        ∙ fault_first (line_faults head) late_faults e is)
-
-    module _ (lines : first_fault (line_faults head) ≡ None) (a : Parts) (stamp : List ℕ) (sent : sent_parts head ≡ a) (stamped : stamp_of head ≡ stamp) where
-      -- past those, what follows decides
-      past_lines : (faults : List (Bool × Code)) → first_fault (target_faults head ++ line_faults head ++ faults) ≡ first_fault faults
-      past_lines faults =
-          fault_later (target_faults head) (line_faults head ++ faults) target ∙ fault_later (line_faults head) faults lines
-
-      -- which are the authorization and the stamp
-      pub judged_late : head_verdict settings head moment ≡ unless_refused (first_fault (authorization_faults settings head moment a stamp)) (proved_by settings head a stamp)
-      unfolding head_verdict
-      judged_late =
-          ap (λ r. unless_refused r (proved_by settings head (sent_parts head) (stamp_of head))) (ap first_fault joined ∙ past_lines late_faults)
-          ∙ ap₂ (λ (b : Parts) (t : List ℕ). unless_refused (first_fault (authorization_faults settings head moment b t)) (proved_by settings head b t)) sent stamped
-
-      -- a fault of theirs
-      pub refused_late : (e : Code) → first_fault (authorization_faults settings head moment a stamp) ≡ Some e → head_verdict settings head moment ≡ Err e
-      refused_late e is = judged_late ∙ ap (λ r. unless_refused r (proved_by settings head a stamp)) is
-
-      -- and none
-      pub verified_late : (key word : List ℕ) → first_fault (authorization_faults settings head moment a stamp) ≡ None → key ≡ signing_key (secret_behind settings a) (stamp_date stamp) settings.region → word ≡ sent_word head → head_verdict settings head moment ≡ Ok (proved_with a stamp settings.region key word)
-      verified_late key word none key_is word_is =
-          judged_late
-          ∙ ap (λ r. unless_refused r (proved_by settings head a stamp)) none
-          ∙ sym (ap₂ (λ k w. Ok (proved_with a stamp settings.region k w)) key_is word_is)
-
-      -- also on whether there is a fault before the signature
-      pub unsigned_late : first_fault (unsigned_faults settings head moment a stamp) ≡ None → first_fault (faults_before_signature settings head moment) ≡ None
-      unsigned_late none =
-          ap first_fault joined_before
-          ∙ past_lines early_faults
-          ∙ ap₂ (λ (b : Parts) (t : List ℕ). first_fault (unsigned_faults settings head moment b t)) sent stamped
-          ∙ none
-
-  -- the word of a head that is verified is one
-  pub is_word_verified : (proved : Proved) → head_verdict settings head moment ≡ Ok proved → is_word proved.word ≡ true
+  -- so is that of a head that is verified
+  is_word_verified : (proved : Proved) → head_verdict settings head moment ≡ Ok proved → is_word proved.word ≡ true
   unfolding head_verdict
   is_word_verified proved is =
-      let a = sent_parts head in
-      let stamp = stamp_of head in
-      let both = unrefused (first_fault (head_faults settings head moment)) (proved_by settings head a stamp) proved is in
-      let lines = none_later (target_faults head) (line_faults head ++ late_faults) (ap first_fault (sym joined) ∙ both.0) in
-      let late = none_later (line_faults head) late_faults lines in
-      let signature = signature_faults settings head a stamp in
-      let words = none_later (scope_faults settings moment a stamp) (word_faults head ++ signature) late in
-      ap (λ (p : Proved). is_word p.word) (sym both.1) ∙ word_of_lines head (none_early (word_faults head) signature words)
+      let checked = stage_ok (checked_head settings head moment) _ proved is in
+      let key = stage_ok (key_proved settings head checked.0) _ proved checked.2 in
+      ap (λ (p : Proved). is_word p.word) (sym (one_value _ proved key.2)) ∙ word_found checked.0 checked.1
 
 -- and so is that of what is kept of one
 pub is_word_kept : (proved : Proved) → ∥ WasVerified proved ∥₁ → is_word proved.word ≡ true

@@ -2,7 +2,6 @@ pub mod Authorization
 pub mod Spelling
 pub mod Signature
 pub mod Verdict
-pub mod Groups
 pub mod Signing
 pub mod Signed
 pub mod Word

@@ -1,9 +1,9 @@
 -- Whether a head is verified, and otherwise which fault comes first (AWS Signature Version 4; Amazon
 -- S3 API Reference, "Authenticating requests (AWS Signature Version 4)" and "Error responses").
-use Rattle.std.specs.Prelude.{◌≡◌, ℕ, ◌+◌, ◌≤◌, Bool, true, not, ◌&&◌, ◌||◌, nat_le, nat_eq, if◌then◌else◌, List, [], ◌∷◌, ◌++◌, map, length, codes, is_none, Option, Some, None, option_and_then, unwrap_or, Result, Ok}
+use Rattle.std.specs.Prelude.{◌≡◌, ℕ, ◌+◌, ◌≤◌, Bool, true, not, ◌&&◌, ◌||◌, ◌==◌, nat_le, nat_eq, if◌then◌else◌, List, [], ◌∷◌, map, length, codes, Option, Some, None, option_and_then, ok_or, unwrap_or, Result, Ok, ⊤}
 use Rattle.std.specs.List.{list_any, list_all, starts_with}
 use Rattle.std.specs.Str.{bytes_eq, str_to_ascii_lowercase}
-use Rattle.s3_terms.specs.Fault.{first_fault, unless_refused}
+use Rattle.s3_terms.specs.Fault.{refuse, ◌>>◌, ◌>>=◌}
 use Rattle.s3_config.specs.Settings.{Settings, are_settings, secret_of}
 use Rattle.s3_calendar.specs.Moment.{last_moment, is_stamp, stamp_seconds, stamp_date}
 use Rattle.s3_terms.specs.declared.code.Code.{Code}
@@ -58,6 +58,10 @@ is_near stamped moment = nat_le stamped (moment + skew_limit) && nat_le moment (
 abbrev pub word_lines : HeadParts → List (List ℕ)
 word_lines head = values_of (codes "x-amz-content-sha256") head
 
+-- what a signer takes for the word: the value of the first of them, and empty where there is none
+abbrev pub sent_word : HeadParts → List ℕ
+sent_word head = unwrap_or (first_value (codes "x-amz-content-sha256") head) []
+
 -- the three forms of that word: the body's hash, no hash at all, or chunks that are signed
 abbrev pub is_word : List ℕ → Bool
 is_word word =
@@ -91,55 +95,79 @@ signs_amz head signed = list_all (covers signed) (sent_names head)
 abbrev pub signs_enough : HeadParts → List ℕ → Bool
 signs_enough head signed = signs signed (codes "host") && signs_amz head signed
 
--- the secret of the authorization's id; empty where the id is not configured, which the table below
--- refuses before it looks at the signature
-abbrev pub secret_behind : Settings → authorization.Parts → List ℕ
-secret_behind settings a = unwrap_or (secret_of settings.keys a.id) []
+-- a target that can be read, and that carries no signature
+unfoldable pub check_target : HeadParts → Result ⊤ Code
+check_target head = do
+  refuse (is_unreadable head.target) InvalidURI
+  refuse (is_presigned head.target) AccessDenied
 
--- what is judged of a head: the parts of its authorization, its stamp, and the word of its first word
--- line; they are empty where the head lacks them, which the table below refuses before it looks at them
-abbrev pub sent_parts : HeadParts → authorization.Parts
-sent_parts head =
-    unwrap_or (sent_authorization head) (record { id = []; date = []; region = []; service = []; signed = []; signature = [] })
+-- the parts of the one Authorization line
+unfoldable pub authorization_at : HeadParts → Result authorization.Parts Code
+authorization_at head = do
+  refuse (not (is_sent (codes "authorization") head)) AccessDenied
+  ok_or (sent_authorization head) AuthorizationHeaderMalformed
 
-abbrev pub stamp_of : HeadParts → List ℕ
-stamp_of head = unwrap_or (sent_stamp head) []
+-- the stamp of the one x-amz-date line
+unfoldable pub stamp_at : HeadParts → Result (List ℕ) Code
+stamp_at head = ok_or (sent_stamp head) AccessDenied
 
-abbrev pub sent_word : HeadParts → List ℕ
-sent_word head = unwrap_or (first_value (codes "x-amz-content-sha256") head) []
+-- the secret behind an authorization of the server's scope, which was stamped near to the moment
+unfoldable pub secret_at : Settings → ℕ → authorization.Parts → List ℕ → Result (List ℕ) Code
+secret_at settings moment sent stamp = do
+  refuse (is_other_scope settings sent stamp) AuthorizationHeaderMalformed
+  secret ← ok_or (secret_of settings.keys sent.id) InvalidAccessKeyId
+  refuse (not (is_near (stamp_seconds stamp) moment)) RequestTimeTooSkewed
+  Ok secret
 
--- all that can be wrong with a head, and its code, in their order: what shows before a signature is
--- computed
-unfoldable pub faults_before_signature : Settings → HeadParts → ℕ → List (Bool × Code)
-faults_before_signature settings head moment =
-    let a = sent_parts head in
-    let stamp = stamp_of head in
-    let word = sent_word head in
-    (is_unreadable head.target, InvalidURI)
-    ∷ (is_presigned head.target, AccessDenied)
-    ∷ (not (is_sent (codes "authorization") head), AccessDenied)
-    ∷ (is_none (sent_authorization head), AuthorizationHeaderMalformed)
-    ∷ (is_none (sent_stamp head), AccessDenied)
-    ∷ (is_other_scope settings a stamp, AuthorizationHeaderMalformed)
-    ∷ (is_none (secret_of settings.keys a.id), InvalidAccessKeyId)
-    ∷ (not (is_near (stamp_seconds stamp) moment), RequestTimeTooSkewed)
-    ∷ (not (is_sent (codes "x-amz-content-sha256") head), InvalidRequest)
-    ∷ (nat_le 2 (length (word_lines head)), InvalidArgument)
-    ∷ (not (is_word word) && starts_with nat_eq word (codes "STREAMING-"), NotImplemented)
-    ∷ (not (is_word word), InvalidArgument)
-    ∷ (not (signs_enough head a.signed), AccessDenied)
-    ∷ []
+-- the value of the one line that says what stands for the body
+unfoldable pub word_line : HeadParts → Result (List ℕ) Code
+word_line head = do
+  text ← ok_or (first_value (codes "x-amz-content-sha256") head) InvalidRequest
+  refuse (not (length (word_lines head) == 1)) InvalidArgument
+  Ok text
 
--- the signature that was sent is not the formula
-abbrev pub is_other_signature : Settings → HeadParts → authorization.Parts → List ℕ → Bool
-is_other_signature settings head a stamp =
-    not (bytes_eq a.signature (signature_of (secret_behind settings a) stamp settings.region head a.signed (sent_word head)))
+-- the text as a word of one of the three forms
+unfoldable pub word_of : List ℕ → Result (List ℕ) Code
+word_of text = do
+  refuse (not (is_word text) && starts_with nat_eq text (codes "STREAMING-")) NotImplemented
+  refuse (not (is_word text)) InvalidArgument
+  Ok text
 
--- all faults: those, and last a signature that is not the formula
-unfoldable pub head_faults : Settings → HeadParts → ℕ → List (Bool × Code)
-head_faults settings head moment =
-    faults_before_signature settings head moment
-    ++ (is_other_signature settings head (sent_parts head) (stamp_of head), SignatureDoesNotMatch) ∷ []
+-- the word of that line
+unfoldable pub word_at : HeadParts → Result (List ℕ) Code
+word_at head = do
+  text ← word_line head
+  word_of text
+
+-- what was found in a head: the parts of its authorization, its stamp, the secret of the authorization's
+-- id, and the word that stands for the body
+pub record Checked : Type 0 where
+  pub sent : authorization.Parts
+  pub stamp : List ℕ
+  pub secret : List ℕ
+  pub word : List ℕ
+
+-- what is found in a head with which nothing is wrong before its signature is computed, or the first fault
+unfoldable pub checked_head : Settings → HeadParts → ℕ → Result Checked Code
+checked_head settings head moment = do
+  check_target head
+  sent ← authorization_at head
+  stamp ← stamp_at head
+  secret ← secret_at settings moment sent stamp
+  word ← word_at head
+  refuse (not (signs_enough head sent.signed)) AccessDenied
+  Ok (record { sent = sent; stamp = stamp; secret = secret; word = word })
+
+-- the signature that the head has to have
+abbrev pub signature_due : Settings → HeadParts → Checked → List ℕ
+signature_due settings head checked =
+    signature_of checked.secret checked.stamp settings.region head checked.sent.signed checked.word
+
+-- the key of the day, past a signature that is not the formula
+unfoldable pub key_proved : Settings → HeadParts → Checked → Result (List ℕ) Code
+key_proved settings head checked = do
+  refuse (not (bytes_eq checked.sent.signature (signature_due settings head checked))) SignatureDoesNotMatch
+  Ok (signing_key checked.secret (stamp_date checked.stamp) settings.region)
 
 -- what a verified head has proved: its stamp, its scope's region, the key of the day, the signature
 -- that was sent, and the word that stands for its body
@@ -150,21 +178,17 @@ pub record Proved : Type 0 where
   pub seed : List ℕ
   pub word : List ℕ
 
--- what an authorization has proved with a stamp, a region, a key and a word
-abbrev pub proved_with : authorization.Parts → List ℕ → List ℕ → List ℕ → List ℕ → Proved
-proved_with a stamp region key word =
-    record { stamp = stamp; region = region; key = key; seed = a.signature; word = word }
-
--- what the head has proved, if nothing is wrong with it
-abbrev pub proved_by : Settings → HeadParts → authorization.Parts → List ℕ → Proved
-proved_by settings head a stamp =
-    let key = signing_key (secret_behind settings a) (stamp_date stamp) settings.region in
-    proved_with a stamp settings.region key (sent_word head)
+-- what was found proves this, in this region and with this key
+abbrev pub proved_with : Checked → List ℕ → List ℕ → Proved
+proved_with checked region key =
+    record { stamp = checked.stamp; region = region; key = key; seed = checked.sent.signature; word = checked.word }
 
 -- what the head has proved at this moment to a server of these settings, or the first fault
 unfoldable pub head_verdict : Settings → HeadParts → ℕ → Result Proved Code
-head_verdict settings head moment =
-    unless_refused (first_fault (head_faults settings head moment)) (proved_by settings head (sent_parts head) (stamp_of head))
+head_verdict settings head moment = do
+  checked ← checked_head settings head moment
+  key ← key_proved settings head checked
+  Ok (proved_with checked settings.region key)
 
 -- some head has proved this to some server at some moment
 pub record WasVerified (proved : Proved) : Type 0 where

@@ -1,11 +1,9 @@
 //! The header lines that a signed request has to have: what they say, or what is wrong with them.
 
-ghost use Rattle.std.specs.Prelude.{◌≡◌, codes, None, Some, MatchResult, if◌then◌else◌};
-ghost use Rattle.std.specs.Option.{ok_or, option_copied};
-ghost use Rattle.s3_terms.specs.Fault.{first_fault};
-ghost use Rattle.s3_http_heads.specs.Parts.{is_sent, values_of};
-ghost use Rattle.s3_signing.specs.Groups.{form_faults, line_faults, word_faults};
-ghost use Rattle.s3_signing.specs.Verdict.{only, sent_authorization, sent_parts, sent_stamp, sent_word, stamp_of};
+ghost use Rattle.std.specs.Prelude.{◌≡◌, Ok, Err, IfOk, IfErr};
+ghost use Rattle.std.specs.Option.{option_copied};
+ghost use Rattle.s3_http_heads.specs.Parts.{values_of};
+ghost use Rattle.s3_signing.specs.Verdict as rules;
 ghost use Rattle.s3_signing.specs.Word.{word_text};
 
 use crate::authorization::Authorization;
@@ -18,7 +16,7 @@ const WORD_NAME: &[u8] = b"x-amz-content-sha256";
 
 // The value of a header that was sent once.
 fn only<'a>(head: &'a Head, name: &[u8]) -> Option<&'a [u8]>
-    ensures { option_copied result ≡ only (values_of name.now head.now) }
+    ensures { option_copied result ≡ rules.only (values_of name.now head.now) }
 {
     if head.count(name) != 1 {
         return None;
@@ -27,10 +25,9 @@ fn only<'a>(head: &'a Head, name: &[u8]) -> Option<&'a [u8]>
 }
 
 // The parts of the one Authorization line.
-fn sent_authorization(head: &Head) -> Result<Authorization<'_>, Code>
-    ensures { result ≡ (if is_sent (codes "authorization") head.now
-        then ok_or (sent_authorization head.now) Code.AuthorizationHeaderMalformed
-        else Err Code.AccessDenied) }
+#[tactic(auto, unfolding(crate::specs::Verdict::authorization_at))]
+pub(crate) fn authorization_at(head: &Head) -> Result<Authorization<'_>, Code>
+    ensures { result ≡ rules.authorization_at head.now }
 {
     if !head.is_sent(b"authorization") {
         return Err(Code::AccessDenied);
@@ -42,8 +39,9 @@ fn sent_authorization(head: &Head) -> Result<Authorization<'_>, Code>
 }
 
 // The stamp of the one x-amz-date line.
-fn sent_stamp(head: &Head) -> Result<Stamp, Code>
-    ensures { result ≡ ok_or (sent_stamp head.now) Code.AccessDenied }
+#[tactic(auto, unfolding(crate::specs::Verdict::stamp_at))]
+pub(crate) fn stamp_at(head: &Head) -> Result<Stamp, Code>
+    ensures { result ≡ rules.stamp_at head.now }
 {
     match only(head, b"x-amz-date") {
         Some(text) => Stamp::read(text).ok_or(Code::AccessDenied),
@@ -51,23 +49,24 @@ fn sent_stamp(head: &Head) -> Result<Stamp, Code>
     }
 }
 
-// The authorization and the stamp of a head, or what is wrong with them first.
-pub(crate) fn sent_lines(head: &Head) -> Result<(Authorization<'_>, Stamp), Code>
-    ensures { MatchResult result
-        (λ sent. (first_fault (line_faults head.now) ≡ None)
-        × (sent_parts head.now ≡ sent.0) × (stamp_of head.now ≡ sent.1))
-        (λ e. first_fault (line_faults head.now) ≡ Some e) }
+// The value of the one line that says what stands for the body.
+#[tactic(auto, unfolding(crate::specs::Verdict::word_line))]
+fn word_line(head: &Head) -> Result<&[u8], Code>
+    ensures ok { IfOk result (λ text. rules.word_line head.now ≡ Ok text.now) }
+    ensures err { IfErr result (λ code. rules.word_line head.now ≡ Err code) }
 {
-    let authorization = sent_authorization(head)?;
-    let stamp = sent_stamp(head)?;
-    Ok((authorization, stamp))
+    let text = head.first(WORD_NAME).ok_or(Code::InvalidRequest)?;
+    if head.count(WORD_NAME) != 1 {
+        return Err(Code::InvalidArgument);
+    }
+    Ok(text)
 }
 
-// The word that a text is, or why it is none.
+// The word that a text is.
+#[tactic(auto, unfolding(crate::specs::Verdict::word_of))]
 fn word_of(text: &[u8]) -> Result<Word, Code>
-    ensures { MatchResult result
-        (λ word. (first_fault (form_faults text.now) ≡ None) × (word_text word ≡ text.now))
-        (λ e. first_fault (form_faults text.now) ≡ Some e) }
+    ensures ok { IfOk result (λ word. rules.word_of text.now ≡ Ok (word_text word)) }
+    ensures err { IfErr result (λ code. rules.word_of text.now ≡ Err code) }
 {
     match Word::read(text) {
         Some(word) => Ok(word),
@@ -76,16 +75,12 @@ fn word_of(text: &[u8]) -> Result<Word, Code>
     }
 }
 
-// The word that stands for the body, or what is wrong with its lines first.
-pub(crate) fn sent_word(head: &Head) -> Result<Word, Code>
-    ensures { MatchResult result
-        (λ word. (first_fault (word_faults head.now) ≡ None) × (word_text word ≡ sent_word head.now))
-        (λ e. first_fault (word_faults head.now) ≡ Some e) }
+// The word that stands for the body.
+#[tactic(auto, unfolding(crate::specs::Verdict::word_at))]
+pub(crate) fn word_at(head: &Head) -> Result<Word, Code>
+    ensures ok { IfOk result (λ word. rules.word_at head.now ≡ Ok (word_text word)) }
+    ensures err { IfErr result (λ code. rules.word_at head.now ≡ Err code) }
 {
-    let count = head.count(WORD_NAME);
-    match head.first(WORD_NAME) {
-        Some(text) if count == 1 => word_of(text),
-        Some(_) => Err(Code::InvalidArgument),
-        None => Err(Code::InvalidRequest),
-    }
+    let text = word_line(head)?;
+    word_of(text)
 }

@@ -1,13 +1,11 @@
 //! Whether a request target can be judged by an Authorization header.
 
-ghost use Rattle.std.specs.Prelude.{◌≡◌, ◌==◌, None, Some, MatchResult};
+ghost use Rattle.std.specs.Prelude.{◌≡◌, ◌==◌};
 ghost use Rattle.std.specs.Str.{bytes_eq};
 ghost use Rattle.std.specs.List.{list_any, slice_split};
 ghost use Rattle.percent_encoding.specs.Percent.{percent_decode};
 ghost use Rattle.s3_canonical.specs.Target.{pair_of};
-ghost use Rattle.s3_terms.specs.Fault.{first_fault};
-ghost use Rattle.s3_signing.specs.Verdict.{is_query_signature};
-ghost use Rattle.s3_signing.specs.Groups.{target_faults};
+ghost use Rattle.s3_signing.specs.Verdict.{is_query_signature, check_target};
 
 use crate::cut::cut_once;
 use percent_encoding::percent_decode;
@@ -56,11 +54,9 @@ fn is_presigned(query: &[u8]) -> bool
 }
 
 // Refuses a target that cannot be read, and one that carries its signature in the query.
-#[tactic(auto, using(crate::proofs::TargetLemmas::any_parameter))]
+#[tactic(auto, using(crate::proofs::TargetLemmas::any_parameter), unfolding(crate::specs::Verdict::check_target))]
 pub(crate) fn check_target(head: &Head) -> Result<(), Code>
-    ensures { MatchResult result
-        (λ _. first_fault (target_faults head.now) ≡ None)
-        (λ e. first_fault (target_faults head.now) ≡ Some e) }
+    ensures { result ≡ check_target head.now }
 {
     if !is_readable(head.target()) {
         return Err(Code::InvalidURI);

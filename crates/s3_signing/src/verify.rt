@@ -1,20 +1,20 @@
 //! Whether a head is verified.
 
-ghost use Rattle.std.specs.Prelude.{◌≡◌, ◌≤◌, ◌⊎◌, true, not, length, None, Some, Err, MatchResult, IfOk, IfErr};
-ghost use Rattle.s3_terms.specs.Fault.{Follows, first_fault};
-ghost use Rattle.s3_calendar.specs.Moment.{last_moment, stamp_date};
+ghost use Rattle.std.specs.Prelude.{◌≡◌, ◌≤◌, true, not, length, Ok, Err, IfOk, IfErr, IsOk};
+ghost use Rattle.s3_terms.specs.Fault.{Follows};
+ghost use Rattle.s3_calendar.specs.Moment.{last_moment};
 ghost use Rattle.hex.specs.Hex.{encode_lower};
 ghost use Rattle.s3_hmac.specs.Hmac.{hmac};
 ghost use Rattle.s3_canonical.specs.Request.{canonical_request};
-ghost use Rattle.s3_signing.specs.Groups.{authorization_faults, cover_faults, scope_faults, signature_faults, unsigned_faults};
-ghost use Rattle.s3_signing.specs.Signature.{signing_key, string_to_sign};
-ghost use Rattle.s3_signing.specs.Verdict.{WasVerified, faults_before_signature, head_verdict, is_near, is_other_scope, is_word, proved_with, secret_behind, sent_word};
+ghost use Rattle.s3_signing.specs.Signature.{string_to_sign};
+ghost use Rattle.s3_signing.specs.Verdict.{WasVerified, is_near, is_other_scope, is_word, proved_with};
+ghost use Rattle.s3_signing.specs.Verdict as rules;
 ghost use Rattle.s3_signing.specs.Word.{word_text};
 
 use crate::authorization::Authorization;
 use crate::compare::same_digits;
 use crate::key::signing_key;
-use crate::lines::{sent_lines, sent_word};
+use crate::lines::{authorization_at, stamp_at, word_at};
 use crate::region::{REGION_MAX, Region};
 use crate::signature::signature;
 use crate::signed::signs_enough;
@@ -132,27 +132,70 @@ fn is_near(stamped: Moment, moment: Moment) -> bool
 }
 
 // The secret that the authorization asks for, where nothing is wrong with its scope and its time.
-fn secret_of<'a>(
+#[tactic(auto, unfolding(crate::specs::Verdict::secret_at))]
+fn secret_at<'a>(
     config: &'a Config,
     moment: Moment,
     sent: &Authorization,
     stamp: &Stamp,
 ) -> Result<&'a [u8], Code>
-    ensures { MatchResult result
-        (λ secret. (first_fault (scope_faults config.now moment sent.now stamp.now) ≡ None)
-        × (secret.now ≡ secret_behind config.now sent.now) × (moment ≤ last_moment))
-        (λ e. first_fault (scope_faults config.now moment sent.now stamp.now) ≡ Some e) }
+    ensures ok { IfOk result (λ secret. rules.secret_at config.now moment sent.now stamp.now ≡ Ok secret.now) }
+    ensures err { IfErr result (λ code. rules.secret_at config.now moment sent.now stamp.now ≡ Err code) }
+    ensures within { IfOk result (λ _. moment ≤ last_moment) }
 {
     if !is_own_scope(config, sent, stamp) {
         return Err(Code::AuthorizationHeaderMalformed);
     }
-    let Some(secret) = config.secret_of(sent.id()) else {
-        return Err(Code::InvalidAccessKeyId);
-    };
+    let secret = config.secret_of(sent.id()).ok_or(Code::InvalidAccessKeyId)?;
     if !is_near(stamp.moment(), moment) {
         return Err(Code::RequestTimeTooSkewed);
     }
     Ok(secret)
+}
+
+// What was found in a head with which nothing is wrong before its signature is computed.
+#[derive(Drop)]
+struct Checked<'a> {
+    sent: Authorization<'a>,
+    stamp: Stamp,
+    secret: &'a [u8],
+    word: Word,
+}
+
+impl<'a> Model for Checked<'a> {
+    ghost use Rattle.s3_signing.specs.Verdict.{Checked};
+    ghost use Rattle.s3_signing.specs.Word.{word_text};
+
+    ghost Value = { Checked };
+
+    ghost view = { λ c. record {
+      sent = c.sent;
+      stamp = c.stamp;
+      secret = c.secret.now;
+      word = word_text c.word;
+    } };
+}
+
+// What is found in a head, or what is wrong with it before its signature is computed.
+#[tactic(auto, unfolding(crate::specs::Verdict::checked_head))]
+fn checked_head<'a>(config: &'a Config, head: &'a Head, moment: Moment) -> Result<Checked<'a>, Code>
+    ensures value { result ≡ rules.checked_head config.now head.now moment }
+    ensures within { IfOk result (λ _. moment ≤ last_moment) }
+{
+    check_target(head)?;
+    let sent = authorization_at(head)?;
+    let stamp = stamp_at(head)?;
+    let secret = secret_at(config, moment, &sent, &stamp)?;
+    let word = word_at(head)?;
+    if !signs_enough(head, sent.signed()) {
+        return Err(Code::AccessDenied);
+    }
+    Ok(Checked {
+        sent,
+        stamp,
+        secret,
+        word,
+    })
 }
 
 // The signature that the head has to have under this key.
@@ -161,90 +204,48 @@ fn expected_signature(
     key: &[u8; 32],
     region: &[u8],
     head: &Head,
-    sent: &Authorization,
-    stamp: &Stamp,
-    word: Word,
+    checked: &Checked,
 ) -> Result<[u8; 64], Code>
-    ensures value { IfOk result (λ digits. digits ≡ encode_lower (hmac key.now
-        (string_to_sign stamp.now region.now (canonical_request head.now sent.now.signed (word_text word))))) }
+    ensures value { IfOk result (λ digits. digits ≡ encode_lower (hmac key.now (string_to_sign
+        checked.now.stamp region.now (canonical_request head.now checked.now.sent.signed checked.now.word)))) }
     ensures errors { IfErr result (λ e. e ≡ Code.InternalError) }
 {
-    match request_hash(alloc, head, sent.signed(), word.text()) {
-        Ok(hash) => Ok(signature(key, stamp, region, &hash)),
+    match request_hash(alloc, head, checked.sent.signed(), checked.word.text()) {
+        Ok(hash) => Ok(signature(key, &checked.stamp, region, &hash)),
         Err(_) => Err(Code::InternalError),
     }
 }
 
-// The key of the day, where the signature covers enough and is the one that this key gives.
-#[tactic(auto, unfolding(crate::specs::Signature::signature_of))]
-fn key_of(
+// The key of the day, where the signature is the one that this key gives.
+#[tactic(auto, unfolding(crate::specs::Signature::signature_of, crate::specs::Verdict::key_proved))]
+fn key_proved(
     alloc: Global,
     config: &Config,
     head: &Head,
-    sent: &Authorization,
-    stamp: &Stamp,
-    secret: &[u8],
-    word: Word,
+    checked: &Checked,
 ) -> Result<[u8; 32], Code>
-    requires secret { secret.now ≡ secret_behind config.now sent.now }
-    requires word { word_text word ≡ sent_word head.now }
-    ensures { MatchResult result
-        (λ key. (first_fault (signature_faults config.now head.now sent.now stamp.now) ≡ None)
-        × (key ≡ signing_key (secret_behind config.now sent.now) (stamp_date stamp.now) config.now.region))
-        (λ e. ((e ≡ Code.InternalError) × (first_fault (cover_faults head.now sent.now) ≡ None))
-        ⊎ (first_fault (signature_faults config.now head.now sent.now stamp.now) ≡ Some e)) }
+    ensures { Follows result (rules.key_proved config.now head.now checked.now) }
 {
-    if !signs_enough(head, sent.signed()) {
-        return Err(Code::AccessDenied);
-    }
-    let key = signing_key(secret, stamp.date(), config.region());
-    let expected = expected_signature(alloc, &key, config.region(), head, sent, stamp, word)?;
-    if !same_digits(&sent.signature(), &expected) {
+    let key = signing_key(checked.secret, checked.stamp.date(), config.region());
+    let expected = expected_signature(alloc, &key, config.region(), head, checked)?;
+    if !same_digits(&checked.sent.signature(), &expected) {
         return Err(Code::SignatureDoesNotMatch);
     }
     Ok(key)
 }
 
-// The key of the day and the word of the body, where nothing is wrong with the authorization.
-fn judged(
-    alloc: Global,
-    config: &Config,
-    head: &Head,
-    moment: Moment,
-    sent: &Authorization,
-    stamp: &Stamp,
-) -> Result<([u8; 32], Word), Code>
-    ensures { MatchResult result
-        (λ p. (first_fault (authorization_faults config.now head.now moment sent.now stamp.now) ≡ None)
-        × (p.0 ≡ signing_key (secret_behind config.now sent.now) (stamp_date stamp.now) config.now.region)
-        × (word_text p.1 ≡ sent_word head.now) × (moment ≤ last_moment))
-        (λ e. ((e ≡ Code.InternalError) × (first_fault (unsigned_faults config.now head.now moment sent.now stamp.now) ≡ None))
-        ⊎ (first_fault (authorization_faults config.now head.now moment sent.now stamp.now) ≡ Some e)) }
-{
-    let secret = secret_of(config, moment, sent, stamp)?;
-    let word = sent_word(head)?;
-    let key = key_of(alloc, config, head, sent, stamp, secret, word)?;
-    Ok((key, word))
-}
-
 // What a verified head has proved, in its own type.
-fn proved_with(
-    sent: &Authorization,
-    stamp: Stamp,
-    region: &[u8],
-    key: [u8; 32],
-    word: Word,
-) -> Verified
+fn proved_with(checked: &Checked, region: &[u8], key: [u8; 32]) -> Verified
     requires length { length region.now ≤ REGION_MAX }
-    requires kept { ∥ WasVerified (proved_with sent.now stamp region.now key (word_text word)) ∥₁ }
-    ensures { result ≡ proved_with sent.now stamp region.now key (word_text word) }
+    requires kept { ∥ WasVerified (proved_with checked.now region.now key) ∥₁ }
+    ensures { result ≡ proved_with checked.now region.now key }
 {
     Verified {
-        stamp,
+        stamp: checked.stamp,
         region: Region::copy(region),
         key,
-        seed: sent.signature(),
-        word,
+        seed: checked.sent.signature(),
+        word: checked.word,
     }
 }
 
@@ -262,21 +263,20 @@ fn proved_with(
 /// `InvalidURI`, `AccessDenied`, `AuthorizationHeaderMalformed`, `InvalidAccessKeyId`,
 /// `RequestTimeTooSkewed`, `InvalidRequest`, `InvalidArgument`, `NotImplemented` and
 /// `SignatureDoesNotMatch` by that order, and `InternalError` where memory runs out.
-#[tactic(auto, unfolding(s3_config::specs::Settings::are_settings, s3_config::specs::Settings::is_region))]
+#[tactic(auto, using(crate::proofs::VerdictLemmas::never_internal), unfolding(crate::specs::Verdict::head_verdict, s3_config::specs::Settings::are_settings, s3_config::specs::Settings::is_region))]
 pub fn verify_head(
     alloc: Global,
     config: &Config,
     head: &Head,
     moment: Moment,
 ) -> Result<Verified, Code>
-    ensures verdict { Follows result (head_verdict config.now head.now moment) }
+    ensures verdict { Follows result (rules.head_verdict config.now head.now moment) }
 
     // Memory is wanted for the signature alone, once nothing else is wrong.
     ensures memory { (result ≡ Err Code.InternalError)
-        → first_fault (faults_before_signature config.now head.now moment) ≡ None }
+        → IsOk (rules.checked_head config.now head.now moment) }
 {
-    check_target(head)?;
-    let (sent, stamp) = sent_lines(head)?;
-    let (key, word) = judged(alloc, config, head, moment, &sent, &stamp)?;
-    Ok(proved_with(&sent, stamp, config.region(), key, word))
+    let checked = checked_head(config, head, moment)?;
+    let key = key_proved(alloc, config, head, &checked)?;
+    Ok(proved_with(&checked, config.region(), key))
 }

@@ -4,7 +4,7 @@
 use crate::server::{ID, REGION, SECRET, STAMP, verdict};
 use s3_calendar::Stamp;
 use s3_http_heads::Head;
-use s3_signer::{is_signable, signed_request};
+use s3_signer::{Unsigned, signed_request};
 use s3_terms::Code;
 use std::alloc::{AllocError, Global};
 use std::process::Abort;
@@ -23,6 +23,14 @@ fn stamp(text: &[u8]) -> Result<Stamp, Code> {
     Stamp::read(text).ok_or(Code::InternalError)
 }
 
+// Why there is no text, as a code.
+fn code_of(unsigned: Unsigned) -> Code {
+    match unsigned {
+        Unsigned::NotSignable => Code::InvalidRequest,
+        Unsigned::OutOfMemory => Code::InternalError,
+    }
+}
+
 // The text of a request, if it can be signed.
 fn text_of(
     alloc: Global,
@@ -34,12 +42,10 @@ fn text_of(
     text: &[u8],
 ) -> Result<Vec<u8>, Code> {
     let stamp = stamp(text)?;
-    if !is_signable(ID, region, method, target, headers, body, stamp) {
-        return Err(Code::InvalidRequest);
-    }
-    Ok(signed_request(
+    let signed = signed_request(
         alloc, ID, SECRET, region, method, target, headers, body, stamp,
-    )?)
+    );
+    signed.map_err(code_of)
 }
 
 // A request that can be signed, with its region and its stamp, and its whole text.
@@ -132,18 +138,37 @@ fn sizes_that_are_told(rt: HostRuntime) {
     }
 }
 
-// Whether a request without a body can be signed that has this method, this target and these lines.
-fn takes(method: &[u8], target: &[u8], headers: Headers) -> Result<bool, Code> {
+// Whether a request without a body can be signed that has this method, this target and these lines, by a key
+// of this id for this region.
+fn signs(
+    alloc: Global,
+    id: &[u8],
+    region: &[u8],
+    method: &[u8],
+    target: &[u8],
+    headers: Headers,
+) -> Result<bool, Code> {
     let stamp = stamp(STAMP)?;
-    Ok(is_signable(ID, REGION, method, target, headers, b"", stamp))
+    match signed_request(
+        alloc, id, SECRET, region, method, target, headers, b"", stamp,
+    ) {
+        Ok(_) => Ok(true),
+        Err(Unsigned::NotSignable) => Ok(false),
+        Err(Unsigned::OutOfMemory) => Err(Code::InternalError),
+    }
+}
+
+// The same of the usual key and region.
+fn takes(alloc: Global, method: &[u8], target: &[u8], headers: Headers) -> Result<bool, Code> {
+    signs(alloc, ID, REGION, method, target, headers)
 }
 
 // A method, a target, the lines, and whether a request with them can be signed.
 type Case = (&'static [u8], &'static [u8], Headers<'static>, bool);
 
-fn expect_taken(rt: &impl Abort, cases: &[Case]) {
+fn expect_taken(rt: &impl Abort, alloc: Global, cases: &[Case]) {
     for (method, target, headers, taken) in cases {
-        assert!(rt; takes(method, target, headers) == Ok(*taken));
+        assert!(rt; takes(alloc, method, target, headers) == Ok(*taken));
     }
 }
 
@@ -167,7 +192,7 @@ static REQUEST_LINES: [Case; 15] = [
 
 #[test]
 fn faults_of_request_lines(rt: HostRuntime) {
-    expect_taken(&rt, &REQUEST_LINES);
+    expect_taken(&rt, rt.alloc(), &REQUEST_LINES);
 }
 
 static LINES: [Case; 14] = [
@@ -204,13 +229,12 @@ static LINES: [Case; 14] = [
 
 #[test]
 fn faults_of_lines(rt: HostRuntime) {
-    expect_taken(&rt, &LINES);
+    expect_taken(&rt, rt.alloc(), &LINES);
 }
 
 // Whether a request can be signed by a key of this id for this region.
-fn takes_signer(id: &[u8], region: &[u8]) -> Result<bool, Code> {
-    let stamp = stamp(STAMP)?;
-    Ok(is_signable(id, region, b"GET", b"/k", &[HOST], b"", stamp))
+fn takes_signer(alloc: Global, id: &[u8], region: &[u8]) -> Result<bool, Code> {
+    signs(alloc, id, region, b"GET", b"/k", &[HOST])
 }
 
 static SIGNERS: [(&[u8], &[u8]); 4] = [
@@ -223,7 +247,7 @@ static SIGNERS: [(&[u8], &[u8]); 4] = [
 #[test]
 fn faults_of_signers(rt: HostRuntime) {
     for (id, region) in &SIGNERS {
-        assert!(rt; takes_signer(id, region) == Ok(false));
+        assert!(rt; takes_signer(rt.alloc(), id, region) == Ok(false));
     }
 }
 
@@ -238,7 +262,7 @@ fn lines(alloc: Global, others: usize) -> Result<Vec<Line>, AllocError> {
 // Whether a request with the host and that many other lines can be signed.
 fn takes_lines(alloc: Global, method: &[u8], others: usize) -> Result<bool, Code> {
     let lines = lines(alloc, others)?;
-    takes(method, b"/k", &lines)
+    takes(alloc, method, b"/k", &lines)
 }
 
 static COUNTS: [(&[u8], usize, bool); 4] = [

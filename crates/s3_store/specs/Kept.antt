@@ -1,39 +1,74 @@
--- What the store keeps: the bytes that were acknowledged are the bytes that come back, and what was
--- refused or only read changes nothing.
-use Rattle.std.specs.Prelude.{◌≡◌, ◌≢◌, ℕ, List, ◌∷◌, ◌++◌}
+-- What the store keeps: the bytes that were acknowledged are the bytes that come back and no others
+-- do, and what was refused or only read changes nothing.
+use Rattle.std.specs.Prelude.{◌≡◌, ℕ, true, false, List, ◌∷◌, ◌++◌, Some}
 use Rattle.std.specs.List.{AllByRecursion}
-use Rattle.s3_terms.specs.declared.code.Code.{Code}
-use Rattle.s3_requests.specs.declared.commands.Command.TheVariants as commands
-use Rattle.s3_store.specs.declared.answer.Outcome.TheVariants as outcomes
-use Rattle.s3_store.specs.Store.{State}
+use Rattle.s3_segments.specs.Payload.{tag_of}
+use Rattle.s3_store.specs.declared.object.Object.{Object}
+use Rattle.s3_store.specs.Store.{State, opening, put_object}
+use Rattle.s3_store.specs.Effects.{Address, writes, brings, reads, only_reads, is_refused, given, acknowledged}
 use Rattle.s3_store.specs.History.{Entry, IsAnswer, Legal, after_entry}
 
--- no entry puts to this key of this bucket: none is a put there that the store acknowledged
-abbrev pub LeavesKey : List ℕ → List ℕ → List Entry → Type 0
-LeavesKey bucket key entries =
-    AllByRecursion
-    (λ (e : Entry). (body tag : List ℕ) → e.command ≡ commands.PutObject bucket key body → e.answer.outcome ≢ outcomes.Put tag)
-    entries
+-- the entry, if it writes to the address, is refused
+abbrev pub Leaves : Address → Entry → Type 0
+Leaves address e = writes e.command ≡ Some address → is_refused e.answer.outcome ≡ true
 
--- in a legal history, a get answers what the last put to its key that the store acknowledged brought:
--- those bytes, under the tag that was acknowledged, made at the moment of the put
+-- no entry that is not refused writes to the address
+abbrev pub LeavesKey : Address → List Entry → Type 0
+LeavesKey address entries = AllByRecursion (Leaves address) entries
+
+-- the entry wrote to the address, was not refused, and brought the body that makes this object at its
+-- moment
+pub record Brought (address : Address) (object : Object) (e : Entry) : Type 0 where
+  pub body : List ℕ
+  pub written : writes e.command ≡ Some address
+  pub accepted : is_refused e.answer.outcome ≡ false
+  pub brought : brings e.command ≡ Some body
+  pub made : object ≡ put_object e.moment body
+
+-- in a legal history, a read answers the object that the last write to its address, among those that
+-- were not refused, made of the body that it brought
 abbrev pub PutsAreKept : Type 0
 PutsAreKept =
-    (s : State) (n : ℕ) (before between later : List Entry) (put get : Entry) (bucket key body tag : List ℕ)
-    → Legal s n (before ++ put ∷ between ++ get ∷ later)
-    → put.command ≡ commands.PutObject bucket key body → put.answer.outcome ≡ outcomes.Put tag
-    → LeavesKey bucket key between
-    → get.command ≡ commands.GetObject bucket key
-    → get.answer.outcome ≡ outcomes.Got (record { tag = tag; moment = put.moment; body = body })
+    (least : ℕ) (s : State) (n : ℕ) (before between later : List Entry) (put get : Entry) (address : Address) (object : Object)
+    → Legal least s n (before ++ put ∷ between ++ get ∷ later)
+    → Brought address object put
+    → LeavesKey address between
+    → reads get.command ≡ Some address
+    → given get.answer.outcome ≡ Some object
+
+-- a right answer that accepts a body is under the tag of that body
+abbrev pub TagsAreOfBodies : Type 0
+TagsAreOfBodies =
+    (least : ℕ) (s : State) (n : ℕ) (e : Entry) (body : List ℕ)
+    → IsAnswer least s n e → brings e.command ≡ Some body → is_refused e.answer.outcome ≡ false
+    → acknowledged e.answer.outcome ≡ Some (tag_of body)
+
+-- the last of the entries that wrote to the address and was not refused brought this object
+pub record LastBrought (address : Address) (object : Object) (entries : List Entry) : Type 0 where
+  pub before : List Entry
+  pub write : Entry
+  pub between : List Entry
+  pub parts : entries ≡ before ++ write ∷ between
+  pub brought : Brought address object write
+  pub leaves : LeavesKey address between
+
+-- in a legal history from the opening state, an object that a read answers was brought by the last
+-- write to its address, among the entries before the read, that was not refused
+abbrev pub OnlyPutsAreGiven : Type 0
+OnlyPutsAreGiven =
+    (least : ℕ) (names : List (List ℕ)) (n : ℕ) (earlier later : List Entry) (get : Entry) (address : Address) (object : Object)
+    → Legal least (opening names) n (earlier ++ get ∷ later)
+    → reads get.command ≡ Some address
+    → given get.answer.outcome ≡ Some object
+    → LastBrought address object earlier
 
 -- a right answer that refuses leaves the store as it was
 abbrev pub RefusalsChangeNothing : Type 0
 RefusalsChangeNothing =
-    (s : State) (n : ℕ) (e : Entry) (code : Code)
-    → IsAnswer s n e → e.answer.outcome ≡ outcomes.Refused code → after_entry s e ≡ s
+    (least : ℕ) (s : State) (n : ℕ) (e : Entry)
+    → IsAnswer least s n e → is_refused e.answer.outcome ≡ true → after_entry least s e ≡ s
 
--- a get leaves the store as it was, whatever it is answered
-abbrev pub GetsChangeNothing : Type 0
-GetsChangeNothing =
-    (s : State) (e : Entry) (bucket key : List ℕ)
-    → e.command ≡ commands.GetObject bucket key → after_entry s e ≡ s
+-- a command that only reads leaves the store as it was, whatever it is answered
+abbrev pub ReadsChangeNothing : Type 0
+ReadsChangeNothing =
+    (least : ℕ) (s : State) (e : Entry) → only_reads e.command ≡ true → after_entry least s e ≡ s

@@ -1,6 +1,6 @@
 -- The store: buckets of objects (Amazon S3 User Guide, "Amazon S3 objects overview"), and one step of
 -- it for each command (Amazon S3 API Reference, PutObject and GetObject).
-use Rattle.std.specs.Prelude.{ℕ, List, [], ◌∷◌, Option, Some, None}
+use Rattle.std.specs.Prelude.{ℕ, Bool, false, is_some, List, [], ◌∷◌, Option, Some, None}
 use Rattle.std.specs.FinMap as map
 use Rattle.s3_segments.specs.Payload.{tag_of}
 use Rattle.s3_text.specs.Order.{byte_order}
@@ -25,13 +25,22 @@ abbrev pub opening : List (List ℕ) → State
 opening [] = map.empty
 opening (name ∷ names) = map.insert (opening names) name map.empty
 
+-- the object under a key, where the bucket is absent or has these objects
+abbrev pub object_in : Option Objects → List ℕ → Option Object
+object_in None key = None
+object_in (Some objects) key = map.get objects key
+
+-- the object under a key of a bucket
+abbrev pub object_at : State → List ℕ → List ℕ → Option Object
+object_at s bucket key = object_in (map.get s bucket) key
+
 -- the store after a step, and what came of it
 abbrev pub Stepped : Type 0
 Stepped = State × Outcome
 
 -- a refusal leaves the store as it was
 abbrev pub refused_step : State → Code → Stepped
-refused_step s code = (s, outcomes.Refused code)
+refused_step s code = (s, outcomes.Refused code false)
 
 -- the object that a put makes of a body at moment t
 abbrev pub put_object : ℕ → List ℕ → Object
@@ -54,7 +63,13 @@ abbrev pub get_step : State → List ℕ → Option Objects → Stepped
 get_step s key None = refused_step s NoSuchBucket
 get_step s key (Some objects) = got s (map.get objects key)
 
--- one step: what a command at moment t leaves, and what comes of it
-unfoldable pub step : State → ℕ → Command → Stepped
-step s t (commands.PutObject bucket key body) = put_step s bucket key t body (map.get s bucket)
-step s t (commands.GetObject bucket key) = get_step s key (map.get s bucket)
+-- one step: what a command with number n at moment t leaves, and what comes of it; least is the least
+-- size of a part that is not the last. A put and a get depend on neither number nor size
+unfoldable pub step : ℕ → State → ℕ → ℕ → Command → Stepped
+step least s n t (commands.PutObject bucket key body) = put_step s bucket key t body (map.get s bucket)
+step least s n t (commands.GetObject bucket key) = get_step s key (map.get s bucket)
+
+-- a command puts an object in the place of one that is there
+abbrev pub replaces : State → Command → Bool
+replaces s (commands.PutObject bucket key body) = is_some (object_at s bucket key)
+replaces s (commands.GetObject bucket key) = false

@@ -17,6 +17,7 @@ pub enum Outcome {
     Put { tag: Tag },
     /// The object.
     Got { object: Object },
-    /// The store refuses, and is as it was.
-    Refused { code: Code },
+    /// The store refuses, and is as it was. The second says whether what was asked for is a delete
+    /// marker.
+    Refused { code: Code, is_delete_marker: bool },
 }

@@ -8,6 +8,6 @@ mod objects;
 mod store;
 
 pub use answer::{Answer, Outcome};
-pub use history::{one_more_entry, puts_are_kept, refusals_change_nothing};
+pub use history::{one_more_entry, only_puts_are_given, puts_are_kept, refusals_change_nothing};
 pub use object::Object;
 pub use store::Store;

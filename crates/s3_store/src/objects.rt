@@ -1,4 +1,4 @@
-ghost use Rattle.std.specs.Prelude.{◌≡◌, OnOk, OnErr};
+ghost use Rattle.std.specs.Prelude.{◌≡◌, None, OnOk, OnErr};
 ghost use Rattle.std.specs.Option.{option_copied};
 ghost use Rattle.std.specs.FinMap as map;
 
@@ -44,11 +44,12 @@ impl Objects {
         self.by_key.get(key)
     }
 
-    /// Stores the object under the key, in the place of the one that is there. `NoMemory` leaves the
-    /// objects as they were, and the new one is dropped.
+    /// Stores the object under the key, in the place of the one that is there. `NoMemory`, which comes
+    /// at new keys alone, leaves the objects as they were, and the new one is dropped.
     pub(crate) fn put(&mut self, key: Key, object: Object) -> Result<(), NoMemory>
         ensures ok { OnOk result (self.new ≡ map.insert self.old key object) }
         ensures err { OnErr result (self.new ≡ self.old) }
+        ensures absent { OnErr result (map.get self.old key ≡ None) }
     {
         self.by_key.insert(key, object)?;
         Ok(())

@@ -1,4 +1,4 @@
-ghost use Rattle.std.specs.Prelude.{◌≡◌, ℕ, IfOk, OnOk, OnErr};
+ghost use Rattle.std.specs.Prelude.{◌≡◌, false, is_some, IfOk, OnOk, OnErr};
 ghost use Rattle.std.specs.FinMap as map;
 
 use crate::objects::Objects;
@@ -32,7 +32,8 @@ impl Model for Store {
 }
 
 impl Store {
-    ghost use Rattle.s3_store.specs.Store.{opening, step};
+    ghost use Rattle.s3_store.specs.Store.{opening, step, put_step, get_step, object_at, replaces};
+    ghost use Rattle.s3_store.specs.Effects.{is_refused};
 
     /// The store with these buckets, which are unversioned and have nothing in them. A name that stands
     /// twice is one bucket. The names are copied.
@@ -51,33 +52,51 @@ impl Store {
     /// Takes one step: does what the command asks for at this moment, and answers it under this number,
     /// the count of the commands answered before. A put moves the bytes into the store and does not copy
     /// them; a get copies the object, at a cost that is linear in its bytes. To find a bucket and a key
-    /// costs the logarithm of how many there are.
+    /// costs the logarithm of how many there are. `least_part` is the least size of a part that is not
+    /// the last.
     ///
-    /// `NoMemory` leaves the store as it was, and nothing is answered.
+    /// `NoMemory` leaves the store as it was, and nothing is answered. It never stands in the place of a
+    /// refusal, and a put over an object that is there takes no memory.
     #[tactic(auto, using(crate::proofs::StepLemmas::answered))]
     pub fn apply(
         &mut self,
         alloc: Global,
+        least_part: u64,
         command: Command,
         moment: Moment,
         number: u64,
     ) -> Result<Answer, NoMemory>
-        ensures state { OnOk result (self.new ≡ (step self.old moment command).0) }
-        ensures answer { IfOk result (λ answer.
-            answer ≡ record { number = number; outcome = (step self.old moment command).1 }) }
+        ensures state { OnOk result (self.new ≡ (step least_part self.old number moment command).0) }
+        ensures answer { IfOk result (λ answer. answer
+            ≡ record { number = number; outcome = (step least_part self.old number moment command).1 }) }
         ensures err { OnErr result (self.new ≡ self.old) }
+        ensures memory { OnErr result (
+            is_refused (step least_part self.old number moment command).1 ≡ false) }
+        ensures in_place { OnErr result (replaces self.old command ≡ false) }
     {
-        match self.take(alloc, command, moment) {
+        match self.take(alloc, least_part, command, moment, number) {
             Ok(outcome) => Ok(Answer { number, outcome }),
             Err(e) => Err(e),
         }
     }
 
     /// Takes the step of `apply`.
-    fn take(&mut self, alloc: Global, command: Command, moment: Moment) -> Result<Outcome, NoMemory>
-        ensures state { OnOk result (self.new ≡ (step self.old moment command).0) }
-        ensures outcome { IfOk result (λ outcome. outcome ≡ (step self.old moment command).1) }
+    #[tactic(auto, unfolding(crate::specs::Store::step))]
+    fn take(
+        &mut self,
+        alloc: Global,
+        least_part: u64,
+        command: Command,
+        moment: Moment,
+        number: u64,
+    ) -> Result<Outcome, NoMemory>
+        ensures state { OnOk result (self.new ≡ (step least_part self.old number moment command).0) }
+        ensures outcome { IfOk result (λ outcome.
+            outcome ≡ (step least_part self.old number moment command).1) }
         ensures err { OnErr result (self.new ≡ self.old) }
+        ensures memory { OnErr result (
+            is_refused (step least_part self.old number moment command).1 ≡ false) }
+        ensures in_place { OnErr result (replaces self.old command ≡ false) }
     {
         match command {
             Command::PutObject {
@@ -106,18 +125,20 @@ impl Store {
         payload: Payload,
         moment: Moment,
     ) -> Result<Outcome, NoMemory>
-        ensures state { OnOk result (
-            self.new ≡ (step self.old moment (Command.PutObject bucket.now key payload)).0) }
-        ensures outcome { IfOk result (λ outcome.
-            outcome ≡ (step self.old moment (Command.PutObject bucket.now key payload)).1) }
+        ensures state { OnOk result (self.new
+            ≡ (put_step self.old bucket.now key moment payload (map.get self.old bucket.now)).0) }
+        ensures outcome { IfOk result (λ outcome. outcome
+            ≡ (put_step self.old bucket.now key moment payload (map.get self.old bucket.now)).1) }
         ensures err { OnErr result (self.new ≡ self.old) }
+        ensures memory { OnErr result (is_refused
+            (put_step self.old bucket.now key moment payload (map.get self.old bucket.now)).1
+            ≡ false) }
+        ensures in_place { OnErr result (is_some (object_at self.old bucket.now key) ≡ false) }
     {
         let tag = payload.tag();
         let object = Object::of_payload(payload, moment);
         match self.by_name.get_mut(bucket) {
-            None => Ok(Outcome::Refused {
-                code: Code::NoSuchBucket,
-            }),
+            None => Ok(refused(Code::NoSuchBucket)),
             Some(objects) => match objects.put(key, object) {
                 Ok(()) => Ok(Outcome::Put { tag }),
                 Err(e) => Err(e),
@@ -125,24 +146,32 @@ impl Store {
         }
     }
 
-    /// GetObject, which leaves the store as it was, at any moment.
+    /// GetObject, which leaves the store as it was.
     fn get(&self, alloc: Global, bucket: &BucketName, key: &Key) -> Result<Outcome, NoMemory>
-        ensures { (t : ℕ) → IfOk result (λ outcome.
-            outcome ≡ (step self.now t (Command.GetObject bucket.now key.now)).1) }
+        ensures outcome { IfOk result (λ outcome.
+            outcome ≡ (get_step self.now key.now (map.get self.now bucket.now)).1) }
+        ensures memory { OnErr result (
+            is_refused (get_step self.now key.now (map.get self.now bucket.now)).1 ≡ false) }
     {
         match self.by_name.get(bucket) {
-            None => Ok(Outcome::Refused {
-                code: Code::NoSuchBucket,
-            }),
+            None => Ok(refused(Code::NoSuchBucket)),
             Some(objects) => match objects.get(key) {
-                None => Ok(Outcome::Refused {
-                    code: Code::NoSuchKey,
-                }),
+                None => Ok(refused(Code::NoSuchKey)),
                 Some(object) => match object.copy(alloc) {
                     Ok(object) => Ok(Outcome::Got { object }),
                     Err(e) => Err(e),
                 },
             },
         }
+    }
+}
+
+/// A refusal that tells of no delete marker.
+fn refused(code: Code) -> Outcome
+    ensures { result ≡ Outcome.Refused code false }
+{
+    Outcome::Refused {
+        code,
+        is_delete_marker: false,
     }
 }

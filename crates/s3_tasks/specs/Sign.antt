@@ -5,7 +5,7 @@ use Rattle.std.specs.List.{list_all, before_first, after_first}
 use Rattle.std.specs.Borrow.{Bor}
 use Rattle.s3_calendar.specs.Moment.{is_stamp, stamp_seconds}
 use Rattle.s3_config.specs.Settings.{Settings, secret_of}
-use Rattle.s3_signer.specs.Request.{HeaderLine, given_lines, is_signable, request_text}
+use Rattle.s3_signer.specs.Request.{HeaderLine, IsSignable, given_lines, request_text}
 use Rattle.s3_settings.specs.declared.fault.Fault.{Fault}
 use Rattle.s3_settings.specs.declared.fault.Fault.TheVariants.{CannotRead, BadKeysLine, BadSetting, InputFailed, OutputFailed, OutOfMemory}
 use Rattle.s3_settings.specs.declared.settings.Setup.{Setup}
@@ -58,10 +58,11 @@ abbrev pub IsBodyFault : (List ℕ → Option (List ℕ)) → Option (Bor (List 
 IsBodyFault known None fault = fault ≡ OutOfMemory
 IsBodyFault known (Some path) fault = IsReadFault (known path.now) path.now fault
 
--- a request of the draft with this body, at this stamp, can be signed for a server of these settings
-abbrev pub is_signable_draft : Settings → Draft → List ℕ → List ℕ → Bool
-is_signable_draft settings draft body stamp =
-    is_signable draft.id.now settings.region draft.method.now draft.target.now (given_lines draft.headers.items) body stamp
+-- a request of the draft with this body, at this stamp, can be signed by this secret for a server of these
+-- settings
+abbrev pub IsSignableDraft : Settings → List ℕ → Draft → List ℕ → List ℕ → Type 0
+IsSignableDraft settings secret draft body stamp =
+    IsSignable draft.id.now secret settings.region draft.method.now draft.target.now (given_lines draft.headers.items) body stamp
 
 -- the text is the signed request of the draft: by the secret that the settings have for its id, with
 -- the bytes of its body's file
@@ -70,14 +71,14 @@ pub record IsRequestOf (known : List ℕ → Option (List ℕ)) (settings : Sett
   pub bytes : List ℕ
   pub owned : secret_of settings.keys draft.id.now ≡ Some secret
   pub body : IsBodyOf known draft.body bytes
-  pub signable : is_signable_draft settings draft bytes stamp ≡ true
+  pub signable : IsSignableDraft settings secret draft bytes stamp
   pub signed : text ≡ request_text draft.id.now secret settings.region draft.method.now draft.target.now (given_lines draft.headers.items) bytes stamp
 
 -- why there is none
 abbrev pub IsRequestFault : (List ℕ → Option (List ℕ)) → Settings → Draft → List ℕ → Fault → Type 0
 IsRequestFault known settings draft stamp BadSetting =
     (secret_of settings.keys draft.id.now ≡ None)
-    ⊎ ((body : List ℕ) × (is_some (secret_of settings.keys draft.id.now) ≡ true) × IsBodyOf known draft.body body × (is_signable_draft settings draft body stamp ≡ false))
+    ⊎ ((secret : List ℕ) × (body : List ℕ) × (secret_of settings.keys draft.id.now ≡ Some secret) × IsBodyOf known draft.body body × ¬ (IsSignableDraft settings secret draft body stamp))
 IsRequestFault known settings draft stamp (CannotRead path) =
     (is_some (secret_of settings.keys draft.id.now) ≡ true) × IsBodyFault known draft.body (CannotRead path)
 IsRequestFault known settings draft stamp OutOfMemory = ⊤

@@ -2,14 +2,14 @@ ghost use Rattle.std.specs.Prelude.{◌≡◌, ◌++◌, [], ◌∷◌, IfOk, On
 ghost use Rattle.std.specs.List.{list_all};
 ghost use Rattle.s3_signer.specs.Request.{given_lines, request_text};
 ghost use Rattle.s3_settings.specs.Fault.{MemoryOr};
-ghost use Rattle.s3_tasks.specs.Sign.{texts_of, is_colon, has_colon, line_of_word, header_lines, are_sign_options, is_signable_draft, IsDraftOf, IsBodyOf, IsBodyFault, IsRequestOf, IsRequestFault, IsTextOf, IsSignFault};
+ghost use Rattle.s3_tasks.specs.Sign.{texts_of, is_colon, has_colon, line_of_word, header_lines, are_sign_options, IsSignableDraft, IsDraftOf, IsBodyOf, IsBodyFault, IsRequestOf, IsRequestFault, IsTextOf, IsSignFault};
 ghost use Rattle.s3_tasks.specs.Steps.{IsDraftText, IsDraftFault};
 
 use s3_calendar::Stamp;
 use s3_command_line::SignOptions;
 use s3_config::Config;
 use s3_settings::{Fault, Files, Setup, configure, read_file};
-use s3_signer::{is_signable, signed_request};
+use s3_signer::{Unsigned, signed_request};
 use std::alloc::Global;
 
 /// A request that is to be signed.
@@ -161,19 +161,19 @@ fn signed<'a>(
     stamp: Stamp,
 ) -> Result<Vec<u8>, Fault<'a>>
     ensures value { IfOk result (λ text. text.items ≡ request_text draft.now.id.now secret.now config.now.region draft.now.method.now draft.now.target.now (given_lines draft.now.headers.items) body.now stamp) }
-    ensures signable { OnOk result (is_signable_draft config.now draft.now body.now stamp ≡ true) }
-    ensures refused { IfErr result (MemoryOr Fault.BadSetting (is_signable_draft config.now draft.now body.now stamp ≡ false)) }
+    ensures signable { OnOk result (IsSignableDraft config.now secret.now draft.now body.now stamp) }
+    ensures refused { IfErr result (MemoryOr Fault.BadSetting (¬ IsSignableDraft config.now secret.now draft.now body.now stamp)) }
 {
     let (id, region) = (draft.id.as_bytes(), config.region());
     let (method, target) = (draft.method.as_bytes(), draft.target.as_bytes());
     let headers = draft.headers.as_slice();
-    if !is_signable(id, region, method, target, headers, body, stamp) {
-        return Err(Fault::BadSetting);
-    }
-    let text = signed_request(
+    match signed_request(
         alloc, id, secret, region, method, target, headers, body, stamp,
-    )?;
-    Ok(text)
+    ) {
+        Ok(text) => Ok(text),
+        Err(Unsigned::NotSignable) => Err(Fault::BadSetting),
+        Err(Unsigned::OutOfMemory) => Err(Fault::OutOfMemory),
+    }
 }
 
 /// The bytes of the file at the path; none without one.

@@ -1,34 +1,34 @@
-use Rattle.std.proofs.Common.{◌∙◌, ap, length}
-use Rattle.s3_http_heads.specs.Parts.{HeadParts}
-use Rattle.s3_canonical.specs.Target.{is_unreadable}
-use Rattle.s3_signing.specs.Verdict.{word_lines}
-use Rattle.s3_signer.specs.Line.{pairs}
-use Rattle.s3_signer.specs.Request.{given_lines}
-use Rattle.s3_signer.proofs.FieldLemmas.{written_request}
-use Rattle.s3_signer.proofs.SignableLemmas.{signable_parts}
-use Rattle.s3_signer.proofs.OwnLemmas.{hash_values}
-use Rattle.s3_signer.proofs.VerifiedLemmas.{written_is_verified}
+use Rattle.std.proofs.Common.{◌≡◌, List, [], ◌∷◌, ◌++◌, codes, ◌∙◌, ap, ap₂, rules, subst, sym}
+use Rattle.std.specs.Prelude.{IsErrOf}
+use Rattle.s3_signer.specs.declared.unsigned.Unsigned.TheVariants.{NotSignable}
+use Rattle.s3_signer.specs.Line.{ReadsBack, head_with, pairs}
+use Rattle.s3_signer.specs.Request.{HeaderLine, authorization_of, given_lines, head_of, unsigned_head, unsigned_lines}
+use Rattle.s3_signer.proofs.GrammarLemmas.{says_first}
+use Rattle.s3_signer.proofs.VerifiedLemmas.{is_verified, ok_with, ready_along}
 use Rattle.s3_signer.proofs.request.signed_request.Goals as goal
 
-pub sign_head-requires-clause-readable : goal.sign_head-requires-clause-readable
-sign_head-requires-clause-readable c =
-    let read = c.in_ok-lines.ensures.head c.args.id.now c.args.region.now c.requires in
-    ap (λ (h : HeadParts). is_unreadable h.target) read ∙ (signable_parts _ _ _ _ _ _ _ c.requires).readable
-
-pub sign_head-requires-clause-word : goal.sign_head-requires-clause-word
-sign_head-requires-clause-word c =
-    let read = c.in_ok-lines.ensures.head c.args.id.now c.args.region.now c.requires in
-    ap (λ h. length (word_lines h)) read
-    ∙ ap length (hash_values c.args.method.now c.args.target.now (given_lines c.args.headers.now) c.args.body.now c.args.stamp (signable_parts _ _ _ _ _ _ _ c.requires).given)
-
-pub returns-clause-text : goal.returns-clause-text
-returns-clause-text c =
-    let read = c.in_ok-lines.ensures.head c.args.id.now c.args.region.now c.requires in
-    let written = written_request c.args.id.now c.args.secret.now c.args.region.now c.args.method.now c.args.target.now (given_lines c.args.headers.now) c.args.body.now c.args.stamp (pairs c.in_ok-lines.lines.items) c.in_ok-lines.head c.deref.result.now c.in_ok-lines.ensures.lines read (c.deref.ensures.value ∙ c.in_ok-value.ensures.text) in
-    c.in_ok-request_text.ensures ∙ written
+pub returns-in_err-value-clause-refused : goal.returns-in_err-value-clause-refused
+returns-in_err-value-clause-refused c = λ refused signable.
+    let method = c.args.method.now in
+    let target = c.args.target.now in
+    let given = given_lines c.args.headers.now in
+    let lines = unsigned_lines method given c.args.body.now in
+    let made : unsigned_head method target given c.args.body.now c.args.stamp ≡ head_with method target c.deref.result.now =
+    ap (head_of method target) (sym (ap pairs c.deref.ensures.value ∙ c.in_ok-lines.ensures ∙ ap lines c.text.ensures.text)) in
+    let own : List HeaderLine = (codes "authorization", authorization_of c.args.id.now c.args.secret.now c.args.region.now (unsigned_head method target given c.args.body.now c.args.stamp) c.args.stamp) ∷ [] in
+    let same : IsErrOf c.authorization.result NotSignable = search rules in
+    c.authorization.ensures.refused same
+    (subst ReadsBack made (says_first method target (lines c.args.stamp) own signable.message.text signable.message.says))
+    (ready_along c.args.stamp _ c.tells_length-told.result _ c.hash_text-hash.result _ _ (sym c.tells_length-told.ensures) (sym c.hash_text-hash.ensures) made signable.ready)
 
 pub returns-clause-verified : goal.returns-clause-verified
 returns-clause-verified c =
-    let read = c.in_ok-lines.ensures.head c.args.id.now c.args.region.now c.requires in
-    written_is_verified c.args.id.now c.args.secret.now c.args.region.now c.args.method.now c.args.target.now (given_lines c.args.headers.now) c.args.body.now c.args.stamp c.requires c.unsigned_head.ensures.stamp
-    c.in_ok-lines.head c.in_ok-value.value.items c.in_ok-request_text.field-0.items read c.in_ok-value.ensures.text c.in_ok-value.ensures.verified (returns-clause-text c)
+    let method = c.args.method.now in
+    let target = c.args.target.now in
+    let lines = c.in_ok-lines.ensures ∙ ap (unsigned_lines method (given_lines c.args.headers.now) c.args.body.now) c.text.ensures.text in
+    let more = ap pairs c.deref-3.ensures.value ∙ c.in_ok-lines-2.ensures ∙ ap₂ (λ ls v. ls ++ (codes "authorization", v) ∷ []) lines c.deref-2.ensures.value in
+    ok_with c.signed_text.result _ _ _ _ c.signed_text.ensures.text c.signed_text.ensures.message c.signed_text.ensures.own (λ text written message own.
+    is_verified method target _ c.in_ok-value.value.items c.args.id.now c.args.secret.now c.args.region.now c.args.body.now c.args.stamp c.hash_text-hash.result text.items c.tells_length-told.result
+    (head_with method target c.deref.result.now) (head_with method target c.deref-3.result.now)
+    (ap (head_of method target) (ap pairs c.deref.ensures.value ∙ lines)) (ap (head_of method target) more) c.hash_text-hash.ensures c.text.ensures.valid
+    c.in_ok-value.ensures.says c.in_ok-value.ensures.ready c.in_ok-value.ensures.verified written message (own ∙ ap (λ v. v ∷ []) c.deref-4.ensures.value))

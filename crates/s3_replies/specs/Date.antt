@@ -1,0 +1,8 @@
+-- The dates of HTTP (RFC 9110, section 5.6.7).
+use Rattle.std.specs.Prelude.{◌≡◌, ℕ, List}
+use Rattle.httpdate.specs.declared.date.HttpDate.{HttpDate}
+use Rattle.httpdate.specs.Date.{unix_secs, date_text}
+
+-- the text is the moment as a date of HTTP, in the form IMF-fixdate
+abbrev pub IsHttpDate : ℕ → List ℕ → Type 0
+IsHttpDate t text = (date : HttpDate) × (unix_secs date ≡ t) × (text ≡ date_text date)

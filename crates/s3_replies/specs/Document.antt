@@ -1,0 +1,15 @@
+-- The documents of refusals (Amazon S3 API Reference, "Error responses"; documents are JSON here).
+use Rattle.std.specs.Prelude.{ℕ, ◌==◌, if◌then◌else◌, List, [], ◌∷◌, ◌++◌, length, codes}
+use Rattle.s3_terms.specs.Code.{name_of, message_of}
+use Rattle.s3_terms.specs.declared.code.Code.{Code}
+use Rattle.s3_replies.specs.Lines.{quoted}
+
+-- `{"Code":"..","Message":".."}`; no name and no message has a letter that JSON would escape
+abbrev pub error_object : Code → List ℕ
+error_object code =
+    123 ∷ quoted (codes "Code") ++ 58 ∷ quoted (name_of code)
+    ++ 44 ∷ quoted (codes "Message") ++ 58 ∷ quoted (message_of code) ++ 125 ∷ []
+
+-- the document of a refusal; InternalError, the code without a message, has none
+abbrev pub error_document : Code → List ℕ
+error_document code = if length (message_of code) == 0 then [] else error_object code

@@ -1,0 +1,118 @@
+-- The head of a reply: its status line and its header lines (RFC 9112, sections 4 and 5; Amazon S3 API
+-- Reference, "Common response headers").
+use Rattle.std.specs.Prelude.{ℕ, ◌≤◌, Bool, false, List, [], ◌∷◌, ◌++◌, map, length, codes, Option, None, option_map}
+use Rattle.std.specs.Fmt.{decimal}
+use Rattle.s3_text.specs.Digits.{number_digits}
+use Rattle.s3_replies.specs.declared.head.Head.{Head}
+use Rattle.s3_replies.specs.declared.status.Status.{Status}
+use Rattle.s3_replies.specs.Lines.{crlf, Line, print_lines, flag, optional, metadata_line, quoted, value_of, value_length, pieces_of, metadata_length}
+use Rattle.s3_replies.specs.Status.{status_line, tells_size}
+
+-- what a head says, in the order of its lines
+pub record Fields : Type 0 where
+  pub status : Status
+  -- the date of HTTP at which the reply is made
+  pub date : List ℕ
+  -- the connection ends with the reply
+  pub closes : Bool
+  -- the number of the entry, 0 where there is none
+  pub number : ℕ
+  pub version_id : Option (List ℕ)
+  pub is_delete_marker : Bool
+  pub location : Option (List ℕ)
+  -- the tag, without its double quotes
+  pub tag : Option (List ℕ)
+  -- the date of HTTP at which the object was made
+  pub modified : Option (List ℕ)
+  pub accepts_ranges : Bool
+  pub content_range : Option (List ℕ)
+  pub content_type : Option (List ℕ)
+  -- names without their prefix, and values, sorted by name
+  pub metadata : List (List ℕ × List ℕ)
+  -- the size of the body, also where that is not sent
+  pub size : ℕ
+
+-- what a head of the code says
+abbrev pub fields_of : Head → Fields
+fields_of head = record {
+  status = head.status;
+  date = head.date.now;
+  closes = head.closes;
+  number = head.number;
+  version_id = value_of head.version_id;
+  is_delete_marker = head.is_delete_marker;
+  location = value_of head.location;
+  tag = value_of head.tag;
+  modified = value_of head.modified;
+  accepts_ranges = head.accepts_ranges;
+  content_range = value_of head.content_range;
+  content_type = value_of head.content_type;
+  metadata = pieces_of head.metadata.now;
+  size = head.size;
+}
+
+-- a head that says what every head has to say, of an empty body
+abbrev pub bare : Status → List ℕ → Bool → ℕ → Fields
+bare status date closes number = record {
+  status = status;
+  date = date;
+  closes = closes;
+  number = number;
+  version_id = None;
+  is_delete_marker = false;
+  location = None;
+  tag = None;
+  modified = None;
+  accepts_ranges = false;
+  content_range = None;
+  content_type = None;
+  metadata = [];
+  size = 0;
+}
+
+-- The table of all header lines, in their order, in three parts.
+
+-- who answers, and when
+abbrev pub opening_lines : Fields → List Line
+opening_lines head =
+    (codes "Date", head.date) ∷ []
+    ++ flag (codes "Connection") (codes "close") head.closes
+    ++ (codes "x-amz-request-id", number_digits head.number) ∷ []
+
+-- what is told of a bucket, an object or its version
+abbrev pub version_lines : Fields → List Line
+version_lines head =
+    optional (codes "x-amz-version-id") head.version_id
+    ++ flag (codes "x-amz-delete-marker") (codes "true") head.is_delete_marker
+    ++ optional (codes "Location") head.location
+    ++ optional (codes "ETag") (option_map quoted head.tag)
+    ++ optional (codes "Last-Modified") head.modified
+
+-- what is told of a body
+abbrev pub body_lines : Fields → List Line
+body_lines head =
+    flag (codes "Accept-Ranges") (codes "bytes") head.accepts_ranges
+    ++ optional (codes "Content-Range") head.content_range
+    ++ optional (codes "Content-Type") head.content_type
+    ++ map metadata_line head.metadata
+    ++ flag (codes "Content-Length") (decimal head.size) (tells_size head.status)
+
+-- a status line, header lines, and the empty line that ends a head
+abbrev pub print_with_lines : Status → List Line → List ℕ
+print_with_lines status lines = status_line status ++ print_lines lines ++ crlf
+
+-- the printed head
+unfoldable pub print_head : Fields → List ℕ
+print_head head = print_with_lines head.status (opening_lines head ++ version_lines head ++ body_lines head)
+
+-- no value is longer than the room that a head has for it
+pub record HasRoomFor (head : Fields) : Type 0 where
+  pub date : length head.date ≤ 29
+  pub version_id : value_length head.version_id ≤ 17
+  pub location : value_length head.location ≤ 64
+  pub tag : value_length head.tag ≤ 40
+  pub modified : value_length head.modified ≤ 29
+  pub content_range : value_length head.content_range ≤ 64
+  pub content_type : value_length head.content_type ≤ 255
+  pub metadata : metadata_length head.metadata ≤ 2048
+  pub metadata_count : length head.metadata ≤ 64

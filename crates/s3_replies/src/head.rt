@@ -1,0 +1,124 @@
+//! The head of a reply: its status line and its header lines.
+
+ghost use Rattle.std.specs.Prelude.{◌≡◌, ◌≤◌, ◌+◌, ◌++◌};
+ghost use Rattle.arrayvec.specs.ArrayVec.{array_vec_len};
+ghost use Rattle.s3_replies.specs.Head.{fields_of, bare, opening_lines, version_lines, body_lines, print_head, HasRoomFor};
+ghost use Rattle.s3_replies.specs.Lines.{print_lines};
+
+use crate::lines::{
+    Reply, write, write_flag, write_line, write_metadata, write_number, write_optional,
+    write_quoted,
+};
+use crate::status::{Status, status_line};
+use s3_text::number_digits;
+
+/// No head is longer.
+pub(crate) const HEAD_MAX: usize = 3840;
+
+/// What a head says, in the order of its lines. Contracts see it as `fields_of` it.
+#[derive(Drop)]
+pub(crate) struct Head<'a> {
+    pub status: Status,
+    /// The date of HTTP at which the reply is made.
+    pub date: &'a [u8],
+    /// The connection ends with the reply.
+    pub closes: bool,
+    /// The number of the entry, 0 where there is none.
+    pub number: u64,
+    pub version_id: Option<&'a [u8]>,
+    pub is_delete_marker: bool,
+    pub location: Option<&'a [u8]>,
+    /// The tag, without its double quotes.
+    pub tag: Option<&'a [u8]>,
+    /// The date of HTTP at which the object was made.
+    pub modified: Option<&'a [u8]>,
+    pub accepts_ranges: bool,
+    pub content_range: Option<&'a [u8]>,
+    pub content_type: Option<&'a [u8]>,
+    /// Names without their prefix, and values, sorted by name.
+    pub metadata: &'a [(&'a [u8], &'a [u8])],
+    /// The size of the body, also where that is not sent.
+    pub size: u64,
+}
+
+impl<'a> Head<'a> {
+    /// A head that says what every head has to say, of an empty body.
+    pub(crate) fn bare(status: Status, date: &'a [u8], closes: bool, number: u64) -> Head<'a>
+        ensures { fields_of result ≡ bare status date.now closes number }
+    {
+        Head {
+            status,
+            date,
+            closes,
+            number,
+            version_id: None,
+            is_delete_marker: false,
+            location: None,
+            tag: None,
+            modified: None,
+            accepts_ranges: false,
+            content_range: None,
+            content_type: None,
+            metadata: &[],
+            size: 0,
+        }
+    }
+
+    /// The printed head. It is `HEAD_MAX` bytes long at most.
+    #[tactic(auto, using(crate::proofs::LineLemmas::more_lines), unfolding(crate::specs::Head::print_head))]
+    pub(crate) fn print(&self) -> Reply
+        requires { HasRoomFor (fields_of self.now) }
+        ensures items { result.items ≡ print_head (fields_of self.now) }
+        ensures bound { array_vec_len result ≤ HEAD_MAX }
+    {
+        let mut reply = status_line(self.status);
+        self.write_opening(&mut reply);
+        self.write_version(&mut reply);
+        self.write_body_lines(&mut reply);
+        write(&mut reply, b"\r\n");
+        reply
+    }
+
+    /// Appends the lines that say who answers, and when: 92 bytes at most.
+    fn write_opening(&self, out: &mut Reply)
+        requires fits { HasRoomFor (fields_of self.now) }
+        requires room { array_vec_len out.old + 92 ≤ 4096 }
+        ensures items { out.new.items
+            ≡ out.old.items ++ print_lines (opening_lines (fields_of self.now)) }
+        ensures bound { array_vec_len out.new ≤ array_vec_len out.old + 92 }
+    {
+        write_line(out, "Date", self.date);
+        write_flag(out, "Connection", "close", self.closes);
+        write_line(out, "x-amz-request-id", &number_digits(self.number));
+    }
+
+    /// Appends the lines that tell of a bucket, an object or its version: 236 bytes at most.
+    fn write_version(&self, out: &mut Reply)
+        requires fits { HasRoomFor (fields_of self.now) }
+        requires room { array_vec_len out.old + 236 ≤ 4096 }
+        ensures items { out.new.items
+            ≡ out.old.items ++ print_lines (version_lines (fields_of self.now)) }
+        ensures bound { array_vec_len out.new ≤ array_vec_len out.old + 236 }
+    {
+        write_optional(out, "x-amz-version-id", self.version_id);
+        write_flag(out, "x-amz-delete-marker", "true", self.is_delete_marker);
+        write_optional(out, "Location", self.location);
+        write_quoted(out, "ETag", self.tag);
+        write_optional(out, "Last-Modified", self.modified);
+    }
+
+    /// Appends the lines that tell of a body: 3,420 bytes at most.
+    fn write_body_lines(&self, out: &mut Reply)
+        requires fits { HasRoomFor (fields_of self.now) }
+        requires room { array_vec_len out.old + 3420 ≤ 4096 }
+        ensures items { out.new.items
+            ≡ out.old.items ++ print_lines (body_lines (fields_of self.now)) }
+        ensures bound { array_vec_len out.new ≤ array_vec_len out.old + 3420 }
+    {
+        write_flag(out, "Accept-Ranges", "bytes", self.accepts_ranges);
+        write_optional(out, "Content-Range", self.content_range);
+        write_optional(out, "Content-Type", self.content_type);
+        write_metadata(out, self.metadata);
+        write_number(out, "Content-Length", self.size, self.status.tells_size());
+    }
+}

@@ -1,0 +1,135 @@
+//! The replies to answers of the store, and to messages that are refused before they come to it.
+
+ghost use Rattle.std.specs.Prelude.{◌≡◌, ◌+◌, ◌≤◌, ◌++◌, length};
+ghost use Rattle.arrayvec.specs.ArrayVec.{array_vec_len};
+ghost use Rattle.s3_replies.specs.Replies.{Prints, PrintsRefusal, RepliesAreUnique, RefusalsAreUnique, put_fields, got_fields, error_fields, sized, print_reply, internal_error, body_of, sent_body};
+ghost use Rattle.s3_replies.specs.Document.{error_document};
+ghost use Rattle.s3_replies.specs.Head.{print_head};
+
+use crate::Context;
+use crate::date::date_of;
+use crate::document::document_of;
+use crate::head::Head;
+use crate::lines::{Reply, write};
+use crate::status::Status;
+use arrayvec::ArrayVec;
+use s3_names::Tag;
+use s3_store::{Answer, Object, Outcome};
+use s3_terms::Code;
+
+/// All of the reply to a put.
+fn put_reply(tag: &Tag, number: u64, closes: bool, date: [u8; 29]) -> Reply
+    ensures { result.items ≡ print_head (put_fields tag.now number closes date) }
+{
+    let head = Head {
+        tag: Some(&tag.text()),
+        ..Head::bare(Status::Ok, &date, closes, number)
+    };
+    head.print()
+}
+
+/// The reply to a get without the object's bytes. The object's date is `modified`.
+fn got_head(object: &Object, number: u64, closes: bool, date: [u8; 29], modified: [u8; 29]) -> Reply
+    ensures { result.items
+        ≡ print_head (sized (got_fields object.now number closes date modified) object.now.body) }
+{
+    let head = Head {
+        tag: Some(&object.tag.text()),
+        modified: Some(&modified),
+        accepts_ranges: true,
+        content_type: Some(b"binary/octet-stream"),
+        size: object.body.size(),
+        ..Head::bare(Status::Ok, &date, closes, number)
+    };
+    head.print()
+}
+
+/// The whole reply that refuses with the code, under that number, and says whether what was asked for
+/// is a delete marker.
+fn error_reply(
+    code: Code,
+    is_delete_marker: bool,
+    number: u64,
+    context: &Context,
+    date: [u8; 29],
+) -> Reply
+    ensures { result.items
+        ≡ print_reply (error_fields code is_delete_marker number context.now.closes date)
+        context.now.head_only (error_document code) }
+{
+    let document = document_of(code);
+    let head = Head {
+        is_delete_marker,
+        content_type: Some(b"application/json"),
+        size: document.len() as u64,
+        ..Head::bare(Status::of_code(code), &date, context.closes, number)
+    };
+    let mut reply = head.print();
+    write_body(&mut reply, context.head_only, document.as_slice());
+    reply
+}
+
+/// Appends the body, which a reply to a HEAD leaves out.
+fn write_body(out: &mut Reply, head_only: bool, body: &[u8])
+    requires { array_vec_len out.old + length body.now ≤ 4096 }
+    ensures { out.new.items ≡ out.old.items ++ sent_body head_only body.now }
+{
+    if !head_only {
+        write(out, body);
+    }
+}
+
+/// The reply to an answer of the store, without the bytes of an object that was asked for: the
+/// caller writes these behind it, unless the message is a HEAD.
+pub fn head_of(answer: &Answer, context: &Context) -> ArrayVec<u8, 4096>
+    ensures { Prints answer.now context.now (result.items ++ body_of answer.now context.now) }
+{
+    let date = date_of(context.moment);
+    match &answer.outcome {
+        Outcome::Put { tag } => put_reply(tag, answer.number, context.closes, date),
+        Outcome::Got { object } => {
+            let modified = date_of(object.moment);
+            got_head(object, answer.number, context.closes, date, modified)
+        }
+        Outcome::Refused {
+            code,
+            is_delete_marker,
+        } => error_reply(*code, *is_delete_marker, answer.number, context, date),
+    }
+}
+
+/// The reply to a message that is refused before it comes to the store. It ends the connection,
+/// whatever the context says of that, and its id is zero.
+pub fn refusal(code: Code, context: &Context) -> ArrayVec<u8, 4096>
+    ensures { PrintsRefusal code context.now result.items }
+{
+    let closing = Context {
+        closes: true,
+        ..*context
+    };
+    error_reply(code, false, 0, &closing, date_of(context.moment))
+}
+
+/// What is written in place of a reply where memory runs out; the connection ends with it.
+pub const INTERNAL_ERROR: &[u8] = b"HTTP/1.1 500 Internal Server Error\r\n\
+    Connection: close\r\n\
+    Content-Length: 0\r\n\
+    x-amz-request-id: 0000000000000000\r\n\
+    \r\n";
+
+/// `INTERNAL_ERROR`, with a clause that says what it is.
+pub fn internal_error_reply() -> &'static [u8]
+    ensures { result.now ≡ internal_error }
+{
+    INTERNAL_ERROR
+}
+
+/// An answer of the store has one printed reply to a message.
+pub fn replies_are_unique()
+    ensures { RepliesAreUnique }
+{}
+
+/// A code has one printed refusal of a message.
+pub fn refusals_are_unique()
+    ensures { RefusalsAreUnique }
+{}
