@@ -29,11 +29,17 @@ stamp_minute t = digits_value 10 (slice_range t 11 13)
 abbrev pub stamp_second : List ℕ → ℕ
 stamp_second t = digits_value 10 (slice_range t 13 15)
 
+abbrev pub capital_t : ℕ
+capital_t = 84
+
+abbrev pub capital_z : ℕ
+capital_z = 90
+
 -- eight digits, `T`, six digits, `Z`
 abbrev pub is_stamp_form : List ℕ → Bool
 is_stamp_form t =
-    length t == 16 && list_all is_ascii_digit (slice_range t 0 8) && slice_index t 8 == 84
-    && list_all is_ascii_digit (slice_range t 9 15) && slice_index t 15 == 90
+    length t == 16 && list_all is_ascii_digit (slice_range t 0 8) && slice_index t 8 == capital_t
+    && list_all is_ascii_digit (slice_range t 9 15) && slice_index t 15 == capital_z
 
 -- a day of the calendar, from the year 1970 on
 abbrev pub is_day : ℕ → ℕ → ℕ → Bool
@@ -54,17 +60,17 @@ abbrev pub second_of_day : ℕ → ℕ → ℕ → ℕ
 second_of_day hour minute second = 3_600 * hour + 60 * minute + second
 
 -- the date of a stamp
-abbrev pub is_stamp_date : List ℕ → Bool
+unfoldable pub is_stamp_date : List ℕ → Bool
 is_stamp_date t = is_day (stamp_year t) (stamp_month t) (stamp_day t)
 
-abbrev pub stamp_day_number : List ℕ → ℕ
+unfoldable pub stamp_day_number : List ℕ → ℕ
 stamp_day_number t = day_number (stamp_year t) (stamp_month t) (stamp_day t)
 
 -- and its time of day
-abbrev pub is_stamp_time : List ℕ → Bool
+unfoldable pub is_stamp_time : List ℕ → Bool
 is_stamp_time t = is_time (stamp_hour t) (stamp_minute t) (stamp_second t)
 
-abbrev pub stamp_second_of_day : List ℕ → ℕ
+unfoldable pub stamp_second_of_day : List ℕ → ℕ
 stamp_second_of_day t = second_of_day (stamp_hour t) (stamp_minute t) (stamp_second t)
 
 -- the text is the stamp of some moment

@@ -1,8 +1,10 @@
-ghost use Rattle.std.specs.Prelude.{◌≡◌, ◌+◌, ◌/◌, ◌%◌, ◌<◌, ◌≤◌, length, pos, ◌≤ℤ◌, IsTrue, if◌then◌else◌, IfSome, SomeIff};
+//! Moments, the stamps that name them, and the text of a stamp.
+ghost use Rattle.std.specs.Prelude.{◌≡◌, ◌+◌, ◌/◌, ◌%◌, ◌<◌, ◌≤◌, length, pos, ◌≤ℤ◌, IsTrue, if◌then◌else◌, IfSome, SomeIff, is_some, unsigned_abs};
 ghost use Rattle.std.specs.List.{list_all};
 ghost use Rattle.std.specs.Char.{is_ascii_digit};
 ghost use Rattle.std.specs.Str.Parse.{digits_value};
-ghost use Rattle.jiff_core.specs.Date.{epoch_day};
+ghost use Rattle.jiff_core.specs.Date.{epoch_day, IsYmd};
+ghost use Rattle.jiff_core.specs.Time.{time_seconds};
 ghost use Rattle.s3_calendar.specs.Moment.{last_moment, is_stamp, is_stamp_form, stamp_seconds, stamp_date, stamp_year, stamp_month, stamp_day, stamp_hour, stamp_minute, stamp_second, is_day, day_number, is_time, second_of_day, is_stamp_date, stamp_day_number, is_stamp_time, stamp_second_of_day, OneStampForEachMoment};
 
 use jiff_core::civil::{Date, Time};
@@ -83,6 +85,7 @@ impl Model for Stamp {
 impl Stamp {
     /// The stamp that a text is: sixteen bytes that spell a day of the calendar, in the years 1970
     /// to 9999, and a time of that day. Any other text is `None`, and so is second 60.
+    #[tactic(auto, using(crate::proofs::MomentLemmas::stamps))]
     pub fn read(text: &[u8]) -> Option<Stamp>
         ensures { result ≡ (if is_stamp text.now then Some text.now else None) }
     {
@@ -133,7 +136,8 @@ pub fn stamps_of_a_moment()
     ensures { OneStampForEachMoment }
 {}
 
-// The moment that a text names, in seconds, if it is a stamp.
+// The seconds of the moment that a text names, if it is a stamp.
+#[tactic(auto, unfolding(crate::specs::Moment::is_stamp, crate::specs::Moment::stamp_seconds))]
 fn read_seconds(text: &[u8]) -> Option<u64>
     ensures value { result
         ≡ (if is_stamp text.now then Some (stamp_seconds text.now) else None) }
@@ -159,6 +163,7 @@ fn has_form(text: &[u8]) -> bool
 }
 
 // The days from 1970-01-01 to the date of a text of the right form, if there is such a day.
+#[tactic(auto, using(crate::proofs::MomentLemmas::digits), unfolding(crate::specs::Moment::is_stamp_date, crate::specs::Moment::stamp_day_number))]
 fn read_date(text: &[u8]) -> Option<u32>
     requires { IsTrue (is_stamp_form text.now) }
     ensures value { result
@@ -173,6 +178,7 @@ fn read_date(text: &[u8]) -> Option<u32>
 
 // The days from 1970-01-01 to a day of the calendar; `None` where the calendar has no such day, or
 // has it before 1970.
+#[tactic(auto, using(crate::proofs::MomentLemmas::day_numbers))]
 fn day_number(year: u16, month: u8, day: u8) -> Option<u32>
     requires year_in { year < 10_000 }
     requires month_in { month < 100 }
@@ -181,16 +187,31 @@ fn day_number(year: u16, month: u8, day: u8) -> Option<u32>
         ≡ (if is_day year month day then Some (day_number year month day) else None) }
     ensures bound { IfSome result (λ n. n ≤ 2_932_896) }
 {
+    let date = date_of(year, month, day)?;
+    Some(date.to_unix_epoch_day().unsigned_abs())
+}
+
+// That day of the calendar; `None` where the calendar has no such day, or has it before 1970.
+#[tactic(auto, using(crate::proofs::MomentLemmas::dates))]
+fn date_of(year: u16, month: u8, day: u8) -> Option<Date>
+    requires year_in { year < 10_000 }
+    requires month_in { month < 100 }
+    requires day_in { day < 100 }
+    ensures variant { is_some result ≡ is_day year month day }
+    ensures value { IfSome result (IsYmd (pos year) (pos month) (pos day)) }
+    ensures later { IfSome result (λ date. pos 0 ≤ℤ epoch_day date) }
+{
     if year < 1970 {
         return None;
     }
-    let Ok(date) = Date::new(year as i16, month as i8, day as i8) else {
-        return None;
-    };
-    Some(date.to_unix_epoch_day() as u32)
+    match Date::new(year as i16, month as i8, day as i8) {
+        Ok(date) => Some(date),
+        Err(_) => None,
+    }
 }
 
 // The seconds from midnight to its time of day, if a clock shows it.
+#[tactic(auto, using(crate::proofs::MomentLemmas::digits), unfolding(crate::specs::Moment::is_stamp_time, crate::specs::Moment::stamp_second_of_day))]
 fn read_time(text: &[u8]) -> Option<u32>
     requires { IsTrue (is_stamp_form text.now) }
     ensures value { result
@@ -239,6 +260,7 @@ fn two_digits(text: &[u8]) -> u8
 }
 
 // The stamp of the moment with that many seconds.
+#[tactic(auto, unfolding(crate::specs::Moment::is_stamp, crate::specs::Moment::stamp_seconds))]
 fn text_at(seconds: u64) -> [u8; 16]
     requires { seconds ≤ last_moment }
     ensures valid { IsTrue (is_stamp result) }
@@ -246,8 +268,21 @@ fn text_at(seconds: u64) -> [u8; 16]
 {
     let date = date_at(seconds / DAY_SECONDS);
     let time = Time::from_second((seconds % DAY_SECONDS) as u32, 0);
+    text_of(date, time)
+}
+
+// The stamp of a date, from the year 1970 on, and a time of day.
+#[tactic(auto, using(crate::proofs::MomentLemmas::clocks), unfolding(crate::specs::Moment::is_stamp_time, crate::specs::Moment::stamp_second_of_day))]
+fn text_of(date: Date, time: Time) -> [u8; 16]
+    requires { pos 1970 ≤ℤ date.year }
+    ensures form { IsTrue (is_stamp_form result) }
+    ensures is_date { IsTrue (is_stamp_date result) }
+    ensures date { stamp_day_number result ≡ unsigned_abs (epoch_day date) }
+    ensures is_time { IsTrue (is_stamp_time result) }
+    ensures time { stamp_second_of_day result ≡ time_seconds time }
+{
     stamp_text(
-        date.year as u16,
+        date.year.unsigned_abs(),
         date.month,
         date.day,
         time.hour,
@@ -257,6 +292,7 @@ fn text_at(seconds: u64) -> [u8; 16]
 }
 
 // The date that many days after 1970-01-01.
+#[tactic(auto, using(crate::proofs::MomentLemmas::days))]
 fn date_at(day: u64) -> Date
     requires { day ≤ 2_932_896 }
     ensures value { epoch_day result ≡ pos day }

@@ -5,9 +5,9 @@ use Rattle.std.proofs.lemmas.Bool.{cond-true, cond-false}
 use Rattle.std.proofs.lemmas.List.{take_all, map_push, drop_more}
 use Rattle.std.proofs.lemmas.List.Elements.{filter_more}
 use Rattle.std.proofs.lemmas.Option.{get_or_from_slice_get, slice_get_within}
-use Rattle.s3_http_heads.specs.Parts.{HeadParts, is_named, values_of}
+use Rattle.s3_http_heads.specs.Head.{HeadParts, is_named, values_of}
 use Rattle.s3_canonical.specs.Request.{single_spaced}
-use Rattle.s3_canonical.proofs.ListLemmas.{join_with_byte_push}
+use Rattle.s3_text.proofs.JoinLemmas.{join_with_byte_push}
 
 -- ---- single spaces
 

@@ -1,9 +1,9 @@
 pub mod Encoding
-pub mod Sorting
-pub mod Target
+pub mod CanonicalTarget
 pub mod Parameter
 pub mod Request
-pub use Rattle.s3_http_heads.specs.Parts
+pub use Rattle.s3_http_heads.specs.Head
+pub use Rattle.s3_http_heads.specs.Target
 pub use Rattle.s3_terms.specs.Code
 pub use Rattle.percent_encoding.specs.Percent
 pub use Rattle.sha2.specs.Sha256

@@ -3,11 +3,11 @@
 //! SHA-256 of the whole.
 #![tactic(auto)]
 
+mod canonical_target;
 mod encoding;
 mod parameter;
 mod request;
-mod target;
 mod text;
 
+pub use canonical_target::{query, uri};
 pub use request::{headers, request_hash};
-pub use target::{is_readable, query, uri};

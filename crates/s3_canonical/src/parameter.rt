@@ -2,11 +2,12 @@
 
 ghost use Rattle.std.specs.Prelude.{◌≡◌, ◌++◌, IfOk, map};
 ghost use Rattle.std.specs.List.{join_with_byte};
+ghost use Rattle.s3_text.specs.Characters.{ampersand};
 ghost use Rattle.s3_canonical.specs.Parameter.{pair, pairs};
-ghost use Rattle.s3_canonical.specs.Target.{encoded_pair, pair_of, pieces_of, print_pair, sorted_pairs};
+ghost use Rattle.s3_canonical.specs.CanonicalTarget.{encoded_pair, print_pair, sorted_pairs};
 
-use crate::encoding::recode_query;
-use s3_http_heads::{after_first, before_first};
+use crate::encoding::encode_query;
+use s3_http_heads::Target;
 use std::alloc::{AllocError, Global};
 
 // A parameter of a query: its name and its value, both encoded. Its order is by name and then by
@@ -18,12 +19,12 @@ pub(crate) struct Parameter {
 }
 
 impl Parameter {
-    // The parameter that a piece of the query says.
-    fn read(alloc: Global, piece: &[u8]) -> Result<Parameter, AllocError>
-        ensures { IfOk result (λ parameter. pair parameter ≡ encoded_pair (pair_of piece.now)) }
+    // The parameter of this name and this value, encoded.
+    fn encoded(alloc: Global, name: &[u8], value: &[u8]) -> Result<Parameter, AllocError>
+        ensures { IfOk result (λ parameter. pair parameter ≡ encoded_pair (name.now, value.now)) }
     {
-        let name = recode_query(alloc, before_first(piece, b'='))?;
-        let value = recode_query(alloc, after_first(piece, b'='))?;
+        let name = encode_query(alloc, name)?;
+        let value = encode_query(alloc, value)?;
         Ok(Parameter { name, value })
     }
 
@@ -37,22 +38,21 @@ impl Parameter {
     }
 }
 
-// The parameters of the query, as they come.
-fn read_all(alloc: Global, query: &[u8]) -> Result<Vec<Parameter>, AllocError>
-    ensures { IfOk result (λ all. pairs all.items ≡ map encoded_pair (map pair_of (pieces_of query.now))) }
+// The parameters of a target, encoded, as they come.
+fn encoded_all(alloc: Global, target: &Target) -> Result<Vec<Parameter>, AllocError>
+    ensures { IfOk result (λ all. pairs all.items ≡ map encoded_pair target.now.parameters) }
 {
     let mut all = Vec::new(alloc);
-    for piece in query.split(|b| *b == b'&') {
-        if !piece.is_empty() {
-            all.push(Parameter::read(alloc, piece)?)?;
-        }
+    for index in 0..target.parameter_count() {
+        let (name, value) = target.parameter(index);
+        all.push(Parameter::encoded(alloc, name, value)?)?;
     }
     Ok(all)
 }
 
 // The parameters, each as `name=value`, joined by ampersands.
 fn join(alloc: Global, all: &[Parameter]) -> Result<Vec<u8>, AllocError>
-    ensures { IfOk result (λ text. text.items ≡ join_with_byte 38 (map print_pair (pairs all.now))) }
+    ensures { IfOk result (λ text. text.items ≡ join_with_byte ampersand (map print_pair (pairs all.now))) }
 {
     let mut text = Vec::new(alloc);
     for (i, parameter) in all.iter().enumerate() {
@@ -64,13 +64,13 @@ fn join(alloc: Global, all: &[Parameter]) -> Result<Vec<u8>, AllocError>
     Ok(text)
 }
 
-// The parameters of the query, encoded, sorted and joined.
+// The parameters of a target, encoded, sorted and joined.
 #[tactic(auto, using(crate::proofs::ParameterLemmas::sorting))]
-pub(crate) fn sorted_query(alloc: Global, query: &[u8]) -> Result<Vec<u8>, AllocError>
-    ensures { IfOk result (λ text. text.items ≡ join_with_byte 38
-        (map print_pair (sorted_pairs (map encoded_pair (map pair_of (pieces_of query.now)))))) }
+pub(crate) fn sorted_query(alloc: Global, target: &Target) -> Result<Vec<u8>, AllocError>
+    ensures { IfOk result (λ text. text.items
+        ≡ join_with_byte ampersand (map print_pair (sorted_pairs (map encoded_pair target.now.parameters)))) }
 {
-    let mut all = read_all(alloc, query)?;
+    let mut all = encoded_all(alloc, target)?;
     all.sort()?;
     join(alloc, &all)
 }

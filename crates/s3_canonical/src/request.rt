@@ -4,11 +4,12 @@ ghost use Rattle.std.specs.Prelude.{◌≡◌, ◌++◌, ◌∷◌, [], ℕ, Lis
 ghost use Rattle.std.specs.List.{flat_map, join_with_byte};
 ghost use Rattle.sha2.specs.Hashers.{Holds256};
 ghost use Rattle.sha2.specs.Sha256.{sha256};
-ghost use Rattle.s3_http_heads.specs.Parts.{values_of};
-ghost use Rattle.s3_canonical.specs.Target.{is_unreadable};
+ghost use Rattle.s3_text.specs.Characters.{comma, line_feed};
+ghost use Rattle.s3_http_heads.specs.Head.{values_of};
+ghost use Rattle.s3_http_heads.specs.Target.{is_unreadable};
 ghost use Rattle.s3_canonical.specs.Request.{canonical_headers, canonical_line, canonical_request, signed_names, single_spaced};
 
-use crate::target::{query, uri};
+use crate::canonical_target::{query, uri};
 use crate::text::push_single_spaced;
 use s3_http_heads::{Head, is_named};
 use s3_terms::Code;
@@ -18,7 +19,7 @@ use std::alloc::{AllocError, Global};
 // Writes a value, after a comma where it is not the first one.
 fn push_value(value: &[u8], later: bool, text: &mut Vec<u8>) -> Result<(), AllocError>
     ensures { IfOk result (λ _. text.new.items
-        ≡ text.old.items ++ (if later then 44 ∷ single_spaced value.now else single_spaced value.now)) }
+        ≡ text.old.items ++ (if later then comma ∷ single_spaced value.now else single_spaced value.now)) }
 {
     if later {
         text.push(b',')?;
@@ -29,7 +30,7 @@ fn push_value(value: &[u8], later: bool, text: &mut Vec<u8>) -> Result<(), Alloc
 // Writes the values of a name, joined by commas.
 fn push_values(head: &Head, name: &[u8], text: &mut Vec<u8>) -> Result<(), AllocError>
     ensures { IfOk result (λ _. text.new.items
-        ≡ text.old.items ++ join_with_byte 44 (map single_spaced (values_of name.now head.now))) }
+        ≡ text.old.items ++ join_with_byte comma (map single_spaced (values_of name.now head.now))) }
 {
     let mut found = false;
     for index in 0..head.header_count() {
@@ -85,7 +86,7 @@ pub fn headers(alloc: Global, head: &Head, signed: &[u8]) -> Result<Vec<u8>, Cod
 
 // Adds a part and a line feed to what is hashed.
 fn add_part(hasher: &mut Sha256, part: &[u8])
-    ensures { (m : List ℕ) → Holds256 hasher.old m → Holds256 hasher.new (m ++ part.now ++ 10 ∷ []) }
+    ensures { (m : List ℕ) → Holds256 hasher.old m → Holds256 hasher.new (m ++ part.now ++ line_feed ∷ []) }
 {
     hasher.update(part);
     hasher.update(b"\n");
@@ -97,7 +98,7 @@ fn add_part(hasher: &mut Sha256, part: &[u8])
 ///
 /// `InvalidURI` where the target cannot be read, and else `InternalError` where memory runs out. Costs
 /// what [`uri`], [`query`] and [`headers`] cost together, and the hashing of what they answer.
-#[tactic(auto, unfolding(crate::specs::Request::canonical_request))]
+#[tactic(auto, unfolding(crate::specs::Request::canonical_request, s3_http_heads::specs::Target::target_of))]
 pub fn request_hash(
     alloc: Global,
     head: &Head,
@@ -109,8 +110,9 @@ pub fn request_hash(
     ensures unreadable { is_unreadable head.now.target ≡ true → result ≡ Err Code.InvalidURI }
     ensures memory { is_unreadable head.now.target ≡ false → IsOkUnless result Code.InternalError }
 {
-    let path = uri(alloc, head.target())?;
-    let parameters = query(alloc, head.target())?;
+    let target = head.decoded_target()?;
+    let path = uri(alloc, target)?;
+    let parameters = query(alloc, target)?;
     let fields = headers(alloc, head, signed)?;
     let mut hasher = Sha256::new();
     add_part(&mut hasher, head.method());

@@ -9,7 +9,7 @@ use Rattle.clap.proofs.OnLiterals.{clap_on_literals}
 use Rattle.clap.proofs.WalkLemmas.{first_value-rows, raw_values-rows}
 use Rattle.s3_command_line.specs.declared.task.Task.{Task}
 use Rattle.s3_command_line.specs.declared.task.Task.TheVariants.{Replay, Sign}
-use Rattle.s3_command_line.specs.Matches.{AskFor, AskForNothing, Have}
+use Rattle.s3_command_line.specs.Task.{AskFor, AskForNothing, Have}
 use Rattle.s3_command_line.specs.Words.{s3d_app, AreReplayWords, AreSignWords, AreRightWords, Give, IsReadFrom}
 
 pub ruleset rows = (first_value-rows, raw_values-rows)
@@ -33,7 +33,7 @@ simple_and_free = refl
 no_fault : (words : List Text) → AreRightWords words → fault_of s3d_app words ≡ []
 no_fault words right = elim right [ inl replay ↦ replay.0 | inr sign ↦ sign.0 ]
 
--- an error that is not want of memory says that the words are wrong
+-- an error that is not out of memory says that the words are wrong
 pub words_refused : (a : App) (words : List Text) (e : Error) → a ≡ s3d_app → (is_simple_and_free a ≡ true → HasKind (fault_of a words) e) → kind_of e ≢ OutOfMemory → AreRightWords words → ⊥
 words_refused a words e same fails other right =
     let has : HasKind (fault_of s3d_app words) e = subst (λ (b : App). HasKind (fault_of b words) e) same (fails (ap is_simple_and_free same ∙ simple_and_free)) in

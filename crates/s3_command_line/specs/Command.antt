@@ -1,27 +1,29 @@
--- The parts that the command lines of `Words` are built from, as the rules that each adds.
-use Rattle.std.specs.Prelude.{codes}
-use Rattle.clap.specs.Words.{App, with_rule}
-use Rattle.s3_command_line.specs.Words.{option_rule, required_rule, default_rule, many_rule, default_min_part, default_body_limit}
+-- What the arguments in the code's tables add to a command line.
+use Rattle.std.specs.Prelude.{◌≡◌, List, Some}
+use Rattle.std.specs.List.{fold}
+use Rattle.clap.specs.Words.{App, Rule, Text, with_rule}
+use Rattle.clap.specs.declared.builder.arg.Arg.{Arg}
+use Rattle.clap.specs.declared.builder.texts.Texts.TheVariants.{One}
+use Rattle.s3_command_line.specs.Words.{option_rule, required_rule, default_rule, words_rule}
+use Rattle.s3_command_line.specs.declared.command.Argument.{Argument}
+use Rattle.s3_command_line.specs.declared.command.Kind.{Kind}
+use Rattle.s3_command_line.specs.declared.command.Kind.TheVariants.{Optional, Required, Defaulted, Words}
 
--- the options on sizes
-abbrev pub with_limits : App → App
-with_limits a =
-    with_rule (with_rule a
-    (default_rule (codes "min-part") default_min_part))
-    (default_rule (codes "body-limit") default_body_limit)
+-- the rule of an argument of this kind and name
+abbrev pub rule_of_kind : Kind → Text → Rule
+rule_of_kind Optional name = option_rule name
+rule_of_kind Required name = required_rule name
+rule_of_kind (Defaulted value) name = default_rule name value.now
+rule_of_kind Words name = words_rule name
 
--- whose key signs, and when
-abbrev pub with_signer : App → App
-with_signer a = with_rule (with_rule a (required_rule (codes "id"))) (required_rule (codes "moment"))
+-- the rule of an argument
+abbrev pub rule_of_argument : Argument → Rule
+rule_of_argument argument = rule_of_kind argument.kind argument.name.now
 
--- what is asked of whom
-abbrev pub with_request : App → App
-with_request a =
-    with_rule (with_rule (with_rule a
-    (required_rule (codes "method")))
-    (required_rule (codes "target")))
-    (required_rule (codes "host"))
+-- a command line with some more arguments
+abbrev pub with_arguments : App → List Argument → App
+with_arguments app arguments = fold (λ a argument. with_rule a (rule_of_argument argument)) app arguments
 
--- what a request need not have
-abbrev pub with_message : App → App
-with_message a = with_rule (with_rule a (option_rule (codes "body"))) (many_rule (codes "header"))
+-- what help says of an argument: what it calls its value, and the text
+abbrev pub IsTold : Argument → Arg → Type 0
+IsTold argument arg = (arg.val_names ≡ One argument.value) × (arg.help ≡ Some argument.help)

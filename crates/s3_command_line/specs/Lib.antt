@@ -1,3 +1,3 @@
 pub mod Command
-pub mod Matches
+pub mod Task
 pub mod Words

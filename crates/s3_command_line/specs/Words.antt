@@ -3,11 +3,8 @@
 use Rattle.std.specs.Prelude.{◌≡◌, ◌⊎◌, true, List, [], ◌∷◌, map, codes, Some, option_map, unwrap_or}
 use Rattle.clap.specs.Words.{App, Row, Rule, Text, new_app, new_rule, with_rule, with_subcommand, subcommand_of, first_of, all_of, fault_of}
 use Rattle.clap.specs.declared.builder.action.ArgAction.TheVariants.{Append}
-use Rattle.clap.specs.declared.builder.arg.Arg.{Arg}
-use Rattle.clap.specs.declared.builder.texts.Texts.TheVariants.{One}
-use Rattle.std.specs.Borrow.{Bor}
-use Rattle.s3_settings.specs.declared.options.Options.{Options}
-use Rattle.s3_command_line.specs.declared.task.SignOptions.{SignOptions}
+use Rattle.s3_options.specs.declared.options.Options.{Options}
+use Rattle.s3_options.specs.declared.options.SignOptions.{SignOptions}
 use Rattle.s3_command_line.specs.declared.task.Task.{Task}
 use Rattle.s3_command_line.specs.declared.task.Task.TheVariants.{Replay, Sign}
 
@@ -24,12 +21,8 @@ abbrev pub default_rule : Text → Text → Rule
 default_rule name value = record (option_rule name) { defaults = value ∷ [] }
 
 -- words without a name, as many as there are
-abbrev pub many_rule : Text → Rule
-many_rule name = record (new_rule name) { action = Some Append; value_names = 1 }
-
--- what help says of an argument: what it calls its value, and the text
-abbrev pub IsTold : Bor Text → Bor Text → Arg → Type 0
-IsTold value help arg = (arg.val_names ≡ One value) × (arg.help ≡ Some help)
+abbrev pub words_rule : Text → Rule
+words_rule name = record (new_rule name) { action = Some Append; value_names = 1 }
 
 -- the values of options that are not there
 abbrev pub default_region : Text
@@ -65,7 +58,7 @@ sign_app =
     (required_rule (codes "target")))
     (required_rule (codes "host")))
     (option_rule (codes "body")))
-    (many_rule (codes "header"))
+    (words_rule (codes "header"))
 
 -- `s3d` before it has a subcommand
 abbrev pub bare_app : App

@@ -1,8 +1,10 @@
+//! The command line of the program, as `clap` is told it: tables of its arguments.
+
 ghost use Rattle.std.specs.Prelude.{◌≡◌, IfOk, false};
-ghost use Rattle.clap.specs.Words.{app_of, rule_of, with_rule};
+ghost use Rattle.clap.specs.Words.{app_of, new_app, rule_of, with_subcommand};
 ghost use Rattle.clap.specs.declared.builder.command.Command.TheViews.{out-Command as fields_of};
-ghost use Rattle.s3_command_line.specs.Words.{option_rule, required_rule, default_rule, many_rule, with_settings, replay_app, sign_app, bare_app, s3d_app, IsTold};
-ghost use Rattle.s3_command_line.specs.Command.{with_limits, with_signer, with_request, with_message};
+ghost use Rattle.s3_command_line.specs.Words.{with_settings, sign_app, bare_app, s3d_app};
+ghost use Rattle.s3_command_line.specs.Command.{rule_of_argument, with_arguments, IsTold};
 
 use clap::{Arg, ArgAction, Command};
 use std::alloc::{AllocError, Global};
@@ -16,17 +18,128 @@ pub(crate) const MIN_PART: &str = "5242880";
 /// The greatest size of a body, in bytes, where no option says another: 64 MiB.
 pub(crate) const BODY_LIMIT: &str = "67108864";
 
+// An argument of a command line.
+#[derive(Clone, Copy)]
+struct Argument<'a> {
+    name: &'a str,
+    /// What help calls its value.
+    value: &'a str,
+    help: &'a str,
+    kind: Kind<'a>,
+}
+
+// How an argument is given.
+#[derive(Clone, Copy)]
+enum Kind<'a> {
+    /// As `--name VALUE`, or not at all.
+    Optional,
+    /// As `--name VALUE`.
+    Required,
+    /// As `--name VALUE`, or not at all, and then it has this value.
+    Defaulted(&'a str),
+    /// As words without a name, as many as there are.
+    Words,
+}
+
+// The options that the settings of a server are made of.
+static SETTINGS: [Argument; 5] = [
+    Argument {
+        name: "keys",
+        value: "FILE",
+        help: "The credentials, one a line: an id, one space and the secret",
+        kind: Kind::Required,
+    },
+    Argument {
+        name: "region",
+        value: "R",
+        help: "The region that signatures name",
+        kind: Kind::Defaulted(REGION),
+    },
+    Argument {
+        name: "min-part",
+        value: "N",
+        help: "The least size of a part that is not the last, in bytes",
+        kind: Kind::Defaulted(MIN_PART),
+    },
+    Argument {
+        name: "body-limit",
+        value: "N",
+        help: "The greatest size of a body, in bytes",
+        kind: Kind::Defaulted(BODY_LIMIT),
+    },
+    Argument {
+        name: "bucket",
+        value: "NAME",
+        help: "A bucket that is there from the start",
+        kind: Kind::Optional,
+    },
+];
+
+// The further option of `s3d replay`.
+static REPLAYING: [Argument; 1] = [Argument {
+    name: "moment",
+    value: "T",
+    help: "The moment of every message, in seconds since 1970",
+    kind: Kind::Optional,
+}];
+
+// The further arguments of `s3d sign`.
+static SIGNING: [Argument; 7] = [
+    Argument {
+        name: "id",
+        value: "ID",
+        help: "The id of the access key that signs",
+        kind: Kind::Required,
+    },
+    Argument {
+        name: "moment",
+        value: "T",
+        help: "When it is signed, in seconds since 1970",
+        kind: Kind::Required,
+    },
+    Argument {
+        name: "method",
+        value: "M",
+        help: "The method",
+        kind: Kind::Required,
+    },
+    Argument {
+        name: "target",
+        value: "X",
+        help: "The target",
+        kind: Kind::Required,
+    },
+    Argument {
+        name: "host",
+        value: "H",
+        help: "The value of the host line",
+        kind: Kind::Required,
+    },
+    Argument {
+        name: "body",
+        value: "FILE",
+        help: "The body; empty by default",
+        kind: Kind::Optional,
+    },
+    Argument {
+        name: "header",
+        value: "NAME:VALUE",
+        help: "A further header line",
+        kind: Kind::Words,
+    },
+];
+
 /// The command line of the program.
 pub(crate) fn command<'a>(alloc: Global) -> Result<Command<'a>, AllocError>
     ensures app { IfOk result (λ command. app_of command ≡ s3d_app) }
 {
-    let replay = replay_command(alloc)?;
+    let about = "Reads one connection from standard input and writes what it is answered";
+    let replay = subcommand(alloc, "replay", about, &REPLAYING)?;
     let command = bare_command(alloc).subcommand(replay)?;
-    let sign = sign_command(alloc)?;
-    command.subcommand(sign)
+    with_signing(alloc, command)
 }
 
-/// The program's command line before it has a subcommand.
+// The program's command line before it has a subcommand.
 fn bare_command<'a>(alloc: Global) -> Command<'a>
     ensures app { app_of result ≡ bare_app }
 {
@@ -36,180 +149,61 @@ fn bare_command<'a>(alloc: Global) -> Command<'a>
         .arg_required_else_help(true)
 }
 
-/// The command line of `s3d replay`.
-fn replay_command<'a>(alloc: Global) -> Result<Command<'a>, AllocError>
-    ensures app { IfOk result (λ command. app_of command ≡ replay_app) }
-    ensures local { IfOk result (λ command. (fields_of command).has_globals ≡ false) }
+// Adds `s3d sign` to a command line.
+fn with_signing<'a>(alloc: Global, command: Command<'a>) -> Result<Command<'a>, AllocError>
+    ensures app { IfOk result (λ with. app_of with ≡ with_subcommand (app_of command.entry) sign_app.top) }
 {
-    let replay = Command::new(alloc, "replay").about(
-        "Reads one connection from standard input and writes what it is answered",
-    );
-    let replay = with_settings(alloc, replay)?;
-    let moment = option(
-        alloc,
-        "moment",
-        "T",
-        "The moment of every message, in seconds since 1970",
-    );
-    with(replay, moment)
+    let about = "Writes one signed request to standard output";
+    let sign = subcommand(alloc, "sign", about, &SIGNING)?;
+    command.subcommand(sign)
 }
 
-/// The command line of `s3d sign`.
-fn sign_command<'a>(alloc: Global) -> Result<Command<'a>, AllocError>
-    ensures app { IfOk result (λ command. app_of command ≡ sign_app) }
-    ensures local { IfOk result (λ command. (fields_of command).has_globals ≡ false) }
-{
-    let sign = Command::new(alloc, "sign").about("Writes one signed request to standard output");
-    let sign = with_settings(alloc, sign)?;
-    let sign = with_signer(alloc, sign)?;
-    let sign = with_request(alloc, sign)?;
-    with_message(alloc, sign)
-}
-
-/// Adds the options that say whose key signs, and when.
-fn with_signer<'a>(alloc: Global, command: Command<'a>) -> Result<Command<'a>, AllocError>
-    ensures app { IfOk result (λ with. app_of with ≡ with_signer (app_of command.entry)) }
-    ensures local { IfOk result (λ with. (fields_of with).has_globals ≡ (fields_of command.entry).has_globals) }
-{
-    let id = required(alloc, "id", "ID", "The id of the access key that signs");
-    let command = with(command, id)?;
-    let moment = required(
-        alloc,
-        "moment",
-        "T",
-        "When it is signed, in seconds since 1970",
-    );
-    with(command, moment)
-}
-
-/// Adds the options that say what is asked of whom.
-fn with_request<'a>(alloc: Global, command: Command<'a>) -> Result<Command<'a>, AllocError>
-    ensures app { IfOk result (λ with. app_of with ≡ with_request (app_of command.entry)) }
-    ensures local { IfOk result (λ with. (fields_of with).has_globals ≡ (fields_of command.entry).has_globals) }
-{
-    let command = with(command, required(alloc, "method", "M", "The method"))?;
-    let command = with(command, required(alloc, "target", "X", "The target"))?;
-    let host = required(alloc, "host", "H", "The value of the host line");
-    with(command, host)
-}
-
-/// Adds what a request need not have: a body, and further header lines.
-fn with_message<'a>(alloc: Global, command: Command<'a>) -> Result<Command<'a>, AllocError>
-    ensures app { IfOk result (λ with. app_of with ≡ with_message (app_of command.entry)) }
-    ensures local { IfOk result (λ with. (fields_of with).has_globals ≡ (fields_of command.entry).has_globals) }
-{
-    let body = option(alloc, "body", "FILE", "The body; empty by default");
-    let command = with(command, body)?;
-    let headers = many(alloc, "header", "NAME:VALUE", "A further header line");
-    with(command, headers)
-}
-
-/// Adds the options that the settings of a server are made of.
-fn with_settings<'a>(alloc: Global, command: Command<'a>) -> Result<Command<'a>, AllocError>
-    ensures app { IfOk result (λ with. app_of with ≡ with_settings (app_of command.entry)) }
-    ensures local { IfOk result (λ with. (fields_of with).has_globals ≡ (fields_of command.entry).has_globals) }
-{
-    let keys = required(
-        alloc,
-        "keys",
-        "FILE",
-        "The credentials, one a line: an id, one space and the secret",
-    );
-    let command = with(command, keys)?;
-    let region = defaulted(
-        alloc,
-        "region",
-        "R",
-        "The region that signatures name",
-        REGION,
-    );
-    let command = with(command, region)?;
-    let command = with_limits(alloc, command)?;
-    let bucket = option(
-        alloc,
-        "bucket",
-        "NAME",
-        "A bucket that is there from the start",
-    );
-    with(command, bucket)
-}
-
-/// Adds the options on sizes.
-fn with_limits<'a>(alloc: Global, command: Command<'a>) -> Result<Command<'a>, AllocError>
-    ensures app { IfOk result (λ with. app_of with ≡ with_limits (app_of command.entry)) }
-    ensures local { IfOk result (λ with. (fields_of with).has_globals ≡ (fields_of command.entry).has_globals) }
-{
-    let min_part = defaulted(
-        alloc,
-        "min-part",
-        "N",
-        "The least size of a part that is not the last, in bytes",
-        MIN_PART,
-    );
-    let command = with(command, min_part)?;
-    let body_limit = defaulted(
-        alloc,
-        "body-limit",
-        "N",
-        "The greatest size of a body, in bytes",
-        BODY_LIMIT,
-    );
-    with(command, body_limit)
-}
-
-/// Adds an argument that subcommands don't inherit.
-fn with<'a>(command: Command<'a>, arg: Arg<'a>) -> Result<Command<'a>, AllocError>
-    requires { arg.global ≡ false }
-    ensures app { IfOk result (λ with. app_of with ≡ with_rule (app_of command.entry) (rule_of arg.entry)) }
-    ensures local { IfOk result (λ with. (fields_of with).has_globals ≡ (fields_of command.entry).has_globals) }
-{
-    command.arg(arg)
-}
-
-/// An option that takes one value.
-fn option<'a>(alloc: Global, name: &'a str, value: &'a str, help: &'a str) -> Arg<'a>
-    ensures rule { rule_of result ≡ option_rule name.entry.now }
-    ensures local { result.global ≡ false }
-    ensures told { IsTold value.entry help.entry result }
-{
-    Arg::new(alloc, name)
-        .long(name)
-        .value_name(value)
-        .help(help)
-}
-
-/// An option that takes one value and has to be there.
-fn required<'a>(alloc: Global, name: &'a str, value: &'a str, help: &'a str) -> Arg<'a>
-    ensures rule { rule_of result ≡ required_rule name.entry.now }
-    ensures local { result.global ≡ false }
-    ensures told { IsTold value.entry help.entry result }
-{
-    option(alloc, name, value, help).required(true)
-}
-
-/// An option that has a value also where it is not there.
-fn defaulted<'a>(
+// The command line of a subcommand of this name, with what help says of it and its further arguments.
+fn subcommand<'a>(
     alloc: Global,
     name: &'a str,
-    value: &'a str,
-    help: &'a str,
-    default: &'a str,
-) -> Arg<'a>
-    ensures rule { rule_of result ≡ default_rule name.entry.now default.entry.now }
-    ensures local { result.global ≡ false }
-    ensures told { IsTold value.entry help.entry result }
+    about: &'a str,
+    arguments: &[Argument<'a>],
+) -> Result<Command<'a>, AllocError>
+    ensures app { IfOk result (λ command. app_of command ≡ with_arguments (with_settings (new_app name.entry.now)) arguments.now) }
+    ensures local { IfOk result (λ command. (fields_of command).has_globals ≡ false) }
 {
-    option(alloc, name, value, help).default_value(default)
+    let command = Command::new(alloc, name).about(about);
+    let command = with_arguments(alloc, command, &SETTINGS)?;
+    with_arguments(alloc, command, arguments)
 }
 
-/// Words without a name, as many as there are.
-fn many<'a>(alloc: Global, name: &'a str, value: &'a str, help: &'a str) -> Arg<'a>
-    ensures rule { rule_of result ≡ many_rule name.entry.now }
-    ensures local { result.global ≡ false }
-    ensures told { IsTold value.entry help.entry result }
+// Adds arguments, which subcommands don't inherit.
+fn with_arguments<'a>(
+    alloc: Global,
+    command: Command<'a>,
+    arguments: &[Argument<'a>],
+) -> Result<Command<'a>, AllocError>
+    ensures app { IfOk result (λ with. app_of with ≡ with_arguments (app_of command.entry) arguments.now) }
+    ensures local { IfOk result (λ with. (fields_of with).has_globals ≡ (fields_of command.entry).has_globals) }
 {
-    Arg::new(alloc, name)
-        .value_name(value)
-        .help(help)
-        .action(ArgAction::Append)
+    let mut command = command;
+    for argument in arguments {
+        command = command.arg(argument.arg(alloc))?;
+    }
+    Ok(command)
+}
+
+impl<'a> Argument<'a> {
+    // The argument as `clap` takes it.
+    fn arg(&self, alloc: Global) -> Arg<'a>
+        ensures rule { rule_of result ≡ rule_of_argument self.now }
+        ensures local { result.global ≡ false }
+        ensures told { IsTold self.now result }
+    {
+        let arg = Arg::new(alloc, self.name)
+            .value_name(self.value)
+            .help(self.help);
+        match self.kind {
+            Kind::Optional => arg.long(self.name),
+            Kind::Required => arg.long(self.name).required(true),
+            Kind::Defaulted(value) => arg.long(self.name).default_value(value),
+            Kind::Words => arg.action(ArgAction::Append),
+        }
+    }
 }

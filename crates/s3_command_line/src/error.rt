@@ -1,3 +1,5 @@
+//! Why words ask for no task.
+
 ghost use Rattle.std.specs.Prelude.{◌≡◌, ◌≢◌};
 ghost use Rattle.clap.specs.Words.{kind_of};
 ghost use Rattle.s3_command_line.specs.declared.error.WordsError.TheVariants.{OutOfMemory};

@@ -1,11 +1,13 @@
+//! What the words of a command line ask for, by the matches of `clap`.
+
 ghost use Rattle.std.specs.Prelude.{◌≡◌, IfOk, MatchOption, [], map, unwrap_or};
 ghost use Rattle.clap.specs.Words.{all_of, found_of, rows_of};
 ghost use Rattle.s3_command_line.specs.Words.{HasOptions, HasSignOptions};
-ghost use Rattle.s3_command_line.specs.Matches.{AskFor, AskForNothing};
+ghost use Rattle.s3_command_line.specs.Task.{AskFor, AskForNothing};
 
 use crate::command::{BODY_LIMIT, MIN_PART, REGION};
 use clap::ArgMatches;
-use s3_settings::Options;
+use s3_options::{Options, SignOptions};
 use std::alloc::{AllocError, Global};
 
 /// What the words of a command line ask for.
@@ -15,25 +17,6 @@ pub enum Task<'a> {
     Replay(Options<'a>),
     /// To write one signed request.
     Sign(SignOptions<'a>),
-}
-
-/// The options of `s3d sign`, each as it was written.
-#[derive(Drop)]
-pub struct SignOptions<'a> {
-    /// Those that each subcommand has.
-    pub common: Options<'a>,
-    /// The id of the access key that signs.
-    pub id: Option<&'a str>,
-    /// The method of the request.
-    pub method: Option<&'a str>,
-    /// Its target.
-    pub target: Option<&'a str>,
-    /// The value of its host line.
-    pub host: Option<&'a str>,
-    /// The path of the file that has its body.
-    pub body: Option<&'a str>,
-    /// Its further header lines, each as `NAME:VALUE`.
-    pub headers: Vec<&'a str>,
 }
 
 impl<'a> Task<'a> {
@@ -49,7 +32,7 @@ impl<'a> Task<'a> {
         }
         match matches.subcommand_matches("sign") {
             Some(options) => {
-                let options = SignOptions::of_matches(alloc, options)?;
+                let options = sign_options(alloc, options)?;
                 Ok(Some(Task::Sign(options)))
             }
             None => Ok(None),
@@ -57,7 +40,7 @@ impl<'a> Task<'a> {
     }
 }
 
-/// The options that each subcommand has.
+// The options that each subcommand has.
 #[tactic(auto, using(crate::proofs::WordsLemmas::rows))]
 fn common_options<'a>(matches: &ArgMatches<'a>) -> Options<'a>
     ensures { HasOptions (rows_of (found_of matches.now)) result }
@@ -72,25 +55,24 @@ fn common_options<'a>(matches: &ArgMatches<'a>) -> Options<'a>
     }
 }
 
-impl<'a> SignOptions<'a> {
-    #[tactic(auto, using(crate::proofs::WordsLemmas::rows))]
-    fn of_matches(alloc: Global, matches: &ArgMatches<'a>) -> Result<SignOptions<'a>, AllocError>
-        ensures { IfOk result (HasSignOptions (rows_of (found_of matches.now))) }
-    {
-        let headers = all_values(alloc, matches, "header")?;
-        Ok(SignOptions {
-            common: common_options(matches),
-            id: matches.get_str("id"),
-            method: matches.get_str("method"),
-            target: matches.get_str("target"),
-            host: matches.get_str("host"),
-            body: matches.get_str("body"),
-            headers,
-        })
-    }
+// The options of a signing.
+#[tactic(auto, using(crate::proofs::WordsLemmas::rows))]
+fn sign_options<'a>(alloc: Global, matches: &ArgMatches<'a>) -> Result<SignOptions<'a>, AllocError>
+    ensures { IfOk result (HasSignOptions (rows_of (found_of matches.now))) }
+{
+    let headers = all_values(alloc, matches, "header")?;
+    Ok(SignOptions {
+        common: common_options(matches),
+        id: matches.get_str("id"),
+        method: matches.get_str("method"),
+        target: matches.get_str("target"),
+        host: matches.get_str("host"),
+        body: matches.get_str("body"),
+        headers,
+    })
 }
 
-/// All values of an argument; none where it is not there.
+// All values of an argument; none where it is not there.
 #[tactic(auto, using(crate::proofs::WordsLemmas::rows))]
 fn all_values<'a>(
     alloc: Global,

@@ -1,3 +1,5 @@
+//! Words are read.
+
 ghost use Rattle.std.specs.Prelude.{◌≡◌, ◌≢◌, IfOk, IfErr, map};
 ghost use Rattle.clap.specs.Words.{app_of, kind_of};
 ghost use Rattle.s3_command_line.specs.declared.error.WordsError.TheVariants.{OutOfMemory};
@@ -21,7 +23,7 @@ pub fn read_words<'a, S: AsStr>(alloc: Global, words: &'a [S]) -> Result<Task<'a
     parse(alloc, &mut command, words)
 }
 
-/// Reads the words by the program's command line.
+// Reads the words by the program's command line.
 fn parse<'a, S: AsStr>(
     alloc: Global,
     command: &mut Command<'a>,
@@ -41,7 +43,7 @@ fn parse<'a, S: AsStr>(
     }
 }
 
-/// The error that says that no subcommand is named.
+// The error that says that no subcommand is named.
 fn no_subcommand(command: &mut Command<'_>) -> Error
     ensures { kind_of result ≢ ErrorKind.OutOfMemory → kind_of result ≡ ErrorKind.MissingSubcommand }
 {

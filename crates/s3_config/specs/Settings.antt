@@ -2,7 +2,7 @@
 use Rattle.std.specs.Prelude.{ℕ, Bool, true, not, ◌&&◌, ◌||◌, ◌==◌, nat_le, if◌then◌else◌, List, [], ◌∷◌, map, length, Option, Some, None}
 use Rattle.std.specs.List.{list_all, list_any}
 use Rattle.s3_names.specs.Names.{is_bucket_name}
-use Rattle.s3_text.specs.Characters.{is_letter_or_digit}
+use Rattle.s3_text.specs.Characters.{space, comma, slash, hyphen, is_letter_or_digit}
 use Rattle.std.specs.Str.{bytes_eq}
 
 -- an access key: its id and the secret that belongs to it
@@ -24,7 +24,7 @@ greatest_body = 67_108_864
 
 -- a byte of an access key's id: no space, slash or comma
 abbrev pub is_id_byte : ℕ → Bool
-is_id_byte b = not (b == 32 || b == 47 || b == 44)
+is_id_byte b = not (b == space || b == slash || b == comma)
 
 -- 1 to 128 such bytes
 unfoldable pub is_access_key_id : List ℕ → Bool
@@ -38,9 +38,9 @@ is_secret secret = nat_le 1 (length secret) && nat_le (length secret) 128
 unfoldable pub are_credentials : Credentials → Bool
 are_credentials c = is_access_key_id c.id && is_secret c.secret
 
--- a byte of a region's name: a lower-case letter, a digit or a dash
+-- a byte of a region's name: a lower-case letter, a digit or a hyphen
 abbrev pub is_region_byte : ℕ → Bool
-is_region_byte b = is_letter_or_digit b || b == 45
+is_region_byte b = is_letter_or_digit b || b == hyphen
 
 -- 1 to 64 such bytes
 unfoldable pub is_region : List ℕ → Bool

@@ -1,3 +1,4 @@
+//! Access keys, and the settings of a server.
 ghost use Rattle.std.specs.Prelude.{◌≡◌, ◌≤◌, ◌==◌, ◌||◌, ℕ, Bool, List, IsTrue, IfSome, is_some, map, length, option_map};
 ghost use Rattle.std.specs.List.{list_all, list_any};
 ghost use Rattle.std.specs.Str.{bytes_eq};
@@ -8,16 +9,16 @@ use s3_names::BucketName;
 use s3_text::is_letter_or_digit;
 use std::marker::Model;
 
-/// The longest id of an access key and the longest secret, in bytes.
+// The longest id of an access key and the longest secret, in bytes.
 const CREDENTIAL_MAX: usize = 128;
 
-/// The longest name of a region, in bytes.
+// The longest name of a region, in bytes.
 const REGION_MAX: usize = 64;
 
-/// The most access keys of a server.
+// The most access keys of a server.
 const KEYS_MAX: usize = 64;
 
-/// The greatest body that any server takes, in bytes.
+// The greatest body that any server takes, in bytes.
 const BODY_MAX: u64 = 67_108_864;
 
 /// An access key: its id and the secret that belongs to it. A contract sees it as both texts.
@@ -177,7 +178,7 @@ impl Config {
     }
 }
 
-/// What a setting calls one of its parts, of which no two may be the same.
+// What has a name, of which no two in one setting may be the same.
 trait Named {
     ghost name: { Self → List ℕ };
 
@@ -208,6 +209,7 @@ impl Named for BucketName {
     }
 }
 
+// Whether no two of the items have one name. Compares each with each other.
 #[tactic(auto, using(crate::proofs::SettingLemmas::settings))]
 fn are_different<T: Named>(items: &[T]) -> bool
     ensures value { result ≡ all_different (map T.name items.now) }
@@ -223,12 +225,14 @@ fn are_different<T: Named>(items: &[T]) -> bool
     true
 }
 
+// Whether one of the items has the name.
 fn is_among<T: Named>(name: &[u8], items: &[T]) -> bool
     ensures { result ≡ list_any (λ item. bytes_eq name.now (T.name item)) items.now }
 {
     items.iter().any(|item| name == item.name())
 }
 
+// The secret of the first of the keys that has the id.
 #[tactic(auto, using(crate::proofs::SettingLemmas::secret_here))]
 fn secret_among<'a>(keys: &'a [Credential], id: &[u8]) -> Option<&'a [u8]>
     ensures { option_map (λ secret. secret.now) result ≡ secret_of keys.now id.now }
@@ -241,6 +245,7 @@ fn secret_among<'a>(keys: &'a [Credential], id: &[u8]) -> Option<&'a [u8]>
     None
 }
 
+// Whether they are as many keys as a server may have, with distinct ids.
 #[tactic(auto, unfolding(crate::specs::Settings::are_access_keys))]
 fn are_valid_keys(keys: &[Credential]) -> bool
     ensures { result ≡ are_access_keys keys.now }
@@ -251,6 +256,7 @@ fn are_valid_keys(keys: &[Credential]) -> bool
     are_different(keys)
 }
 
+// Whether the names are distinct.
 #[tactic(auto, unfolding(crate::specs::Settings::are_opening_buckets))]
 fn are_valid_buckets(buckets: &[BucketName]) -> bool
     ensures { result ≡ are_opening_buckets buckets.now }
@@ -258,6 +264,7 @@ fn are_valid_buckets(buckets: &[BucketName]) -> bool
     are_different(buckets)
 }
 
+// Whether the bytes are the id of an access key.
 #[tactic(auto, unfolding(crate::specs::Settings::is_access_key_id))]
 fn is_valid_id(id: &[u8]) -> bool
     ensures { result ≡ is_access_key_id id.now }
@@ -265,12 +272,14 @@ fn is_valid_id(id: &[u8]) -> bool
     !id.is_empty() && id.len() <= CREDENTIAL_MAX && has_id_bytes(id)
 }
 
+// Whether none of them is one that signatures use.
 fn has_id_bytes(id: &[u8]) -> bool
     ensures { result ≡ list_all is_id_byte id.now }
 {
     id.iter().all(|byte| !matches!(*byte, b' ' | b'/' | b','))
 }
 
+// Whether the bytes are a secret.
 #[tactic(auto, unfolding(crate::specs::Settings::is_secret))]
 fn is_valid_secret(secret: &[u8]) -> bool
     ensures { result ≡ is_secret secret.now }
@@ -278,6 +287,7 @@ fn is_valid_secret(secret: &[u8]) -> bool
     !secret.is_empty() && secret.len() <= CREDENTIAL_MAX
 }
 
+// Whether the bytes name a region.
 #[tactic(auto, unfolding(crate::specs::Settings::is_region))]
 fn is_valid_region(region: &[u8]) -> bool
     ensures { result ≡ is_region region.now }
@@ -285,6 +295,7 @@ fn is_valid_region(region: &[u8]) -> bool
     !region.is_empty() && region.len() <= REGION_MAX && has_region_bytes(region)
 }
 
+// Whether each of them may stand in such a name.
 fn has_region_bytes(region: &[u8]) -> bool
     ensures { result ≡ list_all is_region_byte region.now }
 {

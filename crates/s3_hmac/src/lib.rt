@@ -1,4 +1,5 @@
-//! HMAC with SHA-256 (RFC 2104): the code that a holder of a key gives for a message.
+//! HMAC with SHA-256 (RFC 2104): the message authentication code, MAC for short, that a holder of a key
+//! gives for a message.
 //!
 //! A [`Mac`] takes the message piece by piece, and [`hmac`] takes it whole. Neither takes memory,
 //! and nothing here can fail.

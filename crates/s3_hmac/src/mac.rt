@@ -1,4 +1,4 @@
-//! A message authentication code over a running hash.
+//! A MAC over a running hash.
 
 ghost use Rattle.std.specs.Prelude.{◌≡◌, ℕ, List, [], ◌++◌};
 ghost use Rattle.s3_hmac.specs.Hmac.{LongKeysAreHashed, hmac, padded_key, xor_each};
@@ -41,7 +41,7 @@ fn xor_each(mut block: [u8; BLOCK_LEN], pad: u8) -> [u8; BLOCK_LEN]
 
 /// HMAC-SHA-256 of a message that comes in pieces.
 ///
-/// However the message is cut, [`Mac::finish`] answers the code of the whole.
+/// However the message is cut, [`Mac::finish`] answers the MAC of the whole.
 #[derive(Drop)]
 pub struct Mac {
     // Holds the key with the inner pad, and then the message so far.
@@ -53,7 +53,7 @@ pub struct Mac {
 impl Mac {
     ghost use Rattle.s3_hmac.specs.Mac.{Runs};
 
-    /// Begins the code of a message under `key`, which may have any length. This hashes two blocks,
+    /// Begins the MAC of a message under `key`, which may have any length. This hashes two blocks,
     /// and a key of more than 64 bytes besides.
     pub fn new(key: &[u8]) -> Mac
         ensures { Runs result key.now [] }
@@ -72,7 +72,7 @@ impl Mac {
         self.inner.update(data);
     }
 
-    /// The code of all that was fed: 32 bytes.
+    /// The MAC of all that was fed: 32 bytes.
     #[tactic(auto, unfolding(crate::specs::Hmac::hmac))]
     pub fn finish(self) -> [u8; 32]
         ensures { (key m : List ℕ) → Runs self key m → result ≡ hmac key m }

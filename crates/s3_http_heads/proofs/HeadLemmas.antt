@@ -3,8 +3,8 @@ use Rattle.std.proofs.Common.{◌≡◌, ℕ, List, [], ◌++◌, take, drop, le
 use Rattle.std.proofs.lemmas.List.{take_at, drop_at}
 use Rattle.httparse.proofs.GrammarLemmas.{request_unique}
 use Rattle.s3_http_heads.specs.declared.find.Found.TheVariants.{Head}
-use Rattle.s3_http_heads.specs.Parts.{HeadParts, parts_of, Says}
-use Rattle.s3_http_heads.specs.Framing.{length_lines, announced}
+use Rattle.s3_http_heads.specs.Head.{HeadParts, parts_of, Says}
+use Rattle.s3_http_heads.specs.BodyLength.{length_lines, announced}
 use Rattle.s3_http_heads.specs.Message.{IsMessage}
 
 pub says_unique : (text : List ℕ) (a b : HeadParts) → Says text a → Says text b → a ≡ b

@@ -2,3 +2,5 @@ pub mod TextLemmas
 pub mod NameLemmas
 pub mod VerdictLemmas
 pub mod HeadLemmas
+pub mod TargetLemmas
+pub mod ParameterLemmas

@@ -1,16 +1,17 @@
 -- The names of header lines, and the lines of one name.
-use Rattle.std.proofs.Common.{◌≡◌, inl, inr, ℕ, ◌+◌, ◌≤◌, Bool, true, false, ◌||◌, eqb, List, [], ◌∷◌, take, drop, length, map, filter, Option, Some, None, refl, sym, ap, ◌∙◌, arith, cond, slice_get}
+use Rattle.std.proofs.Common.{◌≡◌, ℕ, ◌+◌, ◌≤◌, Bool, true, false, ◌||◌, eqb, List, ◌∷◌, take, drop, length, map, filter, Option, Some, None, refl, sym, ap, ◌∙◌, arith, cond, slice_get}
 use Rattle.std.specs.Prelude.{is_some, codes}
 use Rattle.std.specs.Option.{option_copied}
 use Rattle.std.specs.Borrow.{Bor}
 use Rattle.std.specs.List.{list_any, flat_map}
 use Rattle.std.specs.Str.{bytes_eq, str_to_ascii_lowercase}
-use Rattle.std.proofs.lemmas.Bool.{cases_Bool, or_left, or_right, or_from, eq-eqb, ne_eqb}
+use Rattle.std.proofs.lemmas.Bool.{or_left, or_right, or_from, eq-eqb, ne_eqb}
 use Rattle.std.proofs.lemmas.List.Folds.{list_any-append}
-use Rattle.std.proofs.lemmas.List.{drop_more, drop_all, take_all, length-map}
+use Rattle.std.proofs.lemmas.List.{drop_all, take_all, length-map}
 use Rattle.std.proofs.lemmas.List.Filters.{length-filter_more}
 use Rattle.std.proofs.lemmas.Option.{get_or_from_slice_get, slice_get_within}
-use Rattle.s3_http_heads.specs.Parts.{HeadParts, is_named, values_of, first_value, is_sent, words_of, closes}
+use Rattle.s3_text.proofs.ListLemmas.{elements_from, is_some-first_kept}
+use Rattle.s3_http_heads.specs.Head.{HeadParts, is_named, values_of, first_value, is_sent, words_of, closes}
 
 -- the rest of a name that was sent is the rest of the given one
 abbrev pub same_rest : List ℕ → List ℕ → ℕ → Bool
@@ -50,18 +51,11 @@ count_all name parts i past =
     ap (λ lines. length (filter (is_named name) lines)) (take_all i parts.headers past)
     ∙ sym (length-map (filter (is_named name) parts.headers) (λ (line : List ℕ × List ℕ). line.1))
 
--- the line at i, and those after it
-lines_from : (lines : Lines) (i : ℕ) (line : List ℕ × List ℕ) → slice_get lines i ≡ Some line
-    → drop i lines ≡ line ∷ drop (i + 1) lines
-lines_from lines i line is =
-    drop_more lines i line (slice_get_within lines i line is)
-    ∙ ap (λ x. x ∷ drop (i + 1) lines) (get_or_from_slice_get lines i line line is)
-
 pub values_yes : (name : List ℕ) (lines : Lines) (i : ℕ) (sent value : List ℕ) → slice_get lines i ≡ Some (sent, value)
     → true ≡ bytes_eq (str_to_ascii_lowercase sent) name
     → values_in name (drop i lines) ≡ value ∷ values_in name (drop (i + 1) lines)
 values_yes name lines i sent value is same =
-    ap (values_in name) (lines_from lines i (sent, value) is) ∙ by (sym same)
+    ap (values_in name) (elements_from lines i (sent, value) is) ∙ by (sym same)
   where
     by : bytes_eq (str_to_ascii_lowercase sent) name ≡ true
         → values_in name ((sent, value) ∷ drop (i + 1) lines) ≡ value ∷ values_in name (drop (i + 1) lines)
@@ -71,7 +65,7 @@ pub values_no : (name : List ℕ) (lines : Lines) (i : ℕ) (sent value : List �
     → false ≡ bytes_eq (str_to_ascii_lowercase sent) name
     → values_in name (drop (i + 1) lines) ≡ values_in name (drop i lines)
 values_no name lines i sent value is other =
-    sym (ap (values_in name) (lines_from lines i (sent, value) is) ∙ by (sym other))
+    sym (ap (values_in name) (elements_from lines i (sent, value) is) ∙ by (sym other))
   where
     by : bytes_eq (str_to_ascii_lowercase sent) name ≡ false
         → values_in name ((sent, value) ∷ drop (i + 1) lines) ≡ values_in name (drop (i + 1) lines)
@@ -93,17 +87,9 @@ first_nowhere name parts i rest past =
     ap (λ lines. slice_get (values_in name lines) 0) (sym (drop_all i parts.headers past)) ∙ ap (λ vs. slice_get vs 0) rest
 
 -- a line was sent exactly where there is a first one
-pub is_some-first : (name : List ℕ) (lines : Lines)
-    → is_some (slice_get (values_in name lines) 0) ≡ list_any (is_named name) lines
-is_some-first name [] = refl
-is_some-first name (line ∷ lines) = elim (cases_Bool (is_named name line)) [
-  | inl e ↦ rw e refl
-  | inr e ↦ rw e (is_some-first name lines)
-]
-
-pub sent_is : (name : List ℕ) (parts : HeadParts) → is_some (first_value name parts) ≡ is_sent name parts
+sent_is : (name : List ℕ) (parts : HeadParts) → is_some (first_value name parts) ≡ is_sent name parts
 unfolding values_of
-sent_is name parts = is_some-first name parts.headers
+sent_is name parts = is_some-first_kept (is_named name) (λ (line : List ℕ × List ℕ). line.1) parts.headers
 
 pub is_some-found : (name : List ℕ) (parts : HeadParts) (o : Option (Bor (List ℕ))) → option_copied o ≡ first_value name parts
     → is_some o ≡ is_sent name parts
@@ -114,10 +100,6 @@ is_some-found name parts o is = sym (is_some-copied o) ∙ ap is_some is ∙ sen
     is_some-copied (Some x) = refl
 
 -- ---- the words of the Connection lines
-
-pub list_any-map : {X Y : Type 0} (p : Y → Bool) (f : X → Y) (xs : List X) → list_any p (map f xs) ≡ list_any (λ x. p (f x)) xs
-list_any-map p f [] = refl
-list_any-map p f (x ∷ xs) = ap (λ b. p (f x) || b) (list_any-map p f xs)
 
 abbrev pub is_close : List ℕ → Bool
 is_close word = bytes_eq word (codes "close")

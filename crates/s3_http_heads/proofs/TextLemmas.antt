@@ -1,13 +1,12 @@
 -- The end of a head text: what a scan byte by byte knows of it, and that what was found stays found.
-use Rattle.std.proofs.Common.{◌≡◌, ◌≢◌, ℕ, zero, suc, ◌+◌, ◌-◌, ◌≤◌, ◌<◌, ◌⊎◌, inl, inr, Bool, true, false, List, [], ◌∷◌, ◌++◌, take, drop, length, Option, Some, None, get_or, eqb, refl, sym, ap, ◌∙◌, arith, subst}
-use Rattle.std.specs.Prelude.{option_map, nat_eq, unwrap_or}
-use Rattle.std.specs.List.{starts_with, position, position_or_len}
+use Rattle.std.proofs.Common.{◌≡◌, ◌≢◌, ℕ, zero, suc, ◌+◌, ◌-◌, ◌≤◌, ◌<◌, ◌⊎◌, inl, inr, true, false, List, [], ◌∷◌, ◌++◌, take, drop, length, Option, Some, None, get_or, eqb, refl, sym, ap, ◌∙◌, arith, subst}
+use Rattle.std.specs.Prelude.{option_map, nat_eq}
+use Rattle.std.specs.List.{starts_with}
 use Rattle.std.proofs.lemmas.Bool.{cases_eq, and_parts, false≢true}
 use Rattle.std.proofs.lemmas.List.{take_rest, drop-drop, drop_more, drop_all, length-take, length-drop}
-use Rattle.std.proofs.lemmas.List.Sums.{prefix_len-le-length}
 use Rattle.std.proofs.lemmas.Bool.Decides.{nat_tests}
 use Rattle.s3_http_heads.specs.Scan.{after_byte}
-use Rattle.s3_http_heads.specs.Text.{skip_pairs, text_length, head_end}
+use Rattle.s3_http_heads.specs.Find.{skip_pairs, text_length, head_end}
 
 -- ---- the scan
 
@@ -193,8 +192,3 @@ pairs_all s at none = skip_pairs-other (drop at s) (rw take_rest at none)
 
 pub pairs_fit : (s : List ℕ) (at : ℕ) → at ≤ length s → 2 ≤ length (take (length s - at) (drop at s)) → at + 2 ≤ length s
 pairs_fit s at within two = omega (arith, two, length-take (length s - at) (drop at s), length-drop at s)
-
--- ---- the first place
-
-pub unwrap_or-position : (p : ℕ → Bool) (xs : List ℕ) → unwrap_or (position p xs) (length xs) ≡ position_or_len p xs
-unwrap_or-position p xs = grind (arith, nat_tests, prefix_len-le-length)

@@ -8,7 +8,7 @@ use Rattle.std.proofs.lemmas.List.{length-take, length-append, take-take, take-a
 use Rattle.std.proofs.lemmas.Option.{none-some, same_Some}
 use Rattle.std.proofs.lemmas.Slice.Eq.{starts_is}
 use Rattle.s3_http_heads.specs.declared.find.Found.TheVariants.{NeedMore, Head, TooLarge}
-use Rattle.s3_http_heads.specs.Text.{skip_pairs, text_length, head_end, head_limit, found_by, found_in, EndsHead, IsHeadText, HasNoHeadText}
+use Rattle.s3_http_heads.specs.Find.{skip_pairs, text_length, head_end, head_limit, found_by, found_in, EndsHead, IsHeadText, HasNoHeadText}
 
 -- an empty line begins here
 abbrev here : List ℕ → Bool

@@ -1,10 +1,13 @@
-pub mod Text
+pub mod Find
 pub mod Scan
-pub mod Parts
-pub mod Framing
+pub mod Target
+pub mod Parameters
+pub mod Head
+pub mod BodyLength
 pub mod Message
 pub use Rattle.httparse.specs.Grammar
 pub use Rattle.httparse.specs.Spans
+pub use Rattle.percent_encoding.specs.Percent
 pub use Rattle.s3_terms.specs.Code
 pub use Rattle.s3_text.specs.Digits
 pub use Rattle.s3_terms.specs.Fault

@@ -1,14 +1,14 @@
 //! How long the body of a message is, and what is wrong with that.
 ghost use Rattle.std.specs.Prelude.{◌≡◌, ◌≤◌, ◌==◌, ◌&&◌, not, nat_lt, Some, IfOk, List, ℕ, length, codes};
 ghost use Rattle.std.specs.List.{after_first};
+ghost use Rattle.s3_text.specs.Characters.{slash};
 ghost use Rattle.s3_http_heads.specs.Message.{IsMessage};
-ghost use Rattle.s3_http_heads.specs.Parts.{HeadParts, is_sent};
-ghost use Rattle.s3_http_heads.specs.Framing.{announced, length_lines, names_key, needs_length, framing_of};
+ghost use Rattle.s3_http_heads.specs.Head.{HeadParts, is_sent};
+ghost use Rattle.s3_http_heads.specs.BodyLength.{announced, length_lines, names_key, needs_length, framing_of};
 
 use crate::Head;
-use crate::text::after_first;
 use s3_terms::Code;
-use s3_text::decimal_number;
+use s3_text::{after_first, decimal_number};
 
 /// The length in bytes of the body that follows this head, where at most `limit` bytes are accepted; 0
 /// where no Content-Length was sent.
@@ -18,7 +18,7 @@ use s3_text::decimal_number;
 /// The first of these: `NotImplemented` for a Transfer-Encoding; `InvalidRequest` where Content-Length
 /// was sent several times or is not 1 to 18 decimal digits; `MissingContentLength` for a PUT of an
 /// object's bytes that has none; `EntityTooLarge` where it is over the limit.
-#[tactic(auto, unfolding(crate::specs::Framing::framing_of))]
+#[tactic(auto, unfolding(crate::specs::BodyLength::framing_of))]
 pub fn framing(head: &Head, limit: u64) -> Result<u64, Code>
     ensures value { result ≡ framing_of head.now limit }
     ensures announced { IfOk result (λ n. announced (length_lines head.now) ≡ Some n) }
@@ -76,7 +76,7 @@ fn needs_length(head: &Head) -> bool
 
 // Whether a byte follows the second slash of the path.
 fn names_key(path: &[u8]) -> bool
-    ensures { result ≡ nat_lt 0 (length (after_first (λ b. b == 47) (after_first (λ b. b == 47) path.now))) }
+    ensures { result ≡ nat_lt 0 (length (after_first (λ b. b == slash) (after_first (λ b. b == slash) path.now))) }
 {
     !after_first(after_first(path, b'/'), b'/').is_empty()
 }

@@ -1,7 +1,7 @@
 //! Where a head text begins and ends in the bytes of a connection.
 ghost use Rattle.std.specs.Prelude.{◌≡◌, ◌≤◌, ◌<◌, ◌↔◌, ◌++◌, ℕ, List, length, take, drop};
 ghost use Rattle.s3_http_heads.specs.Scan.{after_byte};
-ghost use Rattle.s3_http_heads.specs.Text.{head_limit, skip_pairs, text_length, found_in, IsHeadText, HasNoHeadText};
+ghost use Rattle.s3_http_heads.specs.Find.{head_limit, skip_pairs, text_length, found_in, IsHeadText, HasNoHeadText};
 
 /// The greatest size of a head text, in bytes.
 pub const HEAD_LIMIT: usize = 16_384;
@@ -21,7 +21,7 @@ pub enum Found {
 /// on. A `len` counts from the end of the skipped pairs of CR and LF.
 ///
 /// Each byte is looked at once, and none past the head's end or the limit.
-#[tactic(auto, unfolding(crate::specs::Text::found_in))]
+#[tactic(auto, unfolding(crate::specs::Find::found_in))]
 pub fn find_head(bytes: &[u8]) -> Found
     ensures { result ≡ found_in bytes.now }
 {

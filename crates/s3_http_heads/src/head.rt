@@ -1,14 +1,17 @@
 //! What a head text says: a request line and header lines.
-ghost use Rattle.std.specs.Prelude.{◌≡◌, ◌≤◌, ◌<◌, ◌⊎◌, ◌↔◌, ℕ, List, length, map, All, IfOk, IfErr, MatchResult, Some, slice_get};
+ghost use Rattle.std.specs.Prelude.{◌≡◌, ◌≤◌, ◌<◌, ◌⊎◌, ◌↔◌, ℕ, List, length, map, All, IfOk, IfErr, MatchResult, Ok, Err, Some, slice_get};
 ghost use Rattle.httparse.specs.Grammar.{RequestHead};
 ghost use Rattle.httparse.specs.Spans.{IsWithin, IsHeaderWithin, header_bytes, span_bytes};
-ghost use Rattle.s3_http_heads.specs.Parts.{HeadParts, IsHead, HasNoHead, Says, parts_of, values_of, first_value, is_sent, path_of, query_of, closes, asks_head_only};
+ghost use Rattle.s3_http_heads.specs.Head.{HeadParts, IsHead, HasNoHead, Says, parts_of, values_of, first_value, is_sent, closes, asks_head_only};
+ghost use Rattle.s3_http_heads.specs.Target.{path_of, target_of, target_parts};
 ghost use Rattle.std.specs.Option.{option_copied};
 
-use crate::text::{after_first, before_first, has_word, is_named};
+use crate::Target;
+use crate::text::{has_word, is_named};
 use httparse::Status;
 use httparse::spans::{EMPTY_HEADER_SPAN, HeaderSpan, RequestSpans, Span, parse_request};
 use s3_terms::Code;
+use s3_text::{after_first, before_first};
 use std::alloc::{AllocError, Global};
 use std::marker::Model;
 
@@ -18,20 +21,24 @@ pub const LINE_LIMIT: usize = 64;
 /// The head of a request: its method, target and version, and its header lines, each a name as it was
 /// sent and a value without the spaces and tabs around it.
 ///
-/// It owns one copy of the head text.
-#[derive(Debug, Drop)]
+/// It owns one copy of the head text, and what the target says if it can be read.
+#[derive(Drop)]
 pub struct Head {
     text: Vec<u8>,
     method: Span,
     target: Span,
     minor: u8,
     headers: Vec<HeaderSpan>,
+    // What the target says; nothing where it cannot be read.
+    said: Option<Target>,
 }
 
 impl Model for Head {
-    ghost use Rattle.std.specs.Prelude.{length, map, All};
+    ghost use Rattle.std.specs.Prelude.{◌≡◌, length, map, ok_or, All};
     ghost use Rattle.httparse.specs.Spans.{IsWithin, IsHeaderWithin, header_bytes, span_bytes};
-    ghost use Rattle.s3_http_heads.specs.Parts.{HeadParts};
+    ghost use Rattle.s3_terms.specs.declared.code.Code.TheVariants.{InvalidURI};
+    ghost use Rattle.s3_http_heads.specs.Head.{HeadParts};
+    ghost use Rattle.s3_http_heads.specs.Target.{target_of};
 
     ghost Value = { HeadParts };
 
@@ -44,12 +51,13 @@ impl Model for Head {
 
     ghost invariant = { λ h. IsWithin (length h.text.items) h.method
         × IsWithin (length h.text.items) h.target
-        × All (IsHeaderWithin (length h.text.items)) h.headers.items };
+        × All (IsHeaderWithin (length h.text.items)) h.headers.items
+        × (ok_or h.said InvalidURI ≡ target_of (span_bytes h.text.items h.target)) };
 }
 
 impl Head {
     /// Reads a head text: all of `text` has to be one head (RFC 9112, sections 2 to 5) with at most 64
-    /// header lines. The cost is linear in the text, which is copied once.
+    /// header lines. The cost is linear in the text, which is copied once, and whose target is read once.
     ///
     /// # Errors
     ///
@@ -87,6 +95,7 @@ impl Head {
         ensures minor { IfOk result (λ head. head.minor ≡ spans.version) }
         ensures headers { IfOk result (λ head. head.headers ≡ map (header_bytes text.now) headers.now) }
     {
+        let said = Target::read(alloc, spans.path.of(text))?;
         let text = Vec::from_slice(alloc, text)?;
         let headers = Vec::from_slice(alloc, headers)?;
         Ok(Head {
@@ -95,6 +104,7 @@ impl Head {
             target: spans.path,
             minor: spans.version,
             headers,
+            said,
         })
     }
 
@@ -168,18 +178,26 @@ impl Head {
         self.first(name).is_some()
     }
 
-    /// The target up to its first `?`.
-    pub fn path(&self) -> &[u8]
+    // The target up to its first `?`.
+    pub(crate) fn path(&self) -> &[u8]
         ensures { result.now ≡ path_of self.now.target }
     {
         before_first(self.target(), b'?')
     }
 
-    /// What follows the first `?` of the target; empty where there is none.
-    pub fn query(&self) -> &[u8]
-        ensures { result.now ≡ query_of self.now.target }
+    /// What the target says, with its escapes read. This takes no memory.
+    ///
+    /// # Errors
+    ///
+    /// `InvalidURI` where it doesn't begin with `/`, or has a percent sign that two hexadecimal digits
+    /// don't follow.
+    #[tactic(auto, unfolding(crate::specs::Target::target_of))]
+    pub fn decoded_target(&self) -> Result<&Target, Code>
+        ensures ok { IfOk result (λ said. target_of self.now.target ≡ Ok said.now) }
+        ensures parts { IfOk result (λ said. said.now ≡ target_parts self.now.target) }
+        ensures err { IfErr result (λ code. target_of self.now.target ≡ Err code) }
     {
-        after_first(self.target(), b'?')
+        self.said.as_ref().ok_or(Code::InvalidURI)
     }
 
     /// Whether the connection ends with the reply to this head: it is one of HTTP/1.0, or `close` is

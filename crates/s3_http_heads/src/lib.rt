@@ -4,6 +4,8 @@
 mod body_length;
 mod find;
 mod head;
+mod parameters;
+mod target;
 mod text;
 
 pub use body_length::{announced_length, framing, messages_are_cut_once};
@@ -11,4 +13,5 @@ pub use find::{
     Found, HEAD_LIMIT, find_head, pairs_may_be_dropped, skipped, verdict_is_exact, verdicts_stay,
 };
 pub use head::{Head, LINE_LIMIT, texts_say_one_thing};
-pub use text::{after_first, before_first, is_named, trimmed};
+pub use target::Target;
+pub use text::{is_named, trimmed};

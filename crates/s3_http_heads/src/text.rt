@@ -1,9 +1,9 @@
-//! Small readings of bytes: names without their case, the parts round a mark, words between commas.
-ghost use Rattle.std.specs.Prelude.{◌≡◌, ◌==◌, reverse};
-ghost use Rattle.std.specs.List.{before_first, after_first, list_any, position_or_len};
+//! Small readings of bytes: names without their case, words between commas.
+ghost use Rattle.std.specs.Prelude.{◌≡◌, reverse};
+ghost use Rattle.std.specs.List.{list_any};
 ghost use Rattle.std.specs.Str.{bytes_eq, str_to_ascii_lowercase};
 ghost use Rattle.httparse.specs.Grammar.{skip_ows, trim_ows};
-ghost use Rattle.s3_http_heads.specs.Parts.{words_of};
+ghost use Rattle.s3_http_heads.specs.Head.{words_of};
 
 use httparse::is_space_or_tab;
 
@@ -21,35 +21,6 @@ pub fn is_named(sent: &[u8], name: &[u8]) -> bool
         }
     }
     true
-}
-
-/// What stands before the first such byte; everything where there is none.
-pub fn before_first(bytes: &[u8], mark: u8) -> &[u8]
-    ensures { result.now ≡ before_first (λ b. b == mark) bytes.now }
-{
-    &bytes[..place_of(bytes, mark)]
-}
-
-/// What stands after the first such byte; nothing where there is none.
-pub fn after_first(bytes: &[u8], mark: u8) -> &[u8]
-    ensures { result.now ≡ after_first (λ b. b == mark) bytes.now }
-{
-    let place = place_of(bytes, mark);
-    if place < bytes.len() {
-        &bytes[place + 1..]
-    } else {
-        &[]
-    }
-}
-
-// The place of the first such byte, or the length.
-fn place_of(bytes: &[u8], mark: u8) -> usize
-    ensures { result ≡ position_or_len (λ b. b == mark) bytes.now }
-{
-    bytes
-        .iter()
-        .position(|byte| *byte == mark)
-        .unwrap_or(bytes.len())
 }
 
 /// Whether the word, which is given in lower case, is among those between the commas.

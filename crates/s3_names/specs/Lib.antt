@@ -1,3 +1,4 @@
+pub mod Ids
 pub mod Names
 pub use Rattle.s3_terms.specs.Code
 pub use Rattle.s3_terms.specs.Fault

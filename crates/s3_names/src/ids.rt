@@ -1,6 +1,7 @@
+//! The ids of versions and uploads, and the numbers of parts.
 ghost use Rattle.std.specs.Prelude.{◌≡◌, ℕ, ◌<◌, ◌≤◌, ◌^◌, ◌∷◌, Some, IfSome, IsTrue, drop, length, codes};
 ghost use Rattle.std.specs.List.{list_all};
-ghost use Rattle.s3_names.specs.Names.{numbered_id, is_numbered_id, number_of_id, upload_id_text, upload_id, version_id_text, version_id, HasSmallNumber, part_number};
+ghost use Rattle.s3_names.specs.Ids.{numbered_id, is_numbered_id, number_of_id, upload_id_text, upload_id, version_id_text, version_id, HasSmallNumber, part_number};
 ghost use Rattle.s3_text.specs.Characters.{is_lower_hex};
 
 use s3_text::{decimal_number, number_digits, number_from};
@@ -34,7 +35,7 @@ impl Model for PartNumber {
 impl PartNumber {
     /// Reads one to five decimal digits, leading zeros among them; `None` where the text is anything
     /// else, or the number out of range.
-    #[tactic(auto, unfolding(crate::specs::Names::part_number))]
+    #[tactic(auto, unfolding(crate::specs::Ids::part_number))]
     pub fn read(text: &[u8]) -> Option<PartNumber>
         ensures { result ≡ part_number text.now }
     {
@@ -78,13 +79,7 @@ impl VersionId {
         ensures spelled { IfSome result (λ id. text.now ≡ version_id_text id) }
         ensures found { (id : VersionId) → HasSmallNumber id → text.now ≡ version_id_text id → result ≡ Some id }
     {
-        if text == b"null".as_slice() {
-            return Some(VersionId::Null);
-        }
-        match read_number(b'v', text) {
-            Some(number) => Some(VersionId::Numbered(number)),
-            None => None,
-        }
+        read_version(text)
     }
 
     /// The id as a request and a reply write it.
@@ -124,15 +119,14 @@ impl UploadId {
     }
 
     /// Reads `u` and sixteen lower-case hexadecimal digits; `None` for any other text.
+    #[tactic(auto, using(crate::proofs::IdLemmas::number_back))]
     pub fn read(text: &[u8]) -> Option<UploadId>
         ensures value { result ≡ upload_id text.now }
         ensures spelled { IfSome result (λ id. text.now ≡ upload_id_text id) }
         ensures found { (number : ℕ) → number < 2 ^ 64 → text.now ≡ upload_id_text number → result ≡ Some number }
     {
-        match read_number(b'u', text) {
-            Some(number) => Some(UploadId { number }),
-            None => None,
-        }
+        let number = read_number(b'u', text)?;
+        Some(UploadId { number })
     }
 
     /// The number of the entry that made the upload.
@@ -171,6 +165,7 @@ impl Model for IdText {
 }
 
 impl IdText {
+    // The text of the id of a version without a number.
     fn null() -> IdText
         ensures { result ≡ codes "null" }
     {
@@ -179,6 +174,8 @@ impl IdText {
         IdText { bytes, len: 4 }
     }
 
+    // The text of the id that this letter and this number make.
+    #[tactic(auto, unfolding(crate::specs::Ids::numbered_id))]
     fn numbered(letter: u8, number: u64) -> IdText
         ensures { result ≡ numbered_id letter number }
     {
@@ -196,11 +193,23 @@ impl IdText {
     }
 }
 
-#[tactic(auto, using(s3_text::proofs::DigitLemmas::hex_all_digits, s3_text::proofs::DigitLemmas::hex_room, crate::proofs::IdLemmas::id_spelled), unfolding(crate::specs::Names::number_of_id))]
+// The version whose id a text is.
+#[tactic(auto, unfolding(crate::specs::Ids::version_id))]
+fn read_version(text: &[u8]) -> Option<VersionId>
+    ensures value { result ≡ version_id text.now }
+    ensures spelled { IfSome result (λ id. text.now ≡ version_id_text id) }
+{
+    if text == b"null".as_slice() {
+        return Some(VersionId::Null);
+    }
+    read_number(b'v', text).map(VersionId::Numbered)
+}
+
+// The number that the id with this letter was made of.
+#[tactic(auto, using(s3_text::proofs::DigitLemmas::hex_all_digits, s3_text::proofs::DigitLemmas::hex_room, crate::proofs::IdLemmas::id_spelled), unfolding(crate::specs::Ids::number_of_id))]
 fn read_number(letter: u8, text: &[u8]) -> Option<u64>
     ensures value { result ≡ number_of_id letter text.now }
     ensures spelled { IfSome result (λ number. text.now ≡ numbered_id letter number) }
-    ensures found { (number : ℕ) → number < 2 ^ 64 → text.now ≡ numbered_id letter number → result ≡ Some number }
 {
     if !has_id_form(letter, text) {
         return None;
@@ -209,7 +218,8 @@ fn read_number(letter: u8, text: &[u8]) -> Option<u64>
     Some(number_from(16, digits))
 }
 
-#[tactic(auto, unfolding(crate::specs::Names::is_numbered_id))]
+// Whether the text is this letter and sixteen digits.
+#[tactic(auto, unfolding(crate::specs::Ids::is_numbered_id))]
 fn has_id_form(letter: u8, text: &[u8]) -> bool
     ensures value { result ≡ is_numbered_id letter text.now }
     ensures len { IsTrue result → length (drop 1 text.now) ≡ 16 }
@@ -222,12 +232,14 @@ fn has_id_form(letter: u8, text: &[u8]) -> bool
     text[0] == letter && has_lower_hex_alone(digits)
 }
 
+// Whether the text has lower-case hexadecimal digits and nothing else.
 fn has_lower_hex_alone(digits: &[u8]) -> bool
     ensures { result ≡ list_all is_lower_hex digits.now }
 {
     digits.iter().all(|byte| has_lower_hex(*byte))
 }
 
+// Whether the byte is such a digit.
 fn has_lower_hex(byte: u8) -> bool
     ensures { result ≡ is_lower_hex byte }
 {

@@ -1,7 +1,8 @@
-ghost use Rattle.std.specs.Prelude.{◌≡◌, ◌≤◌, ◌-◌, ◌==◌, ◌&&◌, false, IsUtf8, IsAscii, Some, IsTrue, IfOk, OnOk, IfSome, IfNone, IsOkUnless, IsErrOf, length, slice_index};
+//! The names of buckets and the keys of objects.
+ghost use Rattle.std.specs.Prelude.{◌≡◌, ◌≤◌, ◌==◌, ◌&&◌, IsUtf8, IsAscii, IsTrue, IfOk, OnOk, length};
 ghost use Rattle.std.specs.List.{list_all};
-ghost use Rattle.s3_names.specs.Names.{is_name_byte, dotted, is_number, has_empty_part, is_address_form, has_name_length, has_name_bytes, has_name_ends, has_name_parts, is_bucket_name, key_fault, is_key};
-ghost use Rattle.s3_text.specs.Characters.{is_letter_or_digit};
+ghost use Rattle.s3_terms.specs.Fault.{FollowsToEnd};
+ghost use Rattle.s3_names.specs.Names.{is_name_byte, dotted, is_number, has_empty_part, is_address_form, has_name_length, has_name_bytes, has_name_ends, has_name_parts, is_bucket_name, bucket_name, is_key, object_key};
 
 use crate::text::Text;
 use s3_terms::{Code, NoMemory};
@@ -40,12 +41,11 @@ impl Model for BucketName {
 
 impl BucketName {
     /// Reads a name from its bytes. `InvalidBucketName` says that it breaks the naming rules, and
-    /// `InternalError` that there was no memory for its copy.
+    /// `InternalError` that it keeps them and there was no memory for its copy.
     pub fn read(alloc: Global, name: &[u8]) -> Result<BucketName, Code>
         ensures value { IfOk result (λ read. read ≡ name.now) }
         ensures valid { OnOk result (IsTrue (is_bucket_name name.now)) }
-        ensures refused { is_bucket_name name.now ≡ false → IsErrOf result Code.InvalidBucketName }
-        ensures accepted { IsTrue (is_bucket_name name.now) → IsOkUnless result Code.InternalError }
+        ensures rule { FollowsToEnd result (bucket_name name.now) }
     {
         if !is_valid_name(name) {
             return Err(Code::InvalidBucketName);
@@ -55,7 +55,7 @@ impl BucketName {
     }
 
     /// The bytes of the name.
-    #[tactic(auto, unfolding(crate::specs::Names::is_bucket_name, crate::specs::Names::has_name_length))]
+    #[tactic(auto, using(crate::proofs::NameLemmas::name_ascii), unfolding(crate::specs::Names::is_bucket_name, crate::specs::Names::has_name_length))]
     pub fn as_bytes(&self) -> &[u8]
         ensures value { result.now ≡ self.now }
         ensures valid { IsTrue (is_bucket_name self.now) }
@@ -98,22 +98,28 @@ impl Model for Key {
 impl Key {
     /// Reads a key from its bytes. The first fault decides: `InvalidURI` where they are no UTF-8,
     /// `KeyTooLongError` above 1,024 bytes, `InvalidURI` where there are none. `InternalError` says
-    /// that there was no memory for its copy.
+    /// that they are a key and there was no memory for its copy.
+    #[tactic(auto, unfolding(crate::specs::Names::object_key, crate::specs::Names::is_key))]
     pub fn read(alloc: Global, key: &[u8]) -> Result<Key, Code>
         ensures value { IfOk result (λ read. read ≡ key.now) }
         ensures valid { OnOk result (IsTrue (is_key key.now)) }
-        ensures refused { IfSome (key_fault key.now) (λ code. IsErrOf result code) }
-        ensures accepted { IfNone (key_fault key.now) (IsOkUnless result Code.InternalError) }
+        ensures rule { FollowsToEnd result (object_key key.now) }
     {
-        if let Some(code) = fault_of_key(key) {
-            return Err(code);
+        if !is_text(key) {
+            return Err(Code::InvalidURI);
+        }
+        if key.len() > KEY_MAX {
+            return Err(Code::KeyTooLongError);
+        }
+        if key.is_empty() {
+            return Err(Code::InvalidURI);
         }
         let text = Text::of(alloc, key)?;
         Ok(Key { text })
     }
 
     /// The bytes of the key.
-    #[tactic(auto, using(crate::proofs::NameLemmas::texts), unfolding(crate::specs::Names::key_fault, crate::specs::Names::is_key))]
+    #[tactic(auto, using(crate::proofs::NameLemmas::texts), unfolding(crate::specs::Names::object_key, crate::specs::Names::is_key))]
     pub fn as_bytes(&self) -> &[u8]
         ensures value { result.now ≡ self.now }
         ensures valid { IsTrue (is_key self.now) }
@@ -133,23 +139,7 @@ impl Key {
     }
 }
 
-#[tactic(auto, unfolding(crate::specs::Names::key_fault, crate::specs::Names::is_key))]
-fn fault_of_key(key: &[u8]) -> Option<Code>
-    ensures value { result ≡ key_fault key.now }
-    ensures valid { IfNone result (IsTrue (is_key key.now)) }
-{
-    if !is_text(key) {
-        return Some(Code::InvalidURI);
-    }
-    if key.len() > KEY_MAX {
-        return Some(Code::KeyTooLongError);
-    }
-    if key.is_empty() {
-        return Some(Code::InvalidURI);
-    }
-    None
-}
-
+// Whether the bytes keep the naming rules of buckets.
 #[tactic(auto, unfolding(crate::specs::Names::is_bucket_name))]
 fn is_valid_name(name: &[u8]) -> bool
     ensures { result ≡ is_bucket_name name.now }
@@ -157,6 +147,7 @@ fn is_valid_name(name: &[u8]) -> bool
     has_valid_length(name) && has_valid_bytes(name) && has_valid_ends(name) && has_valid_parts(name)
 }
 
+// Whether they are neither too few nor too many.
 #[tactic(auto, unfolding(crate::specs::Names::has_name_length))]
 fn has_valid_length(name: &[u8]) -> bool
     ensures { result ≡ has_name_length name.now }
@@ -164,6 +155,7 @@ fn has_valid_length(name: &[u8]) -> bool
     NAME_MIN <= name.len() && name.len() <= NAME_MAX
 }
 
+// Whether each of them may stand in a name.
 #[tactic(auto, unfolding(crate::specs::Names::has_name_bytes))]
 fn has_valid_bytes(name: &[u8]) -> bool
     ensures { result ≡ has_name_bytes name.now }
@@ -171,6 +163,7 @@ fn has_valid_bytes(name: &[u8]) -> bool
     name.iter().all(|byte| may_stand_in_name(*byte))
 }
 
+// Whether the first and the last are letters or digits.
 #[tactic(auto, unfolding(crate::specs::Names::has_name_ends))]
 fn has_valid_ends(name: &[u8]) -> bool
     ensures { result ≡ has_name_ends name.now }
@@ -181,6 +174,7 @@ fn has_valid_ends(name: &[u8]) -> bool
     }
 }
 
+// Whether no part between dots is empty, and they are no address.
 #[tactic(auto, unfolding(crate::specs::Names::has_name_parts))]
 fn has_valid_parts(name: &[u8]) -> bool
     ensures { result ≡ has_name_parts name.now }
@@ -188,36 +182,42 @@ fn has_valid_parts(name: &[u8]) -> bool
     !leaves_empty_part(name) && !has_address_form(name)
 }
 
+// Whether a name may have this byte.
 fn may_stand_in_name(byte: u8) -> bool
     ensures { result ≡ is_name_byte byte }
 {
     is_letter_or_digit(byte) || byte == b'.' || byte == b'-'
 }
 
+// Whether a dot stands beside another, or at an end.
 fn leaves_empty_part(name: &[u8]) -> bool
     ensures { result ≡ has_empty_part name.now }
 {
     name.split(|byte| *byte == b'.').any(|part| part.is_empty())
 }
 
+// Whether the bytes are four decimal numbers joined by dots.
 fn has_address_form(name: &[u8]) -> bool
     ensures { result ≡ is_address_form name.now }
 {
     has_four_parts(name) && has_decimal_parts(name)
 }
 
+// Whether dots cut the bytes into four parts.
 fn has_four_parts(name: &[u8]) -> bool
     ensures { result ≡ length (dotted name.now) == 4 }
 {
     name.split(|byte| *byte == b'.').count() == 4
 }
 
+// Whether each part between dots is a decimal number.
 fn has_decimal_parts(name: &[u8]) -> bool
     ensures { result ≡ list_all is_number (dotted name.now) }
 {
     name.split(|byte| *byte == b'.').all(|part| is_number(part))
 }
 
+// Whether the bytes are a decimal number of any size.
 fn is_number(part: &[u8]) -> bool
     ensures { result ≡ is_number part.now }
 {

@@ -1,3 +1,4 @@
+//! The entity tag of an object that was put whole.
 ghost use Rattle.std.specs.Prelude.{◌≡◌, ℕ, List, length};
 ghost use Rattle.hex.specs.Hex.{encode_lower};
 

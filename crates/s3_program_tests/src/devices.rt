@@ -6,11 +6,18 @@ use std::io::{self, ErrorKind, Read, Write};
 
 /// Files by their paths.
 #[derive(Clone, Copy)]
-pub struct Shelf<'a>(&'a [(&'a str, &'a [u8])]);
+pub struct Shelf<'a> {
+    files: &'a [(&'a str, &'a [u8])],
+    // Whether there is no memory for any of them.
+    is_full: bool,
+}
 
 impl Files for Shelf<'_> {
     fn read(&self, alloc: Global, path: &str) -> io::Result<Vec<u8>> {
-        for (name, bytes) in self.0 {
+        if self.is_full {
+            return Err(io::Error::from(ErrorKind::OutOfMemory));
+        }
+        for (name, bytes) in self.files {
             if *name == path {
                 return Ok(Vec::from_slice(alloc, bytes)?);
             }
@@ -19,39 +26,87 @@ impl Files for Shelf<'_> {
     }
 }
 
-/// A device that fails at once.
-#[derive(Drop)]
-pub struct Broken;
+/// How a device does its work.
+#[derive(Clone, Copy)]
+pub enum Manner {
+    /// It gives and takes as much as it can.
+    Able,
+    /// It gives and takes one byte a time, and is interrupted before each.
+    Halting,
+    /// It gives and takes no byte.
+    Unwilling,
+    /// It fails.
+    Broken,
+    /// It has no memory.
+    Full,
+}
 
-impl Read for Broken {
-    fn read(&mut self, _buf: &mut [u8]) -> io::Result<usize> {
-        Err(io::Error::from(ErrorKind::ConnectionReset))
+/// A device: what it has left to give, and what it has taken.
+#[derive(Drop)]
+pub struct Device<'a> {
+    manner: Manner,
+    left: &'a [u8],
+    pub taken: Vec<u8>,
+    // Whether it was interrupted just now.
+    was_interrupted: bool,
+}
+
+impl<'a> Device<'a> {
+    /// A device that has these bytes to give.
+    pub fn new(alloc: Global, manner: Manner, left: &'a [u8]) -> Device<'a> {
+        Device {
+            manner,
+            left,
+            taken: Vec::new(alloc),
+            was_interrupted: false,
+        }
+    }
+
+    // How many of so many bytes it moves now.
+    fn moved(&mut self, most: usize) -> io::Result<usize> {
+        match self.manner {
+            Manner::Able => Ok(most),
+            Manner::Halting => self.halting(most),
+            Manner::Unwilling => Ok(0),
+            Manner::Broken => Err(io::Error::from(ErrorKind::BrokenPipe)),
+            Manner::Full => Err(io::Error::from(ErrorKind::OutOfMemory)),
+        }
+    }
+
+    // One of so many bytes, if it was interrupted just now; else it is.
+    fn halting(&mut self, most: usize) -> io::Result<usize> {
+        self.was_interrupted = !self.was_interrupted;
+        if self.was_interrupted {
+            return Err(io::Error::from(ErrorKind::Interrupted));
+        }
+        Ok(most.min(1))
     }
 }
 
-impl Write for Broken {
-    fn write(&mut self, _buf: &[u8]) -> io::Result<usize> {
-        Err(io::Error::from(ErrorKind::BrokenPipe))
+impl Read for Device<'_> {
+    fn read(&mut self, buf: &mut [u8]) -> io::Result<usize> {
+        let most = self.moved(buf.len())?;
+        let Some(room) = buf.get_mut(..most) else {
+            return Ok(0);
+        };
+        self.left.read(room)
+    }
+}
+
+impl Write for Device<'_> {
+    fn write(&mut self, buf: &[u8]) -> io::Result<usize> {
+        let most = self.moved(buf.len())?;
+        let Some(part) = buf.get(..most) else {
+            return Ok(0);
+        };
+        self.taken.write(part)
     }
 
     fn flush(&mut self) -> io::Result<()> {
-        Err(io::Error::from(ErrorKind::BrokenPipe))
-    }
-}
-
-/// A device, and files, that have no memory.
-#[derive(Drop)]
-pub struct Full;
-
-impl Read for Full {
-    fn read(&mut self, _buf: &mut [u8]) -> io::Result<usize> {
-        Err(io::Error::from(ErrorKind::OutOfMemory))
-    }
-}
-
-impl Files for Full {
-    fn read(&self, _alloc: Global, _path: &str) -> io::Result<Vec<u8>> {
-        Err(io::Error::from(ErrorKind::OutOfMemory))
+        match self.manner {
+            Manner::Broken => Err(io::Error::from(ErrorKind::BrokenPipe)),
+            _ => Ok(()),
+        }
     }
 }
 
@@ -76,47 +131,28 @@ static FILES: [(&str, &[u8]); 12] = [
     ),
 ];
 
-/// The words of a replay that has all it needs.
-pub static REPLAY: [&str; 6] = ["s3d", "replay", "--keys", "keys", "--moment", "0"];
+/// The files; where there is no memory for any of them, `is_full`.
+pub fn files<'a>(is_full: bool) -> Shelf<'a> {
+    Shelf {
+        files: &FILES,
+        is_full,
+    }
+}
 
 /// The status of a run on these files.
-pub fn run<R: Read, W: Write, E: Write>(
+pub fn run(
     alloc: Global,
     words: &[&str],
-    input: &mut R,
-    output: &mut W,
-    errors: &mut E,
+    input: &mut Device,
+    output: &mut Device,
+    errors: &mut Device,
 ) -> u8 {
-    run_words(alloc, words, &Shelf(&FILES), input, output, errors)
+    run_words(alloc, words, &files(false), input, output, errors)
 }
 
 /// The status of a run on these files and no input, whose output is let go.
-pub fn run_on_nothing(alloc: Global, words: &[&str], errors: &mut Vec<u8>) -> u8 {
-    let mut input: &[u8] = b"";
-    let mut output: Vec<u8> = Vec::new(alloc);
+pub fn run_on_nothing(alloc: Global, words: &[&str], errors: &mut Device) -> u8 {
+    let mut input = Device::new(alloc, Manner::Able, b"");
+    let mut output = Device::new(alloc, Manner::Able, b"");
     run(alloc, words, &mut input, &mut output, errors)
-}
-
-/// The status of a run on these files whose errors are let go.
-pub fn run_quietly<R: Read>(
-    alloc: Global,
-    words: &[&str],
-    input: &mut R,
-    output: &mut Vec<u8>,
-) -> u8 {
-    let mut errors: Vec<u8> = Vec::new(alloc);
-    run(alloc, words, input, output, &mut errors)
-}
-
-/// A run on these files has status 1 and says this on the standard error.
-pub fn fails<R: Read, W: Write>(
-    alloc: Global,
-    words: &[&str],
-    input: &mut R,
-    output: &mut W,
-    line: &[u8],
-) -> bool {
-    let mut errors: Vec<u8> = Vec::new(alloc);
-    let status = run(alloc, words, input, output, &mut errors);
-    status == 1 && errors.as_slice() == line
 }

@@ -1,19 +1,17 @@
-//! Wrong words, wrong settings and keys, and devices that fail.
-use crate::devices::{Broken, Full, REPLAY, fails, run, run_on_nothing};
+//! Wrong words, wrong settings and keys, and devices that fail or are slow.
+use crate::devices::{Device, Manner, files, run_on_nothing};
 use s3_tasks::run_words;
 use std::alloc::Global;
-use std::io::Read;
 use std::str;
-use std::test::Fail;
 
-/// A run on these words has status 2, and its text for the user has the part somewhere.
+// A run on these words has status 2, and its text for the user has the part somewhere.
 fn is_usage(alloc: Global, words: &[&str], part: &str) -> bool {
-    let mut errors: Vec<u8> = Vec::new(alloc);
+    let mut errors = Device::new(alloc, Manner::Able, b"");
     let status = run_on_nothing(alloc, words, &mut errors);
-    status == 2 && holds(errors.as_slice(), part)
+    status == 2 && holds(errors.taken.as_slice(), part)
 }
 
-/// The text has the part somewhere.
+// The text has the part somewhere.
 fn holds(text: &[u8], part: &str) -> bool {
     match str::from_utf8(text) {
         Ok(text) => text.contains(part),
@@ -55,20 +53,27 @@ static USAGES: [(&[&str], &str); 10] = [
 #[test]
 fn usage_faults(rt: HostRuntime) {
     for (words, part) in &USAGES {
-        assert!(rt; is_usage(rt.alloc(), words, part), "at {words:?}");
+        assert!(rt; is_usage(rt.alloc(), words, part), "at {part}");
     }
 }
 
-/// A run on these words, and on no input, has status 1 and tells this fault. One space stands between
-/// two words.
-fn tells(alloc: Global, words: &str, fault: &str) -> Result<bool, Fail> {
-    let words: Vec<&str> = words.split(' ').collect(alloc)?;
-    let mut errors: Vec<u8> = Vec::new(alloc);
-    let status = run_on_nothing(alloc, words.as_slice(), &mut errors);
-    Ok(status == 1 && is_line(errors.as_slice(), fault))
+// A run on these words, and on no input, has status 1 and tells this fault. One space stands between
+// two words.
+fn tells(alloc: Global, words: &str, fault: &str) -> bool {
+    match words.split(' ').collect::<Vec<&str>>(alloc) {
+        Ok(words) => fails_by(alloc, words.as_slice(), fault),
+        Err(_) => false,
+    }
 }
 
-/// The text is the line that tells this fault.
+// A run on these words, and on no input, has status 1 and tells this fault.
+fn fails_by(alloc: Global, words: &[&str], fault: &str) -> bool {
+    let mut errors = Device::new(alloc, Manner::Able, b"");
+    let status = run_on_nothing(alloc, words, &mut errors);
+    status == 1 && is_line(errors.taken.as_slice(), fault)
+}
+
+// The text is the line that tells this fault.
 fn is_line(text: &[u8], fault: &str) -> bool {
     let Some(text) = text.strip_prefix(b"s3d: ".as_slice()) else {
         return false;
@@ -76,7 +81,8 @@ fn is_line(text: &[u8], fault: &str) -> bool {
     text.strip_suffix(b"\n".as_slice()) == Some(fault.as_bytes())
 }
 
-static REPLAY_FAULTS: [(&str, &str); 21] = [
+// Where two things are wrong the first in order is told.
+static FAULTS: [(&str, &str); 42] = [
     ("bad setting", "s3d replay --keys keys"),
     (
         "cannot read shelf",
@@ -122,18 +128,6 @@ static REPLAY_FAULTS: [(&str, &str); 21] = [
     ("bad keys line 2", "s3d replay --keys twice --moment 0"),
     ("bad keys line 2", "s3d replay --keys empty-line --moment 0"),
     ("bad keys line 3", "s3d replay --keys comma --moment 0"),
-];
-
-#[test]
-fn one_line_faults(rt: HostRuntime) -> Result<(), Fail> {
-    for (fault, words) in &REPLAY_FAULTS {
-        assert!(rt; tells(rt.alloc(), words, fault)?, "at {words}");
-    }
-    Ok(())
-}
-
-// Where two things are wrong the first in order is told.
-static SIGNING_FAULTS: [(&str, &str); 21] = [
     (
         "bad setting",
         "s3d sign --keys keys --id id --moment 12x --method GET --target / --host h",
@@ -221,65 +215,170 @@ static SIGNING_FAULTS: [(&str, &str); 21] = [
 ];
 
 #[test]
-fn signing_faults(rt: HostRuntime) -> Result<(), Fail> {
-    for (fault, words) in &SIGNING_FAULTS {
-        assert!(rt; tells(rt.alloc(), words, fault)?, "at {words}");
+fn one_line_faults(rt: HostRuntime) {
+    for (fault, words) in &FAULTS {
+        assert!(rt; tells(rt.alloc(), words, fault), "at {words}");
     }
-    Ok(())
 }
 
-/// A replay whose input is this device fails, and says this line.
-fn replay_fails<R: Read>(alloc: Global, input: &mut R, line: &[u8]) -> bool {
-    let mut output: Vec<u8> = Vec::new(alloc);
-    fails(alloc, &REPLAY, input, &mut output, line)
+// A head that can't be read, and what it is answered at the moment 0.
+const MALFORMED: &[u8] = b"GET / HTTP/1.1\r\nBad Name: x\r\n\r\n";
+
+const MALFORMED_ANSWER: &[u8] = b"HTTP/1.1 400 Bad Request\r\n\
+    Date: Thu, 01 Jan 1970 00:00:00 GMT\r\n\
+    Connection: close\r\n\
+    x-amz-request-id: 0000000000000000\r\n\
+    Content-Type: application/json\r\n\
+    Content-Length: 59\r\n\
+    \r\n\
+    {\"Code\":\"MalformedHead\",\"Message\":\"The head is malformed.\"}";
+
+// A run on that head: its words, how files and devices do their work, and what comes of it.
+#[derive(Clone, Copy)]
+struct Run<'a> {
+    name: &'a str,
+    words: &'a [&'a str],
+    // Whether there is no memory for files.
+    is_full: bool,
+    input: Manner,
+    output: Manner,
+    errors: Manner,
+    status: u8,
+    written: &'a [u8],
+    said: &'a [u8],
 }
 
-/// The status of a replay whose input and errors fail.
-fn replay_in_silence(alloc: Global) -> u8 {
-    let mut output: Vec<u8> = Vec::new(alloc);
-    run(alloc, &REPLAY, &mut Broken, &mut output, &mut Broken)
-}
+// A replay where all is as it should be.
+const ABLE: Run = Run {
+    name: "able devices",
+    words: &["s3d", "replay", "--keys", "keys", "--moment", "0"],
+    is_full: false,
+    input: Manner::Able,
+    output: Manner::Able,
+    errors: Manner::Able,
+    status: 0,
+    written: MALFORMED_ANSWER,
+    said: b"",
+};
 
-#[test]
-fn failing_devices(rt: HostRuntime) {
-    let alloc = rt.alloc();
-    assert!(rt; replay_fails(alloc, &mut Broken, b"s3d: input failed\n"));
-    let mut empty: &[u8] = b"";
-    assert!(rt;
-        fails(
-            alloc,
-            &REPLAY,
-            &mut empty,
-            &mut Broken,
-            b"s3d: output failed\n"
-        )
+// The input fails.
+const INPUT_FAILED: Run = Run {
+    name: "a failing input",
+    input: Manner::Broken,
+    status: 1,
+    written: b"",
+    said: b"s3d: input failed\n",
+    ..ABLE
+};
+
+// The output fails.
+const OUTPUT_FAILED: Run = Run {
+    name: "a failing output",
+    output: Manner::Broken,
+    status: 1,
+    written: b"",
+    said: b"s3d: output failed\n",
+    ..ABLE
+};
+
+// There is no memory.
+const OUT_OF_MEMORY: Run = Run {
+    name: "no memory",
+    status: 1,
+    written: b"",
+    said: b"s3d: out of memory\n",
+    ..ABLE
+};
+
+// The words of a signing.
+const SIGN: &[&str] = &[
+    "s3d", "sign", "--keys", "keys", "--id", "id", "--moment", "0", "--method", "GET", "--target",
+    "/", "--host", "h",
+];
+
+static RUNS: [Run; 13] = [
+    ABLE,
+    Run {
+        name: "slow devices",
+        input: Manner::Halting,
+        output: Manner::Halting,
+        ..ABLE
+    },
+    // An empty connection.
+    Run {
+        name: "an empty connection",
+        input: Manner::Unwilling,
+        written: b"",
+        ..ABLE
+    },
+    INPUT_FAILED,
+    Run {
+        name: "a failing input and slow errors",
+        errors: Manner::Halting,
+        ..INPUT_FAILED
+    },
+    Run {
+        name: "a failing input and failing errors",
+        errors: Manner::Broken,
+        said: b"",
+        ..INPUT_FAILED
+    },
+    Run {
+        name: "a failing input and unwilling errors",
+        errors: Manner::Unwilling,
+        said: b"",
+        ..INPUT_FAILED
+    },
+    OUTPUT_FAILED,
+    Run {
+        name: "a signing and a failing output",
+        words: SIGN,
+        input: Manner::Broken,
+        ..OUTPUT_FAILED
+    },
+    Run {
+        name: "an unwilling output",
+        output: Manner::Unwilling,
+        ..OUTPUT_FAILED
+    },
+    Run {
+        name: "an output without memory",
+        output: Manner::Full,
+        ..OUTPUT_FAILED
+    },
+    Run {
+        name: "an input without memory",
+        input: Manner::Full,
+        ..OUT_OF_MEMORY
+    },
+    Run {
+        name: "files without memory",
+        is_full: true,
+        ..OUT_OF_MEMORY
+    },
+];
+
+// The run comes to that.
+fn comes_to_that(alloc: Global, run: &Run) -> bool {
+    let mut input = Device::new(alloc, run.input, MALFORMED);
+    let mut output = Device::new(alloc, run.output, b"");
+    let mut errors = Device::new(alloc, run.errors, b"");
+    let files = files(run.is_full);
+    let status = run_words(
+        alloc,
+        run.words,
+        &files,
+        &mut input,
+        &mut output,
+        &mut errors,
     );
-    assert_eq!(rt; replay_in_silence(alloc), 1);
-}
-
-/// A replay for which no file has memory fails, and says this line.
-fn files_fail(alloc: Global, line: &[u8]) -> bool {
-    let (mut output, mut errors): (Vec<u8>, Vec<u8>) = (Vec::new(alloc), Vec::new(alloc));
-    let status = run_words(alloc, &REPLAY, &Full, &mut Full, &mut output, &mut errors);
-    status == 1 && errors.as_slice() == line
+    let is_written = output.taken.as_slice() == run.written;
+    status == run.status && is_written && errors.taken.as_slice() == run.said
 }
 
 #[test]
-fn no_memory(rt: HostRuntime) {
-    let alloc = rt.alloc();
-    assert!(rt; replay_fails(alloc, &mut Full, b"s3d: out of memory\n"));
-    assert!(rt; files_fail(alloc, b"s3d: out of memory\n"));
-}
-
-/// A replay of an empty connection has status 0 and writes nothing.
-fn is_silent(alloc: Global) -> bool {
-    let mut empty: &[u8] = b"";
-    let (mut output, mut errors): (Vec<u8>, Vec<u8>) = (Vec::new(alloc), Vec::new(alloc));
-    let status = run(alloc, &REPLAY, &mut empty, &mut output, &mut errors);
-    status == 0 && output.is_empty() && errors.is_empty()
-}
-
-#[test]
-fn empty_connection(rt: HostRuntime) {
-    assert!(rt; is_silent(rt.alloc()));
+fn devices(rt: HostRuntime) {
+    for run in &RUNS {
+        assert!(rt; comes_to_that(rt.alloc(), run), "at {}", run.name);
+    }
 }

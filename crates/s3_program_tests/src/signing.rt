@@ -1,20 +1,20 @@
 //! Signed requests: the published example, and what a replay answers to them.
-use crate::devices::{Broken, fails, run_quietly};
-use crate::messages::{Reply, is_replayed, texts};
-use std::alloc::Global;
+use crate::devices::{Device, Manner, run};
+use std::alloc::{AllocError, Global};
 use std::str;
-use std::test::Fail;
 
-/// The status of a signing, whose input cannot be read; what it writes is added to the output.
-fn sign(alloc: Global, words: &[&str], output: &mut Vec<u8>) -> u8 {
-    run_quietly(alloc, words, &mut Broken, output)
+// The status of a signing, whose input cannot be read; what it writes is added to the output.
+fn sign(alloc: Global, words: &[&str], output: &mut Device) -> u8 {
+    let mut input = Device::new(alloc, Manner::Broken, b"");
+    let mut errors = Device::new(alloc, Manner::Broken, b"");
+    run(alloc, words, &mut input, output, &mut errors)
 }
 
-/// A signing has status 0 and writes this request.
+// A signing has status 0 and writes this request.
 fn is_signed(alloc: Global, words: &[&str], request: &[u8]) -> bool {
-    let mut output: Vec<u8> = Vec::new(alloc);
+    let mut output = Device::new(alloc, Manner::Able, b"");
     let status = sign(alloc, words, &mut output);
-    status == 0 && output.as_slice() == request
+    status == 0 && output.taken.as_slice() == request
 }
 
 // The example of AWS's documentation.
@@ -98,35 +98,112 @@ static GET: [&str; 14] = [
     "localhost",
 ];
 
-static PUT_AND_GOT: [Reply; 2] = [Reply::Put, Reply::Got("1")];
+// The words of a replay on the example key.
+static REPLAY: [&str; 8] = [
+    "s3d",
+    "replay",
+    "--keys",
+    "aws",
+    "--bucket",
+    "pail",
+    "--moment",
+    "1369353600",
+];
 
-/// The put and the get are signed with status 0 and as text, and a replay of both, one after the other,
-/// is answered.
-fn are_signed_and_answered(alloc: Global) -> Result<bool, Fail> {
-    let wanted = texts(alloc, &PUT_AND_GOT)?;
-    let mut requests: Vec<u8> = Vec::new(alloc);
+// What a replay of these bytes over devices of this manner writes, where its status is 0.
+fn answers(alloc: Global, manner: Manner, bytes: &[u8]) -> Option<Vec<u8>> {
+    let mut input = Device::new(alloc, manner, bytes);
+    let mut output = Device::new(alloc, manner, b"");
+    let mut errors = Device::new(alloc, Manner::Broken, b"");
+    match run(alloc, &REPLAY, &mut input, &mut output, &mut errors) {
+        0 => Some(output.taken),
+        _ => None,
+    }
+}
+
+// A replay of these bytes has status 0 and writes that, over able devices and over slow ones.
+fn is_replayed(alloc: Global, bytes: &[u8], wanted: &[u8]) -> bool {
+    is_written(alloc, Manner::Able, bytes, wanted)
+        && is_written(alloc, Manner::Halting, bytes, wanted)
+}
+
+// A replay of these bytes over devices of this manner has status 0 and writes that.
+fn is_written(alloc: Global, manner: Manner, bytes: &[u8], wanted: &[u8]) -> bool {
+    match answers(alloc, manner, bytes) {
+        Some(out) => out.as_slice() == wanted,
+        None => false,
+    }
+}
+
+const PUT_AND_GOT: &[u8] = b"HTTP/1.1 200 OK\r\n\
+    Date: Fri, 24 May 2013 00:00:00 GMT\r\n\
+    x-amz-request-id: 0000000000000000\r\n\
+    ETag: \"5d41402abc4b2a76b9719d911017c592\"\r\n\
+    Content-Length: 0\r\n\
+    \r\n\
+    HTTP/1.1 200 OK\r\n\
+    Date: Fri, 24 May 2013 00:00:00 GMT\r\n\
+    x-amz-request-id: 0000000000000001\r\n\
+    ETag: \"5d41402abc4b2a76b9719d911017c592\"\r\n\
+    Last-Modified: Fri, 24 May 2013 00:00:00 GMT\r\n\
+    Accept-Ranges: bytes\r\n\
+    Content-Type: binary/octet-stream\r\n\
+    Content-Length: 5\r\n\
+    \r\n\
+    hello";
+
+const INCOMPLETE: &[u8] = b"HTTP/1.1 400 Bad Request\r\n\
+    Date: Fri, 24 May 2013 00:00:00 GMT\r\n\
+    Connection: close\r\n\
+    x-amz-request-id: 0000000000000000\r\n\
+    Content-Type: application/json\r\n\
+    Content-Length: 61\r\n\
+    \r\n\
+    {\"Code\":\"IncompleteBody\",\"Message\":\"The body is incomplete.\"}";
+
+// The put and the get are signed with status 0 and as text, and a replay of both, one after the other,
+// is answered.
+fn are_signed_and_answered(alloc: Global) -> bool {
+    let mut requests = Device::new(alloc, Manner::Able, b"");
     let put = sign(alloc, &PUT, &mut requests);
     let get = sign(alloc, &GET, &mut requests);
-    let are_signed = put == 0 && get == 0 && str::from_utf8(requests.as_slice()).is_ok();
-    Ok(are_signed && is_replayed(alloc, requests.as_slice(), wanted.as_str()))
+    let bytes = requests.taken.as_slice();
+    let are_signed = put == 0 && get == 0 && str::from_utf8(bytes).is_ok();
+    are_signed && is_replayed(alloc, bytes, PUT_AND_GOT)
 }
 
 #[test]
-fn signed_requests_are_answered(rt: HostRuntime) -> Result<(), Fail> {
+fn signed_requests_are_answered(rt: HostRuntime) {
     assert!(rt; is_signed(rt.alloc(), &PUT, PUT_TEXT));
-    assert!(rt; are_signed_and_answered(rt.alloc())?);
-    Ok(())
+    assert!(rt; are_signed_and_answered(rt.alloc()));
 }
 
 #[test]
-fn failing_output(rt: HostRuntime) {
-    assert!(rt;
-        fails(
-            rt.alloc(),
-            &GET,
-            &mut Broken,
-            &mut Broken,
-            b"s3d: output failed\n"
-        )
-    );
+fn incomplete_body(rt: HostRuntime) {
+    let part = &PUT_TEXT[..PUT_TEXT.len() - 1];
+    assert!(rt; is_replayed(rt.alloc(), part, INCOMPLETE));
+}
+
+// The bytes of 25 gets of a key that nothing was put under.
+fn absent_gets(alloc: Global) -> Vec<u8> {
+    let mut requests = Device::new(alloc, Manner::Able, b"");
+    for _ in 0..25 {
+        sign(alloc, &GET, &mut requests);
+    }
+    requests.taken
+}
+
+// Each answer has 207 bytes, also where devices move one byte a time and are interrupted before each.
+fn is_slowly_answered(alloc: Global) -> bool {
+    let bytes = absent_gets(alloc);
+    match answers(alloc, Manner::Able, bytes.as_slice()) {
+        Some(out) => out.len() == 5_175
+            && is_written(alloc, Manner::Halting, bytes.as_slice(), out.as_slice()),
+        None => false,
+    }
+}
+
+#[test]
+fn one_byte_a_time(rt: HostRuntime) {
+    assert!(rt; is_slowly_answered(rt.alloc()));
 }

@@ -1,3 +1,4 @@
 pub mod LineLemmas
 pub mod DocumentLemmas
-pub mod UniqueLemmas
+pub mod UnbrokenLemmas
+pub mod ReplyLemmas

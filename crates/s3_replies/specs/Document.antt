@@ -1,5 +1,6 @@
 -- The documents of refusals (Amazon S3 API Reference, "Error responses"; documents are JSON here).
 use Rattle.std.specs.Prelude.{ℕ, ◌==◌, if◌then◌else◌, List, [], ◌∷◌, ◌++◌, length, codes}
+use Rattle.s3_text.specs.Characters.{colon, comma}
 use Rattle.s3_terms.specs.Code.{name_of, message_of}
 use Rattle.s3_terms.specs.declared.code.Code.{Code}
 use Rattle.s3_replies.specs.Lines.{quoted}
@@ -7,8 +8,8 @@ use Rattle.s3_replies.specs.Lines.{quoted}
 -- `{"Code":"..","Message":".."}`; no name and no message has a letter that JSON would escape
 abbrev pub error_object : Code → List ℕ
 error_object code =
-    123 ∷ quoted (codes "Code") ++ 58 ∷ quoted (name_of code)
-    ++ 44 ∷ quoted (codes "Message") ++ 58 ∷ quoted (message_of code) ++ 125 ∷ []
+    codes "{" ++ quoted (codes "Code") ++ colon ∷ quoted (name_of code)
+    ++ comma ∷ quoted (codes "Message") ++ colon ∷ quoted (message_of code) ++ codes "}"
 
 -- the document of a refusal; InternalError, the code without a message, has none
 abbrev pub error_document : Code → List ℕ

@@ -2,11 +2,12 @@
 -- Reference, "Common response headers").
 use Rattle.std.specs.Prelude.{ℕ, ◌≤◌, Bool, false, List, [], ◌∷◌, ◌++◌, map, length, codes, Option, None, option_map}
 use Rattle.std.specs.Fmt.{decimal}
+use Rattle.s3_text.specs.Characters.{crlf}
 use Rattle.s3_text.specs.Digits.{number_digits}
 use Rattle.s3_replies.specs.declared.head.Head.{Head}
-use Rattle.s3_replies.specs.declared.status.Status.{Status}
-use Rattle.s3_replies.specs.Lines.{crlf, Line, print_lines, flag, optional, metadata_line, quoted, value_of, value_length, pieces_of, metadata_length}
-use Rattle.s3_replies.specs.Status.{status_line, tells_size}
+use Rattle.s3_terms.specs.declared.status.Status.{Status}
+use Rattle.s3_terms.specs.Status.{tells_size}
+use Rattle.s3_replies.specs.Lines.{Line, status_line, print_lines, flag, optional, metadata_line, quoted, value_of, value_length, pieces_of, metadata_length}
 
 -- what a head says, in the order of its lines
 pub record Fields : Type 0 where

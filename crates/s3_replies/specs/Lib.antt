@@ -1,9 +1,10 @@
 pub mod Date
 pub mod Lines
-pub mod Status
 pub mod Head
 pub mod Document
 pub mod Replies
+pub mod Laws
 pub use Rattle.s3_store.specs.Store
 pub use Rattle.s3_terms.specs.Code
 pub use Rattle.s3_text.specs.Digits
+pub use Rattle.s3_terms.specs.Status

@@ -1,11 +1,15 @@
--- The header lines of a reply's head (RFC 9112, sections 4 and 5).
+-- The status line and the header lines of a reply's head (RFC 9112, sections 4 and 5).
 use Rattle.std.specs.Prelude.{ℕ, ◌+◌, Bool, if◌then◌else◌, List, [], ◌∷◌, ◌++◌, length, map, codes, Option, Some, None, option_map}
 use Rattle.std.specs.Borrow.{Bor}
 use Rattle.std.specs.List.{flat_map}
+use Rattle.std.specs.Fmt.{decimal}
+use Rattle.s3_text.specs.Characters.{crlf, space, double_quote}
+use Rattle.s3_terms.specs.declared.status.Status.{Status}
+use Rattle.s3_terms.specs.Status.{number_of, reason_phrase}
 
--- the end of a line
-abbrev pub crlf : List ℕ
-crlf = 13 ∷ 10 ∷ []
+-- a status line: `HTTP/1.1 200 OK`, and the end of the line
+unfoldable pub status_line : Status → List ℕ
+status_line status = codes "HTTP/1.1 " ++ decimal (number_of status) ++ space ∷ reason_phrase status ++ crlf
 
 -- a header line's name and value
 abbrev pub Line : Type 0
@@ -30,7 +34,7 @@ optional name (Some value) = (name, value) ∷ []
 
 -- a text in double quotes
 abbrev pub quoted : List ℕ → List ℕ
-quoted text = 34 ∷ text ++ 34 ∷ []
+quoted text = double_quote ∷ text ++ double_quote ∷ []
 
 -- the value that a reference points to, where there is one
 abbrev pub value_of : Option (Bor (List ℕ)) → Option (List ℕ)

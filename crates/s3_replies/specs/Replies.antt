@@ -1,6 +1,7 @@
 -- What is printed for an answer of the store and for a refusal (Amazon S3 API Reference, "Common
 -- response headers" and "Error responses").
 use Rattle.std.specs.Prelude.{◌≡◌, ℕ, Bool, true, false, if◌then◌else◌, List, [], ◌∷◌, ◌++◌, length, codes, Some}
+use Rattle.s3_terms.specs.Code.{status_of}
 use Rattle.s3_terms.specs.declared.code.Code.{Code}
 use Rattle.s3_text.specs.Digits.{number_digits}
 use Rattle.s3_store.specs.declared.object.Object.{Object}
@@ -8,11 +9,10 @@ use Rattle.s3_store.specs.declared.answer.Answer.{Answer}
 use Rattle.s3_store.specs.declared.answer.Outcome.{Outcome}
 use Rattle.s3_store.specs.declared.answer.Outcome.TheVariants as outcomes
 use Rattle.s3_replies.specs.declared.context.Context.{Context}
-use Rattle.s3_replies.specs.declared.status.Status.TheVariants as statuses
+use Rattle.s3_terms.specs.declared.status.Status.TheVariants as statuses
 use Rattle.s3_replies.specs.Date.{IsHttpDate}
 use Rattle.s3_replies.specs.Document.{error_document}
 use Rattle.s3_replies.specs.Head.{Fields, bare, print_head, print_with_lines}
-use Rattle.s3_replies.specs.Status.{status_of_code}
 
 -- what is sent of a body: a reply to HEAD has none (RFC 9110, section 9.3.2)
 abbrev pub sent_body : Bool → List ℕ → List ℕ
@@ -49,7 +49,7 @@ got_fields object number closing date modified =
 -- a refusal: the status of its code, whether it is about a delete marker, and the type of its document
 abbrev pub error_fields : Code → Bool → ℕ → Bool → List ℕ → Fields
 error_fields code is_delete_marker number closing date =
-    let base = bare (status_of_code code) date closing number in
+    let base = bare (status_of code) date closing number in
     record base { is_delete_marker = is_delete_marker; content_type = Some (codes "application/json") }
 
 -- the text is the printed reply to what came of the command with this number
@@ -70,29 +70,17 @@ Prints answer context text =
     (date : List ℕ) × IsHttpDate context.moment date
     × PrintsOutcome answer.number answer.outcome context date text
 
--- the same context, but the connection ends with the reply
-abbrev pub closing : Context → Context
-closing context = record { moment = context.moment; head_only = context.head_only; closes = true }
+-- what a refusal takes from its message: its moment, and whether it is a HEAD. It ends the connection
+abbrev pub closing : ℕ → Bool → Context
+closing moment head_only = record { moment = moment; head_only = head_only; closes = true }
 
 -- the refusal of a message that did not come to the store: 0 stands for no number
 abbrev pub unnumbered : Code → Answer
 unnumbered code = record { number = 0; outcome = outcomes.Refused code false }
 
--- the text is the printed refusal of such a message, and ends the connection
-abbrev pub PrintsRefusal : Code → Context → List ℕ → Type 0
-PrintsRefusal code context text = Prints (unnumbered code) (closing context) text
-
--- an answer has one printed reply to a message
-abbrev pub RepliesAreUnique : Type 0
-RepliesAreUnique =
-    (answer : Answer) (context : Context) (t u : List ℕ) → Prints answer context t
-    → Prints answer context u → t ≡ u
-
--- a code has one printed refusal of a message
-abbrev pub RefusalsAreUnique : Type 0
-RefusalsAreUnique =
-    (code : Code) (context : Context) (t u : List ℕ) → PrintsRefusal code context t
-    → PrintsRefusal code context u → t ≡ u
+-- the text is the printed refusal of such a message
+abbrev pub PrintsRefusal : Code → ℕ → Bool → List ℕ → Type 0
+PrintsRefusal code moment head_only text = Prints (unnumbered code) (closing moment head_only) text
 
 -- the bytes of a reply that its head does not hold: those of an object that was asked for
 abbrev pub outcome_body : Outcome → List ℕ

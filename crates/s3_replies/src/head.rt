@@ -6,10 +6,10 @@ ghost use Rattle.s3_replies.specs.Head.{fields_of, bare, opening_lines, version_
 ghost use Rattle.s3_replies.specs.Lines.{print_lines};
 
 use crate::lines::{
-    Reply, write, write_flag, write_line, write_metadata, write_number, write_optional,
-    write_quoted,
+    Reply, status_line, write, write_flag, write_line, write_metadata, write_number,
+    write_optional, write_quoted,
 };
-use crate::status::{Status, status_line};
+use s3_terms::Status;
 use s3_text::number_digits;
 
 /// No head is longer.

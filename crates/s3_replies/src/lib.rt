@@ -6,11 +6,10 @@ mod context;
 mod date;
 mod document;
 mod head;
+mod laws;
 mod lines;
 mod replies;
-mod status;
 
 pub use context::Context;
-pub use replies::{
-    INTERNAL_ERROR, head_of, internal_error_reply, refusal, refusals_are_unique, replies_are_unique,
-};
+pub use laws::{refusals_are_unique, replies_are_unique, replies_show_what_came};
+pub use replies::{INTERNAL_ERROR, head_of, internal_error_reply, refusal};

@@ -1,11 +1,12 @@
-//! The header lines of a reply, written one after another.
+//! The lines of a reply's head, written one after another.
 
 ghost use Rattle.std.specs.Prelude.{◌≡◌, ◌+◌, ◌*◌, ◌≤◌, ◌++◌, [], ◌∷◌, length, map, option_map, decimal};
 ghost use Rattle.arrayvec.specs.ArrayVec.{array_vec_len};
-ghost use Rattle.s3_replies.specs.Lines.{print_lines, flag, optional, quoted, value_of, value_length, metadata_line, pieces_of, metadata_length};
+ghost use Rattle.s3_replies.specs.Lines.{status_line, print_lines, flag, optional, quoted, value_of, value_length, metadata_line, pieces_of, metadata_length};
 
 use arrayvec::ArrayVec;
 use itoa::Buffer;
+use s3_terms::Status;
 
 /// A reply while it is written.
 pub(crate) type Reply = ArrayVec<u8, 4096>;
@@ -17,6 +18,22 @@ pub(crate) fn write<const SIZE: usize>(out: &mut ArrayVec<u8, SIZE>, text: &[u8]
     ensures len { array_vec_len out.new ≡ array_vec_len out.old + length text.now }
 {
     let _fits = out.try_extend_from_slice(text);
+}
+
+/// The status line: 45 bytes at most.
+#[tactic(auto, unfolding(crate::specs::Lines::status_line))]
+pub(crate) fn status_line(status: Status) -> Reply
+    ensures items { result.items ≡ status_line status }
+    ensures bound { array_vec_len result ≤ 45 }
+{
+    let mut digits = Buffer::new();
+    let mut reply = ArrayVec::new();
+    write(&mut reply, b"HTTP/1.1 ");
+    write(&mut reply, digits.format(status.number()).as_bytes());
+    write(&mut reply, b" ");
+    write(&mut reply, status.reason().as_bytes());
+    write(&mut reply, b"\r\n");
+    reply
 }
 
 /// Appends a header line.

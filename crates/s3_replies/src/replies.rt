@@ -2,7 +2,7 @@
 
 ghost use Rattle.std.specs.Prelude.{◌≡◌, ◌+◌, ◌≤◌, ◌++◌, length};
 ghost use Rattle.arrayvec.specs.ArrayVec.{array_vec_len};
-ghost use Rattle.s3_replies.specs.Replies.{Prints, PrintsRefusal, RepliesAreUnique, RefusalsAreUnique, put_fields, got_fields, error_fields, sized, print_reply, internal_error, body_of, sent_body};
+ghost use Rattle.s3_replies.specs.Replies.{Prints, PrintsRefusal, put_fields, got_fields, error_fields, sized, print_reply, internal_error, body_of, sent_body};
 ghost use Rattle.s3_replies.specs.Document.{error_document};
 ghost use Rattle.s3_replies.specs.Head.{print_head};
 
@@ -11,11 +11,11 @@ use crate::date::date_of;
 use crate::document::document_of;
 use crate::head::Head;
 use crate::lines::{Reply, write};
-use crate::status::Status;
 use arrayvec::ArrayVec;
+use s3_calendar::Moment;
 use s3_names::Tag;
 use s3_store::{Answer, Object, Outcome};
-use s3_terms::Code;
+use s3_terms::{Code, Status};
 
 /// All of the reply to a put.
 fn put_reply(tag: &Tag, number: u64, closes: bool, date: [u8; 29]) -> Reply
@@ -62,7 +62,7 @@ fn error_reply(
         is_delete_marker,
         content_type: Some(b"application/json"),
         size: document.len() as u64,
-        ..Head::bare(Status::of_code(code), &date, context.closes, number)
+        ..Head::bare(code.status(), &date, context.closes, number)
     };
     let mut reply = head.print();
     write_body(&mut reply, context.head_only, document.as_slice());
@@ -98,16 +98,17 @@ pub fn head_of(answer: &Answer, context: &Context) -> ArrayVec<u8, 4096>
     }
 }
 
-/// The reply to a message that is refused before it comes to the store. It ends the connection,
-/// whatever the context says of that, and its id is zero.
-pub fn refusal(code: Code, context: &Context) -> ArrayVec<u8, 4096>
-    ensures { PrintsRefusal code context.now result.items }
+/// The reply to a message of this moment that is refused before it comes to the store; `head_only` says
+/// that the message is a HEAD. The reply ends the connection, and its id is zero.
+pub fn refusal(code: Code, moment: Moment, head_only: bool) -> ArrayVec<u8, 4096>
+    ensures { PrintsRefusal code moment head_only result.items }
 {
     let closing = Context {
+        moment,
+        head_only,
         closes: true,
-        ..*context
     };
-    error_reply(code, false, 0, &closing, date_of(context.moment))
+    error_reply(code, false, 0, &closing, date_of(moment))
 }
 
 /// What is written in place of a reply where memory runs out; the connection ends with it.
@@ -123,13 +124,3 @@ pub fn internal_error_reply() -> &'static [u8]
 {
     INTERNAL_ERROR
 }
-
-/// An answer of the store has one printed reply to a message.
-pub fn replies_are_unique()
-    ensures { RepliesAreUnique }
-{}
-
-/// A code has one printed refusal of a message.
-pub fn refusals_are_unique()
-    ensures { RefusalsAreUnique }
-{}

@@ -3,7 +3,7 @@ use s3_calendar::Moment;
 use s3_names::Tag;
 use s3_replies::{
     Context, INTERNAL_ERROR, head_of, internal_error_reply, refusal, refusals_are_unique,
-    replies_are_unique,
+    replies_are_unique, replies_show_what_came,
 };
 use s3_segments::Body;
 use s3_store::{Answer, Object, Outcome};
@@ -221,9 +221,9 @@ fn refusals_of_the_store(rt: HostRuntime) -> Result<(), Fail> {
 
 #[test]
 fn malformed_head(rt: HostRuntime) -> Result<(), Fail> {
-    let context = context_at(MOMENT, false, false)?;
+    let moment = Moment::new(MOMENT).ok_or("no moment")?;
     assert_eq!(rt;
-        refusal(Code::MalformedHead, &context).as_slice(),
+        refusal(Code::MalformedHead, moment, false).as_slice(),
         b"HTTP/1.1 400 Bad Request\r\n\
         Date: Fri, 24 May 2013 00:00:00 GMT\r\n\
         Connection: close\r\n\
@@ -238,23 +238,23 @@ fn malformed_head(rt: HostRuntime) -> Result<(), Fail> {
 }
 
 /// The refusal with the code starts with the version and then this status.
-fn has_status(code: Code, status: &str, context: &Context) -> bool {
-    let reply = refusal(code, context);
+fn has_status(code: Code, status: &str, moment: Moment) -> bool {
+    let reply = refusal(code, moment, true);
     match reply.as_slice().get(9..) {
         Some(shown) => shown.starts_with(status.as_bytes()),
         None => false,
     }
 }
 
-fn have_status(codes: &[Code], status: &str, context: &Context) -> bool {
-    codes.iter().all(|code| has_status(*code, status, context))
+fn have_status(codes: &[Code], status: &str, moment: Moment) -> bool {
+    codes.iter().all(|code| has_status(*code, status, moment))
 }
 
 #[test]
 fn status_lines(rt: HostRuntime) -> Result<(), Fail> {
-    let context = context_at(MOMENT, true, false)?;
+    let moment = Moment::new(MOMENT).ok_or("no moment")?;
     for (status, codes) in STATUSES {
-        assert!(rt; have_status(codes, status, &context), "{status}");
+        assert!(rt; have_status(codes, status, moment), "{status}");
     }
     Ok(())
 }
@@ -269,4 +269,5 @@ fn internal_error_bytes(rt: HostRuntime) {
     }
     replies_are_unique();
     refusals_are_unique();
+    replies_show_what_came();
 }

@@ -1,4 +1,4 @@
-//! Tests of what a request goes through before its operation runs: heads, canonical texts and routing.
+//! Tests of what a request goes through before its operation runs: heads, targets, canonical texts and routing.
 //! There is nothing else here.
 #![tactic(auto)]
 
@@ -8,5 +8,7 @@ mod canonical;
 mod heads;
 #[cfg(test)]
 mod routing;
+#[cfg(test)]
+mod targets;
 #[cfg(test)]
 mod texts;

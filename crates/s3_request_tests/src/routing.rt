@@ -32,10 +32,12 @@ fn expect_refusals(rt: &impl Abort, alloc: Global, cases: &[Case]) {
     }
 }
 
-static REFUSED: [Case; 11] = [
+static REFUSED: [Case; 13] = [
     (b"GET", b"/", Some(Code::NotImplemented)),
     (b"PUT", b"/", Some(Code::MethodNotAllowed)),
     (b"GET", b"/pail/k?acl", Some(Code::NotImplemented)),
+    (b"GET", b"/pail/k?&", Some(Code::NotImplemented)),
+    (b"GET", b"pail/k?acl", Some(Code::InvalidURI)),
     (b"GET", b"/Pail/k", Some(Code::InvalidBucketName)),
     (b"GET", b"//k", Some(Code::InvalidBucketName)),
     (b"GET", b"/pail/%ff", Some(Code::InvalidURI)),

@@ -2,7 +2,7 @@
 -- by the method and by what the address names. An operation that needs a query is not here.
 use Rattle.std.specs.Prelude.{ℕ, Bool, if◌then◌else◌, List, [], ◌∷◌, codes, Option, Some, None}
 use Rattle.std.specs.Str.{bytes_eq}
-use Rattle.s3_http_heads.specs.Parts.{HeadParts, is_sent}
+use Rattle.s3_http_heads.specs.Head.{HeadParts, is_sent}
 use Rattle.s3_requests.specs.declared.operations.Method.{Method}
 use Rattle.s3_requests.specs.declared.operations.Method.TheVariants.{Get, Head, Put, Post, Delete, Other}
 use Rattle.s3_requests.specs.declared.operations.Operation.{Operation}

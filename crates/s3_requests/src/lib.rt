@@ -3,9 +3,7 @@
 
 mod commands;
 mod operations;
-mod plans;
 mod routing;
 
-pub use commands::Command;
-pub use plans::Plan;
+pub use commands::{Command, Plan};
 pub use routing::{command, route};

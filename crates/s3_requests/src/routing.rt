@@ -1,28 +1,28 @@
 //! From a verified head to the operation that it asks for, and on to a command.
 ghost use Rattle.std.specs.Prelude.{◌≡◌, Ok, Err, IfOk, IfErr};
-ghost use Rattle.percent_encoding.specs.Percent.{percent_decode};
 ghost use Rattle.s3_terms.specs.Fault.{Follows, FollowsPast};
 ghost use Rattle.s3_requests.specs.Routing as rules;
 
+use crate::commands::{Command, Plan};
 use crate::operations::{Method, Operation, bucket_operation, key_operation, service_operation};
-use crate::{Command, Plan};
-use s3_http_heads::{Head, after_first, before_first};
+use s3_http_heads::{Head, Target};
 use s3_names::{BucketName, Key};
 use s3_segments::Payload;
 use s3_terms::Code;
+use s3_text::{after_first, before_first};
 use std::alloc::Global;
 
 /// The operation that a verified head asks for, with its bucket and its key (Amazon S3 User Guide,
 /// "Path-style requests"). A refusal is the first fault of routing in the order of
 /// `docs/PROTOCOL.md`; `InternalError` says that there was no memory for the names, of an address that
-/// may have them: without a query, and not the service. The cost is linear in the target.
+/// may have them: without a query, and not the service. The cost is linear in the names.
 #[tactic(auto, unfolding(crate::specs::Routing::route_of))]
 pub fn route(alloc: Global, head: &Head) -> Result<Plan, Code>
     ensures { FollowsPast (rules.address_at head.now) result (rules.route_of head.now) }
 {
-    let address = address_at(head)?;
-    let bucket = bucket_at(alloc, address)?;
-    let key = key_at(alloc, head, address)?;
+    let target = address_at(head)?;
+    let bucket = BucketName::read(alloc, target.bucket())?;
+    let key = key_at(alloc, head, target.key())?;
     key_plan(
         key_operation(Method::read(head.method()), head),
         bucket,
@@ -45,43 +45,32 @@ pub fn command(plan: Plan, payload: Payload) -> Command
     }
 }
 
-// The path behind its first slash, unless a query stands behind it or it is the service's.
+// What the target says, unless it has a query or means the service.
 #[tactic(auto, unfolding(crate::specs::Routing::address_at))]
-fn address_at(head: &Head) -> Result<&[u8], Code>
-    ensures ok { IfOk result (λ address. rules.address_at head.now ≡ Ok address.now) }
+fn address_at(head: &Head) -> Result<&Target, Code>
+    ensures ok { IfOk result (λ target. rules.address_at head.now ≡ Ok target.now) }
     ensures err { IfErr result (λ code. rules.address_at head.now ≡ Err code) }
 {
-    if !head.query().is_empty() {
+    let target = head.decoded_target()?;
+    if target.has_query() {
         return Err(Code::NotImplemented);
     }
-    let address = after_first(head.path(), b'/');
-    if !address.is_empty() {
-        Ok(address)
-    } else {
+    if target.path() == b"/".as_slice() {
         let method = Method::read(head.method());
-        Err(refusal_of(service_operation(method)))
+        return Err(refusal_of(service_operation(method)));
     }
+    Ok(target)
 }
 
-// The bucket that an address names.
-#[tactic(auto, unfolding(crate::specs::Routing::bucket_at))]
-fn bucket_at(alloc: Global, address: &[u8]) -> Result<BucketName, Code>
-    ensures { Follows result (rules.bucket_at address.now) }
-{
-    let name = decoded(alloc, before_first(address, b'/'))?;
-    BucketName::read(alloc, name.as_slice())
-}
-
-// The key that an address names; where that is empty, the bucket is meant.
+// The key of that text; where it is empty, the bucket is meant.
 #[tactic(auto, unfolding(crate::specs::Routing::key_at))]
-fn key_at(alloc: Global, head: &Head, address: &[u8]) -> Result<Key, Code>
-    ensures { Follows result (rules.key_at head.now address.now) }
+fn key_at(alloc: Global, head: &Head, key: &[u8]) -> Result<Key, Code>
+    ensures { Follows result (rules.key_at head.now key.now) }
 {
-    let key = decoded(alloc, after_first(address, b'/'))?;
     if key.is_empty() {
         return Err(refusal_of(bucket_operation(Method::read(head.method()))));
     }
-    Key::read(alloc, key.as_slice())
+    Key::read(alloc, key)
 }
 
 // The plan of an operation on a key, if this server has it.
@@ -103,17 +92,5 @@ fn refusal_of(operation: Option<Operation>) -> Code
     match operation {
         Some(_) => Code::NotImplemented,
         None => Code::MethodNotAllowed,
-    }
-}
-
-// The text with its escapes read.
-fn decoded(alloc: Global, text: &[u8]) -> Result<Vec<u8>, Code>
-    ensures ok { IfOk result (λ bytes. bytes.items ≡ percent_decode text.now) }
-    ensures err { IfErr result (λ code. code ≡ Code.InternalError) }
-{
-    let mut bytes = Vec::new(alloc);
-    match percent_encoding::percent_decode(text).append_to(&mut bytes) {
-        Ok(()) => Ok(bytes),
-        Err(_) => Err(Code::InternalError),
     }
 }

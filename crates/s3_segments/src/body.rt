@@ -1,3 +1,5 @@
+//! The bytes of an object or of a part.
+
 ghost use Rattle.std.specs.Prelude.{◌≡◌, ℕ, List, length, IfOk};
 
 use s3_terms::NoMemory;

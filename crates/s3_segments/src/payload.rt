@@ -1,3 +1,5 @@
+//! A body that has been read and found right.
+
 ghost use Rattle.std.specs.Prelude.{◌≡◌, ℕ, List};
 ghost use Rattle.md5.specs.Md5.{md5};
 

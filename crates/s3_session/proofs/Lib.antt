@@ -7,3 +7,4 @@ pub mod SoundLemmas
 pub mod ShorterLemmas
 pub mod OutputLemmas
 pub mod TurnLemmas
+pub mod ReadBackLemmas

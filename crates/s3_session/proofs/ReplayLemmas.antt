@@ -1,86 +1,73 @@
--- A replay after some turns: what was answered and written, and how it may go on.
-use Rattle.std.proofs.Common.{◌≡◌, ℕ, ◌+◌, Bool, true, false, List, [], ◌∷◌, ◌++◌, map, length, refl, sym, ap, subst, ◌∙◌, append_assoc, append-nil, zero-add, arith, length-append, MatchBool, inl, inr, ◌≤◌}
-use Rattle.s3_config.specs.Settings.{Settings}
-use Rattle.s3_store.specs.Store.{State, opening, step}
-use Rattle.s3_store.specs.History.{Entry, Legal, IsAnswer, after, after_entry}
-use Rattle.s3_requests.specs.declared.commands.Command.{Command}
-use Rattle.s3_store.specs.declared.answer.Answer.{Answer}
-use Rattle.s3_replies.specs.declared.context.Context.{Context}
-use Rattle.s3_replies.specs.Replies.{Prints, internal_error}
-use Rattle.s3_http_heads.specs.Text.{found_in, skip_pairs, text_length}
-use Rattle.s3_session.specs.declared.verdict.Verdict.TheVariants as verdicts
-use Rattle.s3_session.specs.Message.{open_yet, Judges, HoldsHead}
-use Rattle.s3_session.specs.Output.{BringsNone, EndsWith, Writes}
-use Rattle.s3_session.specs.Replay.{Answers, Replays}
+-- A replay after some turns: what was answered and written, and how it goes on.
+use Rattle.std.proofs.Common.{◌≡◌, ℕ, ◌+◌, suc, Bool, true, false, List, [], ◌∷◌, ◌++◌, map, length, Option, Some, None, refl, sym, ap, subst, ◌∙◌, append-nil, zero-add, arith, MatchBool, inl, inr, ◌≤◌}
+use Rattle.std.proofs.lemmas.Bool.{cases_Bool, MatchBool-at_true, MatchBool-at_false}
+use Rattle.std.proofs.lemmas.List.{map_push, flat_map_more, length_push, nil_from_length}
 use Rattle.std.specs.Borrow.{Bor}
+use Rattle.std.specs.List.{AllByRecursion}
+use Rattle.s3_config.specs.Settings.{Settings}
+use Rattle.s3_http_heads.specs.Find.{found_in, skip_pairs, text_length}
+use Rattle.s3_store.specs.Store.{State, opening}
+use Rattle.s3_store.specs.History.{Entry, Legal, IsAnswer, after, after_entry}
+use Rattle.s3_replies.specs.declared.context.Context.{Context}
 use Rattle.s3_session.specs.declared.turn.Turn.{Turn}
 use Rattle.s3_session.specs.declared.turn.Turn.TheVariants as turns
+use Rattle.s3_session.specs.Decision.{Decision, open_yet, Judges}
+use Rattle.s3_session.specs.Walk.{Message, Walks}
+use Rattle.s3_session.specs.Output.{Exchange, message_of, IsAnswered, Finishes}
+use Rattle.s3_session.specs.Replay.{entries_of, replies_of, Replays}
+use Rattle.s3_session.specs.Turn.{answer_of, TakesStep, IsLonger, added, Turned}
+use Rattle.s3_session.specs.Laws.{OneVerdict}
 use Rattle.s3_session.proofs.StayLemmas.{IsExact}
+use Rattle.s3_session.proofs.SoundLemmas.{sound_is_message}
 use Rattle.s3_session.proofs.ShorterLemmas.{sound_shorter}
-use Rattle.s3_session.specs.Turn.{IsAnswered, answer_of, IsLonger, added, Turned}
-
--- what the answers of some entries are
-abbrev pub answers_of : List Entry → List Answer
-answers_of entries = map (λ (e : Entry). e.answer) entries
-
--- whatever answers and output follow for the rest, they follow for all bytes behind what there is
-abbrev pub GoesOn : Settings → ℕ → List ℕ → List ℕ → List Entry → List ℕ → Type 0
-GoesOn settings moment bytes rest history out =
-    (more : List Entry) (dead : Bool) (tail : List ℕ)
-    → Answers settings moment true dead rest more
-    → Writes settings moment true dead rest (answers_of more) tail
-    → Answers settings moment true dead bytes (history ++ more)
-    × Writes settings moment true dead bytes (answers_of (history ++ more)) (out ++ tail)
-
--- some history was answered so far, and left this state, this number, these bytes and this output
-pub record Stands (settings : Settings) (moment : ℕ) (bytes : List ℕ) (s : State) (number : ℕ) (rest out : List ℕ) : Type 0 where
-  pub history : List Entry
-  pub legal : Legal settings.min_part (opening settings.buckets) 0 history
-  pub state : after settings.min_part (opening settings.buckets) history ≡ s
-  pub count : length history ≡ number
-  pub goes_on : GoesOn settings moment bytes rest history out
-
-pub stands_at_first : (settings : Settings) (moment : ℕ) (bytes : List ℕ)
-    → Stands settings moment bytes (opening settings.buckets) 0 bytes []
-stands_at_first settings moment bytes = record {
-  history = [];
-  legal = tt;
-  state = refl;
-  count = refl;
-  goes_on = λ more dead tail a w. (a, w);
-}
 
 if_false : (b : Bool) (P Q : Type 0) → b ≡ false → Q → MatchBool b P Q
 if_false true P Q e q = absurd (cc)
 if_false false P Q e q = q
 
-if_true : (b : Bool) (P Q : Type 0) → b ≡ true → P → MatchBool b P Q
-if_true true P Q e p = p
-if_true false P Q e p = absurd (cc)
+-- more messages behind those that leave some bytes
+walk_on : (settings : Settings) (moments : ℕ → ℕ) (ended : Bool) (k n : ℕ) (bytes rest : List ℕ) (messages more : List Message) (left : Option (List ℕ))
+    → Walks settings moments ended k bytes messages (Some rest) → n ≡ k + length messages → Walks settings moments ended n rest more left
+    → Walks settings moments ended k bytes (messages ++ more) left
+walk_on settings moments ended k n bytes rest [] more left walk at next =
+    let same : rest ≡ bytes = cc in
+    let here : n ≡ k = omega (arith, at) in
+    subst (λ b. Walks settings moments ended k b more left) same (subst (λ m. Walks settings moments ended m rest more left) here next)
+walk_on settings moments ended k n bytes rest (m ∷ messages) more left walk at next = (
+  walk.0,
+  walk.1,
+  elim (cases_Bool m.context.closes) [
+    | inl closing ↦ let shut = (MatchBool-at_true _ _ closing walk.2).1 in absurd (cc)
+    | inr open_still ↦ if_false m.context.closes _ _ open_still
+        (walk_on settings moments ended (suc k) n walk.0 rest messages more left (MatchBool-at_false _ _ open_still walk.2) (omega (arith, at)) next)
+  ],
+)
 
--- the entry that an answered command makes
-abbrev pub entry_of : Settings → State → ℕ → ℕ → Command → Entry
-entry_of settings s moment number command = record { command = command; moment = moment; answer = answer_of settings s moment number command }
+answered_on : (exchanges : List Exchange) (x : Exchange) → AllByRecursion IsAnswered exchanges → IsAnswered x → AllByRecursion IsAnswered (exchanges ++ x ∷ [])
+answered_on [] x all last = (last, tt)
+answered_on (first ∷ exchanges) x all last = (all.0, answered_on exchanges x all.1 last)
 
--- one more entry in front of those of the rest
-answers_more : (settings : Settings) (moment : ℕ) (bytes rest : List ℕ) (context : Context) (e : Entry) (dead : Bool) (more : List Entry)
-    → Judges settings moment true bytes (verdicts.Sound context e.command, rest) → context.closes ≡ false → e.moment ≡ moment
-    → Answers settings moment true dead rest more → Answers settings moment true dead bytes (e ∷ more)
-answers_more settings moment bytes rest context e true more judged open_still at a =
-    ((at, a.0), (context, rest, judged, if_false context.closes _ _ open_still a.1))
-answers_more settings moment bytes rest context e false more judged open_still at a =
-    ((at, a.0), (context, rest, judged, if_false context.closes _ _ open_still a.1))
+-- some messages were answered so far, and left this state, this number, these bytes and this output
+pub record Stands (settings : Settings) (moment : ℕ) (bytes : List ℕ) (s : State) (number : ℕ) (left : Option (List ℕ)) (out : List ℕ) : Type 0 where
+  pub exchanges : List Exchange
+  pub walk : Walks settings (λ k. moment) true 0 bytes (map message_of exchanges) left
+  pub legal : Legal settings.min_part (opening settings.buckets) 0 (entries_of exchanges)
+  pub answered : AllByRecursion IsAnswered exchanges
+  pub state : after settings.min_part (opening settings.buckets) (entries_of exchanges) ≡ s
+  pub count : length (entries_of exchanges) ≡ number
+  pub joined : out ≡ replies_of exchanges
 
-writes_more : (settings : Settings) (moment : ℕ) (bytes rest text : List ℕ) (context : Context) (e : Entry) (dead : Bool) (more : List Entry) (tail : List ℕ)
-    → Judges settings moment true bytes (verdicts.Sound context e.command, rest) → context.closes ≡ false → Prints e.answer context text
-    → Writes settings moment true dead rest (answers_of more) tail
-    → Writes settings moment true dead bytes (answers_of (e ∷ more)) (text ++ tail)
-writes_more settings moment bytes rest text context e dead more tail judged open_still prints w =
-    (context, e.command, rest, text, tail, judged, prints, refl, if_false context.closes _ _ open_still w)
-
--- more entries behind one more are the entries with that one in front
-regroup : (h : List Entry) (e : Entry) (more : List Entry) → (h ++ e ∷ []) ++ more ≡ h ++ e ∷ more
-regroup h e more = append_assoc h (e ∷ []) more
+pub stands_at_first : (settings : Settings) (moment : ℕ) (bytes : List ℕ)
+    → Stands settings moment bytes (opening settings.buckets) 0 (Some bytes) []
+stands_at_first settings moment bytes = record {
+  exchanges = [];
+  walk = refl;
+  legal = tt;
+  answered = tt;
+  state = refl;
+  count = refl;
+  joined = refl;
+}
 
 -- the laws of the history, as the store states them
 abbrev pub StaysLegal : Type 0
@@ -91,126 +78,107 @@ abbrev pub LeavesStep : Type 0
 LeavesStep = (least : ℕ) (s : State) (es : List Entry) (e : Entry)
     → after least s (es ++ e ∷ []) ≡ after_entry least (after least s es) e
 
-legal_more : (settings : Settings) (moment : ℕ) (bytes rest out : List ℕ) (s : State) (number : ℕ) (command : Command)
-    → StaysLegal → (h : Stands settings moment bytes s number rest out)
-    → Legal settings.min_part (opening settings.buckets) 0 (h.history ++ entry_of settings s moment number command ∷ [])
-legal_more settings moment bytes rest out s number command stays h =
-    let answered : IsAnswer settings.min_part (after settings.min_part (opening settings.buckets) h.history) (0 + length h.history) (entry_of settings s moment number command) =
-    rw (h.state, h.count, zero-add) refl in
-    stays settings.min_part (opening settings.buckets) 0 h.history (entry_of settings s moment number command) h.legal answered
-
-leaves_more : (settings : Settings) (moment : ℕ) (bytes rest out : List ℕ) (s : State) (number : ℕ) (command : Command)
-    → LeavesStep → (h : Stands settings moment bytes s number rest out)
-    → after settings.min_part (opening settings.buckets) (h.history ++ entry_of settings s moment number command ∷ []) ≡ (step settings.min_part s number moment command).0
-leaves_more settings moment bytes rest out s number command leaves h =
-    leaves settings.min_part (opening settings.buckets) h.history (entry_of settings s moment number command)
-    ∙ ap (λ (t : State). (step settings.min_part t number moment command).0) h.state
-
--- a command that was answered, and whose reply leaves the connection open
-pub stands_on : (settings : Settings) (moment : ℕ) (bytes rest out : List ℕ) (s : State) (number : ℕ)
-    (new : State) (context : Context) (after_it text : List ℕ)
-    → StaysLegal → LeavesStep → Stands settings moment bytes s number rest out
-    → IsAnswered settings moment number rest s new context after_it text → context.closes ≡ false
-    → Stands settings moment bytes new (number + 1) after_it (out ++ text)
-stands_on settings moment bytes rest out s number new context after_it text stays leaves h answered open_still =
-    let command = answered.0 in
-    let e = entry_of settings s moment number command in
+module _ (settings : Settings) (moment : ℕ) (bytes rest out : List ℕ) (s : State) (number : ℕ) where
+  -- the messages so far, and then the end
+  finished : (dead : Bool) (left : Option (List ℕ)) (last : List ℕ) → Stands settings moment bytes s number left out
+      → Finishes dead settings moment true left last → Replays settings moment bytes (out ++ last)
+  finished dead left last h ends = (
+    dead,
     record {
-      history = h.history ++ e ∷ [];
-      legal = legal_more settings moment bytes rest out s number command stays h;
-      state = leaves_more settings moment bytes rest out s number command leaves h ∙ sym answered.2;
-      count = simp length-append (omega (arith, h.count));
-      goes_on = λ more dead tail a w.
-          let next = h.goes_on (e ∷ more) dead (text ++ tail)
-          (answers_more settings moment rest after_it context e dead more answered.1 open_still refl a)
-          (writes_more settings moment rest after_it text context e dead more tail answered.1 open_still answered.3 w) in
-          rw (regroup h.history e more, append_assoc out text tail) next;
-    }
+      exchanges = h.exchanges;
+      left = left;
+      last = last;
+      walk = h.walk;
+      legal = h.legal;
+      answered = h.answered;
+      finished = ends;
+      joined = ap (λ o. o ++ last) h.joined;
+    },
+  )
 
--- what is then written where no command is left
-pub replays_end : (settings : Settings) (moment : ℕ) (bytes rest out : List ℕ) (s : State) (number : ℕ) (text : List ℕ)
-    → Stands settings moment bytes s number rest out
-    → BringsNone settings moment true rest → EndsWith settings moment true rest text
-    → Replays settings moment bytes (out ++ text)
-replays_end settings moment bytes rest out s number text h none ends =
-    let all = h.goes_on [] false text (tt, none) ends in
-    let same : h.history ++ [] ≡ h.history = append-nil h.history in
-    let facts = rw same at all in
-    (false, (h.history, h.legal, facts.0, facts.1))
+  -- one more message that is answered
+  stands_on : (new : State) (context : Context) (after_it text : List ℕ) (left : Option (List ℕ))
+      → IsExact → StaysLegal → LeavesStep → Stands settings moment bytes s number (Some rest) out
+      → TakesStep settings moment number rest s new context after_it text
+      → MatchBool context.closes ((◌≡◌ {A = List Message} [] []) × (left ≡ None)) (left ≡ Some after_it)
+      → Stands settings moment bytes new (number + 1) left (out ++ text)
+  stands_on new context after_it text left exact stays leaves h t behind =
+      let entry : Entry = record { command = t.command; moment = moment; answer = answer_of settings s moment number t.command } in
+      let x : Exchange = record { context = context; entry = entry; reply = text } in
+      let sound = sound_is_message exact settings moment true rest after_it context t.command t.judged in
+      let right : IsAnswer settings.min_part (after settings.min_part (opening settings.buckets) (entries_of h.exchanges)) (0 + length (entries_of h.exchanges)) entry =
+      rw (h.state, h.count, zero-add) refl in
+      let entries = map_push (λ (y : Exchange). y.entry) h.exchanges x in
+      record {
+        exchanges = h.exchanges ++ x ∷ [];
+        walk = subst (λ ms. Walks settings (λ k. moment) true 0 bytes ms left) (sym (map_push message_of h.exchanges x))
+            (walk_on settings (λ k. moment) true 0 _ bytes rest (map message_of h.exchanges) (message_of x ∷ []) left h.walk refl (after_it, t.judged, behind));
+        legal = subst (Legal settings.min_part (opening settings.buckets) 0) (sym entries)
+            (stays settings.min_part (opening settings.buckets) 0 (entries_of h.exchanges) entry h.legal right);
+        answered = answered_on h.exchanges x h.answered (record { moment = sym (ap (λ (c : Context). c.moment) sound.replied); printed = t.printed });
+        state = ap (after settings.min_part (opening settings.buckets)) entries
+            ∙ leaves settings.min_part (opening settings.buckets) (entries_of h.exchanges) entry
+            ∙ ap (λ (u : State). after_entry settings.min_part u entry) h.state ∙ sym t.state;
+        count = ap length entries ∙ length_push (entries_of h.exchanges) entry ∙ ap (λ n. n + 1) h.count;
+        joined = ap (λ o. o ++ text) h.joined ∙ flat_map_more (λ (y : Exchange). y.reply) [] h.exchanges x;
+      }
 
--- nothing more is written where no bytes are left
-pub replays_through : (settings : Settings) (moment : ℕ) (bytes rest out : List ℕ) (s : State) (number : ℕ)
-    → Stands settings moment bytes s number rest out → length rest ≡ 0
-    → Replays settings moment bytes out
-unfolding Judges found_in skip_pairs text_length
-replays_through settings moment bytes [] out s number h left =
-    let waits : Judges settings moment true [] open_yet = refl in
-    subst (Replays settings moment bytes) (append-nil out) (replays_end settings moment bytes [] out s number [] h (inl waits) (inl (waits, refl)))
-replays_through settings moment bytes (b ∷ rest) out s number h left = absurd (cc)
+  -- nothing more is written where no bytes are left
+  pub replays_through : Stands settings moment bytes s number (Some rest) out → length rest ≡ 0 → Replays settings moment bytes out
+  unfolding Judges found_in skip_pairs text_length
+  replays_through h none =
+      let empty : rest ≡ [] = nil_from_length rest none in
+      let waits : Judges settings moment true [] open_yet = refl in
+      subst (Replays settings moment bytes) (append-nil out)
+      (finished false (Some rest) [] h (inl (subst (λ b. Judges settings moment true b open_yet) (sym empty) waits, refl)))
 
--- what is written where memory runs out at a head
-pub replays_dead : (settings : Settings) (moment : ℕ) (bytes rest out : List ℕ) (s : State) (number : ℕ)
-    → Stands settings moment bytes s number rest out → HoldsHead rest
-    → Replays settings moment bytes (out ++ internal_error)
-replays_dead settings moment bytes rest out s number h holds =
-    let all = h.goes_on [] true internal_error (tt, tt) (holds, refl) in
-    let same : h.history ++ [] ≡ h.history = append-nil h.history in
-    let facts = rw same at all in
-    (true, (h.history, h.legal, facts.0, facts.1))
+-- what one turn makes of a replay
+module _ (settings : Settings) (moment : ℕ) (bytes rest out : List ℕ) (s : State) (number : ℕ) (new : State) (turn : Turn) (longer : List ℕ) where
+  at_turn : (u : Turn) → turn ≡ u → Turned settings moment number rest s new turn (added out longer) → Turned settings moment number rest s new u (added out longer)
+  at_turn u is turned = subst (λ (t : Turn). Turned settings moment number rest s new t (added out longer)) is turned
 
--- what is written where the reply to an answered command closes the connection
-pub replays_closed : (settings : Settings) (moment : ℕ) (bytes rest out : List ℕ) (s : State) (number : ℕ)
-    (new : State) (context : Context) (after_it text : List ℕ)
-    → StaysLegal → Stands settings moment bytes s number rest out
-    → IsAnswered settings moment number rest s new context after_it text → context.closes ≡ true
-    → Replays settings moment bytes (out ++ text)
-replays_closed settings moment bytes rest out s number new context after_it text stays h answered closing =
-    let command = answered.0 in
-    let e = entry_of settings s moment number command in
-    let answers : Answers settings moment true false rest (e ∷ []) =
-    ((refl, tt), (context, after_it, answered.1, if_true context.closes _ _ closing refl)) in
-    let writes : Writes settings moment true false rest (answers_of (e ∷ [])) text =
-    (context, command, after_it, text, [], answered.1, answered.3, sym (append-nil text), if_true context.closes _ _ closing (refl, refl, refl)) in
-    let all = h.goes_on (e ∷ []) false text answers writes in
-    (false, (h.history ++ e ∷ [], legal_more settings moment bytes rest out s number command stays h, all.0, all.1))
+  pub by_ended : Stands settings moment bytes s number (Some rest) out → turn ≡ turns.Ended → IsLonger out longer
+      → Turned settings moment number rest s new turn (added out longer) → Replays settings moment bytes longer
+  by_ended h is grows turned =
+      subst (Replays settings moment bytes) (sym grows)
+      (finished settings moment bytes rest out s number false (Some rest) (added out longer) h (at_turn turns.Ended is turned).1)
 
--- the same, by what one turn did
-pub by_ended : (settings : Settings) (moment : ℕ) (bytes rest out : List ℕ) (s : State) (number : ℕ) (new : State) (turn : Turn) (longer : List ℕ)
-    → Stands settings moment bytes s number rest out → turn ≡ turns.Ended → IsLonger out longer
-    → Turned settings moment number rest s new turn (added out longer) → Replays settings moment bytes longer
-by_ended settings moment bytes rest out s number new turn longer h is grows turned =
-    let t : Turned settings moment number rest s new turns.Ended (added out longer) = subst (λ (u : Turn). Turned settings moment number rest s new u (added out longer)) is turned in
-    subst (Replays settings moment bytes) (sym grows) (replays_end settings moment bytes rest out s number (added out longer) h t.1 t.2)
+  pub by_died : Stands settings moment bytes s number (Some rest) out → turn ≡ turns.Died → IsLonger out longer
+      → Turned settings moment number rest s new turn (added out longer) → Replays settings moment bytes longer
+  by_died h is grows turned =
+      subst (Replays settings moment bytes) (sym grows)
+      (finished settings moment bytes rest out s number true (Some rest) (added out longer) h (at_turn turns.Died is turned).1)
 
-pub by_died : (settings : Settings) (moment : ℕ) (bytes rest out : List ℕ) (s : State) (number : ℕ) (new : State) (turn : Turn) (longer : List ℕ)
-    → Stands settings moment bytes s number rest out → turn ≡ turns.Died → IsLonger out longer
-    → Turned settings moment number rest s new turn (added out longer) → Replays settings moment bytes longer
-by_died settings moment bytes rest out s number new turn longer h is grows turned =
-    let t : Turned settings moment number rest s new turns.Died (added out longer) = subst (λ (u : Turn). Turned settings moment number rest s new u (added out longer)) is turned in
-    subst (Replays settings moment bytes) (sym (grows ∙ ap (λ text. out ++ text) t.2)) (replays_dead settings moment bytes rest out s number h t.1)
+  module _ (context : Context) (after_it : Bor (List ℕ)) where
+    pub by_closed : IsExact → StaysLegal → LeavesStep → Stands settings moment bytes s number (Some rest) out → turn ≡ turns.Answered context after_it → IsLonger out longer
+        → Turned settings moment number rest s new turn (added out longer) → context.closes ≡ true → Replays settings moment bytes longer
+    by_closed exact stays leaves h is grows turned closing =
+        let stands = stands_on settings moment bytes rest out s number new context after_it.now (added out longer) None exact stays leaves h
+        (at_turn (turns.Answered context after_it) is turned) (rw closing (refl, refl)) in
+        subst (Replays settings moment bytes) (append-nil _ ∙ sym grows)
+        (finished settings moment bytes rest (out ++ added out longer) new (number + 1) false None [] stands refl)
 
-pub by_closed : (settings : Settings) (moment : ℕ) (bytes rest out : List ℕ) (s : State) (number : ℕ) (new : State) (turn : Turn) (longer : List ℕ) (context : Context) (after_it : Bor (List ℕ))
-    → StaysLegal → Stands settings moment bytes s number rest out → turn ≡ turns.Answered context after_it → IsLonger out longer
-    → Turned settings moment number rest s new turn (added out longer) → context.closes ≡ true → Replays settings moment bytes longer
-by_closed settings moment bytes rest out s number new turn longer context after_it stays h is grows turned closing =
-    let t : Turned settings moment number rest s new (turns.Answered context after_it) (added out longer) = subst (λ (u : Turn). Turned settings moment number rest s new u (added out longer)) is turned in
-    subst (Replays settings moment bytes) (sym grows)
-    (replays_closed settings moment bytes rest out s number new context after_it.now (added out longer) stays h t closing)
+    pub by_answered : IsExact → StaysLegal → LeavesStep → Stands settings moment bytes s number (Some rest) out → turn ≡ turns.Answered context after_it → IsLonger out longer
+        → Turned settings moment number rest s new turn (added out longer) → context.closes ≡ false
+        → Stands settings moment bytes new (number + 1) (Some after_it.now) longer
+    by_answered exact stays leaves h is grows turned open_still =
+        subst (Stands settings moment bytes new (number + 1) (Some after_it.now)) (sym grows)
+        (stands_on settings moment bytes rest out s number new context after_it.now (added out longer) (Some after_it.now) exact stays leaves h
+        (at_turn (turns.Answered context after_it) is turned) (rw open_still refl))
 
-pub by_answered : (settings : Settings) (moment : ℕ) (bytes rest out : List ℕ) (s : State) (number : ℕ) (new : State) (turn : Turn) (longer : List ℕ) (context : Context) (after_it : Bor (List ℕ))
-    → StaysLegal → LeavesStep → Stands settings moment bytes s number rest out → turn ≡ turns.Answered context after_it → IsLonger out longer
-    → Turned settings moment number rest s new turn (added out longer) → context.closes ≡ false
-    → Stands settings moment bytes new (number + 1) after_it.now longer
-by_answered settings moment bytes rest out s number new turn longer context after_it stays leaves h is grows turned open_still =
-    let t : Turned settings moment number rest s new (turns.Answered context after_it) (added out longer) = subst (λ (u : Turn). Turned settings moment number rest s new u (added out longer)) is turned in
-    subst (Stands settings moment bytes new (number + 1) after_it.now) (sym grows)
-    (stands_on settings moment bytes rest out s number new context after_it.now (added out longer) stays leaves h t open_still)
+    -- there are as many bytes as turns taken and bytes left
+    pub fewer_left : IsExact → number + length rest ≤ length bytes → turn ≡ turns.Answered context after_it
+        → Turned settings moment number rest s new turn (added out longer)
+        → number + 1 + length after_it.now ≤ length bytes
+    fewer_left exact count is turned =
+        let t = at_turn (turns.Answered context after_it) is turned in
+        omega (arith, count, sound_shorter exact settings moment true rest after_it.now context t.command t.judged)
 
--- there are as many bytes as turns taken and bytes left
-pub fewer_left : IsExact → (settings : Settings) (moment : ℕ) (bytes rest out : List ℕ) (s : State) (number : ℕ) (new : State) (turn : Turn) (longer : List ℕ) (context : Context) (after_it : Bor (List ℕ))
-    → number + length rest ≤ length bytes → turn ≡ turns.Answered context after_it
-    → Turned settings moment number rest s new turn (added out longer)
-    → number + 1 + length after_it.now ≤ length bytes
-fewer_left exact settings moment bytes rest out s number new turn longer context after_it count is turned =
-    let t : Turned settings moment number rest s new (turns.Answered context after_it) (added out longer) = subst (λ (u : Turn). Turned settings moment number rest s new u (added out longer)) is turned in
-    omega (arith, count, sound_shorter exact settings moment true rest after_it.now context t.0 t.1)
+-- where something is decided behind some messages, something is decided at the first
+pub asked_at_first : OneVerdict → (settings : Settings) (moment : ℕ) (bytes rest : List ℕ) (messages : List Message)
+    → Walks settings (λ k. moment) true 0 bytes messages (Some rest)
+    → ¬ (Judges settings moment true rest open_yet) → ¬ (Judges settings moment true bytes open_yet)
+asked_at_first one settings moment bytes rest [] walk decided waits =
+    let same : bytes ≡ rest = cc in decided (subst (λ b. Judges settings moment true b open_yet) same waits)
+asked_at_first one settings moment bytes rest (m ∷ messages) walk decided waits =
+    let same = ap (λ (d : Decision). d.0) (one settings moment true bytes _ _ waits walk.1) in absurd (cc)

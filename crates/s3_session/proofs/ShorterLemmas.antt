@@ -4,11 +4,11 @@ use Rattle.std.specs.Prelude.{◌==◌}
 use Rattle.std.proofs.lemmas.List.{length-take-le}
 use Rattle.std.proofs.lemmas.Bool.{cases_Bool}
 use Rattle.s3_config.specs.Settings.{Settings}
-use Rattle.s3_http_heads.specs.Text.{skip_pairs, head_end}
+use Rattle.s3_http_heads.specs.Find.{skip_pairs, head_end}
 use Rattle.s3_requests.specs.declared.commands.Command.{Command}
 use Rattle.s3_replies.specs.declared.context.Context.{Context}
 use Rattle.s3_session.specs.declared.verdict.Verdict.TheVariants as verdicts
-use Rattle.s3_session.specs.Message.{Judges}
+use Rattle.s3_session.specs.Decision.{Judges}
 use Rattle.s3_session.proofs.StayLemmas.{IsExact}
 use Rattle.s3_session.proofs.SoundLemmas.{sound_is_message}
 

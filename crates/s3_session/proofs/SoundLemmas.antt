@@ -1,18 +1,17 @@
 -- A sound verdict is about a sound message at the front of the bytes, and each of those has one.
-use Rattle.std.proofs.Common.{◌≡◌, ◌≢◌, ℕ, ◌≤◌, ◌&&◌, Bool, true, false, List, [], ◌∷◌, ◌++◌, take, drop, length, refl, sym, ap, subst, ◌∙◌, inl, inr, arith, length-append, Option, Some, None, Result, Ok, Err}
+use Rattle.std.proofs.Common.{◌≡◌, ℕ, ◌≤◌, ◌&&◌, Bool, true, false, List, ◌++◌, take, drop, length, refl, sym, ap, subst, ◌∙◌, inl, inr, arith, length-append, Option, Some, None, Result, Ok, Err}
 use Rattle.std.specs.Prelude.{codes, not, nat_lt, ok_or}
-use Rattle.std.specs.List.{AllByRecursion}
 use Rattle.std.proofs.lemmas.List.{take-append-drop, length-take-le, take_at, drop_at}
 use Rattle.std.proofs.lemmas.Bool.{cases_Bool, ltb-false, le-ltb, not-false}
 use Rattle.s3_config.specs.Settings.{Settings}
-use Rattle.s3_terms.specs.Fault.{first_fault, ◌>>=◌}
+use Rattle.s3_terms.specs.Fault.{◌>>=◌}
 use Rattle.s3_terms.specs.declared.code.Code.{Code}
-use Rattle.s3_terms.specs.declared.code.Code.TheVariants.{EntityTooLarge, HeadTooLarge, MalformedHead, MissingContentLength, NotImplemented}
-use Rattle.s3_http_heads.specs.Text.{found_in, skip_pairs}
+use Rattle.s3_terms.specs.declared.code.Code.TheVariants.{EntityTooLarge, IncompleteBody, MissingContentLength, NotImplemented, XAmzContentSHA256Mismatch}
+use Rattle.s3_http_heads.specs.Find.{found_in, skip_pairs}
 use Rattle.s3_http_heads.specs.declared.find.Found.{Found}
 use Rattle.s3_http_heads.specs.declared.find.Found.TheVariants as found
-use Rattle.s3_http_heads.specs.Parts.{HeadParts, Says, asks_head_only, is_sent}
-use Rattle.s3_http_heads.specs.Framing.{framing_of, length_lines, announced, needs_length}
+use Rattle.s3_http_heads.specs.Head.{HeadParts, Says, is_sent}
+use Rattle.s3_http_heads.specs.BodyLength.{framing_of, length_lines, announced, needs_length}
 use Rattle.s3_http_heads.specs.Message.{IsMessage}
 use Rattle.s3_signing.specs.Verdict.{head_verdict}
 use Rattle.s3_requests.specs.declared.commands.Command.{Command}
@@ -20,19 +19,11 @@ use Rattle.s3_requests.specs.Routing.{command_of, route_of}
 use Rattle.s3_replies.specs.declared.context.Context.{Context}
 use Rattle.s3_session.specs.declared.verdict.Admission.{Admission}
 use Rattle.s3_session.specs.declared.verdict.Verdict.TheVariants as verdicts
-use Rattle.s3_session.specs.Message.{Decision, Judges, FoundJudged, TextJudged, open_yet, refused_message, meets, body_faults, judged, body_decision, admitted_decision, admission_of, hash_word, decision_of, text_at, behind_text, context_of}
+use Rattle.s3_session.specs.Admission.{admission_of, hash_word}
+use Rattle.s3_session.specs.Decision.{Decision, Judges, FoundJudged, TextJudged, open_yet, meets, body_at, concluded, body_decision, admitted_decision, decision_of, text_at, behind_text, context_of}
 use Rattle.s3_session.specs.Laws.{IsSound, SoundMessages, SoundIsJudged}
-use Rattle.s3_terms.proofs.FaultLemmas.{no_first, one_value, stage_ok, test_ok}
+use Rattle.s3_terms.proofs.FaultLemmas.{one_value, stage_ok, test_ok}
 use Rattle.s3_session.proofs.StayLemmas.{IsExact}
-
--- ---- faults
-
--- where no fault of a list decides, each is absent
-no_faults : (faults : List (Bool × Code)) → first_fault faults ≡ None → AllByRecursion (λ (fault : Bool × Code). fault.0 ≡ false) faults
-no_faults [] none = tt
-no_faults (fault ∷ faults) none =
-    let one = no_first fault.0 fault.1 faults none in
-    (one.0, no_faults faults one.1)
 
 -- ---- the framing of a head that is admitted
 
@@ -72,72 +63,53 @@ admitted_framed settings head moment admission is =
 abbrev pub sound : Context → Command → List ℕ → Decision
 sound context command rest = (verdicts.Sound context command, rest)
 
--- nothing is sound where something else is decided
-not_sound : (context : Context) (command : Command) (rest : List ℕ) (d : Decision) (P : Type 0)
-    → sound context command rest ≡ d → d.0 ≢ verdicts.Sound context command → P
-not_sound context command rest d P is other = absurd (other (sym (ap (λ (e : Decision). e.0) is)))
-
-open_is_not_sound : (context : Context) (command : Command) → verdicts.Open ≢ verdicts.Sound context command
-open_is_not_sound context command e = absurd (cc)
-
-refused_is_not_sound : (code : Code) (end context : Context) (command : Command) → verdicts.Refused code end ≢ verdicts.Sound context command
-refused_is_not_sound code end context command e = absurd (cc)
-
--- the body stands whole at the front of these bytes and has the hash that the head's word says
-record IsSoundBody (head : HeadParts) (moment : ℕ) (bytes : List ℕ) (admission : Admission) (context : Context) (command : Command) (rest : List ℕ) : Type 0 where
+-- the head is admitted, and behind it its body stands whole, has its hash, and is followed by the rest
+record IsSoundHead (settings : Settings) (moment : ℕ) (head : HeadParts) (bytes : List ℕ) (context : Context) (command : Command) (rest : List ℕ) : Type 0 where
+  admission : Admission
+  admitted : admission_of settings head moment ≡ Ok admission
   within : admission.size ≤ length bytes
   met : meets admission.word (take admission.size bytes) ≡ true
   replied : context ≡ context_of head moment
   asked : command ≡ command_of admission.plan (take admission.size bytes)
   left : rest ≡ drop admission.size bytes
 
-body_at : (head : HeadParts) (moment : ℕ) (bytes : List ℕ) (admission : Admission) (context : Context) (command : Command) (rest : List ℕ) (fault : Option Code)
-    → first_fault (body_faults bytes admission) ≡ fault → sound context command rest ≡ judged head moment bytes admission fault
-    → IsSoundBody head moment bytes admission context command rest
-body_at head moment bytes admission context command rest (Some code) first is =
-    not_sound context command rest (refused_message code moment (asks_head_only head)) _ is (refused_is_not_sound code _ context command)
-body_at head moment bytes admission context command rest None first is =
-    let absent = no_faults (body_faults bytes admission) first in
-    let same = ap (λ (d : Decision). d.0) is in
-    record {
-      within = ltb-false (length bytes) admission.size absent.0;
-      met = not-false (meets admission.word (take admission.size bytes)) absent.1.0;
-      replied = cc;
-      asked = cc;
-      left = ap (λ (d : Decision). d.1) is;
-    }
+module _ (settings : Settings) (moment : ℕ) (ended : Bool) (head : HeadParts) (bytes : List ℕ) (context : Context) (command : Command) (rest : List ℕ) where
+  cut_sound : (admission : Admission) (cut : Result (List ℕ × List ℕ) Code) → admission_of settings head moment ≡ Ok admission
+      → body_at bytes admission ≡ cut → sound context command rest ≡ concluded head moment admission.plan cut
+      → IsSoundHead settings moment head bytes context command rest
+  unfolding body_at
+  cut_sound admission (Err code) admitted at is = let same = ap (λ (d : Decision). d.0) is in absurd (cc)
+  cut_sound admission (Ok cut) admitted at is =
+      let whole = test_ok (nat_lt (length bytes) admission.size) IncompleteBody _ cut at in
+      let right = test_ok (not (meets admission.word (take admission.size bytes))) XAmzContentSHA256Mismatch _ cut whole.1 in
+      let one = one_value _ cut right.1 in
+      let same = ap (λ (d : Decision). d.0) is in
+      record {
+        admission = admission;
+        admitted = admitted;
+        within = ltb-false (length bytes) admission.size whole.0;
+        met = not-false (meets admission.word (take admission.size bytes)) right.0;
+        replied = cc;
+        asked = let asks : command ≡ command_of admission.plan cut.0 = cc in
+            asks ∙ ap (command_of admission.plan) (sym (ap (λ (c : List ℕ × List ℕ). c.0) one));
+        left = ap (λ (d : Decision). d.1) is ∙ sym (ap (λ (c : List ℕ × List ℕ). c.1) one);
+      }
 
-body_sound : (head : HeadParts) (moment : ℕ) (ended : Bool) (bytes : List ℕ) (admission : Admission) (context : Context) (command : Command) (rest : List ℕ)
-    → sound context command rest ≡ body_decision head moment ended bytes admission
-    → IsSoundBody head moment bytes admission context command rest
-unfolding body_decision
-body_sound head moment ended bytes admission context command rest is = elim (cases_Bool (nat_lt (length bytes) admission.size && not ended)) [
-  | inl waits ↦ not_sound context command rest open_yet _ (is ∙ rw waits refl) (open_is_not_sound context command)
-  | inr decided ↦
-      let now : sound context command rest ≡ judged head moment bytes admission (first_fault (body_faults bytes admission)) = is ∙ rw decided refl in
-      body_at head moment bytes admission context command rest (first_fault (body_faults bytes admission)) refl now
-]
+  admitted_sound : (admitted : Result Admission Code) → admission_of settings head moment ≡ admitted
+      → sound context command rest ≡ admitted_decision head moment ended bytes admitted
+      → IsSoundHead settings moment head bytes context command rest
+  unfolding body_decision
+  admitted_sound (Err code) at is = let same = ap (λ (d : Decision). d.0) is in absurd (cc)
+  admitted_sound (Ok admission) at is = elim (cases_Bool (nat_lt (length bytes) admission.size && not ended)) [
+    | inl waits ↦
+        let open_still : sound context command rest ≡ open_yet = is ∙ rw waits refl in
+        let same = ap (λ (d : Decision). d.0) open_still in absurd (cc)
+    | inr decided ↦ cut_sound admission (body_at bytes admission) at refl (is ∙ rw decided refl)
+  ]
 
--- the head is admitted, and its body is sound at the front of the bytes behind it
-record IsSoundHead (settings : Settings) (moment : ℕ) (head : HeadParts) (bytes : List ℕ) (context : Context) (command : Command) (rest : List ℕ) : Type 0 where
-  admission : Admission
-  admitted : admission_of settings head moment ≡ Ok admission
-  body : IsSoundBody head moment bytes admission context command rest
-
-head_at : (settings : Settings) (head : HeadParts) (moment : ℕ) (ended : Bool) (bytes : List ℕ) (context : Context) (command : Command) (rest : List ℕ) (admitted : Result Admission Code)
-    → admission_of settings head moment ≡ admitted → sound context command rest ≡ admitted_decision head moment ended bytes admitted
-    → IsSoundHead settings moment head bytes context command rest
-head_at settings head moment ended bytes context command rest (Ok admission) admitted is =
-    record { admission = admission; admitted = admitted; body = body_sound head moment ended bytes admission context command rest is }
-head_at settings head moment ended bytes context command rest (Err code) admitted is =
-    not_sound context command rest (refused_message code moment (asks_head_only head)) _ is (refused_is_not_sound code _ context command)
-
-head_sound : (settings : Settings) (moment : ℕ) (ended : Bool) (head : HeadParts) (bytes : List ℕ) (context : Context) (command : Command) (rest : List ℕ)
-    → sound context command rest ≡ decision_of settings moment ended head bytes
-    → IsSoundHead settings moment head bytes context command rest
-unfolding decision_of
-head_sound settings moment ended head bytes context command rest is =
-    head_at settings head moment ended bytes context command rest (admission_of settings head moment) refl is
+  head_sound : sound context command rest ≡ decision_of settings moment ended head bytes → IsSoundHead settings moment head bytes context command rest
+  unfolding decision_of
+  head_sound is = admitted_sound (admission_of settings head moment) refl is
 
 -- the message that stands where a head's text was found
 message_at : (settings : Settings) (moment n : ℕ) (bytes : List ℕ) (head : HeadParts) (context : Context) (command : Command) (rest : List ℕ)
@@ -148,24 +120,22 @@ message_at settings moment n bytes head context command rest at within says h =
     let size = h.admission.size in
     let behind = behind_text n bytes in
     let frames = framed head settings.body_limit size (admitted_framed settings head moment h.admission h.admitted) in
-    let tail : take size behind ++ rest ≡ behind = ap (λ r. take size behind ++ r) h.body.left ∙ take-append-drop size behind in
+    let tail : take size behind ++ rest ≡ behind = ap (λ r. take size behind ++ r) h.left ∙ take-append-drop size behind in
     record {
       text = text_at n bytes;
       found = at ∙ ap found.Head (sym (length-take-le n (skip_pairs bytes) within));
       joined = sym (ap (λ r. text_at n bytes ++ r) tail ∙ take-append-drop n (skip_pairs bytes));
       says = says;
-      whole = frames ∙ ap Some (sym (length-take-le size behind h.body.within));
+      whole = frames ∙ ap Some (sym (length-take-le size behind h.within));
     }
 
 sound_at : IsExact → (settings : Settings) (moment : ℕ) (ended : Bool) (bytes rest : List ℕ) (context : Context) (command : Command) (f : Found)
     → found_in bytes ≡ f → FoundJudged settings moment ended bytes f (sound context command rest)
     → IsSound settings moment bytes context command rest
-sound_at exact settings moment ended bytes rest context command found.NeedMore at is =
-    not_sound context command rest open_yet _ is (open_is_not_sound context command)
-sound_at exact settings moment ended bytes rest context command found.TooLarge at is =
-    not_sound context command rest (refused_message HeadTooLarge moment false) _ is (refused_is_not_sound HeadTooLarge _ context command)
+sound_at exact settings moment ended bytes rest context command found.NeedMore at is = let same = ap (λ (d : Decision). d.0) is in absurd (cc)
+sound_at exact settings moment ended bytes rest context command found.TooLarge at is = let same = ap (λ (d : Decision). d.0) is in absurd (cc)
 sound_at exact settings moment ended bytes rest context command (found.Head n) at (inl unreadable) =
-    not_sound context command rest (refused_message MalformedHead moment false) _ unreadable.1 (refused_is_not_sound MalformedHead _ context command)
+    let same = ap (λ (d : Decision). d.0) unreadable.1 in absurd (cc)
 sound_at exact settings moment ended bytes rest context command (found.Head n) at (inr said) =
     let h = head_sound settings moment ended said.0 (behind_text n bytes) context command rest said.2 in
     record {
@@ -174,9 +144,9 @@ sound_at exact settings moment ended bytes rest context command (found.Head n) a
       admission = h.admission;
       message = message_at settings moment n bytes said.0 context command rest at ((exact bytes n).0 at).within said.1 h;
       admitted = h.admitted;
-      met = h.body.met;
-      replied = h.body.replied;
-      asked = h.body.asked;
+      met = h.met;
+      replied = h.replied;
+      asked = h.asked;
     }
 
 pub sound_is_message : IsExact → SoundMessages
@@ -190,15 +160,13 @@ sound_is_message exact settings moment ended bytes rest context command is =
 body_judged : (head : HeadParts) (moment : ℕ) (ended : Bool) (body rest : List ℕ) (admission : Admission)
     → length body ≡ admission.size → meets admission.word body ≡ true
     → sound (context_of head moment) (command_of admission.plan body) rest ≡ body_decision head moment ended (body ++ rest) admission
-unfolding body_decision
+unfolding body_decision body_at
 body_judged head moment ended body rest admission whole met =
     let front : take admission.size (body ++ rest) ≡ body = take_at body rest admission.size whole in
     let back : drop admission.size (body ++ rest) ≡ rest = drop_at body rest admission.size whole in
     let all : nat_lt (length (body ++ rest)) admission.size ≡ false = le-ltb (length (body ++ rest)) admission.size (omega (arith, length-append body rest)) in
     let right : meets admission.word (take admission.size (body ++ rest)) ≡ true = ap (meets admission.word) front ∙ met in
-    let none : first_fault (body_faults (body ++ rest) admission) ≡ None = rw (all, right) refl in
-    let now : sound (context_of head moment) (command_of admission.plan body) rest ≡ judged head moment (body ++ rest) admission None = rw (front, back) refl in
-    now ∙ ap (judged head moment (body ++ rest) admission) (sym none) ∙ rw all refl
+    rw (all, right, front, back) refl
 
 head_judged : (settings : Settings) (moment : ℕ) (ended : Bool) (head : HeadParts) (body rest : List ℕ) (admission : Admission)
     → admission_of settings head moment ≡ Ok admission → length body ≡ admission.size → meets admission.word body ≡ true

@@ -1,51 +1,47 @@
 -- What was decided about a message stays decided.
-use Rattle.std.proofs.Common.{◌≡◌, ◌≢◌, ℕ, ◌≤◌, Bool, false, List, ◌++◌, take, drop, length, refl, sym, ap, subst, ◌∙◌, inl, inr, arith, length-append, Option, Some, None, Result, Ok, Err, ◌↔◌}
+use Rattle.std.proofs.Common.{◌≡◌, ◌≢◌, ℕ, ◌≤◌, Bool, false, List, ◌++◌, take, drop, length, refl, sym, ap, subst, ◌∙◌, inl, inr, arith, length-append, Result, Ok, Err, ◌↔◌}
 use Rattle.std.specs.Prelude.{nat_lt}
 use Rattle.std.proofs.lemmas.List.{take-append-le, drop-append-le}
 use Rattle.std.proofs.lemmas.Bool.{cases_Bool, ltb-false, le-ltb}
 use Rattle.s3_config.specs.Settings.{Settings}
-use Rattle.s3_terms.specs.Fault.{first_fault}
 use Rattle.s3_terms.specs.declared.code.Code.{Code}
 use Rattle.s3_terms.specs.declared.code.Code.TheVariants.{HeadTooLarge, MalformedHead}
-use Rattle.s3_http_heads.specs.Text.{found_in, skip_pairs, IsHeadText}
+use Rattle.s3_http_heads.specs.Find.{found_in, skip_pairs, IsHeadText}
 use Rattle.s3_http_heads.specs.declared.find.Found.{Found}
 use Rattle.s3_http_heads.specs.declared.find.Found.TheVariants as found
-use Rattle.s3_http_heads.specs.Parts.{HeadParts, asks_head_only}
+use Rattle.s3_http_heads.specs.Head.{HeadParts, asks_head_only}
 use Rattle.s3_session.specs.declared.verdict.Admission.{Admission}
 use Rattle.s3_session.specs.declared.verdict.Verdict.TheVariants as verdicts
-use Rattle.s3_session.specs.Message.{Decision, Judges, FoundJudged, TextJudged, open_yet, refused_message, body_faults, judged, body_decision, admitted_decision, admission_of, decision_of, text_at, behind_text}
-use Rattle.s3_session.specs.Stays.{rest_with, VerdictsStay}
+use Rattle.s3_session.specs.Admission.{admission_of}
+use Rattle.s3_session.specs.Decision.{Decision, Judges, FoundJudged, TextJudged, open_yet, refused_message, meets, body_at, concluded, body_decision, admitted_decision, decision_of, text_at, behind_text}
+use Rattle.s3_session.specs.Laws.{rest_with, VerdictsStay}
 
 -- the decision where more bytes follow
 abbrev pub with_more : List ℕ → Decision → Decision
 with_more more d = (d.0, rest_with d.0 d.1 more)
 
 -- a refusal is the same where more bytes follow
-refusal_stays : (more : List ℕ) (code : Code) (moment : ℕ) (head_only : Bool) (d : Decision)
-    → d ≡ refused_message code moment head_only → with_more more d ≡ refused_message code moment head_only
-refusal_stays more code moment head_only d is = ap (with_more more) is
+refusal_stays : (more : List ℕ) (code : Code) (head_only : Bool) (d : Decision)
+    → d ≡ refused_message code head_only → with_more more d ≡ refused_message code head_only
+refusal_stays more code head_only d is = ap (with_more more) is
 
 -- nothing is open where something is decided
 not_open : (d : Decision) (P : Type 0) → d ≡ open_yet → d.0 ≢ verdicts.Open → P
 not_open d P is decided = absurd (decided (ap (λ (e : Decision). e.0) is))
 
-judged_stays : (head : HeadParts) (moment : ℕ) (bytes more : List ℕ) (admission : Admission) (fault : Option Code)
-    → admission.size ≤ length bytes
-    → with_more more (judged head moment bytes admission fault) ≡ judged head moment (bytes ++ more) admission fault
-judged_stays head moment bytes more admission (Some code) within = refl
-judged_stays head moment bytes more admission None within =
+-- a whole body has the same end where more bytes follow
+concluded_stays : (head : HeadParts) (moment : ℕ) (bytes more : List ℕ) (admission : Admission) → admission.size ≤ length bytes
+    → with_more more (concluded head moment admission.plan (body_at bytes admission)) ≡ concluded head moment admission.plan (body_at (bytes ++ more) admission)
+unfolding body_at
+concluded_stays head moment bytes more admission within =
     let front = take-append-le admission.size bytes more within in
     let back = drop-append-le admission.size bytes more within in
-    rw (front, back) refl
-
--- a whole body has the same faults where more bytes follow
-faults_stay : (bytes more : List ℕ) (admission : Admission) → admission.size ≤ length bytes
-    → first_fault (body_faults (bytes ++ more) admission) ≡ first_fault (body_faults bytes admission)
-faults_stay bytes more admission within =
-    let front = take-append-le admission.size bytes more within in
     let few : nat_lt (length bytes) admission.size ≡ false = le-ltb (length bytes) admission.size within in
     let all : nat_lt (length (bytes ++ more)) admission.size ≡ false = le-ltb (length (bytes ++ more)) admission.size (omega (arith, length-append bytes more)) in
-    rw (front, few, all) refl
+    rw (few, all, front, back) (elim (cases_Bool (meets admission.word (take admission.size bytes))) [
+      | inl met ↦ rw met refl
+      | inr other ↦ rw other refl
+    ])
 
 body_stays : (head : HeadParts) (moment : ℕ) (ended : Bool) (bytes more : List ℕ) (admission : Admission) (d : Decision)
     → d ≡ body_decision head moment false bytes admission → d.0 ≢ verdicts.Open
@@ -56,18 +52,15 @@ body_stays head moment ended bytes more admission d is decided = elim (cases_Boo
   | inr whole ↦
       let within : admission.size ≤ length bytes = ltb-false (length bytes) admission.size whole in
       let all : nat_lt (length (bytes ++ more)) admission.size ≡ false = le-ltb (length (bytes ++ more)) admission.size (omega (arith, length-append bytes more)) in
-      let now : d ≡ judged head moment bytes admission (first_fault (body_faults bytes admission)) = is ∙ rw whole refl in
-      ap (with_more more) now
-      ∙ judged_stays head moment bytes more admission (first_fault (body_faults bytes admission)) within
-      ∙ ap (judged head moment (bytes ++ more) admission) (sym (faults_stay bytes more admission within))
-      ∙ rw all refl
+      let now : d ≡ concluded head moment admission.plan (body_at bytes admission) = is ∙ rw whole refl in
+      ap (with_more more) now ∙ concluded_stays head moment bytes more admission within ∙ rw all refl
 ]
 
 admitted_stays : (head : HeadParts) (moment : ℕ) (ended : Bool) (bytes more : List ℕ) (admitted : Result Admission Code) (d : Decision)
     → d ≡ admitted_decision head moment false bytes admitted → d.0 ≢ verdicts.Open
     → with_more more d ≡ admitted_decision head moment ended (bytes ++ more) admitted
 admitted_stays head moment ended bytes more (Ok admission) d is decided = body_stays head moment ended bytes more admission d is decided
-admitted_stays head moment ended bytes more (Err code) d is decided = refusal_stays more code moment (asks_head_only head) d is
+admitted_stays head moment ended bytes more (Err code) d is decided = refusal_stays more code (asks_head_only head) d is
 
 decision_stays : (settings : Settings) (moment : ℕ) (ended : Bool) (head : HeadParts) (bytes more : List ℕ) (d : Decision)
     → d ≡ decision_of settings moment false head bytes → d.0 ≢ verdicts.Open
@@ -80,7 +73,7 @@ text_stays : (settings : Settings) (moment : ℕ) (ended : Bool) (text bytes mor
     → TextJudged settings moment false text bytes d → d.0 ≢ verdicts.Open
     → TextJudged settings moment ended text (bytes ++ more) (with_more more d)
 text_stays settings moment ended text bytes more d (inl unreadable) decided =
-    inl (unreadable.0, refusal_stays more MalformedHead moment false d unreadable.1)
+    inl (unreadable.0, refusal_stays more MalformedHead false d unreadable.1)
 text_stays settings moment ended text bytes more d (inr said) decided =
     inr (said.0, said.1, decision_stays settings moment ended said.0 bytes more d said.2 decided)
 
@@ -105,7 +98,7 @@ found_stays heads large pairs exact settings moment ended bytes more d found.Nee
     not_open d _ judges decided
 found_stays heads large pairs exact settings moment ended bytes more d found.TooLarge at judges decided =
     subst (λ (f : Found). FoundJudged settings moment ended (bytes ++ more) f (with_more more d)) (sym (large bytes more at))
-    (refusal_stays more HeadTooLarge moment false d judges)
+    (refusal_stays more HeadTooLarge false d judges)
 found_stays heads large pairs exact settings moment ended bytes more d (found.Head n) at judges decided =
     let within = ((exact bytes n).0 at).within in
     let appends = pairs bytes more n at in

@@ -11,9 +11,14 @@ use Rattle.s3_session.specs.declared.verdict.Verdict.{Verdict}
 use Rattle.s3_session.specs.declared.verdict.Verdict.TheVariants as verdicts
 use Rattle.s3_session.specs.declared.turn.Turn.{Turn}
 use Rattle.s3_session.specs.declared.turn.Turn.TheVariants as turns
-use Rattle.s3_session.specs.Message.{Judges}
+use Rattle.s3_session.specs.Decision.{Judges}
 use Rattle.s3_session.specs.Turn.{answer_of, IsReplied, Turned}
 use Rattle.s3_session.proofs.EarlyLemmas.{sound_holds}
+
+-- what holds in any case holds where there is an error
+pub on_err : {T E P : Type 0} (result : Result T E) → P → OnErr result P
+on_err (Ok value) p = tt
+on_err (Err e) p = p
 
 module _ (settings : Settings) (moment number : ℕ) (bytes : List ℕ) (old new : State) (context : Context) (command : Command) (rest text : List ℕ) where
   turned : (answered : Result Answer NoMemory) (turn : Turn)
@@ -25,15 +30,15 @@ module _ (settings : Settings) (moment number : ℕ) (bytes : List ℕ) (old new
       → Turned settings moment number bytes old new turn text
   turned (Ok answer) turns.Ended judges state is same replied = absurd replied
   turned (Ok answer) turns.Died judges state is same replied = absurd replied
-  turned (Ok answer) (turns.Answered shown after) judges state is same replied = (
-    command,
-    subst (λ (k : Context). Judges settings moment true bytes (verdicts.Sound k command, after.now)) (sym replied.0)
-        (subst (λ (behind : List ℕ). Judges settings moment true bytes (verdicts.Sound context command, behind)) (sym replied.1) judges),
-    state,
-    subst (λ (a : Answer). Prints a shown text) is (subst (λ (k : Context). Prints answer k text) (sym replied.0) replied.2),
-  )
+  turned (Ok answer) (turns.Answered shown after) judges state is same replied = record {
+    command = command;
+    judged = subst (λ (k : Context). Judges settings moment true bytes (verdicts.Sound k command, after.now)) (sym replied.0)
+        (subst (λ (behind : List ℕ). Judges settings moment true bytes (verdicts.Sound context command, behind)) (sym replied.1) judges);
+    state = state;
+    printed = subst (λ (a : Answer). Prints a shown text) is (subst (λ (k : Context). Prints answer k text) (sym replied.0) replied.2);
+  }
   turned (Err e) turns.Ended judges state is same replied = absurd replied
-  turned (Err e) turns.Died judges state is same replied = (same, sound_holds settings moment true bytes context command rest judges, replied)
+  turned (Err e) turns.Died judges state is same replied = (same, (sound_holds settings moment true bytes context command rest judges, replied))
   turned (Err e) (turns.Answered shown after) judges state is same replied = absurd replied
 
   pub sound_turn : (least : ℕ) → least ≡ settings.min_part → (verdict : Verdict) (answered : Result Answer NoMemory) (reply : Result Turn NoMemory)

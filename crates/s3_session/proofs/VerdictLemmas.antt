@@ -1,12 +1,12 @@
 -- The same bytes have one verdict, and can't have none.
 use Rattle.std.proofs.Common.{◌≡◌, ℕ, Bool, false, List, refl, sym, ap, ◌∙◌, inl, inr}
 use Rattle.s3_config.specs.Settings.{Settings}
-use Rattle.s3_http_heads.specs.Text.{found_in}
+use Rattle.s3_http_heads.specs.Find.{found_in}
 use Rattle.s3_http_heads.specs.declared.find.Found.{Found}
 use Rattle.s3_http_heads.specs.declared.find.Found.TheVariants as found
-use Rattle.s3_http_heads.specs.Parts.{HeadParts, Says, parts_of}
+use Rattle.s3_http_heads.specs.Head.{HeadParts, Says, parts_of}
 use Rattle.s3_terms.specs.declared.code.Code.TheVariants.{HeadTooLarge, MalformedHead}
-use Rattle.s3_session.specs.Message.{Decision, Judges, FoundJudged, TextJudged, open_yet, refused_message, decision_of, text_at, behind_text}
+use Rattle.s3_session.specs.Decision.{Decision, Judges, FoundJudged, TextJudged, open_yet, refused_message, decision_of, text_at, behind_text}
 use Rattle.s3_session.specs.Laws.{OneVerdict, VerdictsExist}
 
 -- what the layer of heads says of texts
@@ -36,9 +36,9 @@ one_verdict one settings moment ended bytes d e x y =
 found_has_some : (settings : Settings) (moment : ℕ) (ended : Bool) (bytes : List ℕ) (f : Found)
     → ¬ ((d : Decision) → ¬ (FoundJudged settings moment ended bytes f d))
 found_has_some settings moment ended bytes found.NeedMore none = none open_yet refl
-found_has_some settings moment ended bytes found.TooLarge none = none (refused_message HeadTooLarge moment false) refl
+found_has_some settings moment ended bytes found.TooLarge none = none (refused_message HeadTooLarge false) refl
 found_has_some settings moment ended bytes (found.Head n) none =
-    none (refused_message MalformedHead moment false)
+    none (refused_message MalformedHead false)
     (inl ((λ h is. none (decision_of settings moment ended (parts_of h) (behind_text n bytes)) (inr (parts_of h, (h, is, refl), refl))), refl))
 
 pub verdict_exists : VerdictsExist

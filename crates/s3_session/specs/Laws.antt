@@ -1,15 +1,17 @@
 -- What a verdict on a connection's bytes says of them (RFC 9112, sections 2.1 and 6.2), and that the
 -- bytes fix what is written.
-use Rattle.std.specs.Prelude.{◌≡◌, IsTrue, ℕ, Bool, List, Ok}
+use Rattle.std.specs.Prelude.{◌≡◌, ◌≢◌, IsTrue, ℕ, Bool, false, List, ◌++◌, Ok}
 use Rattle.s3_config.specs.Settings.{Settings}
-use Rattle.s3_http_heads.specs.Parts.{HeadParts}
+use Rattle.s3_http_heads.specs.Head.{HeadParts}
 use Rattle.s3_http_heads.specs.Message.{IsMessage}
 use Rattle.s3_requests.specs.declared.commands.Command.{Command}
 use Rattle.s3_requests.specs.Routing.{command_of}
 use Rattle.s3_replies.specs.declared.context.Context.{Context}
 use Rattle.s3_session.specs.declared.verdict.Admission.{Admission}
+use Rattle.s3_session.specs.declared.verdict.Verdict.{Verdict}
 use Rattle.s3_session.specs.declared.verdict.Verdict.TheVariants as verdicts
-use Rattle.s3_session.specs.Message.{Decision, Judges, admission_of, meets, context_of}
+use Rattle.s3_session.specs.Admission.{admission_of}
+use Rattle.s3_session.specs.Decision.{Decision, Judges, meets, context_of}
 use Rattle.s3_session.specs.Replay.{LiveReplays}
 
 -- settings, moment, bytes and whether they end leave at most one verdict, with one rest
@@ -23,6 +25,22 @@ abbrev pub VerdictsExist : Type 0
 VerdictsExist =
     (settings : Settings) (moment : ℕ) (ended : Bool) (bytes : List ℕ)
     → ¬ ((d : Decision) → ¬ (Judges settings moment ended bytes d))
+
+-- Verdicts are final: what was decided about a message stays decided, whatever bytes follow.
+
+-- what comes after a message, where more bytes follow: only behind a sound message is there anything
+abbrev pub rest_with : Verdict → List ℕ → List ℕ → List ℕ
+rest_with verdicts.Open rest more = rest
+rest_with (verdicts.Refused code head_only) rest more = rest
+rest_with (verdicts.Sound context command) rest more = rest ++ more
+
+-- a verdict that is reached on some bytes, whose end isn't known yet, is the verdict on those bytes
+-- followed by anything, whether that is the end or not
+abbrev pub VerdictsStay : Type 0
+VerdictsStay =
+    (settings : Settings) (moment : ℕ) (ended : Bool) (bytes more : List ℕ) (verdict : Verdict) (rest : List ℕ)
+    → Judges settings moment false bytes (verdict, rest) → verdict ≢ verdicts.Open
+    → Judges settings moment ended (bytes ++ more) (verdict, rest_with verdict rest more)
 
 -- at the front of the bytes stands a whole message, and then the rest: its head is admitted, its body
 -- has the hash that the head's word says, and the context and the command are what they ask for

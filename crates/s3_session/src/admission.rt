@@ -1,7 +1,8 @@
-ghost use Rattle.std.specs.Prelude.{◌≡◌, Err, OnOk, IsOk};
-ghost use Rattle.s3_terms.specs.Fault.{Follows};
-ghost use Rattle.s3_signing.specs.Verdict.{checked_head, head_verdict};
-ghost use Rattle.s3_session.specs.Message as rules;
+//! Whether a head is admitted: what has to hold before its body is looked at.
+
+ghost use Rattle.std.specs.Prelude.{◌≡◌};
+ghost use Rattle.s3_terms.specs.Fault.{FollowsPast};
+ghost use Rattle.s3_session.specs.Admission as rules;
 
 use crate::Admission;
 use s3_calendar::Moment;
@@ -15,28 +16,16 @@ use std::alloc::Global;
 /// Judges a head that has been read: its framing, its signature, the word that stands for its body,
 /// and its routing, in this order (`docs/PROTOCOL.md`, "Refusals"). The refusal is the first fault;
 /// `InternalError` says that memory ran out, past all that shows before the signature.
-#[tactic(auto, unfolding(crate::specs::Message::admission_of, crate::specs::Message::early_admission))]
+#[tactic(auto, unfolding(crate::specs::Admission::admission_of, crate::specs::Admission::early_admission, s3_signing::specs::Verdict::head_verdict))]
 pub fn admit(alloc: Global, config: &Config, head: &Head, moment: Moment) -> Result<Admission, Code>
-    ensures admitted { Follows result (rules.admission_of config.now head.now moment) }
-    ensures early { OnOk result (IsOk (rules.early_admission config.now head.now moment)) }
-    ensures memory { (result ≡ Err Code.InternalError)
-        → IsOk (rules.early_admission config.now head.now moment) }
+    ensures { FollowsPast (rules.early_admission config.now head.now moment) result
+        (rules.admission_of config.now head.now moment) }
 {
     let size = framing(head, config.body_limit())?;
-    let verified = verified(alloc, config, head, moment)?;
+    let verified = verify_head(alloc, config, head, moment)?;
     let word = hash_word(&verified)?;
     let plan = route(alloc, head)?;
     Ok(Admission { size, word, plan })
-}
-
-// What a head proves: memory is wanted for its signature alone, past what shows before it.
-fn verified(alloc: Global, config: &Config, head: &Head, moment: Moment) -> Result<Verified, Code>
-    ensures verdict { Follows result (head_verdict config.now head.now moment) }
-    ensures early { OnOk result (IsOk (checked_head config.now head.now moment)) }
-    ensures memory { (result ≡ Err Code.InternalError)
-        → IsOk (checked_head config.now head.now moment) }
-{
-    verify_head(alloc, config, head, moment)
 }
 
 // The hash that stands for the body; the other payload modes are not there yet.

@@ -1,9 +1,10 @@
-ghost use Rattle.std.specs.Prelude.{◌≡◌, ◌≤◌, if◌then◌else◌, IfOk, OnErr, IsOk, IsTrue, length, take, drop, []};
-ghost use Rattle.s3_http_heads.specs.Text.{found_in, skip_pairs};
-ghost use Rattle.s3_http_heads.specs.Parts.{HasNoHead, asks_head_only};
+//! What is decided about the message at the front of a connection's bytes.
+
+ghost use Rattle.std.specs.Prelude.{◌≡◌, ◌⊎◌, Ok, Err, IfOk, IfErr, OnErr, IsOk, []};
+ghost use Rattle.s3_http_heads.specs.Head.{HasNoHead};
+ghost use Rattle.s3_session.specs.Admission.{admission_of, early_admission};
 ghost use Rattle.s3_requests.specs.Routing.{command_of};
-ghost use Rattle.s3_session.specs.Message as rules;
-ghost use Rattle.s3_session.specs.declared.verdict.Verdict.TheVariants as verdicts;
+ghost use Rattle.s3_session.specs.Decision as rules;
 
 use crate::admission::admit;
 use crate::{Admission, Verdict};
@@ -23,7 +24,7 @@ use std::alloc::Global;
 /// The cost is linear in the head and the body; the body's bytes are copied once, into the command.
 ///
 /// `NoMemory` comes only where a whole text that says a head stands at the front.
-#[tactic(auto, unfolding(crate::specs::Message::Judges, crate::specs::Message::HoldsHead))]
+#[tactic(auto, unfolding(crate::specs::Decision::Judges, crate::specs::Decision::HoldsHead))]
 pub fn decide<'b>(
     alloc: Global,
     config: &Config,
@@ -37,7 +38,7 @@ pub fn decide<'b>(
 {
     match find_head(bytes) {
         Found::NeedMore => Ok((Verdict::Open, &[])),
-        Found::TooLarge => Ok((refusal(Code::HeadTooLarge, moment, false), &[])),
+        Found::TooLarge => Ok((refusal(Code::HeadTooLarge, false), &[])),
         Found::Head { len } => {
             verdict_is_exact();
             let begun = &bytes[skipped(bytes)..];
@@ -62,13 +63,13 @@ fn decide_text<'b>(
 {
     match Head::read(alloc, text) {
         Ok(head) => decide_head(alloc, config, &head, bytes, ended, moment),
-        Err(Code::MalformedHead) => Ok((refusal(Code::MalformedHead, moment, false), &[])),
+        Err(Code::MalformedHead) => Ok((refusal(Code::MalformedHead, false), &[])),
         Err(_) => Err(NoMemory),
     }
 }
 
 // The same, once the head has been read.
-#[tactic(auto, unfolding(crate::specs::Message::decision_of))]
+#[tactic(auto, unfolding(crate::specs::Decision::decision_of, crate::specs::Admission::admission_of, crate::specs::Admission::early_admission, s3_signing::specs::Verdict::head_verdict))]
 fn decide_head<'b>(
     alloc: Global,
     config: &Config,
@@ -79,17 +80,18 @@ fn decide_head<'b>(
 ) -> Result<(Verdict, &'b [u8]), NoMemory>
     ensures judged { IfOk result (λ d. (d.0, d.1.now) ≡ rules.decision_of config.now moment ended head.now bytes.now) }
     ensures rest { IfOk result (λ d. rules.EndsOrGoesOn d.0 d.1.now) }
-    ensures memory { OnErr result (IsOk (rules.early_admission config.now head.now moment)) }
+    ensures memory { OnErr result (IsOk (early_admission config.now head.now moment)
+        ⊎ (admission_of config.now head.now moment ≡ Err Code.InternalError)) }
 {
     match admit(alloc, config, head, moment) {
         Ok(admission) => decide_body(alloc, head, admission, bytes, ended, moment),
         Err(Code::InternalError) => Err(NoMemory),
-        Err(code) => Ok((refusal(code, moment, head.asks_head_only()), &[])),
+        Err(code) => Ok((refusal(code, head.asks_head_only()), &[])),
     }
 }
 
 // The same, once nothing refuses the head.
-#[tactic(auto, unfolding(crate::specs::Message::body_decision))]
+#[tactic(auto, unfolding(crate::specs::Decision::body_decision))]
 fn decide_body<'b>(
     alloc: Global,
     head: &Head,
@@ -100,60 +102,60 @@ fn decide_body<'b>(
 ) -> Result<(Verdict, &'b [u8]), NoMemory>
     ensures judged { IfOk result (λ d. (d.0, d.1.now) ≡ rules.body_decision head.now moment ended bytes.now admission) }
     ensures rest { IfOk result (λ d. rules.EndsOrGoesOn d.0 d.1.now) }
-    ensures whole { OnErr result (admission.size ≤ length bytes.now) }
-    ensures met { OnErr result (IsTrue (rules.meets admission.word (take admission.size bytes.now))) }
+    ensures memory { OnErr result (IsOk (rules.body_at bytes.now admission)) }
 {
-    if (bytes.len() as u64) < admission.size {
-        let verdict = verdict_on_part(ended, moment, head.asks_head_only());
-        return Ok((verdict, &[]));
+    if (bytes.len() as u64) < admission.size && !ended {
+        return Ok((Verdict::Open, &[]));
     }
-    let (body, rest) = bytes.split_at(admission.size as usize);
-    decide_whole(alloc, head, admission, body, rest, moment)
+    conclude(alloc, head, admission, bytes, moment)
 }
 
-// The same, once the body is whole: these bytes come after it.
-fn decide_whole<'b>(
+// The same, once the body is whole, or no more of it comes.
+fn conclude<'b>(
     alloc: Global,
     head: &Head,
     admission: Admission,
-    body: &[u8],
-    rest: &'b [u8],
+    bytes: &'b [u8],
     moment: Moment,
 ) -> Result<(Verdict, &'b [u8]), NoMemory>
-    ensures judged { IfOk result (λ d. (d.0, d.1.now) ≡ (if rules.meets admission.word body.now
-        then (verdicts.Sound (rules.context_of head.now moment) (command_of admission.plan body.now), rest.entry.now)
-        else rules.refused_message Code.XAmzContentSHA256Mismatch moment (asks_head_only head.now))) }
-    ensures met { OnErr result (IsTrue (rules.meets admission.word body.now)) }
+    ensures judged { IfOk result (λ d. (d.0, d.1.now)
+        ≡ rules.concluded head.now moment admission.plan (rules.body_at bytes.now admission)) }
+    ensures rest { IfOk result (λ d. rules.EndsOrGoesOn d.0 d.1.now) }
+    ensures memory { OnErr result (IsOk (rules.body_at bytes.now admission)) }
 {
+    match body_at(bytes, &admission) {
+        Ok((body, rest)) => decide_sound(alloc, head, admission.plan, body, rest, moment),
+        Err(code) => Ok((refusal(code, head.asks_head_only()), &[])),
+    }
+}
+
+// The body at the front of the bytes, where it is whole and has its hash, and what comes after it.
+#[tactic(auto, unfolding(crate::specs::Decision::body_at))]
+fn body_at<'b>(bytes: &'b [u8], admission: &Admission) -> Result<(&'b [u8], &'b [u8]), Code>
+    ensures ok { IfOk result (λ cut. rules.body_at bytes.now admission.now ≡ Ok (cut.0.now, cut.1.now)) }
+    ensures err { IfErr result (λ code. rules.body_at bytes.now admission.now ≡ Err code) }
+{
+    if (bytes.len() as u64) < admission.size {
+        return Err(Code::IncompleteBody);
+    }
+    let (body, rest) = bytes.split_at(admission.size as usize);
     if !meets(&admission.word, body) {
-        let head_only = head.asks_head_only();
-        let verdict = refusal(Code::XAmzContentSHA256Mismatch, moment, head_only);
-        return Ok((verdict, &[]));
+        return Err(Code::XAmzContentSHA256Mismatch);
     }
-    let verdict = sound_verdict(alloc, head, admission.plan, body, moment)?;
-    Ok((verdict, rest))
+    Ok((body, rest))
 }
 
-// The verdict on a message whose body is not whole.
-fn verdict_on_part(ended: bool, moment: Moment, head_only: bool) -> Verdict
-    ensures { (result, []) ≡ (if ended then rules.refused_message Code.IncompleteBody moment head_only else rules.open_yet) }
-{
-    if ended {
-        refusal(Code::IncompleteBody, moment, head_only)
-    } else {
-        Verdict::Open
-    }
-}
-
-// The verdict on a message that is whole and right.
-fn sound_verdict(
+// The same, once the body has its hash: these bytes come after it.
+fn decide_sound<'b>(
     alloc: Global,
     head: &Head,
     plan: Plan,
     body: &[u8],
+    rest: &'b [u8],
     moment: Moment,
-) -> Result<Verdict, NoMemory>
-    ensures { IfOk result (λ verdict. verdict ≡ verdicts.Sound (rules.context_of head.now moment) (command_of plan body.now)) }
+) -> Result<(Verdict, &'b [u8]), NoMemory>
+    ensures judged { IfOk result (λ d. (d.0, d.1.now)
+        ≡ rules.concluded head.now moment plan (Ok (body.now, rest.entry.now))) }
 {
     let context = Context {
         moment,
@@ -161,7 +163,7 @@ fn sound_verdict(
         closes: head.closes(),
     };
     let command = command_with(alloc, plan, body)?;
-    Ok(Verdict::Sound { context, command })
+    Ok((Verdict::Sound { context, command }, rest))
 }
 
 // The command of an operation and this body.
@@ -172,18 +174,11 @@ fn command_with(alloc: Global, plan: Plan, body: &[u8]) -> Result<Command, NoMem
     Ok(command(plan, payload))
 }
 
-// A refusal of the connection, which ends it.
-fn refusal(code: Code, moment: Moment, head_only: bool) -> Verdict
-    ensures { (result, []) ≡ rules.refused_message code moment head_only }
+// A refusal of the connection.
+fn refusal(code: Code, head_only: bool) -> Verdict
+    ensures { (result, []) ≡ rules.refused_message code head_only }
 {
-    Verdict::Refused {
-        code,
-        context: Context {
-            moment,
-            head_only,
-            closes: true,
-        },
-    }
+    Verdict::Refused { code, head_only }
 }
 
 // Whether the body has the hash that the word says.

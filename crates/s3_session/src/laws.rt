@@ -1,8 +1,11 @@
-ghost use Rattle.s3_session.specs.Laws.{OneOutput, OneVerdict, VerdictsExist, SoundMessages, SoundIsJudged};
-ghost use Rattle.s3_session.specs.Stays.{VerdictsStay};
+//! What is known of all connections: laws, with nothing to run.
+
+ghost use Rattle.s3_session.specs.ReadBack.{PutsAreReadBack, OnlyPutsAreReadBack, BodiesAreBrought};
+ghost use Rattle.s3_session.specs.Laws.{OneOutput, OneVerdict, VerdictsExist, VerdictsStay, SoundMessages, SoundIsJudged};
 
 use s3_http_heads::{texts_say_one_thing, verdict_is_exact};
-use s3_replies::{refusals_are_unique, replies_are_unique};
+use s3_replies::{refusals_are_unique, replies_are_unique, replies_show_what_came};
+use s3_store::{only_puts_are_given, puts_are_kept};
 
 /// A law: a verdict, other than open, that is reached before the bytes have ended is the verdict on those
 /// bytes followed by anything, so that how a connection's bytes are cut into pieces decides nothing. There
@@ -45,4 +48,17 @@ pub fn outputs_are_one()
     verdicts_are_one();
     replies_are_unique();
     refusals_are_unique();
+}
+
+/// A law: in the output of a connection, the reply to a get carries the bytes that the last put to its
+/// bucket and key before it brought, of those whose reply tells of success; where there is no such put, its
+/// reply tells of none. What a put brings is the body of its message. There is nothing to run.
+pub fn puts_are_read_back()
+    ensures back { PutsAreReadBack }
+    ensures only { OnlyPutsAreReadBack }
+    ensures bodies { BodiesAreBrought }
+{
+    puts_are_kept();
+    only_puts_are_given();
+    replies_show_what_came();
 }

@@ -1,9 +1,13 @@
-ghost use Rattle.std.specs.Prelude.{◌≡◌, ◌++◌, ◌⊎◌, IfOk, OnOk, vec_len};
+//! One turn of a replay: a message is decided about, answered, and replied to.
+
+ghost use Rattle.std.specs.Prelude.{◌≡◌, ◌++◌, true, IfOk, OnOk, OnErr};
 ghost use Rattle.s3_replies.specs.Replies.{Prints, body_of, internal_error};
+ghost use Rattle.s3_session.specs.Decision.{Judges, open_yet};
 ghost use Rattle.s3_session.specs.Turn.{IsLonger, added, IsReplied, Turned};
 
 use crate::Verdict;
 use crate::decision::decide;
+use crate::laws::verdicts_are_one;
 use s3_calendar::Moment;
 use s3_config::Config;
 use s3_replies::{Context, head_of, internal_error_reply, refusal};
@@ -24,6 +28,8 @@ pub(crate) enum Turn<'b> {
 
 /// Takes the message at the front of the bytes, which are the last that come: decides about it, gives
 /// its command a turn at the store, and writes the reply or the refusal behind what is written.
+///
+/// `NoMemory`, which says that there was no room to write, comes only where something is to be written.
 pub(crate) fn take_turn<'b>(
     alloc: Global,
     config: &Config,
@@ -36,13 +42,15 @@ pub(crate) fn take_turn<'b>(
     ensures longer { OnOk result (IsLonger out.old.items out.new.items) }
     ensures turned { IfOk result (λ turn. Turned config.now moment number bytes.now store.old store.new turn
         (added out.old.items out.new.items)) }
+    ensures memory { OnErr result (¬ (Judges config.now moment true bytes.now open_yet)) }
 {
+    verdicts_are_one();
     match decide(alloc, config, bytes, true, moment) {
         Err(e) => die(out, e),
         Ok((verdict, rest)) => match verdict {
             Verdict::Open => Ok(Turn::Ended),
-            Verdict::Refused { code, context } => {
-                out.extend_from_slice(refusal(code, &context).as_slice())?;
+            Verdict::Refused { code, head_only } => {
+                out.extend_from_slice(refusal(code, moment, head_only).as_slice())?;
                 Ok(Turn::Ended)
             }
             Verdict::Sound { context, command } => {
@@ -73,7 +81,7 @@ fn reply_with<'b>(
     }
 }
 
-// Ends the connection for want of memory: writes what stands for a reply.
+// Ends the connection where memory ran out: writes what stands for a reply.
 fn die<'b>(out: &mut Vec<u8>, _cause: NoMemory) -> Result<Turn<'b>, NoMemory>
     ensures died { IfOk result (λ turn. turn ≡ Turn.Died) }
     ensures written { OnOk result (out.new.items ≡ out.old.items ++ internal_error) }

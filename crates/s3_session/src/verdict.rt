@@ -1,3 +1,5 @@
+//! What a head asks for, and what is decided about a message.
+
 use s3_replies::Context;
 use s3_requests::{Command, Plan};
 use s3_terms::Code;
@@ -18,8 +20,9 @@ pub struct Admission {
 pub enum Verdict {
     /// Nothing yet: more bytes are needed.
     Open,
-    /// The message is refused, and the connection ends.
-    Refused { code: Code, context: Context },
+    /// The message is refused, and the connection ends. `head_only` says that it is a HEAD; a head that
+    /// could not be read counts as none.
+    Refused { code: Code, head_only: bool },
     /// The message is sound, and asks for this.
     Sound { context: Context, command: Command },
 }

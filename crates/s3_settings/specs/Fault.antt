@@ -1,6 +1,7 @@
 -- What the program says when it ends with status 1: one line on the standard error.
 use Rattle.std.specs.Prelude.{◌≡◌, ◌⊎◌, ⊤, ℕ, List, [], ◌∷◌, ◌++◌, codes, Option, None}
 use Rattle.std.specs.Fmt.{decimal}
+use Rattle.s3_text.specs.Characters.{line_feed}
 use Rattle.s3_settings.specs.declared.fault.Fault.{Fault}
 use Rattle.s3_settings.specs.declared.fault.Fault.TheVariants.{CannotRead, BadKeysLine, BadSetting, InputFailed, OutputFailed, OutOfMemory}
 
@@ -15,9 +16,9 @@ text_of OutOfMemory = codes "out of memory"
 
 -- the line that tells it
 abbrev pub line_of : Fault → List ℕ
-line_of fault = codes "s3d: " ++ text_of fault ++ 10 ∷ []
+line_of fault = codes "s3d: " ++ text_of fault ++ line_feed ∷ []
 
--- want of memory, or that fault where the fact holds
+-- out of memory, or that fault where the fact holds
 abbrev pub MemoryOr : Fault → Type 0 → Fault → Type 0
 MemoryOr expected P fault = (fault ≡ OutOfMemory) ⊎ ((fault ≡ expected) × P)
 

@@ -4,6 +4,7 @@ use Rattle.std.specs.Prelude.{◌≡◌, ⊤, ℕ, ◌+◌, ◌<◌, Bool, true,
 use Rattle.std.specs.List.{list_any, slice_split}
 use Rattle.std.specs.Str.{bytes_eq}
 use Rattle.s3_config.specs.Settings.{Credentials, are_credentials, all_different}
+use Rattle.s3_text.specs.Characters.{line_feed, space}
 use Rattle.s3_settings.specs.declared.fault.Fault.{Fault}
 use Rattle.s3_settings.specs.declared.fault.Fault.TheVariants.{BadKeysLine, OutOfMemory}
 
@@ -15,10 +16,10 @@ without_empty_end (part ∷ next ∷ parts) = part ∷ without_empty_end (next �
 
 -- the lines of a text, each without its end, which the last may lack
 unfoldable pub lines_of : List ℕ → List (List ℕ)
-lines_of text = without_empty_end (slice_split (λ b. b == 10) text)
+lines_of text = without_empty_end (slice_split (λ b. b == line_feed) text)
 
 abbrev pub is_space : ℕ → Bool
-is_space b = b == 32
+is_space b = b == space
 
 -- what stands before and after a place of a line
 abbrev pub parts_at : List ℕ → ℕ → Credentials
@@ -52,7 +53,7 @@ pub record IsFirstBadLine (lines : List (List ℕ)) (number : ℕ) : Type 0 wher
 
 -- the line of a credential
 abbrev pub line_of_key : Credentials → List ℕ
-line_of_key key = key.id ++ 32 ∷ key.secret
+line_of_key key = key.id ++ space ∷ key.secret
 
 -- The next two serve clauses of private functions alone.
 
@@ -65,7 +66,7 @@ unfoldable pub new_key : List Credentials → List ℕ → Option Credentials
 new_key keys line =
     option_and_then (λ (key : Credentials). if has_id keys key.id then None else Some key) (key_of_line line)
 
--- a fault says why a file of this text gives no keys: its first bad line, or want of memory
+-- a fault says why a file of this text gives no keys: its first bad line, or out of memory
 abbrev pub IsKeysFault : List ℕ → Fault → Type 0
 IsKeysFault text (BadKeysLine number) = IsFirstBadLine (lines_of text) number
 IsKeysFault text OutOfMemory = ⊤

@@ -1,3 +1,5 @@
+//! What is read and written: files and the input whole, and the output to its end or until it fails.
+
 ghost use Rattle.std.specs.Prelude.{◌≡◌, ◌≢◌, ◌≤◌, ◌⊎◌, length, take, IfOk, OnOk, IfErr, OnErr, IfSome};
 ghost use Rattle.std.specs.Io.KnownBytes.{Appends, IsAtEnd, Keeps};
 ghost use Rattle.std.specs.IoError.{error_kind};
@@ -65,8 +67,8 @@ pub(crate) fn write_bytes<W: Write>(output: &mut W, bytes: &[u8]) -> io::Result<
     Err(io::Error::from(ErrorKind::Interrupted))
 }
 
-/// Writes a beginning of the bytes, of which there are some, and answers how long it is: 0 where the
-/// device was interrupted. An error where it takes none.
+// Writes a beginning of the bytes, of which there are some, and answers how long it is: 0 where the
+// device was interrupted. An error where it takes none.
 #[tactic(auto, using(crate::proofs::DeviceLemmas::kept))]
 fn write_some<W: Write>(output: &mut W, bytes: &[u8]) -> io::Result<usize>
     ensures within { IfOk result (λ count. count ≤ length bytes.now) }
@@ -85,7 +87,7 @@ fn write_some<W: Write>(output: &mut W, bytes: &[u8]) -> io::Result<usize>
     }
 }
 
-/// What an error of a device means: want of memory, or else `other`.
+// What an error of a device means: out of memory, or else `other`.
 fn fault_of<'a>(error: io::Error, other: Fault<'a>) -> Fault<'a>
     ensures memory { error_kind error ≡ ErrorKind.OutOfMemory → result ≡ Fault.OutOfMemory }
     ensures other { error_kind error ≢ ErrorKind.OutOfMemory → result ≡ other.entry }

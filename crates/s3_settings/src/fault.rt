@@ -1,3 +1,5 @@
+//! Why the program ends with status 1, and the line that tells it.
+
 ghost use Rattle.std.specs.Prelude.{◌≡◌, ◌++◌, Some, OnOk, OnErr};
 ghost use Rattle.std.specs.Io.KnownBytes.{Appends};
 ghost use Rattle.s3_settings.specs.Devices.{AppendsBeginning};
@@ -30,7 +32,7 @@ pub enum Fault<'a> {
 }
 
 impl<'a> Fault<'a> {
-    /// The text of the fault in two parts, of which the second may be in the buffer.
+    // The text of the fault in two parts, of which the second may be in the buffer.
     fn parts<'b>(&self, digits: &'b mut Buffer) -> (&'b str, &'b str)
     where
         'a: 'b,
@@ -58,7 +60,7 @@ impl<'a> Fault<'a> {
     }
 }
 
-/// Writes four texts, one after the other.
+// Writes four texts, one after the other.
 fn write_four<E: Write>(
     errors: &mut E,
     first: &[u8],
@@ -75,7 +77,7 @@ fn write_four<E: Write>(
     }
 }
 
-/// Writes one text and then the other.
+// Writes one text and then the other.
 fn write_both<E: Write>(errors: &mut E, first: &[u8], second: &[u8]) -> io::Result<()>
     ensures told { OnOk result (Appends (E.contents errors.old) (E.contents errors.new) (first.now ++ second.now)) }
     ensures part { OnErr result (AppendsBeginning (E.contents errors.old) (E.contents errors.new) (first.now ++ second.now)) }

@@ -1,3 +1,5 @@
+//! Files that are read whole.
+
 ghost use Rattle.std.specs.Prelude.{◌≡◌, ◌≢◌, ℕ, List, Option, None, IfOk, IfErr, IfSome};
 ghost use Rattle.std.specs.IoError.{error_kind};
 

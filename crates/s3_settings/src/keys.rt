@@ -1,3 +1,5 @@
+//! The keys file.
+
 ghost use Rattle.std.specs.Prelude.{◌≡◌, ◌+◌, ◌<◌, ◌==◌, ◌∷◌, [], length, map, position, Some, None, IfOk, IfErr, IfSome, MatchOption};
 ghost use Rattle.s3_settings.specs.Keys.{lines_of, key_of_line, has_id, new_key, line_of_key, SayKeys, IsKeysFault};
 ghost use Rattle.s3_settings.specs.Fault.{MemoryOr};
@@ -29,7 +31,7 @@ pub fn read_keys<'a>(alloc: Global, text: &[u8]) -> Result<Vec<Credential>, Faul
     Ok(keys)
 }
 
-/// The first line of a text without its end, and what follows it; `None` where there is no line.
+// The first line of a text without its end, and what follows it; `None` where there is no line.
 #[tactic(auto, using(crate::proofs::KeysLemmas::lines), unfolding(crate::specs::Keys::lines_of))]
 fn next_line(text: &[u8]) -> Option<(&[u8], &[u8])>
     ensures value { MatchOption result (lines_of text.now ≡ []) (λ parts. lines_of text.now ≡ parts.0.now ∷ lines_of parts.1.now) }
@@ -44,8 +46,8 @@ fn next_line(text: &[u8]) -> Option<(&[u8], &[u8])>
     }
 }
 
-/// The credential that a line says after those that say `keys`; `BadKeysLine` where it says none, or one
-/// of `keys` has its id.
+// The credential that a line says after those that say `keys`; `BadKeysLine` where it says none, or one
+// of `keys` has its id.
 #[tactic(auto, unfolding(crate::specs::Keys::new_key))]
 fn new_key<'a>(alloc: Global, keys: &[Credential], line: &[u8]) -> Result<Credential, Fault<'a>>
     ensures value { IfOk result (λ key. new_key keys.now line.now ≡ Some key) }
@@ -57,7 +59,7 @@ fn new_key<'a>(alloc: Global, keys: &[Credential], line: &[u8]) -> Result<Creden
     }
 }
 
-/// The credential that a line says.
+// The credential that a line says.
 #[tactic(auto, unfolding(crate::specs::Keys::key_of_line))]
 fn key_of_line(alloc: Global, line: &[u8]) -> Result<Option<Credential>, AllocError>
     ensures { IfOk result (λ key. key ≡ key_of_line line.now) }
@@ -70,7 +72,7 @@ fn key_of_line(alloc: Global, line: &[u8]) -> Result<Option<Credential>, AllocEr
     Ok(Credential::new(id, secret))
 }
 
-/// The first place of a byte.
+// The first place of a byte.
 fn first_place(text: &[u8], byte: u8) -> Option<usize>
     ensures { result ≡ position (λ b. b == byte) text.now }
 {

@@ -1,3 +1,5 @@
+//! The settings that the options and the keys file make.
+
 ghost use Rattle.std.specs.Prelude.{◌≡◌, true, false, Some, None, IfSome, IfOk, IfErr, OnOk, IsTrue, option_map, option_to_list};
 ghost use Rattle.s3_config.specs.Settings.{are_settings, is_region, is_region_byte};
 ghost use Rattle.s3_settings.specs.Fault.{MemoryOr};
@@ -7,15 +9,15 @@ use crate::devices::read_file;
 use crate::fault::Fault;
 use crate::files::Files;
 use crate::keys::read_keys;
-use crate::options::Options;
 use s3_calendar::Moment;
 use s3_config::{Config, Credential};
 use s3_names::BucketName;
+use s3_options::Options;
 use s3_terms::Code;
 use s3_text::decimal_number;
 use std::alloc::{AllocError, Global};
 
-/// The most digits of a number.
+// The most digits of a number.
 const DIGITS_MAX: usize = 12;
 
 /// What the options of a subcommand set up.
@@ -56,7 +58,7 @@ impl<'a> Setup<'a> {
         })
     }
 
-    /// The keys that the keys file says.
+    // The keys that the keys file says.
     fn read_keys<F: Files>(&self, alloc: Global, files: &F) -> Result<Vec<Credential>, Fault<'a>>
         ensures value { IfOk result (λ keys. HasKeys (F.known files.now self.now.keys.now) keys.items) }
         ensures refused { IfErr result (IsConfigFault (F.known files.now self.now.keys.now) self.now) }
@@ -90,7 +92,7 @@ pub fn configure<'a, F: Files>(
     setup.into_config(alloc, keys)
 }
 
-/// What a setup has that takes no memory.
+// What a setup has that takes no memory.
 #[derive(Clone, Copy)]
 struct FixedParts<'a> {
     keys: &'a str,
@@ -99,7 +101,7 @@ struct FixedParts<'a> {
     moment: Moment,
 }
 
-/// The parts that options say and that take no memory, if each of these options is there and of its form.
+// The parts that options say and that take no memory, if each of these options is there and of its form.
 #[tactic(auto, unfolding(crate::specs::Settings::are_options))]
 fn fixed_parts<'a>(options: &Options<'a>) -> Option<FixedParts<'a>>
     ensures value { IfSome result (λ parts. (option_map (λ path. path.now) options.now.keys ≡ Some parts.keys.now)
@@ -116,7 +118,7 @@ fn fixed_parts<'a>(options: &Options<'a>) -> Option<FixedParts<'a>>
     })
 }
 
-/// A list of the name that is there.
+// A list of the name that is there.
 fn in_list(alloc: Global, name: Option<BucketName>) -> Result<Vec<BucketName>, AllocError>
     ensures { IfOk result (λ names. names.items ≡ option_to_list name) }
 {
@@ -130,21 +132,21 @@ fn in_list(alloc: Global, name: Option<BucketName>) -> Result<Vec<BucketName>, A
     }
 }
 
-/// The number that an option says in 1 to 12 decimal digits.
+// The number that an option says in 1 to 12 decimal digits.
 fn number(text: &str) -> Option<u64>
     ensures { result ≡ option_number text.now }
 {
     decimal_number(text.as_bytes(), DIGITS_MAX)
 }
 
-/// The moment that an option says.
+// The moment that an option says.
 fn moment(option: Option<&str>) -> Option<Moment>
     ensures { result ≡ option_moment (option_map (λ text. text.now) option.entry) }
 {
     Moment::new(number(option?)?)
 }
 
-/// The bucket that an option names, if it does.
+// The bucket that an option names, if it does.
 fn bucket<'a>(alloc: Global, option: Option<&str>) -> Result<Option<BucketName>, Fault<'a>>
     ensures value { IfOk result (λ bucket. bucket ≡ option_map (λ name. name.now) option.entry) }
     ensures valid { OnOk result (IsTrue (is_bucket_option (option_map (λ name. name.now) option.entry))) }

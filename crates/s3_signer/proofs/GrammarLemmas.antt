@@ -1,6 +1,6 @@
 -- What a head says is of the grammar, and so is a head of the first of its lines.
-use Rattle.std.proofs.Common.{◌≡◌, ℕ, ◌<◌, Bool, true, not, ◌||◌, List, [], ◌∷◌, ◌++◌, map, length, reverse, append-nil, length-append, refl, sym, ap, ap₂, ◌∙◌, subst, arith, ⊎_elim}
-use Rattle.std.specs.Prelude.{◌&&◌, ◌==◌, All, IsUtf8, nat_lt}
+use Rattle.std.proofs.Common.{◌≡◌, ℕ, ◌<◌, ◌≤◌, Bool, true, not, ◌||◌, List, [], ◌∷◌, ◌++◌, map, length, reverse, append-nil, length-append, refl, sym, ap, ap₂, ◌∙◌, subst, arith, ⊎_elim}
+use Rattle.std.specs.Prelude.{codes, ◌&&◌, ◌==◌, All, IsUtf8, nat_lt}
 use Rattle.std.specs.Char.{to_ascii_lowercase}
 use Rattle.std.specs.List.{list_all}
 use Rattle.std.proofs.Math.Bool.{and_comm, and-true}
@@ -12,11 +12,12 @@ use Rattle.std.proofs.lemmas.List.Sums.{AllPass-from_list_all, list_all-from_All
 use Rattle.std.proofs.lemmas.Str.Ascii.{lowercase_is}
 use Rattle.httparse.specs.Grammar.{Field, IsField, IsRequestHead, IsToken, RequestHead, is_ows, is_token, is_token_byte, is_uri_byte, is_value_byte, print_request, skip_ows, trim_ows}
 use Rattle.httparse.specs.Spans.{name_and_value}
-use Rattle.s3_http_heads.specs.Parts.{HeadParts, Says, parts_of}
-use Rattle.s3_signing.specs.Verdict.{lower_name, sent_names}
-use Rattle.s3_signing.proofs.OrderLemmas.{all_weaker}
+use Rattle.s3_http_heads.specs.Head.{HeadParts, Says, parts_of}
+use Rattle.s3_signing.specs.Cover.{lower_name, sent_names}
+use Rattle.s3_text.proofs.SortingLemmas.{length-sorted_by}
+use Rattle.s3_text.proofs.ListLemmas.{all_weaker}
 use Rattle.s3_signer.specs.Line.{ReadsBack}
-use Rattle.s3_signer.specs.Request.{HeaderLine, field_of, head_of}
+use Rattle.s3_signer.specs.Request.{HeaderLine, IsSignable, added_lines, authorization_of, field_of, head_of, line_cmp, lower_line, unsigned_head, unsigned_lines}
 
 -- ---- values: the white space around one is of the grammar's bytes
 
@@ -83,6 +84,20 @@ pub said_lines : (text : List ℕ) (parts : HeadParts) → Says text parts → l
 said_lines text parts (h, is, same) =
     ap (λ (p : HeadParts). list_all is_line p.headers) same ∙ lines_of_fields h.fields is.0.0.fields
 
+-- what a text says has at most 64 lines
+pub few_lines : (method target : List ℕ) (lines : List HeaderLine) (text : List ℕ) → Says text (parts_of (head_of method target lines)) → length lines ≤ 64
+few_lines method target lines text (h, is, same) =
+    let many : length (map name_and_value (map field_of lines)) ≡ length (map name_and_value h.fields) = ap (λ (p : HeadParts). length p.headers) same in
+    omega (arith, many, is.1, length-map lines field_of, length-map (map field_of lines) name_and_value, length-map h.fields name_and_value)
+
+-- so that no more are given, beside those that are added
+pub not_more : (method target id secret region : List ℕ) (given : List HeaderLine) (body stamp : List ℕ) → 64 < length given → ¬ (IsSignable id secret region method target given body stamp)
+unfolding unsigned_lines
+not_more method target id secret region given body stamp more signable =
+    let own = unsigned_lines method given body stamp in
+    let few = few_lines method target (own ++ (codes "authorization", authorization_of id secret region (unsigned_head method target given body stamp) stamp) ∷ []) signable.message.text signable.message.says in
+    omega (arith, few, more, length-append own ((codes "authorization", authorization_of id secret region (unsigned_head method target given body stamp) stamp) ∷ []), length-sorted_by line_cmp (map lower_line given ++ added_lines method body stamp), length-append (map lower_line given) (added_lines method body stamp), length-map given lower_line)
+
 -- ---- a head of the first lines of another
 
 module _ (method target : List ℕ) (lines more : List HeaderLine) where
@@ -103,7 +118,6 @@ module _ (method target : List ℕ) (lines more : List HeaderLine) where
       let same = says.2 in
       let all = sym (ap (list_all is_line) headers_more ∙ list_all-append is_line (parts_of first).headers (map name_and_value (map field_of more))) ∙ said_lines text (parts_of whole) says in
       let both = and_parts (list_all is_line (parts_of first).headers) (list_all is_line (map name_and_value (map field_of more))) all in
-      let few : length (map name_and_value (map field_of (lines ++ more))) ≡ length (map name_and_value h.fields) = ap (λ (p : HeadParts). length p.headers) same in
       let head : IsRequestHead first = record {
         method = subst IsToken (sym (ap (λ (p : HeadParts). p.method) same)) is.method;
         target = subst (λ t. (0 < length t) × All (λ b. is_uri_byte b ≡ true) t) (sym (ap (λ (p : HeadParts). p.target) same)) is.target;
@@ -111,7 +125,7 @@ module _ (method target : List ℕ) (lines more : List HeaderLine) where
         minor = omega arith;
         fields = fields_of_lines (map field_of lines) both.0;
       } in
-      (first, ((head, sym (append-nil (print_request first))), omega (arith, few, says.1.1, length-map lines field_of, length-append lines more, length-map (lines ++ more) field_of, length-map (map field_of (lines ++ more)) name_and_value, length-map h.fields name_and_value)), refl)
+      (first, ((head, sym (append-nil (print_request first))), omega (arith, few_lines method target (lines ++ more) text says, length-map lines field_of, length-append lines more)), refl)
 
 -- ---- names
 

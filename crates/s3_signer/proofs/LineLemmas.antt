@@ -7,7 +7,7 @@ use Rattle.std.proofs.lemmas.List.Sums.{position_or_len_is}
 use Rattle.std.proofs.lemmas.List.{drop_more, get_or-map, length-map, map-append}
 use Rattle.std.specs.Borrow.{Bor}
 use Rattle.std.specs.Prelude.{if◌then◌else◌}
-use Rattle.s3_canonical.specs.Sorting.{insert_by, sorted_by}
+use Rattle.s3_text.specs.Sorting.{insert_by, sorted_by}
 use Rattle.s3_signer.specs.declared.line.Line.{Line}
 use Rattle.s3_signer.specs.Line.{pair, pairs}
 use Rattle.s3_signer.specs.Request.{HeaderLine, added_lines, given_lines, hash_line, length_line, line_cmp, lower_line, stamp_line, tells_length}

@@ -12,8 +12,8 @@ use Rattle.httparse.specs.Grammar.{trim_ows}
 use Rattle.httparse.specs.Spans.{name_and_value}
 use Rattle.s3_http_heads.specs.declared.find.Found.TheVariants.{Head}
 use Rattle.s3_http_heads.specs.Message.{IsMessage}
-use Rattle.s3_http_heads.specs.Parts.{HeadParts}
-use Rattle.s3_http_heads.specs.Text.{found_in, skip_pairs}
+use Rattle.s3_http_heads.specs.Head.{HeadParts}
+use Rattle.s3_http_heads.specs.Find.{found_in, skip_pairs}
 use Rattle.s3_signer.specs.declared.line.Line.{Line}
 use Rattle.s3_signer.specs.Line.{pair, pairs}
 use Rattle.s3_signer.specs.Request.{field_of}

@@ -4,7 +4,7 @@
 use Rattle.std.specs.Prelude.{ℕ, List, [], ◌++◌, map}
 use Rattle.httparse.specs.Grammar.{RequestHead, print_request}
 use Rattle.s3_http_heads.specs.Message.{IsMessage}
-use Rattle.s3_http_heads.specs.Parts.{Says, parts_of}
+use Rattle.s3_http_heads.specs.Head.{Says, parts_of}
 use Rattle.s3_signer.specs.declared.line.Line.{Line}
 use Rattle.s3_signer.specs.Request.{head_of}
 

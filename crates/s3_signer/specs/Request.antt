@@ -8,13 +8,14 @@ use Rattle.std.specs.Borrow.{Bor}
 use Rattle.hex.specs.Hex.{encode_lower}
 use Rattle.sha2.specs.Sha256.{sha256}
 use Rattle.httparse.specs.Grammar.{Field, RequestHead, crlf, print_request}
+use Rattle.s3_text.specs.Characters.{space}
 use Rattle.s3_text.specs.Order.{byte_order}
-use Rattle.s3_http_heads.specs.Parts.{HeadParts, parts_of, values_of}
-use Rattle.s3_http_heads.specs.Framing.{length_lines}
+use Rattle.s3_http_heads.specs.Head.{HeadParts, parts_of, values_of}
+use Rattle.s3_http_heads.specs.BodyLength.{length_lines}
 use Rattle.s3_http_heads.specs.Message.{IsMessage}
-use Rattle.s3_canonical.specs.Sorting.{sorted_by}
-use Rattle.s3_canonical.specs.Target.{is_unreadable}
-use Rattle.s3_signing.specs.Signing.{authorization_text}
+use Rattle.s3_text.specs.Sorting.{sorted_by}
+use Rattle.s3_http_heads.specs.Target.{is_unreadable}
+use Rattle.s3_signing.specs.Authorize.{authorization_text}
 
 -- a header line: its name and its value
 abbrev pub HeaderLine : Type 0
@@ -65,7 +66,7 @@ unsigned_lines method headers body stamp =
 
 -- `name: value`
 abbrev pub field_of : HeaderLine → Field
-field_of line = record { name = line.0; raw = 32 ∷ line.1; end = crlf }
+field_of line = record { name = line.0; raw = space ∷ line.1; end = crlf }
 
 -- the head of these lines
 abbrev pub head_of : List ℕ → List ℕ → List HeaderLine → RequestHead

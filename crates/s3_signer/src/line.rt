@@ -6,7 +6,7 @@ ghost use Rattle.std.specs.Ordering.{is_gt};
 ghost use Rattle.s3_text.specs.Order.{byte_order};
 ghost use Rattle.httparse.specs.Grammar.{print_field};
 ghost use Rattle.httparse.specs.Spans.{name_and_value};
-ghost use Rattle.s3_canonical.specs.Sorting.{insert_by};
+ghost use Rattle.s3_text.specs.Sorting.{insert_by};
 ghost use Rattle.s3_signer.specs.Line.{pair, pairs};
 ghost use Rattle.s3_signer.specs.Request.{field_of, line_cmp, lower_line};
 

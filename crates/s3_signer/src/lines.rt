@@ -1,25 +1,26 @@
 //! The header lines of a request: those given and those added, in their order.
 
-ghost use Rattle.std.specs.Prelude.{◌≡◌, ◌∷◌, ◌||◌, [], nat_lt, length, IfOk, if◌then◌else◌};
+ghost use Rattle.std.specs.Prelude.{◌≡◌, ◌∷◌, ◌||◌, [], true, nat_lt, length, IfOk, if◌then◌else◌};
 ghost use Rattle.hex.specs.Hex.{encode_lower};
 ghost use Rattle.sha2.specs.Sha256.{sha256};
-ghost use Rattle.s3_canonical.specs.Sorting.{sorted_by};
+ghost use Rattle.s3_text.specs.Digest.{is_hex_digest};
+ghost use Rattle.s3_text.specs.Sorting.{sorted_by};
 ghost use Rattle.s3_signer.specs.Line.{pairs};
 ghost use Rattle.s3_signer.specs.Request.{added_lines, given_lines, length_line, line_cmp, tells_length, unsigned_lines};
 
 use crate::line::{Line, add_line};
 use itoa::Buffer;
 use s3_terms::NoMemory;
+use s3_text::hex_digest;
 use sha2::{Digest, Sha256};
 use std::alloc::Global;
 
 // The SHA-256 of a body, in lower-case hexadecimal.
 pub(crate) fn hash_text(body: &[u8]) -> [u8; 64]
-    ensures { result ≡ encode_lower (sha256 body.now) }
+    ensures value { result ≡ encode_lower (sha256 body.now) }
+    ensures form { is_hex_digest result ≡ true }
 {
-    let mut text = [0; 64];
-    hex::encode_to_slice(Sha256::digest(body).as_slice(), &mut text).unwrap();
-    text
+    hex_digest(&Sha256::digest(body))
 }
 
 // Whether a request of this method tells the size of this body.

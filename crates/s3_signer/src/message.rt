@@ -3,7 +3,7 @@
 ghost use Rattle.std.specs.Prelude.{◌≡◌, ◌↔◌, ◌++◌, [], true, map, IfOk, OnOk, IsErrOf};
 ghost use Rattle.httparse.specs.Grammar.{print_request};
 ghost use Rattle.httparse.specs.Spans.{name_and_value};
-ghost use Rattle.s3_http_heads.specs.Parts.{HasNoHead, Says, parts_of};
+ghost use Rattle.s3_http_heads.specs.Head.{HasNoHead, Says, parts_of};
 ghost use Rattle.s3_http_heads.specs.Message.{IsMessage};
 ghost use Rattle.s3_signer.specs.Line.{IsMessageOf, ReadsBack, head_with, pairs};
 ghost use Rattle.s3_signer.specs.Request.{field_of};

@@ -2,9 +2,9 @@
 
 ghost use Rattle.std.specs.Prelude.{◌≡◌, ◌∷◌, ◌++◌, [], codes, IfOk, OnOk, IsErrOf};
 ghost use Rattle.httparse.specs.Grammar.{print_request};
-ghost use Rattle.s3_http_heads.specs.Parts.{parts_of, values_of};
-ghost use Rattle.s3_signing.specs.Signed.{IsVerifiedWith};
-ghost use Rattle.s3_signing.specs.Signing.{authorization_text};
+ghost use Rattle.s3_http_heads.specs.Head.{parts_of, values_of};
+ghost use Rattle.s3_signing.specs.Accepted.{IsVerifiedWith};
+ghost use Rattle.s3_signing.specs.Authorize.{authorization_text};
 ghost use Rattle.s3_signer.specs.Line.{IsMessageOf, ReadsBack, head_with, pairs};
 ghost use Rattle.s3_signer.specs.Request.{IsReadyFor, IsSignable, given_lines, request_text};
 ghost use Rattle.s3_signer.specs.Verified.{IsVerifiedRequest};
@@ -15,8 +15,31 @@ use crate::message::{head, message};
 use crate::ready::{has_one, is_ready};
 use crate::unsigned::Unsigned;
 use s3_calendar::Stamp;
+use s3_http_heads::{Head, LINE_LIMIT};
 use s3_signing::sign_head;
 use std::alloc::{AllocError, Global};
+
+// The value that signs a head, if it is ready for it.
+fn value_for(
+    alloc: Global,
+    id: &[u8],
+    secret: &[u8],
+    region: &[u8],
+    head: &Head,
+    told: bool,
+    hash: &[u8],
+    stamp: Stamp,
+) -> Result<Vec<u8>, Unsigned>
+    ensures text { IfOk result (λ value. value.items ≡ authorization_text id.now secret.now region.now head.now stamp) }
+    ensures verified { IfOk result (λ value. IsVerifiedWith id.now secret.now region.now head.now stamp value.items) }
+    ensures ready { OnOk result (IsReadyFor told hash.now stamp head.now) }
+    ensures refused { IsErrOf result Unsigned.NotSignable → ¬ (IsReadyFor told hash.now stamp head.now) }
+{
+    if !is_ready(head, told, hash, stamp.text()) {
+        return Err(Unsigned::NotSignable);
+    }
+    Ok(sign_head(alloc, id, secret, region, head, stamp)?)
+}
 
 // The value that signs the head of these lines.
 fn authorization(
@@ -42,10 +65,7 @@ fn authorization(
         → ¬ (IsReadyFor told hash.now stamp (parts_of (head_with method.now target.now lines.now))) }
 {
     let head = head(alloc, method, target, lines)?;
-    if !is_ready(&head, told, hash, stamp.text()) {
-        return Err(Unsigned::NotSignable);
-    }
-    Ok(sign_head(alloc, id, secret, region, &head, stamp)?)
+    value_for(alloc, id, secret, region, &head, told, hash, stamp)
 }
 
 // The lines and that of the authorization, which is the last.
@@ -96,7 +116,7 @@ fn signed_text(
 /// within 900 seconds of the stamp and unless the target carries a signature of its own.
 ///
 /// Hashes the body once, copies it once and looks at it once more. Each line is compared with those before
-/// its place.
+/// its place; more than 64 given lines are refused before that.
 ///
 /// # Errors
 ///
@@ -133,6 +153,9 @@ pub fn signed_request(
     ensures verified { IfOk result (λ text. IsVerifiedRequest id.now secret.now region.now
         method.now target.now (given_lines headers.now) body.now stamp text.items) }
 {
+    if headers.len() > LINE_LIMIT {
+        return Err(Unsigned::NotSignable);
+    }
     let hash = hash_text(body);
     let told = tells_length(method, body);
     let lines = unsigned_lines(alloc, method, headers, body, &hash, stamp.text())?;

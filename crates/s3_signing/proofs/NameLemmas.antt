@@ -1,5 +1,5 @@
 -- The names that a signer covers: collected, put in order, joined.
-use Rattle.std.proofs.Common.{◌≡◌, ℕ, ◌+◌, ◌<◌, Bool, true, false, not, List, [], ◌∷◌, ◌++◌, length, take, map, filter, get_or, Some, refl, sym, ap, ◌∙◌, append-nil, slice_get, IsPermutation}
+use Rattle.std.proofs.Common.{◌≡◌, ℕ, ◌+◌, ◌<◌, Bool, true, false, List, [], ◌∷◌, ◌++◌, length, take, map, filter, get_or, Some, refl, sym, ap, ◌∙◌, append-nil, slice_get, IsPermutation}
 use Rattle.std.specs.Prelude.{codes}
 use Rattle.std.specs.List.{dedup, dedup_from}
 use Rattle.std.specs.List.Sorted.{IsSorted}
@@ -11,34 +11,31 @@ use Rattle.std.proofs.lemmas.List.Sorted.{IsPermutation-map}
 use Rattle.std.proofs.lemmas.Map.Lookups.{exact_bytes}
 use Rattle.std.proofs.lemmas.Option.{get_or_from_slice_get, slice_get_within}
 use Rattle.s3_text.specs.Order.{byte_order}
-use Rattle.s3_canonical.specs.Sorting.{sorted_by}
-use Rattle.s3_canonical.proofs.SortingLemmas.{sorted_by-unique, IsSorted-map}
+use Rattle.s3_text.specs.Sorting.{sorted_by}
+use Rattle.s3_text.proofs.SortingLemmas.{sorted_by-unique, IsSorted-map}
 use Rattle.s3_signing.specs.declared.names.Name.{Name}
-use Rattle.s3_signing.specs.Name.{name_text, texts}
-use Rattle.s3_signing.specs.Verdict.{lower_name}
+use Rattle.s3_signing.specs.Cover.{lower_name}
+use Rattle.s3_signing.specs.Names.{IsOrdered, is_other, name_text, texts}
+use Rattle.s3_signing.proofs.OrderLemmas.{is_ordered}
 
--- a name that a signer covers
-abbrev pub is_covered : List ℕ → Bool
-is_covered name = not (bytes_eq name (codes "authorization"))
+-- the names of the lines but those of Authorization
+abbrev pub others_in : List (List ℕ × List ℕ) → List (List ℕ)
+others_in lines = filter is_other (map lower_name lines)
 
--- those of the lines
-abbrev pub covered_names : List (List ℕ × List ℕ) → List (List ℕ)
-covered_names lines = filter is_covered (map lower_name lines)
-
-one_more : (lines : List (List ℕ × List ℕ)) (i : ℕ) (line : List ℕ × List ℕ) → slice_get lines i ≡ Some line → covered_names (take (i + 1) lines) ≡ covered_names (take i lines) ++ covered_names (line ∷ [])
+one_more : (lines : List (List ℕ × List ℕ)) (i : ℕ) (line : List ℕ × List ℕ) → slice_get lines i ≡ Some line → others_in (take (i + 1) lines) ≡ others_in (take i lines) ++ others_in (line ∷ [])
 one_more lines i line is =
-    ap covered_names (take_more lines i line (slice_get_within lines i line is) ∙ ap (λ x. take i lines ++ x ∷ []) (get_or_from_slice_get lines i line line is))
-    ∙ ap (filter is_covered) (map-append lower_name (take i lines) (line ∷ []))
-    ∙ filter-append is_covered (map lower_name (take i lines)) (map lower_name (line ∷ []))
+    ap others_in (take_more lines i line (slice_get_within lines i line is) ∙ ap (λ x. take i lines ++ x ∷ []) (get_or_from_slice_get lines i line line is))
+    ∙ ap (filter is_other) (map-append lower_name (take i lines) (line ∷ []))
+    ∙ filter-append is_other (map lower_name (take i lines)) (map lower_name (line ∷ []))
 
 -- one more line, which is covered, or is not
-pub covered_more : (lines : List (List ℕ × List ℕ)) (i : ℕ) (sent value : List ℕ) → slice_get lines i ≡ Some (sent, value) → bytes_eq (str_to_ascii_lowercase sent) (codes "authorization") ≡ false → covered_names (take (i + 1) lines) ≡ covered_names (take i lines) ++ str_to_ascii_lowercase sent ∷ []
+pub covered_more : (lines : List (List ℕ × List ℕ)) (i : ℕ) (sent value : List ℕ) → slice_get lines i ≡ Some (sent, value) → bytes_eq (str_to_ascii_lowercase sent) (codes "authorization") ≡ false → others_in (take (i + 1) lines) ≡ others_in (take i lines) ++ str_to_ascii_lowercase sent ∷ []
 covered_more lines i sent value is other =
-    one_more lines i (sent, value) is ∙ ap (λ rest. covered_names (take i lines) ++ rest) (rw other refl)
+    one_more lines i (sent, value) is ∙ ap (λ rest. others_in (take i lines) ++ rest) (rw other refl)
 
-pub covered_same : (lines : List (List ℕ × List ℕ)) (i : ℕ) (sent value : List ℕ) → slice_get lines i ≡ Some (sent, value) → bytes_eq (str_to_ascii_lowercase sent) (codes "authorization") ≡ true → covered_names (take (i + 1) lines) ≡ covered_names (take i lines)
+pub covered_same : (lines : List (List ℕ × List ℕ)) (i : ℕ) (sent value : List ℕ) → slice_get lines i ≡ Some (sent, value) → bytes_eq (str_to_ascii_lowercase sent) (codes "authorization") ≡ true → others_in (take (i + 1) lines) ≡ others_in (take i lines)
 covered_same lines i sent value is same =
-    one_more lines i (sent, value) is ∙ ap (λ rest. covered_names (take i lines) ++ rest) (rw same refl) ∙ append-nil (covered_names (take i lines))
+    one_more lines i (sent, value) is ∙ ap (λ rest. others_in (take i lines) ++ rest) (rw same refl) ∙ append-nil (others_in (take i lines))
 
 pub texts_more : (names : List Name) (name : Name) → texts (names ++ name ∷ []) ≡ texts names ++ name_text name ∷ []
 texts_more names name = map-append name_text names (name ∷ [])
@@ -67,3 +64,8 @@ dedup-texts same is (x ∷ names) = dedup_from-texts same is x names
 pub sorted-texts : (names sorted : List Name) → IsPermutation names sorted → IsSorted (λ x y. byte_order (name_text x) (name_text y)) sorted → texts sorted ≡ sorted_by byte_order (texts names)
 sorted-texts names sorted same up =
     sorted_by-unique byte_order nat_list_cmp_total exact_bytes (texts names) (texts sorted) (IsPermutation-map name_text names sorted same) (IsSorted-map name_text byte_order sorted up)
+
+-- and so they are ordered
+pub ordered-texts : (names sorted : List Name) → IsPermutation names sorted → IsSorted (λ x y. byte_order (name_text x) (name_text y)) sorted → IsOrdered (texts names)
+ordered-texts names sorted same up =
+    is_ordered (texts names) (texts sorted) (IsPermutation-map name_text names sorted same) (sorted-texts names sorted same up) (IsSorted-map name_text byte_order sorted up)

@@ -1,28 +1,26 @@
 -- Whether a head is verified, and otherwise which fault comes first (AWS Signature Version 4; Amazon
 -- S3 API Reference, "Authenticating requests (AWS Signature Version 4)" and "Error responses").
-use Rattle.std.specs.Prelude.{◌≡◌, ℕ, ◌+◌, ◌≤◌, Bool, true, not, ◌&&◌, ◌||◌, ◌==◌, nat_le, nat_eq, if◌then◌else◌, List, [], ◌∷◌, map, length, codes, Option, Some, None, option_and_then, ok_or, unwrap_or, Result, Ok, ⊤}
-use Rattle.std.specs.List.{list_any, list_all, starts_with}
-use Rattle.std.specs.Str.{bytes_eq, str_to_ascii_lowercase}
+use Rattle.std.specs.Prelude.{◌≡◌, ℕ, ◌+◌, ◌≤◌, Bool, true, not, ◌&&◌, ◌||◌, ◌==◌, nat_le, nat_eq, if◌then◌else◌, List, [], ◌∷◌, length, codes, Option, Some, None, option_and_then, ok_or, unwrap_or, Result, Ok, ⊤}
+use Rattle.std.specs.List.{list_any, starts_with}
+use Rattle.std.specs.Str.{bytes_eq}
+use Rattle.s3_text.specs.Digest.{is_hex_digest}
 use Rattle.s3_terms.specs.Fault.{refuse, ◌>>◌, ◌>>=◌}
 use Rattle.s3_config.specs.Settings.{Settings, are_settings, secret_of}
 use Rattle.s3_calendar.specs.Moment.{last_moment, is_stamp, stamp_seconds, stamp_date}
 use Rattle.s3_terms.specs.declared.code.Code.{Code}
-use Rattle.s3_terms.specs.declared.code.Code.TheVariants.{InvalidURI, AccessDenied, AuthorizationHeaderMalformed, InvalidAccessKeyId, RequestTimeTooSkewed, InvalidRequest, InvalidArgument, NotImplemented, SignatureDoesNotMatch}
-use Rattle.s3_http_heads.specs.Parts.{HeadParts, values_of, first_value, is_sent}
-use Rattle.s3_canonical.specs.Target.{is_unreadable, parameters_of}
-use Rattle.s3_canonical.specs.Request.{signed_names}
-use Rattle.s3_signing.specs.Authorization.{authorization_of, is_hex_digest}
-use Rattle.s3_signing.specs.Authorization as authorization
-use Rattle.s3_signing.specs.Signature.{signing_key, signature_of}
+use Rattle.s3_terms.specs.declared.code.Code.TheVariants.{AccessDenied, AuthorizationHeaderMalformed, InvalidAccessKeyId, RequestTimeTooSkewed, InvalidRequest, InvalidArgument, NotImplemented, SignatureDoesNotMatch}
+use Rattle.s3_http_heads.specs.Head.{HeadParts, values_of, first_value, is_sent}
+use Rattle.s3_http_heads.specs.Target.{TargetParts, target_of, has_parameter}
+use Rattle.s3_authorization.specs.Authorization.{authorization_of}
+use Rattle.s3_authorization.specs.Authorization as authorization
+use Rattle.s3_signing.specs.Cover.{covers_enough}
+use Rattle.s3_signing.specs.Key.{signing_key}
+use Rattle.s3_signing.specs.Signature.{signature_of}
 use Rattle.s3_signing.specs.Word.{signed_chunks, unsigned_payload}
 
--- the parameter is the signature of a presigned request
-abbrev pub is_query_signature : List ℕ × List ℕ → Bool
-is_query_signature parameter = bytes_eq parameter.0 (codes "X-Amz-Signature")
-
--- the query has such a parameter: a form that is not accepted
-abbrev pub is_presigned : List ℕ → Bool
-is_presigned target = list_any is_query_signature (parameters_of target)
+-- the query has the signature of a presigned request: a form that is not accepted
+abbrev pub is_presigned : TargetParts → Bool
+is_presigned target = has_parameter (codes "X-Amz-Signature") target
 
 -- the one value of a header that was sent once
 abbrev pub only : List (List ℕ) → Option (List ℕ)
@@ -67,39 +65,11 @@ abbrev pub is_word : List ℕ → Bool
 is_word word =
     is_hex_digest word || bytes_eq word unsigned_payload || bytes_eq word signed_chunks
 
--- a header that has to be signed where it was sent
-abbrev pub is_amz_name : List ℕ → Bool
-is_amz_name name = starts_with nat_eq name (codes "x-amz-")
-
--- the name of a header line in lower case
-abbrev pub lower_name : List ℕ × List ℕ → List ℕ
-lower_name header = str_to_ascii_lowercase header.0
-
--- the names of the header lines in lower case
-abbrev pub sent_names : HeadParts → List (List ℕ)
-sent_names head = map lower_name head.headers
-
--- the name stands among the signed ones
-abbrev pub signs : List ℕ → List ℕ → Bool
-signs signed name = list_any (bytes_eq name) (signed_names signed)
-
--- it does, or it need not
-abbrev pub covers : List ℕ → List ℕ → Bool
-covers signed name = not (is_amz_name name) || signs signed name
-
--- each of Amazon's headers that was sent is signed
-abbrev pub signs_amz : HeadParts → List ℕ → Bool
-signs_amz head signed = list_all (covers signed) (sent_names head)
-
--- `host` is signed, and each of Amazon's headers that was sent
-abbrev pub signs_enough : HeadParts → List ℕ → Bool
-signs_enough head signed = signs signed (codes "host") && signs_amz head signed
-
 -- a target that can be read, and that carries no signature
 unfoldable pub check_target : HeadParts → Result ⊤ Code
 check_target head = do
-  refuse (is_unreadable head.target) InvalidURI
-  refuse (is_presigned head.target) AccessDenied
+  target ← target_of head.target
+  refuse (is_presigned target) AccessDenied
 
 -- the parts of the one Authorization line
 unfoldable pub authorization_at : HeadParts → Result authorization.Parts Code
@@ -155,7 +125,7 @@ checked_head settings head moment = do
   stamp ← stamp_at head
   secret ← secret_at settings moment sent stamp
   word ← word_at head
-  refuse (not (signs_enough head sent.signed)) AccessDenied
+  refuse (not (covers_enough head sent.signed)) AccessDenied
   Ok (record { sent = sent; stamp = stamp; secret = secret; word = word })
 
 -- the signature that the head has to have

@@ -2,7 +2,7 @@
 
 ghost use Rattle.std.specs.Prelude.{◌≡◌, ◌++◌, codes};
 ghost use Rattle.s3_hmac.specs.Hmac.{hmac};
-ghost use Rattle.s3_signing.specs.Signature.{signing_key};
+ghost use Rattle.s3_signing.specs.Key.{signing_key};
 
 use s3_hmac::{hmac, long_keys_are_hashed};
 use sha2::{Digest, Sha256};
@@ -13,7 +13,7 @@ const BLOCK_LEN: usize = 64;
 // What stands before the secret in the first key.
 const PREFIX: &[u8; 4] = b"AWS4";
 
-// The code of the date under the secret. A key of more than a block stands for its digest, so the
+// The tag of the date under the secret. A key of more than a block stands for its digest, so the
 // secret may have any length.
 fn day_key(secret: &[u8], date: &[u8]) -> [u8; 32]
     ensures { result ≡ hmac (codes "AWS4" ++ secret.now) date.now }
@@ -36,7 +36,7 @@ fn day_key(secret: &[u8], date: &[u8]) -> [u8; 32]
 /// region (AWS Signature Version 4, "Calculate the signature"): 32 bytes.
 ///
 /// It hashes a fixed number of blocks, and those of a longer argument. It takes no memory.
-#[tactic(auto, unfolding(crate::specs::Signature::signing_key))]
+#[tactic(auto, unfolding(crate::specs::Key::signing_key))]
 pub fn signing_key(secret: &[u8], date: &[u8], region: &[u8]) -> [u8; 32]
     ensures { result ≡ signing_key secret.now date.now region.now }
 {

@@ -1,23 +1,22 @@
 //! Signatures of requests: verified and written (AWS Signature Version 4).
 #![tactic(auto)]
 
-mod authorization;
+mod authorize;
+mod chain;
 mod compare;
-mod cut;
+mod cover;
 mod key;
 mod lines;
 mod names;
 mod region;
-mod sign;
 mod signature;
-mod signed;
 mod target;
-mod verify;
+mod verdict;
 mod word;
 
-pub use authorization::{Authorization, authorizations_are_spelled};
+pub use authorize::sign_head;
+pub use chain::ChunkChain;
 pub use key::signing_key;
 pub use region::{REGION_MAX, Region};
-pub use sign::sign_head;
-pub use verify::{Verified, verify_head};
+pub use verdict::{Verified, verify_head};
 pub use word::Word;

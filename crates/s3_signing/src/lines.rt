@@ -2,12 +2,12 @@
 
 ghost use Rattle.std.specs.Prelude.{◌≡◌, Ok, Err, IfOk, IfErr};
 ghost use Rattle.std.specs.Option.{option_copied};
-ghost use Rattle.s3_http_heads.specs.Parts.{values_of};
+ghost use Rattle.s3_http_heads.specs.Head.{values_of};
 ghost use Rattle.s3_signing.specs.Verdict as rules;
 ghost use Rattle.s3_signing.specs.Word.{word_text};
 
-use crate::authorization::Authorization;
 use crate::word::Word;
+use s3_authorization::Authorization;
 use s3_calendar::Stamp;
 use s3_http_heads::Head;
 use s3_terms::Code;

@@ -9,7 +9,7 @@ pub const REGION_MAX: usize = 64;
 
 /// The name of a region, of at most 64 bytes. It is held in place and takes no memory; a contract
 /// sees it as its bytes.
-#[derive(Debug, Drop)]
+#[derive(Drop)]
 pub struct Region {
     bytes: [u8; REGION_MAX],
     length: usize,

@@ -1,26 +1,20 @@
 //! The signature of a request whose canonical text has a known hash.
 
-ghost use Rattle.std.specs.Prelude.{◌≡◌};
+ghost use Rattle.std.specs.Prelude.{◌≡◌, true};
 ghost use Rattle.hex.specs.Hex.{encode_lower};
+ghost use Rattle.s3_text.specs.Digest.{is_hex_digest};
 ghost use Rattle.s3_hmac.specs.Hmac.{hmac};
 ghost use Rattle.s3_signing.specs.Signature.{signing_text};
 
 use s3_calendar::Stamp;
 use s3_hmac::Mac;
-
-// The bytes in lower-case hexadecimal.
-fn lower_hex(bytes: &[u8; 32]) -> [u8; 64]
-    ensures { result ≡ encode_lower bytes.now }
-{
-    let mut text = [0; 64];
-    hex::encode_to_slice(bytes.as_slice(), &mut text).unwrap();
-    text
-}
+use s3_text::hex_digest;
 
 // The signature that this key gives to a canonical request with this hash, which was stamped so and
 // sent to this region: 64 lower-case hexadecimal digits. The string to sign is fed part by part.
 pub(crate) fn signature(key: &[u8; 32], stamp: &Stamp, region: &[u8], hash: &[u8; 32]) -> [u8; 64]
-    ensures { result ≡ encode_lower (hmac key.now (signing_text stamp.now region.now hash.now)) }
+    ensures value { result ≡ encode_lower (hmac key.now (signing_text stamp.now region.now hash.now)) }
+    ensures form { is_hex_digest result ≡ true }
 {
     let mut mac = Mac::new(key);
     mac.update(b"AWS4-HMAC-SHA256\n");
@@ -30,6 +24,6 @@ pub(crate) fn signature(key: &[u8; 32], stamp: &Stamp, region: &[u8], hash: &[u8
     mac.update(b"/");
     mac.update(region);
     mac.update(b"/s3/aws4_request\n");
-    mac.update(&lower_hex(hash));
-    lower_hex(&mac.finish())
+    mac.update(&hex_digest(hash));
+    hex_digest(&mac.finish())
 }

@@ -4,11 +4,11 @@ ghost use Rattle.std.specs.Prelude.{◌≡◌, true, false, MatchOption};
 ghost use Rattle.s3_signing.specs.Verdict.{is_word};
 ghost use Rattle.s3_signing.specs.Word.{word_text};
 
-use crate::authorization::read_digest;
+use s3_text::read_hex_digest;
 
 /// What the value of `x-amz-content-sha256` says of the body (Amazon S3 API Reference,
 /// "Authenticating requests: signature calculations").
-#[derive(Clone, Copy, Debug, PartialEq, Eq)]
+#[derive(Clone, Copy, PartialEq, Eq)]
 pub enum Word {
     /// The body's SHA-256, in 64 lower-case hexadecimal digits.
     Hash([u8; 64]),
@@ -35,7 +35,7 @@ impl Word {
         if text == CHUNKS {
             return Some(Word::Chunks);
         }
-        match read_digest(text) {
+        match read_hex_digest(text) {
             Some(digits) => Some(Word::Hash(digits)),
             None => None,
         }

@@ -1,12 +1,13 @@
 //! The published example, the limits, and each refusal of a head. The signatures are those of Python's
 //! `hmac` and `hashlib`.
+ghost use Rattle.std.specs.Prelude.{◌≡◌, not};
+ghost use Rattle.s3_http_heads.specs.Target.{is_unreadable};
+
 use crate::server::{ID, REGION, SECRET, STAMP, verdict};
+use s3_authorization::{Authorization, authorizations_are_spelled};
 use s3_calendar::Stamp;
-use s3_canonical::is_readable;
 use s3_http_heads::Head;
-use s3_signing::{
-    Authorization, Region, Verified, Word, authorizations_are_spelled, sign_head, signing_key,
-};
+use s3_signing::{Region, Verified, Word, sign_head, signing_key};
 use s3_terms::Code;
 use std::alloc::Global;
 use std::process::Abort;
@@ -46,10 +47,18 @@ fn head_with(alloc: Global, lines: &[&[u8]], value: &[u8]) -> Result<Head, Code>
     head(alloc, &[&lines, b"authorization: ", value, b"\r\n"])
 }
 
+// Whether the target of a head can be read.
+#[tactic(auto, unfolding(s3_http_heads::specs::Target::target_of))]
+fn is_readable(head: &Head) -> bool
+    ensures { result ≡ not (is_unreadable head.now.target) }
+{
+    head.decoded_target().is_ok()
+}
+
 // The authorization of a head by the key of the server.
 fn signed(alloc: Global, head: &Head) -> Result<Vec<u8>, Code> {
     let stamp = Stamp::read(STAMP).ok_or(Code::InternalError)?;
-    if !is_readable(head.target()) || head.count(b"x-amz-content-sha256") != 1 {
+    if !is_readable(head) || head.count(b"x-amz-content-sha256") != 1 {
         return Err(Code::InvalidRequest);
     }
     Ok(sign_head(alloc, ID, SECRET, REGION, head, stamp)?)

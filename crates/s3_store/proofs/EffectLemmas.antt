@@ -1,5 +1,5 @@
 -- What one step does to the object under an address.
-use Rattle.std.proofs.Common.{◌≡◌, refl, sym, ap, subst, ◌∙◌, Bool, true, false, cond, ℕ, ◌⊎◌, inl, inr, List, Option, Some, None}
+use Rattle.std.proofs.Common.{◌≡◌, refl, sym, ap, subst, ◌∙◌, Bool, true, false, cond, ℕ, ◌⊎◌, inl, inr, List, Option, Some, None, is_some, not}
 use Rattle.std.specs.Cmp.{eq_by_cmp_equiv}
 use Rattle.std.specs.Cmp.Lexicographic.{nat_list_cmp_total}
 use Rattle.std.specs.FinMap as map
@@ -10,7 +10,7 @@ use Rattle.s3_requests.specs.declared.commands.Command.{Command}
 use Rattle.s3_requests.specs.declared.commands.Command.TheVariants as commands
 use Rattle.s3_store.specs.declared.object.Object.{Object}
 use Rattle.s3_store.specs.Store.{State, Objects, Stepped, object_in, object_at, put_object, put_step, got, get_step, step}
-use Rattle.s3_store.specs.Effects.{Address, writes, brings, reads, only_reads, is_refused, given, acknowledged}
+use Rattle.s3_store.specs.Store.{Address, writes, brings, reads, only_reads, is_refused, given, acknowledged}
 use Rattle.s3_store.proofs.MapLemmas.{get-put, tied_equal}
 use Rattle.s3_store.proofs.StepLemmas.{get_step-state}
 
@@ -89,6 +89,21 @@ got_gives s (Some object) = refl
 get_gives : (s : State) (key : List ℕ) (found : Option Objects) → given (get_step s key found).1 ≡ object_in found key
 get_gives s key None = refl
 get_gives s key (Some objects) = got_gives s (map.get objects key)
+
+got_something : (s : State) (found : Option Object) → is_some (given (got s found).1) ≡ not (is_refused (got s found).1)
+got_something s None = refl
+got_something s (Some object) = refl
+
+get_something : (s : State) (key : List ℕ) (found : Option Objects) → is_some (given (get_step s key found).1) ≡ not (is_refused (get_step s key found).1)
+get_something s key None = refl
+get_something s key (Some objects) = got_something s (map.get objects key)
+
+-- a read is answered an object, or refused
+pub step_reads_something : (least : ℕ) (s : State) (n t : ℕ) (command : Command) (a : Address) → reads command ≡ Some a
+    → is_some (given (step least s n t command).1) ≡ not (is_refused (step least s n t command).1)
+unfolding step
+step_reads_something least s n t (commands.PutObject bucket key body) a is = absurd (cc)
+step_reads_something least s n t (commands.GetObject bucket key) a is = get_something s key (map.get s bucket)
 
 -- a read is answered what is there
 pub step_gives : (least : ℕ) (s : State) (n t : ℕ) (command : Command) (a : Address) → reads command ≡ Some a → given (step least s n t command).1 ≡ held s a

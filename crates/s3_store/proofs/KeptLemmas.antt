@@ -1,11 +1,11 @@
 -- What the store has under an address is what the last write there that was accepted brought.
-use Rattle.std.proofs.Common.{◌≡◌, refl, sym, ap, subst, ◌∙◌, ℕ, ◌⊎◌, inl, inr, List, [], ◌∷◌, ◌++◌, append_assoc, Some}
+use Rattle.std.proofs.Common.{◌≡◌, refl, sym, ap, subst, ◌∙◌, ℕ, ◌⊎◌, inl, inr, List, [], ◌∷◌, ◌++◌, append_assoc, not, Some, is_some}
 use Rattle.s3_store.specs.declared.object.Object.{Object}
 use Rattle.s3_store.specs.Store.{State, put_object, step}
-use Rattle.s3_store.specs.Effects.{Address, reads, is_refused, given, acknowledged}
+use Rattle.s3_store.specs.Store.{Address, reads, is_refused, given, acknowledged}
 use Rattle.s3_store.specs.History.{Entry, IsAnswer, Legal, after, after_entry}
-use Rattle.s3_store.specs.Kept.{Leaves, LeavesKey, Brought, PutsAreKept, TagsAreOfBodies, RefusalsChangeNothing, ReadsChangeNothing}
-use Rattle.s3_store.proofs.EffectLemmas.{held, step_does, step_gives, step_acknowledges, step_refused, step_reads}
+use Rattle.s3_store.specs.Kept.{Leaves, LeavesKey, Brought, PutsAreKept, TagsAreOfBodies, ReadsGiveOrRefuse, RefusalsChangeNothing, ReadsChangeNothing}
+use Rattle.s3_store.proofs.EffectLemmas.{held, step_does, step_gives, step_acknowledges, step_refused, step_reads, step_reads_something}
 use Rattle.s3_store.proofs.HistoryLemmas.{Legal-append}
 
 module _ (least : ℕ) where
@@ -87,3 +87,10 @@ refusals_change_nothing least s n e answer is =
 
 pub reads_change_nothing : ReadsChangeNothing
 reads_change_nothing least s e is = step_reads least s e.answer.number e.moment e.command is
+
+pub reads_give_or_refuse : ReadsGiveOrRefuse
+reads_give_or_refuse least s n e address answer is =
+    let outcome = outcome_is least s n e answer in
+    ap (λ o. is_some (given o)) outcome
+    ∙ step_reads_something least s e.answer.number e.moment e.command address is
+    ∙ sym (ap (λ o. not (is_refused o)) outcome)

@@ -6,7 +6,7 @@ use Rattle.std.specs.Ordering.{eq_by_cmp}
 use Rattle.s3_text.specs.Order.{byte_order}
 use Rattle.s3_store.specs.declared.object.Object.{Object}
 use Rattle.s3_store.specs.Store.{State, opening, object_in}
-use Rattle.s3_store.specs.Effects.{Address}
+use Rattle.s3_store.specs.Store.{Address}
 use Rattle.s3_store.specs.History.{Entry, IsAnswer, Legal, after, after_entry}
 use Rattle.s3_store.specs.Kept.{Leaves, LeavesKey, Brought, LastBrought, OnlyPutsAreGiven}
 use Rattle.s3_store.proofs.EffectLemmas.{held}

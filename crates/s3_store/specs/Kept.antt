@@ -1,11 +1,11 @@
 -- What the store keeps: the bytes that were acknowledged are the bytes that come back and no others
 -- do, and what was refused or only read changes nothing.
-use Rattle.std.specs.Prelude.{◌≡◌, ℕ, true, false, List, ◌∷◌, ◌++◌, Some}
+use Rattle.std.specs.Prelude.{◌≡◌, ℕ, true, false, not, List, ◌∷◌, ◌++◌, Some, is_some}
 use Rattle.std.specs.List.{AllByRecursion}
 use Rattle.s3_segments.specs.Payload.{tag_of}
 use Rattle.s3_store.specs.declared.object.Object.{Object}
 use Rattle.s3_store.specs.Store.{State, opening, put_object}
-use Rattle.s3_store.specs.Effects.{Address, writes, brings, reads, only_reads, is_refused, given, acknowledged}
+use Rattle.s3_store.specs.Store.{Address, writes, brings, reads, only_reads, is_refused, given, acknowledged}
 use Rattle.s3_store.specs.History.{Entry, IsAnswer, Legal, after_entry}
 
 -- the entry, if it writes to the address, is refused
@@ -61,6 +61,13 @@ OnlyPutsAreGiven =
     → reads get.command ≡ Some address
     → given get.answer.outcome ≡ Some object
     → LastBrought address object earlier
+
+-- a right answer to a read hands out an object, or refuses
+abbrev pub ReadsGiveOrRefuse : Type 0
+ReadsGiveOrRefuse =
+    (least : ℕ) (s : State) (n : ℕ) (e : Entry) (address : Address)
+    → IsAnswer least s n e → reads e.command ≡ Some address
+    → is_some (given e.answer.outcome) ≡ not (is_refused e.answer.outcome)
 
 -- a right answer that refuses leaves the store as it was
 abbrev pub RefusalsChangeNothing : Type 0

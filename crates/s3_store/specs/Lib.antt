@@ -1,6 +1,5 @@
 pub mod Store
-pub mod Codes
-pub mod Effects
+pub mod Encoding
 pub mod History
 pub mod Kept
 pub use Rattle.s3_segments.specs.Payload

@@ -1,6 +1,6 @@
 -- The store: buckets of objects (Amazon S3 User Guide, "Amazon S3 objects overview"), and one step of
 -- it for each command (Amazon S3 API Reference, PutObject and GetObject).
-use Rattle.std.specs.Prelude.{ℕ, Bool, false, is_some, List, [], ◌∷◌, Option, Some, None}
+use Rattle.std.specs.Prelude.{ℕ, Bool, true, false, is_some, List, [], ◌∷◌, Option, Some, None}
 use Rattle.std.specs.FinMap as map
 use Rattle.s3_segments.specs.Payload.{tag_of}
 use Rattle.s3_text.specs.Order.{byte_order}
@@ -73,3 +73,48 @@ step least s n t (commands.GetObject bucket key) = get_step s key (map.get s buc
 abbrev pub replaces : State → Command → Bool
 replaces s (commands.PutObject bucket key body) = is_some (object_at s bucket key)
 replaces s (commands.GetObject bucket key) = false
+
+-- What a command asks for, and what came of it, in words that every operation shares.
+
+-- a key of a bucket
+pub record Address : Type 0 where
+  pub bucket : List ℕ
+  pub key : List ℕ
+
+-- the address whose object a command changes
+abbrev pub writes : Command → Option Address
+writes (commands.PutObject bucket key body) = Some (record { bucket = bucket; key = key })
+writes (commands.GetObject bucket key) = None
+
+-- the body that a command brings along
+abbrev pub brings : Command → Option (List ℕ)
+brings (commands.PutObject bucket key body) = Some body
+brings (commands.GetObject bucket key) = None
+
+-- the address whose object a command asks for
+abbrev pub reads : Command → Option Address
+reads (commands.PutObject bucket key body) = None
+reads (commands.GetObject bucket key) = Some (record { bucket = bucket; key = key })
+
+-- a command changes nothing, whatever it is answered
+abbrev pub only_reads : Command → Bool
+only_reads (commands.PutObject bucket key body) = false
+only_reads (commands.GetObject bucket key) = true
+
+-- the store refuses
+abbrev pub is_refused : Outcome → Bool
+is_refused (outcomes.Put tag) = false
+is_refused (outcomes.Got object) = false
+is_refused (outcomes.Refused code is_delete_marker) = true
+
+-- the object that is handed out
+abbrev pub given : Outcome → Option Object
+given (outcomes.Put tag) = None
+given (outcomes.Got object) = Some object
+given (outcomes.Refused code is_delete_marker) = None
+
+-- the tag under which a body is stored
+abbrev pub acknowledged : Outcome → Option (List ℕ)
+acknowledged (outcomes.Put tag) = Some tag
+acknowledged (outcomes.Got object) = None
+acknowledged (outcomes.Refused code is_delete_marker) = None

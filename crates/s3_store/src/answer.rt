@@ -1,3 +1,5 @@
+//! What the store answers to a command.
+
 use crate::Object;
 use s3_names::Tag;
 use s3_terms::Code;

@@ -1,9 +1,11 @@
+//! What is known of all histories of the store: laws, with nothing to run.
+
 ghost use Rattle.std.specs.Prelude.{◌≡◌, ℕ, ◌+◌, List, [], ◌∷◌, ◌++◌, length};
 ghost use Rattle.s3_store.specs.Store.{State};
 ghost use Rattle.s3_store.specs.History.{Entry, IsAnswer, Legal, after, after_entry};
-ghost use Rattle.s3_store.specs.Kept.{PutsAreKept, TagsAreOfBodies, OnlyPutsAreGiven, RefusalsChangeNothing, ReadsChangeNothing};
+ghost use Rattle.s3_store.specs.Kept.{PutsAreKept, TagsAreOfBodies, OnlyPutsAreGiven, ReadsGiveOrRefuse, RefusalsChangeNothing, ReadsChangeNothing};
 
-/// A law, with nothing to run: a legal history with one more entry, whose answer is that of the next
+/// A law: a legal history with one more entry, whose answer is that of the next
 /// step, is legal, and leaves the state that this step leaves.
 pub fn one_more_entry()
     ensures legal { (least : ℕ) (s : State) (n : ℕ) (es : List Entry) (e : Entry)
@@ -13,7 +15,7 @@ pub fn one_more_entry()
         → after least s (es ++ e ∷ []) ≡ after_entry least (after least s es) e }
 {}
 
-/// A law, with nothing to run: in a legal history the bytes of a put that was acknowledged come back,
+/// A law: in a legal history the bytes of a put that was acknowledged come back,
 /// with their tag, which is the one that was acknowledged, and the put's moment, at each get of their
 /// key before the next write there that is acknowledged.
 pub fn puts_are_kept()
@@ -21,13 +23,15 @@ pub fn puts_are_kept()
     ensures tagged { TagsAreOfBodies }
 {}
 
-/// A law, with nothing to run: in a legal history from the opening state, each object that is answered
-/// was brought by the last write to its key that was acknowledged.
+/// A law: in a legal history from the opening state, each object that is answered
+/// was brought by the last write to its key that was acknowledged; and a read that is not refused is
+/// answered an object.
 pub fn only_puts_are_given()
-    ensures { OnlyPutsAreGiven }
+    ensures given { OnlyPutsAreGiven }
+    ensures or_refused { ReadsGiveOrRefuse }
 {}
 
-/// A law, with nothing to run: an entry that is refused leaves the store as it was, and so does one
+/// A law: an entry that is refused leaves the store as it was, and so does one
 /// that only reads.
 pub fn refusals_change_nothing()
     ensures refusals { RefusalsChangeNothing }

@@ -1,3 +1,5 @@
+//! An object.
+
 ghost use Rattle.std.specs.Prelude.{◌≡◌, IfOk};
 
 use s3_calendar::Moment;

@@ -1,3 +1,5 @@
+//! The objects of one bucket.
+
 ghost use Rattle.std.specs.Prelude.{◌≡◌, None, OnOk, OnErr};
 ghost use Rattle.std.specs.Option.{option_copied};
 ghost use Rattle.std.specs.FinMap as map;
@@ -18,7 +20,7 @@ pub(crate) struct Objects {
 impl Model for Objects {
     ghost use Rattle.std.specs.FinMap as map;
     ghost use Rattle.s3_store.specs.Store.{Objects as Seen};
-    ghost use Rattle.s3_store.specs.Codes.{coded_objects};
+    ghost use Rattle.s3_store.specs.Encoding.{coded_objects};
 
     ghost Value = { Seen };
 

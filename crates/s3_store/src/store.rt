@@ -1,4 +1,6 @@
-ghost use Rattle.std.specs.Prelude.{◌≡◌, false, is_some, IfOk, OnOk, OnErr};
+//! The store, and one step of it for each command.
+
+ghost use Rattle.std.specs.Prelude.{◌≡◌, ◌≢◌, false, is_some, [], IfOk, OnOk, OnErr};
 ghost use Rattle.std.specs.FinMap as map;
 
 use crate::objects::Objects;
@@ -22,7 +24,7 @@ pub struct Store {
 impl Model for Store {
     ghost use Rattle.std.specs.FinMap as map;
     ghost use Rattle.s3_store.specs.Store.{State};
-    ghost use Rattle.s3_store.specs.Codes.{coded_state};
+    ghost use Rattle.s3_store.specs.Encoding.{coded_state};
 
     ghost Value = { State };
 
@@ -33,12 +35,13 @@ impl Model for Store {
 
 impl Store {
     ghost use Rattle.s3_store.specs.Store.{opening, step, put_step, get_step, object_at, replaces};
-    ghost use Rattle.s3_store.specs.Effects.{is_refused};
+    ghost use Rattle.s3_store.specs.Store.{is_refused};
 
     /// The store with these buckets, which are unversioned and have nothing in them. A name that stands
-    /// twice is one bucket. The names are copied.
+    /// twice is one bucket. The names are copied. `NoMemory` comes only where there is a name.
     pub fn open(alloc: Global, buckets: &[BucketName]) -> Result<Store, NoMemory>
-        ensures { IfOk result (λ store. store ≡ opening buckets.now) }
+        ensures state { IfOk result (λ store. store ≡ opening buckets.now) }
+        ensures memory { OnErr result (buckets.now ≢ []) }
     {
         let mut store = Store {
             by_name: BTreeMap::new(alloc),

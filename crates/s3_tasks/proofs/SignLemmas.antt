@@ -8,10 +8,9 @@ use Rattle.s3_settings.specs.declared.fault.Fault.{Fault}
 use Rattle.s3_settings.specs.declared.fault.Fault.TheVariants.{CannotRead, BadKeysLine, BadSetting, InputFailed, OutputFailed, OutOfMemory}
 use Rattle.s3_settings.specs.declared.settings.Setup.{Setup}
 use Rattle.s3_tasks.specs.declared.sign.Draft.{Draft}
-use Rattle.s3_command_line.specs.declared.task.SignOptions.{SignOptions}
+use Rattle.s3_options.specs.declared.options.SignOptions.{SignOptions}
 use Rattle.s3_settings.specs.Settings.{IsSetupOf, IsConfigFault}
-use Rattle.s3_tasks.specs.Sign.{texts_of, has_colon, IsDraftOf, IsPrepared, IsRequestFault, IsSignFault, IsTextOf}
-use Rattle.s3_tasks.specs.Steps.{IsReady, IsDraftText, IsDraftFault}
+use Rattle.s3_tasks.specs.Sign.{texts_of, has_colon, IsDraftFault, IsDraftOf, IsDraftText, IsPrepared, IsReady, IsRequestFault, IsSignFault, IsTextOf}
 
 -- a word without a colon
 pub colon_missing : (words : List (Bor (List ℕ))) (i : ℕ) (d : Bor (List ℕ)) → i < length words → has_colon (get_or words i d).now ≡ false → list_all has_colon (texts_of words) ≡ false

@@ -1,3 +1,2 @@
 pub mod Run
 pub mod Sign
-pub mod Steps

@@ -4,7 +4,7 @@ use Rattle.std.specs.Prelude.{◌≡◌, ◌≢◌, ◌⊎◌, IsTrue, ℕ, Bool
 use Rattle.s3_config.specs.Settings.{Settings}
 use Rattle.s3_settings.specs.declared.fault.Fault.{Fault}
 use Rattle.s3_settings.specs.declared.fault.Fault.TheVariants.{CannotRead, BadKeysLine, BadSetting, InputFailed, OutputFailed, OutOfMemory}
-use Rattle.s3_settings.specs.declared.options.Options.{Options}
+use Rattle.s3_options.specs.declared.options.Options.{Options}
 use Rattle.s3_settings.specs.declared.settings.Setup.{Setup}
 use Rattle.s3_settings.specs.Devices.{AppendsBeginning, Gains, GainsBeginning}
 use Rattle.s3_settings.specs.Fault.{line_of}
@@ -24,7 +24,7 @@ pub record IsReplayed (known : List ℕ → Option (List ℕ)) (input : Option (
   pub configured : IsConfigured (known setup.keys.now) setup settings
   pub answered : IfSome input (λ bytes. Replays settings setup.moment bytes out)
 
--- why a replay has no such text, each fault only where none that comes before it is there, but want of
+-- why a replay has no such text, each fault only where none that comes before it is there, but out of
 -- memory, which may come anywhere
 abbrev pub IsReplayFault : (List ℕ → Option (List ℕ)) → Options → Fault → Type 0
 IsReplayFault known options BadSetting = (are_options options ≡ false) ⊎ HasConfigFault known options BadSetting

@@ -10,16 +10,20 @@ use Rattle.s3_settings.specs.declared.fault.Fault.{Fault}
 use Rattle.s3_settings.specs.declared.fault.Fault.TheVariants.{CannotRead, BadKeysLine, BadSetting, InputFailed, OutputFailed, OutOfMemory}
 use Rattle.s3_settings.specs.declared.settings.Setup.{Setup}
 use Rattle.s3_tasks.specs.declared.sign.Draft.{Draft}
-use Rattle.s3_command_line.specs.declared.task.SignOptions.{SignOptions}
+use Rattle.s3_options.specs.declared.options.SignOptions.{SignOptions}
 use Rattle.s3_settings.specs.Fault.{IsReadFault}
-use Rattle.s3_settings.specs.Settings.{are_options, IsSetupOf, IsConfigured, HasConfigFault}
+use Rattle.s3_settings.specs.Settings.{are_options, IsSetupOf, IsConfigured, IsConfigFault, HasConfigFault}
 
 -- the texts behind references
 abbrev pub texts_of : List (Bor (List ℕ)) → List (List ℕ)
 texts_of = map (λ text. text.now)
 
+-- the byte `:`
+abbrev pub colon : ℕ
+colon = 58
+
 abbrev pub is_colon : ℕ → Bool
-is_colon b = b == 58
+is_colon b = b == colon
 
 -- the word has a `:`
 abbrev pub has_colon : List ℕ → Bool
@@ -114,7 +118,7 @@ HasRequestFault known o fault =
     (draft : Draft) × (settings : Settings) × (stamp : List ℕ)
     × IsPrepared known o draft settings stamp × IsRequestFault known settings draft stamp fault
 
--- why a signing has no such text, each fault only where none that comes before it is there, but want of
+-- why a signing has no such text, each fault only where none that comes before it is there, but out of
 -- memory, which may come anywhere
 abbrev pub IsSignFault : (List ℕ → Option (List ℕ)) → SignOptions → Fault → Type 0
 IsSignFault known o BadSetting =
@@ -126,3 +130,23 @@ IsSignFault known o (BadKeysLine number) = HasDraftAndConfigFault known o (BadKe
 IsSignFault known o InputFailed = ⊥
 IsSignFault known o OutputFailed = ⊥
 IsSignFault known o OutOfMemory = ⊤
+
+-- The rest serves clauses of private functions alone.
+
+-- the settings are those of a setup and its keys file, and the stamp is that of its moment
+pub record IsReady (known : List ℕ → Option (List ℕ)) (setup : Setup) (settings : Settings) (stamp : List ℕ) : Type 0 where
+  pub configured : IsConfigured (known setup.keys.now) setup settings
+  pub stamped : IsStampOf setup.moment stamp
+
+-- the text is the signed request of a draft under a setup
+abbrev pub IsDraftText : (List ℕ → Option (List ℕ)) → Setup → Draft → List ℕ → Type 0
+IsDraftText known setup draft text =
+    (settings : Settings) × (stamp : List ℕ)
+    × IsReady known setup settings stamp × IsRequestOf known settings draft stamp text
+
+-- why there is none
+abbrev pub IsDraftFault : (List ℕ → Option (List ℕ)) → Setup → Draft → Fault → Type 0
+IsDraftFault known setup draft fault =
+    IsConfigFault (known setup.keys.now) setup fault
+    ⊎ ((settings : Settings) × (stamp : List ℕ)
+    × IsReady known setup settings stamp × IsRequestFault known settings draft stamp fault)

@@ -1,3 +1,5 @@
+//! A run of the program, from its words to its status.
+
 ghost use Rattle.std.specs.Prelude.{◌≡◌, ◌≢◌, ◌≤◌, ◌⊎◌, IfOk, OnOk, IfErr, IfSome, IsTrue, map, true};
 ghost use Rattle.s3_session.specs.Replay.{Replays};
 ghost use Rattle.s3_settings.specs.Devices.{AppendsBeginning};
@@ -9,19 +11,20 @@ use crate::sign::signed_text;
 use s3_calendar::Moment;
 use s3_command_line::{Task, WordsError, read_words};
 use s3_config::Config;
+use s3_options::Options;
 use s3_session::replay_one;
-use s3_settings::{Fault, Files, Options, Setup, configure, read_input, write_output};
+use s3_settings::{Fault, Files, Setup, configure, read_input, write_output};
 use std::alloc::Global;
 use std::convert::AsStr;
 use std::io::{Read, Write};
 
-/// The status of a run that did its work.
+// The status of a run that did its work.
 const DONE: u8 = 0;
 
-/// The status of a run that failed.
+// The status of a run that failed.
 const FAILED: u8 = 1;
 
-/// The status of a run whose words were wrong or asked for help.
+// The status of a run whose words were wrong or asked for help.
 const USAGE: u8 = 2;
 
 /// Runs the program on the words of its command line, of which the first is its name, and answers
@@ -50,7 +53,7 @@ pub fn run_words<S: AsStr, F: Files, R: Read, W: Write, E: Write>(
     }
 }
 
-/// Runs a task and answers its status; a fault is told.
+// Runs a task and answers its status; a fault is told.
 fn run_task<'a, F: Files, R: Read, W: Write, E: Write>(
     alloc: Global,
     task: &Task<'a>,
@@ -71,7 +74,7 @@ fn run_task<'a, F: Files, R: Read, W: Write, E: Write>(
     }
 }
 
-/// Tells why words ask for no task, and answers the status.
+// Tells why words ask for no task, and answers the status.
 fn refused<E: Write>(errors: &mut E, error: WordsError) -> u8
     ensures status { (result ≡ USAGE) ⊎ (result ≡ FAILED) }
     ensures usage { result ≡ USAGE → error ≢ WordsError.OutOfMemory }
@@ -86,7 +89,7 @@ fn refused<E: Write>(errors: &mut E, error: WordsError) -> u8
     }
 }
 
-/// Tells a fault and answers its status; where it cannot be told, the status says enough.
+// Tells a fault and answers its status; where it cannot be told, the status says enough.
 fn failed<E: Write>(errors: &mut E, fault: Fault<'_>) -> u8
     ensures status { result ≡ FAILED }
     ensures told { AppendsBeginning (E.contents errors.old) (E.contents errors.new) (line_of fault.entry) }
@@ -95,7 +98,7 @@ fn failed<E: Write>(errors: &mut E, fault: Fault<'_>) -> u8
     FAILED
 }
 
-/// Does what the words ask for.
+// Does what the words ask for.
 #[tactic(auto, using(crate::proofs::RunLemmas::runs))]
 fn work<'a, F: Files, R: Read, W: Write>(
     alloc: Global,
@@ -114,7 +117,7 @@ fn work<'a, F: Files, R: Read, W: Write>(
     write_output(output, text.as_slice())
 }
 
-/// What the words ask to write.
+// What the words ask to write.
 fn task_text<'a, F: Files, R: Read>(
     alloc: Global,
     task: &Task<'a>,
@@ -132,7 +135,7 @@ fn task_text<'a, F: Files, R: Read>(
     }
 }
 
-/// What the one connection is answered whose bytes are `input`.
+// What the one connection is answered whose bytes are `input`.
 fn replay<'a, F: Files, R: Read>(
     alloc: Global,
     options: &Options<'a>,
@@ -149,7 +152,7 @@ fn replay<'a, F: Files, R: Read>(
     answers(alloc, &config, moment, input)
 }
 
-/// What the connection of all the input is answered, under some settings at a moment.
+// What the connection of all the input is answered, under some settings at a moment.
 fn answers<'a, R: Read>(
     alloc: Global,
     config: &Config,

@@ -1,13 +1,14 @@
+//! The signed request that the options of `s3d sign` describe.
+
 ghost use Rattle.std.specs.Prelude.{◌≡◌, ◌++◌, [], ◌∷◌, IfOk, OnOk, IfErr, MatchOption, position, false, true};
 ghost use Rattle.std.specs.List.{list_all};
 ghost use Rattle.s3_signer.specs.Request.{given_lines, request_text};
 ghost use Rattle.s3_settings.specs.Fault.{MemoryOr};
-ghost use Rattle.s3_tasks.specs.Sign.{texts_of, is_colon, has_colon, line_of_word, header_lines, are_sign_options, IsSignableDraft, IsDraftOf, IsBodyOf, IsBodyFault, IsRequestOf, IsRequestFault, IsTextOf, IsSignFault};
-ghost use Rattle.s3_tasks.specs.Steps.{IsDraftText, IsDraftFault};
+ghost use Rattle.s3_tasks.specs.Sign.{texts_of, is_colon, has_colon, line_of_word, header_lines, are_sign_options, IsSignableDraft, IsDraftOf, IsBodyOf, IsBodyFault, IsRequestOf, IsRequestFault, IsTextOf, IsSignFault, IsDraftText, IsDraftFault};
 
 use s3_calendar::Stamp;
-use s3_command_line::SignOptions;
 use s3_config::Config;
+use s3_options::SignOptions;
 use s3_settings::{Fault, Files, Setup, configure, read_file};
 use s3_signer::{Unsigned, signed_request};
 use std::alloc::Global;
@@ -53,7 +54,7 @@ impl<'a> Draft<'a> {
     }
 }
 
-/// The header lines that the host and the words say.
+// The header lines that the host and the words say.
 #[tactic(auto, using(crate::proofs::SignLemmas::colon_missing))]
 fn header_lines<'a>(
     alloc: Global,
@@ -72,7 +73,7 @@ fn header_lines<'a>(
     Ok(lines)
 }
 
-/// Adds the header line of a word.
+// Adds the header line of a word.
 fn add_line<'a>(lines: &mut Vec<(&'a [u8], &'a [u8])>, word: &'a str) -> Result<(), Fault<'a>>
     ensures added { OnOk result (given_lines lines.new.items ≡ given_lines lines.old.items ++ line_of_word word.entry.now ∷ []) }
     ensures word { OnOk result (has_colon word.entry.now ≡ true) }
@@ -87,7 +88,7 @@ fn add_line<'a>(lines: &mut Vec<(&'a [u8], &'a [u8])>, word: &'a str) -> Result<
     }
 }
 
-/// What stands before and after the first `:` of a word.
+// What stands before and after the first `:` of a word.
 fn name_and_value(word: &str) -> Option<(&[u8], &[u8])>
     ensures { MatchOption result (has_colon word.now ≡ false) (λ line. (has_colon word.now ≡ true) × ((line.0.now, line.1.now) ≡ line_of_word word.now)) }
 {
@@ -96,7 +97,7 @@ fn name_and_value(word: &str) -> Option<(&[u8], &[u8])>
     Some((&bytes[..at], &bytes[at + 1..]))
 }
 
-/// The place of the first `:`.
+// The place of the first `:`.
 fn first_colon(text: &[u8]) -> Option<usize>
     ensures { result ≡ position is_colon text.now }
 {
@@ -117,7 +118,7 @@ pub fn signed_text<'a, F: Files>(
     signed_draft(alloc, setup, &draft, files)
 }
 
-/// The signed request of a draft, by the settings of a setup and at its moment.
+// The signed request of a draft, by the settings of a setup and at its moment.
 fn signed_draft<'a, F: Files>(
     alloc: Global,
     setup: Setup<'a>,
@@ -132,7 +133,7 @@ fn signed_draft<'a, F: Files>(
     request(alloc, &config, draft, files, stamp)
 }
 
-/// The signed request of a draft, in a server's region and by the secret that it has for the id.
+// The signed request of a draft, in a server's region and by the secret that it has for the id.
 fn request<'a, F: Files>(
     alloc: Global,
     config: &Config,
@@ -150,8 +151,8 @@ fn request<'a, F: Files>(
     signed(alloc, config, secret, draft, body.as_slice(), stamp)
 }
 
-/// The request of a draft with this body, signed in a server's region by a secret; `BadSetting` where it
-/// cannot be signed.
+// The request of a draft with this body, signed in a server's region by a secret; `BadSetting` where it
+// cannot be signed.
 fn signed<'a>(
     alloc: Global,
     config: &Config,
@@ -176,7 +177,7 @@ fn signed<'a>(
     }
 }
 
-/// The bytes of the file at the path; none without one.
+// The bytes of the file at the path; none without one.
 fn body<'a, F: Files>(alloc: Global, path: Option<&'a str>, files: &F) -> Result<Vec<u8>, Fault<'a>>
     ensures value { IfOk result (λ bytes. IsBodyOf (F.known files.now) path.entry bytes.items) }
     ensures refused { IfErr result (IsBodyFault (F.known files.now) path.entry) }

@@ -1,16 +1,8 @@
--- What is known of the faults of a list, and of the stages of a rule.
-use Rattle.std.proofs.Common.{◌≡◌, ◌≢◌, Bool, true, false, List, ◌∷◌, None, Result, Ok, Err, refl}
+-- What is known of the stages of a rule that refuses nothing.
+use Rattle.std.proofs.Common.{◌≡◌, Bool, true, false, Result, Ok, Err, refl}
 use Rattle.std.specs.Prelude.{⊤}
 use Rattle.s3_terms.specs.declared.code.Code.{Code}
-use Rattle.s3_terms.specs.declared.code.Code.TheVariants.{InternalError}
-use Rattle.s3_terms.specs.Fault.{first_fault, refuse, ◌>>◌, ◌>>=◌}
-
--- where no fault is there, the first is not, nor is one behind it
-pub no_first : (test : Bool) (code : Code) (faults : List (Bool × Code)) → first_fault ((test, code) ∷ faults) ≡ None → (test ≡ false) × (first_fault faults ≡ None)
-no_first true code faults none = absurd (cc)
-no_first false code faults none = (refl, none)
-
--- ---- where a rule refuses nothing
+use Rattle.s3_terms.specs.Fault.{refuse, ◌>>◌, ◌>>=◌}
 
 -- its first stage gave a value, from which the rest went on
 pub stage_ok : {A B : Type 0} (first : Result A Code) (next : A → Result B Code) (given : B) → first >>= next ≡ Ok given → (value : A) × (first ≡ Ok value) × (next value ≡ Ok given)
@@ -30,18 +22,3 @@ test_ok true code next given is = absurd (cc)
 -- and the value of its last line is what it gives
 pub one_value : {A : Type 0} (value given : A) → ◌≡◌ {A = Result A Code} (Ok value) (Ok given) → value ≡ given
 one_value value given is = cc
-
--- ---- rules that say nothing of memory
-
--- the rule never says that memory ran out
-abbrev pub NeverInternal : {A : Type 0} → Result A Code → Type 0
-NeverInternal {A} rule = ◌≢◌ {A = Result A Code} rule (Err InternalError)
-
--- nor does one of two such stages
-pub bind_other : {A B : Type 0} (first : Result A Code) (next : A → Result B Code) → NeverInternal first → ((value : A) → NeverInternal (next value)) → NeverInternal (first >>= next)
-bind_other (Ok value) next early later = later value
-bind_other (Err code) next early later = λ is. early (cc)
-
-pub then_other : {B : Type 0} (first : Result ⊤ Code) (next : Result B Code) → NeverInternal first → NeverInternal next → NeverInternal (first >> next)
-then_other (Ok done) next early later = later
-then_other (Err code) next early later = λ is. early (cc)

@@ -3,55 +3,57 @@
 -- responses".
 use Rattle.std.specs.Prelude.{ℕ, List, codes}
 use Rattle.s3_terms.specs.declared.code.Code.{Code}
+use Rattle.s3_terms.specs.declared.status.Status.{Status}
+use Rattle.s3_terms.specs.declared.status.Status.TheVariants as statuses
 use Rattle.s3_terms.specs.declared.code.Code.TheVariants.{MalformedHead, HeadTooLarge, NotImplemented, InvalidRequest, MissingContentLength, EntityTooLarge, InvalidURI, AccessDenied, AuthorizationHeaderMalformed, RequestTimeTooSkewed, InvalidArgument, InvalidAccessKeyId, SignatureDoesNotMatch, InvalidDigest, InvalidBucketName, KeyTooLongError, MethodNotAllowed, MetadataTooLarge, NoSuchUpload, IncompleteBody, XAmzContentSHA256Mismatch, BadDigest, MalformedBody, NoSuchBucket, BucketAlreadyOwnedByYou, BucketNotEmpty, NoSuchKey, NoSuchVersion, PreconditionFailed, InvalidRange, InvalidPartOrder, InvalidPart, EntityTooSmall, InternalError}
 
--- a row of the table: a code's number, its HTTP status (RFC 9110, section 15), its name and its message
+-- a row of the table: a code's number, its HTTP status, its name and its message
 abbrev pub Row : Type 0
-Row = ℕ × ℕ × List ℕ × List ℕ
+Row = ℕ × Status × List ℕ × List ℕ
 
 -- the row of a code
 abbrev pub row_of : Code → Row
-row_of MalformedHead = (1, 400, codes "MalformedHead", codes "The head is malformed.")
-row_of HeadTooLarge = (2, 400, codes "HeadTooLarge", codes "The head is too large.")
-row_of NotImplemented = (3, 501, codes "NotImplemented", codes "This is not implemented.")
-row_of InvalidRequest = (4, 400, codes "InvalidRequest", codes "The request is invalid.")
-row_of MissingContentLength = (5, 411, codes "MissingContentLength", codes "Content-Length is required.")
-row_of EntityTooLarge = (6, 400, codes "EntityTooLarge", codes "The body is too large.")
-row_of InvalidURI = (7, 400, codes "InvalidURI", codes "The target cannot be read.")
-row_of AccessDenied = (8, 403, codes "AccessDenied", codes "Access is denied.")
-row_of AuthorizationHeaderMalformed = (9, 400, codes "AuthorizationHeaderMalformed", codes "The authorization is malformed.")
-row_of RequestTimeTooSkewed = (10, 403, codes "RequestTimeTooSkewed", codes "The request time is too far off.")
-row_of InvalidArgument = (11, 400, codes "InvalidArgument", codes "An argument is invalid.")
-row_of InvalidAccessKeyId = (12, 403, codes "InvalidAccessKeyId", codes "The access key id is unknown.")
-row_of SignatureDoesNotMatch = (13, 403, codes "SignatureDoesNotMatch", codes "The signature does not match.")
-row_of InvalidDigest = (14, 400, codes "InvalidDigest", codes "The Content-MD5 is not valid.")
-row_of InvalidBucketName = (15, 400, codes "InvalidBucketName", codes "The bucket name is not valid.")
-row_of KeyTooLongError = (16, 400, codes "KeyTooLongError", codes "The key is too long.")
-row_of MethodNotAllowed = (17, 405, codes "MethodNotAllowed", codes "The method is not allowed here.")
-row_of MetadataTooLarge = (18, 400, codes "MetadataTooLarge", codes "The metadata is too large.")
-row_of NoSuchUpload = (19, 404, codes "NoSuchUpload", codes "The upload does not exist.")
-row_of IncompleteBody = (20, 400, codes "IncompleteBody", codes "The body is incomplete.")
-row_of XAmzContentSHA256Mismatch = (21, 400, codes "XAmzContentSHA256Mismatch", codes "The body hash does not match.")
-row_of BadDigest = (22, 400, codes "BadDigest", codes "The body MD5 does not match.")
-row_of MalformedBody = (23, 400, codes "MalformedBody", codes "The body is not the expected JSON.")
-row_of NoSuchBucket = (24, 404, codes "NoSuchBucket", codes "The bucket does not exist.")
-row_of BucketAlreadyOwnedByYou = (25, 409, codes "BucketAlreadyOwnedByYou", codes "The bucket is already there.")
-row_of BucketNotEmpty = (26, 409, codes "BucketNotEmpty", codes "The bucket is not empty.")
-row_of NoSuchKey = (27, 404, codes "NoSuchKey", codes "The key does not exist.")
-row_of NoSuchVersion = (28, 404, codes "NoSuchVersion", codes "The version does not exist.")
-row_of PreconditionFailed = (29, 412, codes "PreconditionFailed", codes "A precondition failed.")
-row_of InvalidRange = (30, 416, codes "InvalidRange", codes "The range is not satisfiable.")
-row_of InvalidPartOrder = (31, 400, codes "InvalidPartOrder", codes "The parts are not in order.")
-row_of InvalidPart = (32, 400, codes "InvalidPart", codes "A listed part is not there.")
-row_of EntityTooSmall = (33, 400, codes "EntityTooSmall", codes "A part is too small.")
-row_of InternalError = (34, 500, codes "InternalError", codes "")
+row_of MalformedHead = (1, statuses.BadRequest, codes "MalformedHead", codes "The head is malformed.")
+row_of HeadTooLarge = (2, statuses.BadRequest, codes "HeadTooLarge", codes "The head is too large.")
+row_of NotImplemented = (3, statuses.NotImplemented, codes "NotImplemented", codes "This is not implemented.")
+row_of InvalidRequest = (4, statuses.BadRequest, codes "InvalidRequest", codes "The request is invalid.")
+row_of MissingContentLength = (5, statuses.LengthRequired, codes "MissingContentLength", codes "Content-Length is required.")
+row_of EntityTooLarge = (6, statuses.BadRequest, codes "EntityTooLarge", codes "The body is too large.")
+row_of InvalidURI = (7, statuses.BadRequest, codes "InvalidURI", codes "The target cannot be read.")
+row_of AccessDenied = (8, statuses.Forbidden, codes "AccessDenied", codes "Access is denied.")
+row_of AuthorizationHeaderMalformed = (9, statuses.BadRequest, codes "AuthorizationHeaderMalformed", codes "The authorization is malformed.")
+row_of RequestTimeTooSkewed = (10, statuses.Forbidden, codes "RequestTimeTooSkewed", codes "The request time is too far off.")
+row_of InvalidArgument = (11, statuses.BadRequest, codes "InvalidArgument", codes "An argument is invalid.")
+row_of InvalidAccessKeyId = (12, statuses.Forbidden, codes "InvalidAccessKeyId", codes "The access key id is unknown.")
+row_of SignatureDoesNotMatch = (13, statuses.Forbidden, codes "SignatureDoesNotMatch", codes "The signature does not match.")
+row_of InvalidDigest = (14, statuses.BadRequest, codes "InvalidDigest", codes "The Content-MD5 is not valid.")
+row_of InvalidBucketName = (15, statuses.BadRequest, codes "InvalidBucketName", codes "The bucket name is not valid.")
+row_of KeyTooLongError = (16, statuses.BadRequest, codes "KeyTooLongError", codes "The key is too long.")
+row_of MethodNotAllowed = (17, statuses.MethodNotAllowed, codes "MethodNotAllowed", codes "The method is not allowed here.")
+row_of MetadataTooLarge = (18, statuses.BadRequest, codes "MetadataTooLarge", codes "The metadata is too large.")
+row_of NoSuchUpload = (19, statuses.NotFound, codes "NoSuchUpload", codes "The upload does not exist.")
+row_of IncompleteBody = (20, statuses.BadRequest, codes "IncompleteBody", codes "The body is incomplete.")
+row_of XAmzContentSHA256Mismatch = (21, statuses.BadRequest, codes "XAmzContentSHA256Mismatch", codes "The body hash does not match.")
+row_of BadDigest = (22, statuses.BadRequest, codes "BadDigest", codes "The body MD5 does not match.")
+row_of MalformedBody = (23, statuses.BadRequest, codes "MalformedBody", codes "The body is not the expected JSON.")
+row_of NoSuchBucket = (24, statuses.NotFound, codes "NoSuchBucket", codes "The bucket does not exist.")
+row_of BucketAlreadyOwnedByYou = (25, statuses.Conflict, codes "BucketAlreadyOwnedByYou", codes "The bucket is already there.")
+row_of BucketNotEmpty = (26, statuses.Conflict, codes "BucketNotEmpty", codes "The bucket is not empty.")
+row_of NoSuchKey = (27, statuses.NotFound, codes "NoSuchKey", codes "The key does not exist.")
+row_of NoSuchVersion = (28, statuses.NotFound, codes "NoSuchVersion", codes "The version does not exist.")
+row_of PreconditionFailed = (29, statuses.PreconditionFailed, codes "PreconditionFailed", codes "A precondition failed.")
+row_of InvalidRange = (30, statuses.RangeNotSatisfiable, codes "InvalidRange", codes "The range is not satisfiable.")
+row_of InvalidPartOrder = (31, statuses.BadRequest, codes "InvalidPartOrder", codes "The parts are not in order.")
+row_of InvalidPart = (32, statuses.BadRequest, codes "InvalidPart", codes "A listed part is not there.")
+row_of EntityTooSmall = (33, statuses.BadRequest, codes "EntityTooSmall", codes "A part is too small.")
+row_of InternalError = (34, statuses.InternalServerError, codes "InternalError", codes "")
 
 -- the code's number in the table
 abbrev pub number_of : Code → ℕ
 number_of code = (row_of code).0
 
 -- the HTTP status of a refusal
-abbrev pub status_of : Code → ℕ
+abbrev pub status_of : Code → Status
 status_of code = (row_of code).1
 
 -- the text of the member `Code` of an error document

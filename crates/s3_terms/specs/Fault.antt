@@ -1,17 +1,7 @@
 -- Faults in their order: of several things that are wrong, the first one decides.
-use Rattle.std.specs.Prelude.{◌≡◌, ◌⊎◌, Bool, true, false, if◌then◌else◌, List, [], ◌∷◌, Option, Some, None, Result, Ok, Err, IsOk, ⊤}
+use Rattle.std.specs.Prelude.{◌≡◌, ◌⊎◌, Bool, true, false, Result, Ok, Err, IsOk, ⊤}
 use Rattle.s3_terms.specs.declared.code.Code.{Code}
 use Rattle.s3_terms.specs.declared.code.Code.TheVariants.{InternalError}
-
--- the code of the first fault of the list that is there
-abbrev pub first_fault : List (Bool × Code) → Option Code
-first_fault [] = None
-first_fault (fault ∷ faults) = if fault.0 then Some fault.1 else first_fault faults
-
--- the refusal, or the value where nothing refuses
-abbrev pub unless_refused : {A : Type 0} → Option Code → A → Result A Code
-unless_refused (Some code) value = Err code
-unless_refused None value = Ok value
 
 -- refused with this code where the fault is there
 abbrev pub refuse : Bool → Code → Result ⊤ Code
@@ -27,6 +17,10 @@ Follows (Err code) rule = (code ≡ InternalError) ⊎ (rule ≡ Err code)
 abbrev pub FollowsPast : {A B : Type 0} → Result B Code → Result A Code → Result A Code → Type 0
 FollowsPast early (Ok value) rule = rule ≡ Ok value
 FollowsPast early (Err code) rule = ((code ≡ InternalError) × IsOk early) ⊎ (rule ≡ Err code)
+
+-- the same, and memory ran out only where the whole rule refuses nothing
+abbrev pub FollowsToEnd : {A : Type 0} → Result A Code → Result A Code → Type 0
+FollowsToEnd result rule = FollowsPast rule result rule
 
 -- one stage after another: the first that refuses decides
 infixl 10 ◌>>=◌

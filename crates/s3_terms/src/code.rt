@@ -1,5 +1,7 @@
+//! The codes of refusals.
 ghost use Rattle.std.specs.Prelude.{◌≡◌};
 
+use crate::Status;
 use std::fmt;
 
 /// Why a request is refused: error codes of the Amazon S3 API Reference ("Error responses") that this
@@ -54,22 +56,24 @@ impl Code {
     }
 
     /// The HTTP status that a refusal with this code has.
-    pub fn status(self) -> u16
+    pub fn status(self) -> Status
         ensures { result ≡ status_of self }
     {
         match self {
-            Code::NotImplemented => 501,
-            Code::MissingContentLength => 411,
+            Code::NotImplemented => Status::NotImplemented,
+            Code::MissingContentLength => Status::LengthRequired,
             Code::AccessDenied
             | Code::RequestTimeTooSkewed
             | Code::InvalidAccessKeyId
-            | Code::SignatureDoesNotMatch => 403,
-            Code::MethodNotAllowed => 405,
-            Code::NoSuchUpload | Code::NoSuchBucket | Code::NoSuchKey | Code::NoSuchVersion => 404,
-            Code::BucketAlreadyOwnedByYou | Code::BucketNotEmpty => 409,
-            Code::PreconditionFailed => 412,
-            Code::InvalidRange => 416,
-            Code::InternalError => 500,
+            | Code::SignatureDoesNotMatch => Status::Forbidden,
+            Code::MethodNotAllowed => Status::MethodNotAllowed,
+            Code::NoSuchUpload | Code::NoSuchBucket | Code::NoSuchKey | Code::NoSuchVersion => {
+                Status::NotFound
+            }
+            Code::BucketAlreadyOwnedByYou | Code::BucketNotEmpty => Status::Conflict,
+            Code::PreconditionFailed => Status::PreconditionFailed,
+            Code::InvalidRange => Status::RangeNotSatisfiable,
+            Code::InternalError => Status::InternalServerError,
             Code::MalformedHead
             | Code::HeadTooLarge
             | Code::InvalidRequest
@@ -87,7 +91,7 @@ impl Code {
             | Code::MalformedBody
             | Code::InvalidPartOrder
             | Code::InvalidPart
-            | Code::EntityTooSmall => 400,
+            | Code::EntityTooSmall => Status::BadRequest,
         }
     }
 

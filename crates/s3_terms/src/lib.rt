@@ -1,9 +1,11 @@
-//! What every layer answers a fault with: the refusal codes, with their numbers, statuses and texts, and
-//! want of memory.
+//! What every layer answers a fault with: the codes of refusals, with their numbers, statuses and texts,
+//! and the error of a call that ran out of memory.
 #![tactic(auto)]
 
 mod code;
 mod memory;
+mod status;
 
 pub use code::Code;
 pub use memory::NoMemory;
+pub use status::Status;

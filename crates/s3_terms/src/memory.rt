@@ -1,3 +1,4 @@
+//! What a call answers that ran out of memory.
 ghost use Rattle.std.specs.Prelude.{◌≡◌};
 ghost use Rattle.s3_terms.specs.declared.code.Code.TheVariants.{InternalError};
 
@@ -26,7 +27,7 @@ impl<T: Drop> From<AllocFailed<T>> for NoMemory {
     }
 }
 
-/// In a call that answers a code, want of memory is `InternalError`.
+/// In a call that answers a code, out of memory is `InternalError`.
 impl From<NoMemory> for Code {
     ghost from_gives = { λ _ code. code ≡ InternalError };
 

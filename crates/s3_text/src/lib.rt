@@ -1,9 +1,13 @@
-//! What texts are made of: characters, and numbers in decimal and hexadecimal digits. It knows nothing
-//! of S3.
+//! What texts are made of: characters, parts between marks, and numbers and digests in digits. It knows
+//! nothing of S3.
 #![tactic(auto)]
 
 mod characters;
+mod cut;
+mod digest;
 mod digits;
 
 pub use characters::{is_letter_or_digit, is_text};
+pub use cut::{after_first, before_first, cut_once};
+pub use digest::{hex_digest, read_hex_digest};
 pub use digits::{decimal_number, has_digits_alone, number_digits, number_from};

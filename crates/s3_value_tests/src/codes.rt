@@ -1,4 +1,4 @@
-//! Tests of `s3_terms`: how want of memory becomes an error of each kind.
+//! Tests of `s3_terms`: how out of memory becomes an error of each kind.
 
 use s3_terms::{Code, NoMemory};
 use std::alloc::Global;

@@ -1,7 +1,8 @@
 use Rattle.std.proofs.Common.{arith, append_assoc, map, refl}
 use Rattle.s3_canonical.specs.Parameter.{pairs}
-use Rattle.s3_canonical.specs.Target.{print_pair}
-use Rattle.s3_canonical.proofs.ListLemmas.{join_with_byte_first, join_with_byte_more, piece_at, length-pieces}
+use Rattle.s3_canonical.specs.CanonicalTarget.{print_pair}
+use Rattle.s3_text.proofs.JoinLemmas.{join_with_byte_first, join_with_byte_more}
+use Rattle.s3_canonical.proofs.ListLemmas.{piece_at, length-pieces}
 use Rattle.s3_canonical.proofs.parameter.join.Goals as goal
 use Rattle.s3_canonical.proofs.parameter.join.Goals.{then-i-gt0+in_ok-push, else-i-gt0}
 

@@ -15,7 +15,6 @@ returns-clause-value c =
       c.in_ok-path.ensures.value,
       c.in_ok-parameters.ensures.value,
       c.in_ok-fields.ensures.value,
-      c.target.ensures,
-      c.target-2.ensures,
+      ← c.in_ok-target.ensures.parts,
     )
     (simp append_assoc)

@@ -1,6 +1,6 @@
 -- What was passed are pairs.
 use Rattle.std.proofs.Common.{◌≡◌, ◌≤◌, length, drop, ◌-◌}
-use Rattle.s3_http_heads.specs.Text.{skip_pairs}
+use Rattle.s3_http_heads.specs.Find.{skip_pairs}
 use Rattle.s3_http_heads.proofs.find.skipped.Given as goal
 
 abbrev pub invariant-loop-at : goal.invariant-loop-at

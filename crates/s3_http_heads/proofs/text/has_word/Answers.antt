@@ -4,7 +4,7 @@ use Rattle.std.specs.Str.{bytes_eq, str_to_ascii_lowercase}
 use Rattle.std.proofs.lemmas.Iterator.Splits.{YieldsList-from_slice_split}
 use Rattle.std.proofs.lemmas.Iterator.Search.{any_from_yields_List}
 use Rattle.httparse.specs.Grammar.{trim_ows}
-use Rattle.s3_http_heads.proofs.NameLemmas.{list_any-map}
+use Rattle.s3_text.proofs.ListLemmas.{list_any-map}
 use Rattle.s3_http_heads.proofs.text.has_word.Goals as goal
 
 pub returns : goal.returns

@@ -2,8 +2,7 @@ use Rattle.std.proofs.Common.{refl}
 use Rattle.hex.specs.Hex.{encode_with}
 use Rattle.std.specs.Fmt.{digits}
 use Rattle.s3_text.specs.Digits.{number_digits}
-use Rattle.s3_replies.specs.Lines.{print_lines}
-use Rattle.s3_replies.specs.Status.{status_line}
+use Rattle.s3_replies.specs.Lines.{print_lines, status_line}
 use Rattle.s3_replies.proofs.replies.internal_error_reply.Goals as goal
 
 pub returns : goal.returns

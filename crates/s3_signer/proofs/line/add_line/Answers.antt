@@ -1,5 +1,5 @@
 use Rattle.std.proofs.Common.{◌∙◌, ap}
-use Rattle.s3_canonical.specs.Sorting.{insert_by}
+use Rattle.s3_text.specs.Sorting.{insert_by}
 use Rattle.s3_signer.specs.Line.{pair, pairs}
 use Rattle.s3_signer.specs.Request.{line_cmp}
 use Rattle.s3_signer.proofs.LineLemmas.{inserted}

@@ -1,5 +1,5 @@
 use Rattle.std.proofs.Common.{◌≡◌, ◌++◌, drop, map}
-use Rattle.s3_canonical.specs.Sorting.{sorted_by}
+use Rattle.s3_text.specs.Sorting.{sorted_by}
 use Rattle.s3_signer.specs.Line.{pairs}
 use Rattle.s3_signer.specs.Request.{added_lines, given_lines, line_cmp, lower_line}
 use Rattle.s3_signer.proofs.lines.unsigned_lines.Given as goal

@@ -2,7 +2,7 @@ use Rattle.std.proofs.Common.{◌∙◌, length, length-drop, length-take, sym, 
 use Rattle.std.proofs.lemmas.Bool.{iff_false, not-false, not-true}
 use Rattle.std.proofs.lemmas.Slice.Eq.{bytes_eq-Decides}
 use Rattle.s3_http_heads.specs.declared.find.Found.TheVariants.{Head}
-use Rattle.s3_http_heads.specs.Framing.{announced, length_lines}
+use Rattle.s3_http_heads.specs.BodyLength.{announced, length_lines}
 use Rattle.s3_signer.proofs.MessageLemmas.{cut_message, joined_parts, same_count, whole_rest}
 use Rattle.s3_signer.proofs.message.read_message.Goals as goal
 

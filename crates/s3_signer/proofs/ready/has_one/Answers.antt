@@ -1,5 +1,5 @@
 use Rattle.std.proofs.Common.{◌∙◌, sym}
-use Rattle.s3_http_heads.specs.Parts.{values_of}
+use Rattle.s3_http_heads.specs.Head.{values_of}
 use Rattle.s3_signer.proofs.MessageLemmas.{only_value}
 use Rattle.s3_signer.proofs.ready.has_one.Goals as goal
 

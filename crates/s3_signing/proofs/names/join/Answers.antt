@@ -1,6 +1,6 @@
 use Rattle.std.proofs.Common.{arith, append_assoc, refl}
-use Rattle.s3_canonical.proofs.ListLemmas.{join_with_byte_first, join_with_byte_more}
-use Rattle.s3_signing.specs.Name.{texts}
+use Rattle.s3_text.proofs.JoinLemmas.{join_with_byte_first, join_with_byte_more}
+use Rattle.s3_signing.specs.Names.{texts}
 use Rattle.s3_signing.proofs.NameLemmas.{text_at, length-texts}
 use Rattle.s3_signing.proofs.names.join.Goals as goal
 use Rattle.s3_signing.proofs.names.join.Goals.{then-i-gt0+in_ok-push, else-i-gt0}

@@ -1,0 +1,5 @@
+use Rattle.s3_aws_chunked.proofs.FinalLemmas.{verdicts_exist, verdicts_one, verdicts_stay}
+use Rattle.s3_aws_chunked.proofs.finality.verdicts_are_final.Goals as goal
+
+pub returns : goal.returns
+returns c = record { stay = verdicts_stay; one = verdicts_one; exist = verdicts_exist }

@@ -1,0 +1,35 @@
+-- What the clauses of the reader come to: laws about every reader, and every body.
+use Rattle.std.specs.Prelude.{◌≡◌, ℕ, Bool, false, List, ◌++◌, length, min}
+use Rattle.s3_terms.specs.declared.code.Code.{Code}
+use Rattle.s3_aws_chunked.specs.Verdict.{Terms, Verdict, Refused, Accepted, Open, Judges}
+use Rattle.s3_aws_chunked.specs.Reader.{Stands, Failed, taken_of, verdict_of}
+use Rattle.s3_aws_chunked.specs.declared.reader.ChunkReader.{ChunkReader}
+
+-- a reader that stands after some bytes says of its body what they say, and gave the data so far
+abbrev pub ReadersJudge : Type 0
+ReadersJudge =
+    (reader : ChunkReader) (terms : Terms) (bytes : List ℕ) (ended : Bool) (held : List ℕ)
+    → Stands reader terms bytes ended held → Judges terms bytes ended (verdict_of reader held)
+
+-- where it refused nothing, it has taken all of them up to Content-Length
+abbrev pub ReadersCount : Type 0
+ReadersCount =
+    (reader : ChunkReader) (terms : Terms) (bytes : List ℕ) (ended : Bool) (held : List ℕ)
+    → Stands reader terms bytes ended held → ((code : Code) → Failed reader code → ⊥)
+    → taken_of reader ≡ min terms.encoded (length bytes)
+
+-- the verdict is reached
+abbrev pub IsFinal : Verdict → Type 0
+IsFinal (Refused place code) = Unit {0}
+IsFinal (Accepted held) = Unit {0}
+IsFinal (Open held) = ⊥
+
+-- a verdict that is reached on some bytes is the verdict on them and whatever follows
+abbrev pub VerdictsStay : Type 0
+VerdictsStay =
+    (terms : Terms) (bytes more : List ℕ) (ended : Bool) (verdict : Verdict)
+    → IsFinal verdict → Judges terms bytes false verdict → Judges terms (bytes ++ more) ended verdict
+
+-- no bytes are without a verdict
+abbrev pub VerdictsExist : Type 0
+VerdictsExist = (terms : Terms) (bytes : List ℕ) (ended : Bool) → (verdict : Verdict) × Judges terms bytes ended verdict

@@ -1,0 +1,13 @@
+pub mod Chunk
+pub mod Body
+pub mod Verdict
+pub mod Count
+pub mod Phase
+pub mod Decoder
+pub mod Sinks
+pub mod Reader
+pub mod Laws
+pub mod Finality
+pub mod Write
+pub use Rattle.s3_terms.specs.Code
+pub use Rattle.s3_signing.specs.Chain

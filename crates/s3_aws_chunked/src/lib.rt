@@ -1,0 +1,19 @@
+//! Bodies that are signed in chunks (Amazon S3 API Reference, "Transferring payload in multiple chunks"):
+//! read as they come, each chunk verified at its last byte, and written.
+#![tactic(auto)]
+
+mod decoder;
+mod digits;
+mod finality;
+mod laws;
+mod phase;
+mod place;
+mod reader;
+mod span;
+mod write;
+
+pub use finality::verdicts_are_final;
+pub use laws::{readers_judge, verdicts_exist, verdicts_stay};
+pub use reader::ChunkReader;
+pub use s3_segments::Sink;
+pub use write::{CHUNK_MAX, write_chunks, written_length};

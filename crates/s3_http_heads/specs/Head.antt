@@ -1,0 +1,70 @@
+-- What a head says (RFC 9112, sections 3 and 5), by the grammar of the kit's `httparse`.
+use Rattle.std.specs.Prelude.{◌≡◌, ℕ, ◌≤◌, Bool, ◌||◌, ◌==◌, List, [], map, filter, length, codes, Option}
+use Rattle.std.specs.List.{list_any, flat_map, slice_split, slice_get}
+use Rattle.std.specs.Str.{bytes_eq, str_to_ascii_lowercase}
+use Rattle.httparse.specs.Grammar.{RequestHead, ReadsRequest, trim_ows}
+use Rattle.httparse.specs.Spans.{name_and_value}
+use Rattle.s3_text.specs.Characters.{comma}
+use Rattle.s3_text.specs.Cut.{parts_at}
+
+-- the greatest number of header lines
+abbrev pub line_limit : ℕ
+line_limit = 64
+
+-- a request line and its header lines, each a name as it was sent and a value without the spaces and
+-- tabs around it
+pub record HeadParts : Type 0 where
+  pub method : List ℕ
+  pub target : List ℕ
+  pub minor : ℕ
+  pub headers : List (List ℕ × List ℕ)
+
+-- the parts of a head of the grammar
+abbrev pub parts_of : RequestHead → HeadParts
+parts_of h = record { method = h.method; target = h.target; minor = h.minor; headers = map name_and_value h.fields }
+
+-- the text is wholly one head of the grammar, with at most 64 header lines
+abbrev pub IsHead : List ℕ → RequestHead → Type 0
+IsHead text h = ReadsRequest text h [] × (length h.fields ≤ line_limit)
+
+-- no head of the grammar with so few lines is the whole text
+abbrev pub HasNoHead : List ℕ → Type 0
+HasNoHead text = (h : RequestHead) → ¬ (IsHead text h)
+
+-- the text is a head that says this
+abbrev pub Says : List ℕ → HeadParts → Type 0
+Says text parts = (h : RequestHead) × IsHead text h × (parts ≡ parts_of h)
+
+-- a header line has this name, which is given in lower case
+abbrev pub is_named : List ℕ → List ℕ × List ℕ → Bool
+is_named name header = bytes_eq (str_to_ascii_lowercase header.0) name
+
+-- the values of the header lines of a name, in their order
+unfoldable pub values_of : List ℕ → HeadParts → List (List ℕ)
+values_of name parts = map (λ (header : List ℕ × List ℕ). header.1) (filter (is_named name) parts.headers)
+
+-- a header line of that name was sent
+abbrev pub is_sent : List ℕ → HeadParts → Bool
+is_sent name parts = list_any (is_named name) parts.headers
+
+-- the value of the first such line
+abbrev pub first_value : List ℕ → HeadParts → Option (List ℕ)
+first_value name parts = slice_get (values_of name parts) 0
+
+-- the words between the commas of a value, in lower case and without the white space around them
+-- (RFC 9110, section 5.6.1)
+abbrev pub words_of : List ℕ → List (List ℕ)
+words_of value = map (λ word. str_to_ascii_lowercase (trim_ows word)) (parts_at comma value)
+
+-- the words of the Connection lines (RFC 9110, section 7.6.1)
+abbrev pub connection_words : HeadParts → List (List ℕ)
+connection_words parts = flat_map words_of (values_of (codes "connection") parts)
+
+-- the connection ends with the reply to this head (RFC 9112, section 9.3; a keep-alive of HTTP/1.0 is not
+-- kept)
+unfoldable pub closes : HeadParts → Bool
+closes parts = (parts.minor == 0) || list_any (λ word. bytes_eq word (codes "close")) (connection_words parts)
+
+-- the reply to this head has no body (RFC 9110, section 9.3.2)
+abbrev pub asks_head_only : HeadParts → Bool
+asks_head_only parts = bytes_eq parts.method (codes "HEAD")

@@ -1,0 +1,37 @@
+//! The options of the subcommands.
+
+/// The options that settings are made of. `Setup::read` of `s3_settings` says which texts are of their form.
+#[derive(Clone, Copy)]
+pub struct Options<'a> {
+    /// The path of the keys file.
+    pub keys: Option<&'a str>,
+    /// The region that signatures name.
+    pub region: &'a str,
+    /// The least size of a part that is not the last one, in bytes.
+    pub min_part: &'a str,
+    /// The greatest size of a body, in bytes.
+    pub body_limit: &'a str,
+    /// The name of the bucket that is there from the start.
+    pub bucket: Option<&'a str>,
+    /// The moment of every message, in seconds since 1970.
+    pub moment: Option<&'a str>,
+}
+
+/// The options of `s3d sign`.
+#[derive(Drop)]
+pub struct SignOptions<'a> {
+    /// Those that each subcommand has.
+    pub common: Options<'a>,
+    /// The id of the access key that signs.
+    pub id: Option<&'a str>,
+    /// The method of the request.
+    pub method: Option<&'a str>,
+    /// Its target.
+    pub target: Option<&'a str>,
+    /// The value of its host line.
+    pub host: Option<&'a str>,
+    /// The path of the file that has its body.
+    pub body: Option<&'a str>,
+    /// Its further header lines, each as `NAME:VALUE`.
+    pub headers: Vec<&'a str>,
+}

@@ -1,0 +1,161 @@
+-- What a reader says of its body is what the bytes so far say.
+use Rattle.std.proofs.Common.{◌≡◌, ℕ, Bool, true, false, min, if◌then◌else◌, List, length, refl, ap, ◌∙◌, arith, ◌≤◌, [], Option, None, Some, Ok, Err, inl, inr}
+use Rattle.std.specs.Prelude.{option_map}
+use Rattle.std.proofs.lemmas.Bool.{cases_lt}
+use Rattle.std.proofs.lemmas.List.{length-take}
+use Rattle.s3_terms.specs.declared.code.Code.{Code}
+use Rattle.s3_terms.specs.declared.code.Code.TheVariants.{IncompleteBody}
+use Rattle.s3_aws_chunked.specs.Verdict.{Verdict, Accepted, Open, Refused}
+use Rattle.s3_aws_chunked.specs.Laws.{ReadersCount, ReadersJudge}
+use Rattle.s3_aws_chunked.specs.Decoder.{code_of, fault_at}
+use Rattle.s3_aws_chunked.specs.Reader as chunked
+use Rattle.s3_aws_chunked.specs.declared.phase.Phase.{Phase}
+use Rattle.s3_aws_chunked.specs.declared.phase.Phase.TheVariants as phases
+use Rattle.s3_payloads.specs.declared.chunks.ChunksReader.{ChunksReader}
+use Rattle.s3_payloads.specs.declared.form.Form.{Form}
+use Rattle.s3_payloads.specs.declared.form.Form.TheVariants as forms
+use Rattle.s3_payloads.specs.declared.reader.Mode.{Mode}
+use Rattle.s3_payloads.specs.declared.reader.Mode.TheVariants as modes
+use Rattle.s3_payloads.specs.declared.whole.Stage.{Stage}
+use Rattle.s3_payloads.specs.declared.whole.Stage.TheVariants as stages
+use Rattle.s3_payloads.specs.Form.{Announced}
+use Rattle.s3_payloads.specs.Reader.{ChunksFor, IsHandedOut, ModeFailed, ModePassed, ModeStands, WholeFor, mode_taken, mode_verdict}
+use Rattle.s3_payloads.specs.Verdict.{AnswersAtOnce, Judges, JudgesForm, terms_of, whole_verdict}
+use Rattle.s3_payloads.specs.Outcome.{finished, part_of}
+use Rattle.s3_payloads.proofs.WholeLemmas.{nat_le-false}
+use Rattle.s3_payloads.specs.Whole.{WholeState, told}
+
+-- ---- the verdict
+
+whole_judges : (form : Form) (whole : WholeState) (announced : Announced) (bytes : List ℕ) (ended : Bool)
+    → WholeFor form whole announced bytes ended → JudgesForm form announced bytes ended (told whole.bytes whole.stage)
+whole_judges (forms.Whole hash digest) whole announced bytes ended stands = stands.told
+whole_judges (forms.Chunks decoded) whole announced bytes ended stands = absurd stands
+
+chunks_judge : ReadersJudge → (form : Form) (chunks : ChunksReader) (announced : Announced) (bytes : List ℕ) (ended : Bool)
+    → ChunksFor form chunks announced bytes ended → JudgesForm form announced bytes ended (chunked.verdict_of chunks.chunks chunks.payload)
+chunks_judge law (forms.Whole hash digest) chunks announced bytes ended stands = absurd stands
+chunks_judge law (forms.Chunks decoded) chunks announced bytes ended stands =
+    law chunks.chunks (terms_of announced decoded) bytes ended chunks.payload stands
+
+pub judge_mode : ReadersJudge → (mode : Mode) (announced : Announced) (bytes : List ℕ) (ended : Bool)
+    → ModeStands mode announced bytes ended → Judges announced bytes ended (mode_verdict mode)
+judge_mode law (modes.Whole whole) announced bytes ended stands = whole_judges announced.form whole announced bytes ended stands
+judge_mode law (modes.Chunks chunks) announced bytes ended stands = chunks_judge law announced.form chunks announced bytes ended stands
+
+-- ---- the count
+
+whole_counts : (form : Form) (whole : WholeState) (announced : Announced) (bytes : List ℕ) (ended : Bool)
+    → WholeFor form whole announced bytes ended → length whole.bytes ≡ min announced.length (length bytes)
+whole_counts (forms.Whole hash digest) whole announced bytes ended stands =
+    ap length stands.taken ∙ length-take announced.length bytes
+whole_counts (forms.Chunks decoded) whole announced bytes ended stands = absurd stands
+
+chunks_count : ReadersCount → (form : Form) (chunks : ChunksReader) (announced : Announced) (bytes : List ℕ) (ended : Bool)
+    → ChunksFor form chunks announced bytes ended → ((code : Code) → ¬ (chunked.Failed chunks.chunks code))
+    → chunked.taken_of chunks.chunks ≡ min announced.length (length bytes)
+chunks_count law (forms.Whole hash digest) chunks announced bytes ended stands never = absurd stands
+chunks_count law (forms.Chunks decoded) chunks announced bytes ended stands never =
+    law chunks.chunks (terms_of announced decoded) bytes ended chunks.payload stands never
+
+pub count_mode : ReadersCount → (mode : Mode) (announced : Announced) (bytes : List ℕ) (ended : Bool)
+    → ModeStands mode announced bytes ended → ((code : Code) → ¬ (ModeFailed mode code))
+    → mode_taken mode ≡ min announced.length (length bytes)
+count_mode law (modes.Whole whole) announced bytes ended stands never = whole_counts announced.form whole announced bytes ended stands
+count_mode law (modes.Chunks chunks) announced bytes ended stands never = chunks_count law announced.form chunks announced bytes ended stands never
+
+-- ---- a refusal
+
+phase_fails : (phase : Phase) (taken : ℕ) (held : List ℕ) (code : Code) → option_map code_of (fault_at phase) ≡ Some code
+    → chunked.verdict_at phase taken held ≡ Refused taken code
+phase_fails (phases.Refused fault) taken held code is = let same : code_of fault ≡ code = cc in ap (Refused taken) same
+phase_fails phases.Over taken held code is = absurd (cc)
+phase_fails (phases.Size digits) taken held code is = absurd (cc)
+phase_fails (phases.Line place size) taken held code is = absurd (cc)
+phase_fails (phases.Data left last) taken held code is = absurd (cc)
+phase_fails (phases.Ending last) taken held code is = absurd (cc)
+
+chunks_fail : (form : Form) (chunks : ChunksReader) (announced : Announced) (bytes : List ℕ) (ended : Bool) (code : Code)
+    → ChunksFor form chunks announced bytes ended → chunked.Failed chunks.chunks code
+    → chunked.verdict_of chunks.chunks chunks.payload ≡ Refused (chunked.taken_of chunks.chunks) code
+chunks_fail (forms.Whole hash digest) chunks announced bytes ended code stands is = absurd stands
+chunks_fail (forms.Chunks decoded) chunks announced bytes ended code stands is =
+    phase_fails chunks.chunks.decoder.place.phase (chunked.taken_of chunks.chunks) chunks.payload code (rw stands.kept at is)
+
+pub fail_mode : (mode : Mode) (announced : Announced) (bytes : List ℕ) (ended : Bool) (code : Code)
+    → ModeStands mode announced bytes ended → ModeFailed mode code → mode_verdict mode ≡ Refused (mode_taken mode) code
+fail_mode (modes.Whole whole) announced bytes ended code stands is = rw is refl
+fail_mode (modes.Chunks chunks) announced bytes ended code stands is = chunks_fail announced.form chunks announced bytes ended code stands is
+
+-- ---- a body that is whole
+
+pub pass_mode : (mode : Mode) → ModePassed mode → (payload : List ℕ) × (mode_verdict mode ≡ Accepted payload)
+pass_mode (modes.Whole whole) is = (whole.bytes, rw is refl)
+pass_mode (modes.Chunks chunks) is = (chunks.payload, rw (is.1) refl)
+
+-- ---- a body that is refused, accepted or open
+
+stage_refused : (stage : Stage) (bytes : List ℕ) (place : ℕ) (code : Code) → told bytes stage ≡ Refused place code → stage ≡ stages.Failed code
+stage_refused stages.Reading bytes place code is = absurd (cc)
+stage_refused stages.Passed bytes place code is = absurd (cc)
+stage_refused (stages.Failed other) bytes place code is = let same : other ≡ code = cc in ap stages.Failed same
+
+phase_refused : (phase : Phase) (taken : ℕ) (held : List ℕ) (place : ℕ) (code : Code) → chunked.verdict_at phase taken held ≡ Refused place code
+    → option_map code_of (fault_at phase) ≡ Some code
+phase_refused (phases.Refused fault) taken held place code is = let same : code_of fault ≡ code = cc in ap Some same
+phase_refused phases.Over taken held place code is = absurd (cc)
+phase_refused (phases.Size digits) taken held place code is = absurd (cc)
+phase_refused (phases.Line at size) taken held place code is = absurd (cc)
+phase_refused (phases.Data left last) taken held place code is = absurd (cc)
+phase_refused (phases.Ending last) taken held place code is = absurd (cc)
+
+chunks_refused : (form : Form) (chunks : ChunksReader) (announced : Announced) (bytes : List ℕ) (ended : Bool) (place : ℕ) (code : Code)
+    → ChunksFor form chunks announced bytes ended → chunked.verdict_of chunks.chunks chunks.payload ≡ Refused place code
+    → chunked.Failed chunks.chunks code
+chunks_refused (forms.Whole hash digest) chunks announced bytes ended place code stands is = absurd stands
+chunks_refused (forms.Chunks decoded) chunks announced bytes ended place code stands is =
+    rw (stands.kept) (phase_refused chunks.chunks.decoder.place.phase (chunked.taken_of chunks.chunks) chunks.payload place code is)
+
+refused_mode : (mode : Mode) (announced : Announced) (bytes : List ℕ) (ended : Bool) (place : ℕ) (code : Code)
+    → ModeStands mode announced bytes ended → mode_verdict mode ≡ Refused place code → ModeFailed mode code
+refused_mode (modes.Whole whole) announced bytes ended place code stands is = stage_refused whole.stage whole.bytes place code is
+refused_mode (modes.Chunks chunks) announced bytes ended place code stands is = chunks_refused announced.form chunks announced bytes ended place code stands is
+
+-- where nothing is refused and nothing is handed out, the body is open
+pub open_mode : (mode : Mode) (announced : Announced) (bytes : List ℕ) (ended : Bool) (code : Code) (verdict : Verdict)
+    → ModeStands mode announced bytes ended → ((code : Code) → ¬ (ModeFailed mode code))
+    → mode_verdict mode ≡ verdict → finished verdict ≡ Err code → (held : List ℕ) × (mode_verdict mode ≡ Open held)
+open_mode mode announced bytes ended code (Open held) stands never is none = (held, is)
+open_mode mode announced bytes ended code (Accepted held) stands never is none = absurd (cc)
+open_mode mode announced bytes ended code (Refused place other) stands never is none =
+    absurd (never other (refused_mode mode announced bytes ended place other stands is))
+
+-- ---- all bytes at once
+
+undecided : (place : ℕ) (bytes held : List ℕ) (code : Code) (ended : Bool) → Accepted held ≡ (if ended then Refused place code else Open bytes) → ⊥
+undecided place bytes held code true is = cc
+undecided place bytes held code false is = cc
+
+pub whole_come : (hash digest : Option (List ℕ)) (size : ℕ) (ended : Bool) (bytes held : List ℕ) → Accepted held ≡ whole_verdict hash digest size ended bytes
+    → size ≤ length bytes
+unfolding whole_verdict
+whole_come hash digest size ended bytes held is = elim (cases_lt (length bytes) size) [
+  | inl part ↦ absurd (undecided (length bytes) bytes held IncompleteBody ended (rw (nat_le-false size (length bytes) part) at is))
+  | inr whole ↦ whole
+]
+
+-- a body that is accepted has come
+accepted_come : (form : Form) (announced : Announced) (bytes : List ℕ) (ended : Bool) (held : List ℕ)
+    → JudgesForm form announced bytes ended (Accepted held) → announced.length ≤ length bytes
+accepted_come (forms.Whole hash digest) announced bytes ended held is = whole_come hash digest announced.length ended bytes held is
+accepted_come (forms.Chunks decoded) announced bytes ended held is = is.1.come
+
+-- what is answered where nothing is refused
+pub answers_ok : (announced : Announced) (bytes : List ℕ) (ended : Bool) (verdict : Verdict) (taken : ℕ) (result : Option (List ℕ × ℕ))
+    → Judges announced bytes ended verdict → taken ≡ part_of announced.length [] bytes → IsHandedOut verdict taken result
+    → AnswersAtOnce announced bytes ended (Ok result)
+answers_ok announced bytes ended verdict taken None judged part (held, is) = (held, rw is at judged)
+answers_ok announced bytes ended verdict taken (Some found) judged part (is, count) =
+    let accepted = rw is at judged in
+    let come = accepted_come announced.form announced bytes ended found.0 accepted in
+    (accepted, omega (arith, count, part, come), come)

@@ -1,0 +1,15 @@
+use Rattle.std.proofs.Common.{⊎_elim, inl, inr}
+use Rattle.s3_payloads.proofs.ChunkLemmas.{chunks_fed}
+use Rattle.s3_payloads.proofs.chunks.ChunksReader.feed.Goals as goal
+
+pub returns-clause-stands : goal.returns-clause-stands
+returns-clause-stands c = λ terms bytes stands.
+    chunks_fed c.readers_judge.ensures.count c.args.self.now.chunks c.feed.new.self c.args.self.now.payload c.feed.new.sink terms bytes c.args.piece.now c.feed.result
+    stands
+    (λ other. c.feed.ensures.stands other terms bytes c.args.self.now.payload stands)
+    c.feed.ensures.ok
+    c.feed.ensures.err
+    c.feed.ensures.count
+    (λ code failed. (c.feed.ensures.refuses code failed).0)
+    c.feed.ensures.grows
+    (λ is. ⊎_elim (λ failed. inl failed) (λ some. inr (some.0)) (c.feed.ensures.memory is))

@@ -1,0 +1,9 @@
+use Rattle.s3_payloads.proofs.FinalLemmas.{exist_form, one_form, stay_form}
+use Rattle.s3_payloads.proofs.laws.verdicts_are_final.Goals as goal
+
+pub returns : goal.returns
+returns c = record {
+  stay = λ announced. stay_form c.verdicts_are_final.ensures.stay announced.form announced;
+  one = λ announced. one_form c.verdicts_are_final.ensures.one announced.form announced;
+  exist = λ announced. exist_form c.verdicts_are_final.ensures.exist announced.form announced;
+}

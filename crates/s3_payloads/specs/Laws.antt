@@ -1,0 +1,59 @@
+-- What is known of every body, as laws: they speak of the definitions, and of no code.
+use Rattle.std.specs.Prelude.{◌≡◌, ◌↔◌, ℕ, Bool, false, min, List, ◌++◌, length, Some}
+use Rattle.base64.specs.Engines.{standard}
+use Rattle.base64.specs.GeneralPurpose.{IsBytes, encode_of}
+use Rattle.s3_terms.specs.declared.code.Code.{Code}
+use Rattle.s3_aws_chunked.specs.Verdict.{Verdict, Accepted, Refused}
+use Rattle.s3_aws_chunked.specs.Finality.{DecidesAs, IsDecided}
+use Rattle.s3_payloads.specs.declared.reader.PayloadReader.{PayloadReader}
+use Rattle.s3_payloads.specs.Form.{Announced, digest_of}
+use Rattle.s3_payloads.specs.Reader.{HasFailed, HasPassed, Stands, taken_of, verdict_of}
+use Rattle.s3_payloads.specs.Verdict.{Judges}
+
+-- an MD5 is found in its base64 (RFC 4648, section 4), and in no other text
+abbrev pub DigestsAreEncoded : Type 0
+DigestsAreEncoded =
+    (text digest : List ℕ) → IsBytes text → IsBytes digest
+    → (digest_of text ≡ Some digest) ↔ ((length digest ≡ 16) × (text ≡ encode_of standard digest))
+
+-- a reader that stands after some bytes of a body says of it what they say
+abbrev pub PayloadsJudge : Type 0
+PayloadsJudge =
+    (reader : PayloadReader) (announced : Announced) (bytes : List ℕ) (ended : Bool)
+    → Stands reader announced bytes ended → Judges announced bytes ended (verdict_of reader)
+
+-- where it has refused nothing, it has taken them all, up to the end of Content-Length
+abbrev pub PayloadsCount : Type 0
+PayloadsCount =
+    (reader : PayloadReader) (announced : Announced) (bytes : List ℕ) (ended : Bool)
+    → Stands reader announced bytes ended → ((code : Code) → ¬ (HasFailed reader code))
+    → taken_of reader ≡ min announced.length (length bytes)
+
+-- where it has refused, it says so, at the count of what it has taken
+abbrev pub PayloadsFail : Type 0
+PayloadsFail =
+    (reader : PayloadReader) (announced : Announced) (bytes : List ℕ) (ended : Bool) (code : Code)
+    → Stands reader announced bytes ended → HasFailed reader code → verdict_of reader ≡ Refused (taken_of reader) code
+
+-- and where it has passed, it says that too, and of what data
+abbrev pub PayloadsPass : Type 0
+PayloadsPass =
+    (reader : PayloadReader) → HasPassed reader → (payload : List ℕ) × (verdict_of reader ≡ Accepted payload)
+
+-- what was decided about a body before the end of the input stays decided, whatever follows, and whether or not that
+-- is the end: so the verdict doesn't depend on how the bytes are cut
+abbrev pub VerdictsStay : Type 0
+VerdictsStay =
+    (announced : Announced) (bytes more : List ℕ) (ended : Bool) (verdict : Verdict)
+    → Judges announced bytes false verdict → IsDecided verdict → Judges announced (bytes ++ more) ended verdict
+
+-- no two verdicts on the same bytes decide something else
+abbrev pub VerdictsAreOne : Type 0
+VerdictsAreOne =
+    (announced : Announced) (bytes : List ℕ) (ended : Bool) (one other : Verdict)
+    → Judges announced bytes ended one → Judges announced bytes ended other → DecidesAs one other
+
+-- all bytes have a verdict
+abbrev pub VerdictsExist : Type 0
+VerdictsExist =
+    (announced : Announced) (bytes : List ℕ) (ended : Bool) → (verdict : Verdict) × Judges announced bytes ended verdict

@@ -1,0 +1,6 @@
+pub mod Form
+pub mod Outcome
+pub mod Verdict
+pub mod Whole
+pub mod Reader
+pub mod Laws

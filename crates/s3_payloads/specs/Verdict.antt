@@ -1,0 +1,74 @@
+-- What is known of a body by the bytes that have come behind its head (Amazon S3 API Reference, "Error
+-- responses": IncompleteBody, XAmzContentSHA256Mismatch, BadDigest).
+use Rattle.std.specs.Prelude.{◌≡◌, ◌⊎◌, ℕ, ◌<◌, ◌≤◌, Bool, true, not, nat_le, if◌then◌else◌, List, take, length, Option, Some, None, Result, Ok, Err}
+use Rattle.std.specs.Str.{bytes_eq}
+use Rattle.hex.specs.Hex.{encode_lower}
+use Rattle.md5.specs.Md5.{md5}
+use Rattle.sha2.specs.Sha256.{sha256}
+use Rattle.s3_aws_chunked.specs.Verdict.{Verdict, Accepted, Open, Refused, Terms}
+use Rattle.s3_aws_chunked.specs.Verdict as chunked
+use Rattle.s3_payloads.specs.declared.form.Form.{Form}
+use Rattle.s3_payloads.specs.declared.form.Form.TheVariants.{Whole, Chunks}
+use Rattle.s3_payloads.specs.Form.{Announced}
+use Rattle.s3_signing.specs.Chain.{seed_of}
+use Rattle.s3_terms.specs.Fault.{refuse, ◌>>◌}
+use Rattle.s3_terms.specs.declared.code.Code.{Code}
+use Rattle.s3_terms.specs.declared.code.Code.TheVariants.{InternalError, IncompleteBody, XAmzContentSHA256Mismatch, BadDigest}
+
+-- the bytes have this SHA-256, in lower-case hexadecimal digits, where one is told
+abbrev pub has_hash : Option (List ℕ) → List ℕ → Bool
+has_hash None bytes = true
+has_hash (Some digits) bytes = bytes_eq (encode_lower (sha256 bytes)) digits
+
+-- the bytes have this MD5, where one is told
+abbrev pub has_digest : Option (List ℕ) → List ℕ → Bool
+has_digest None bytes = true
+has_digest (Some digest) bytes = bytes_eq (md5 bytes) digest
+
+-- the data of a whole body, past what is wrong with it
+unfoldable pub checked_data : Option (List ℕ) → Option (List ℕ) → List ℕ → Result (List ℕ) Code
+checked_data hash digest bytes = do
+  refuse (not (has_hash hash bytes)) XAmzContentSHA256Mismatch
+  refuse (not (has_digest digest bytes)) BadDigest
+  Ok bytes
+
+-- what is decided at a place
+abbrev pub decided_at : ℕ → Result (List ℕ) Code → Verdict
+decided_at place (Ok bytes) = Accepted bytes
+decided_at place (Err code) = Refused place code
+
+-- the verdict on a body that is sent as it is, of so many bytes, by the bytes behind its head: it is judged
+-- at its last byte, where it has none at the head's end, and no byte behind it is; the end of input before
+-- that leaves it incomplete
+unfoldable pub whole_verdict : Option (List ℕ) → Option (List ℕ) → ℕ → Bool → List ℕ → Verdict
+whole_verdict hash digest size ended bytes =
+    if nat_le size (length bytes) then decided_at size (checked_data hash digest (take size bytes))
+    else if ended then Refused (length bytes) IncompleteBody
+    else Open bytes
+
+-- what the chunks of a body have to come to
+abbrev pub terms_of : Announced → ℕ → Terms
+terms_of announced decoded = record { seed = seed_of announced.proved; encoded = announced.length; decoded = decoded }
+
+abbrev pub JudgesForm : Form → Announced → List ℕ → Bool → Verdict → Type 0
+JudgesForm (Whole hash digest) announced bytes ended verdict =
+    verdict ≡ whole_verdict hash digest announced.length ended bytes
+JudgesForm (Chunks decoded) announced bytes ended verdict =
+    chunked.Judges (terms_of announced decoded) bytes ended verdict
+
+-- the verdict on a body that was announced so, by the bytes behind its head; ended says that no more come
+abbrev pub Judges : Announced → List ℕ → Bool → Verdict → Type 0
+Judges announced bytes ended verdict = JudgesForm announced.form announced bytes ended verdict
+
+-- what is answered where these bytes stand behind the head at once: nothing while the body is open; the data of
+-- a body that is accepted, with its count of bytes; or the code of a refusal, for which memory ran out or which
+-- is the verdict
+abbrev pub AnswersAtOnce : Announced → List ℕ → Bool → Result (Option (List ℕ × ℕ)) Code → Type 0
+AnswersAtOnce announced bytes ended (Ok None) = (held : List ℕ) × Judges announced bytes ended (Open held)
+AnswersAtOnce announced bytes ended (Ok (Some found)) =
+    Judges announced bytes ended (Accepted found.0)
+    × (found.1 ≡ announced.length)
+    × (announced.length ≤ length bytes)
+AnswersAtOnce announced bytes ended (Err code) =
+    ((code ≡ InternalError) × (0 < length bytes))
+    ⊎ ((place : ℕ) × Judges announced bytes ended (Refused place code))

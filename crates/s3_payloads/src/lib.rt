@@ -1,0 +1,14 @@
+//! The bodies of messages, read as their bytes arrive: what a head says of its body, and the payload that
+//! is found, or what is wrong with it and where.
+#![tactic(auto)]
+
+mod chunks;
+mod form;
+mod laws;
+mod reader;
+mod running_hash;
+mod whole;
+
+pub use form::{Form, form_of};
+pub use laws::{digests_are_encoded, payloads_are_judged, verdicts_are_final};
+pub use reader::PayloadReader;

@@ -1,0 +1,190 @@
+//! The reader of a payload, whichever way it is sent.
+
+ghost use Rattle.std.specs.Prelude.{◌≡◌, ℕ, Bool, false, List, [], Err, IfErr, IsSome};
+ghost use Rattle.s3_http_heads.specs.BodyLength.{announced, length_lines};
+ghost use Rattle.s3_payloads.specs.Form.{Announced, announced_payload};
+ghost use Rattle.s3_payloads.specs.Outcome.{finished};
+ghost use Rattle.s3_payloads.specs.Reader.{ModeStands};
+ghost use Rattle.s3_payloads.specs.Verdict.{AnswersAtOnce};
+
+use crate::chunks::ChunksReader;
+use crate::form::{Form, form_of};
+use crate::laws::payloads_are_judged;
+use crate::whole::WholeReader;
+use s3_config::Config;
+use s3_http_heads::{Head, announced_length};
+use s3_segments::Payload;
+use s3_signing::Verified;
+use s3_terms::Code;
+use std::alloc::Global;
+
+// The ways to read a body.
+#[derive(Drop)]
+pub(crate) enum Mode {
+    // As it is.
+    Whole(WholeReader),
+    // In signed chunks.
+    Chunks(ChunksReader),
+}
+
+// How a body of so many bytes is read that is sent in this form, before any of it has come.
+fn mode_of(alloc: Global, form: Form, length: u64, verified: &Verified) -> Mode
+    ensures { ModeStands result (record { length = length; form = form; proved = verified.now }) [] false }
+{
+    match form {
+        Form::Whole { hash, digest } => Mode::Whole(WholeReader::new(alloc, hash, digest, length)),
+        Form::Chunks { decoded } => {
+            Mode::Chunks(ChunksReader::new(alloc, verified, length, decoded))
+        }
+    }
+}
+
+/// Reads the body of a verified message as its bytes arrive, whichever of the three payload words its head
+/// has.
+///
+/// However the bytes are cut, a body is refused at the same byte and with the same code. Each byte of data is
+/// copied once; MD5 runs over it, and SHA-256 where the word asks for it.
+#[derive(Drop)]
+pub struct PayloadReader {
+    mode: Mode,
+}
+
+impl PayloadReader {
+    ghost use Rattle.s3_payloads.specs.Reader.{Begins, HasFailed, IsEnded, IsFed, IsHandedOut, IsSettled, Stands, taken_of, verdict_of};
+
+    /// The reader of the body behind this head, of which nothing has come. The framing of the head has to be
+    /// sound (`s3_http_heads::framing`). Takes no memory.
+    ///
+    /// # Errors
+    ///
+    /// For signed chunks: `InvalidRequest` where `x-amz-decoded-content-length` was not sent once, or is not 1
+    /// to 18 decimal digits, and `EntityTooLarge` where it is over the limit of the settings. Otherwise
+    /// `InvalidDigest` where Content-MD5 was sent several times, or is not the base64 of 16 bytes.
+    #[tactic(auto, unfolding(crate::specs::Form::announced_payload))]
+    pub fn new(
+        alloc: Global,
+        config: &Config,
+        head: &Head,
+        verified: Verified,
+    ) -> Result<PayloadReader, Code>
+        requires framed { IsSome (announced (length_lines head.now)) }
+        ensures { Begins (announced_payload config.now head.now verified) result }
+    {
+        let form = form_of(config, head, &verified.word())?;
+        let length = announced_length(head).unwrap();
+        Ok(PayloadReader {
+            mode: mode_of(alloc, form, length, &verified),
+        })
+    }
+
+    /// How many bytes of the body were taken; after a refusal of the body, the place of that.
+    pub fn taken(&self) -> u64
+        ensures { result ≡ taken_of self.now }
+    {
+        match &self.mode {
+            Mode::Whole(whole) => whole.taken(),
+            Mode::Chunks(chunks) => chunks.taken(),
+        }
+    }
+
+    /// Takes the next piece of the body, up to the end of Content-Length, and answers how many of its bytes it
+    /// took; what comes behind them is not looked at. Takes time by the length of the piece: MD5 over the data,
+    /// SHA-256 where the word asks for it, and one copy; and memory for the data.
+    ///
+    /// # Errors
+    ///
+    /// In the piece that brings the byte at which the body is refused, wherever the piece ends:
+    /// `XAmzContentSHA256Mismatch` and then `BadDigest` at the last byte of a body that is sent as it is, where it
+    /// has none in the first piece; `InvalidRequest`, `SignatureDoesNotMatch` and `IncompleteBody` for signed
+    /// chunks, as `s3_aws_chunked::ChunkReader` says; and `InternalError` where there is no memory for the data.
+    /// From then on the reader refuses always, with the same code.
+    pub fn feed(&mut self, piece: &[u8]) -> Result<usize, Code>
+        ensures stands { (announced : Announced) (bytes : List ℕ)
+            → Stands self.old announced bytes false → IsFed announced bytes piece.now result self.new }
+
+        // What has refused refuses always, and takes nothing more.
+        ensures err { IfErr result (HasFailed self.new) }
+        ensures refuses { (code : Code) → HasFailed self.old code
+            → (result ≡ Err code) × (taken_of self.new ≡ taken_of self.old) }
+    {
+        match &mut self.mode {
+            Mode::Whole(whole) => whole.feed(piece),
+            Mode::Chunks(chunks) => chunks.feed(piece),
+        }
+    }
+
+    /// Says that no more bytes come.
+    ///
+    /// # Errors
+    ///
+    /// `IncompleteBody` where the body isn't whole, and the code of an earlier refusal.
+    pub fn end(&mut self) -> Result<(), Code>
+        ensures stands { (announced : Announced) (bytes : List ℕ)
+            → Stands self.old announced bytes false → IsEnded announced bytes result self.new }
+        ensures err { IfErr result (HasFailed self.new) }
+        ensures refuses { (code : Code) → HasFailed self.old code
+            → (result ≡ Err code) × (taken_of self.new ≡ taken_of self.old) }
+    {
+        match &mut self.mode {
+            Mode::Whole(whole) => whole.end(),
+            Mode::Chunks(chunks) => chunks.end(),
+        }
+    }
+
+    /// Hands out the payload of a body that is whole and right.
+    ///
+    /// # Errors
+    ///
+    /// `IncompleteBody` where the body isn't whole, and the code of an earlier refusal.
+    pub fn finish(self) -> Result<Payload, Code>
+        ensures says { (announced : Announced) (bytes : List ℕ) (ended : Bool)
+            → Stands self announced bytes ended → result ≡ finished (verdict_of self) }
+        ensures refuses { (code : Code) → HasFailed self code → result ≡ Err code }
+    {
+        match self.mode {
+            Mode::Whole(whole) => whole.finish(),
+            Mode::Chunks(chunks) => chunks.finish(),
+        }
+    }
+
+    // Feeds all bytes so far, and ends the input where it has ended.
+    fn settle(&mut self, bytes: &[u8], ended: bool) -> Result<usize, Code>
+        ensures { (announced : Announced) → Stands self.old announced [] false
+            → IsSettled announced bytes.now ended result self.new }
+    {
+        let fed = self.feed(bytes);
+        if ended {
+            self.end()?;
+        }
+        fed
+    }
+
+    // The payload with this number of bytes, where the body is whole.
+    fn hand_out(self, taken: usize) -> Option<(Payload, usize)>
+        ensures { (announced : Announced) (bytes : List ℕ) (ended : Bool) → Stands self announced bytes ended
+            → ((code : Code) → ¬ (HasFailed self code)) → IsHandedOut (verdict_of self) taken result }
+    {
+        match self.finish() {
+            Ok(payload) => Some((payload, taken)),
+            Err(_) => None,
+        }
+    }
+
+    /// Reads the body from the bytes behind its head, where all that have come are there at once; `ended` says
+    /// that no more come. `None` says that the body isn't whole yet; else the payload comes with the number of
+    /// the bytes that are the body's.
+    ///
+    /// # Errors
+    ///
+    /// Those of `feed` and of `end`.
+    pub fn read(mut self, bytes: &[u8], ended: bool) -> Result<Option<(Payload, usize)>, Code>
+        ensures { (announced : Announced) → Stands self announced [] false
+            → AnswersAtOnce announced bytes.now ended result }
+    {
+        payloads_are_judged();
+        match self.settle(bytes, ended) {
+            Ok(taken) => Ok(self.hand_out(taken)),
+            Err(code) => Err(code),
+        }
+    }
+}

@@ -1,0 +1,116 @@
+//! The lists of versions that puts and deletes leave.
+
+use crate::steps::{Act, Entry, are, take};
+use s3_names::VersionId;
+use s3_terms::NoMemory;
+use s3_versions::Versioning::{Enabled, Suspended, Unversioned};
+use s3_versions::Versions;
+use std::alloc::Global;
+
+/// An entry, the number of the version that goes, and the versions that it leaves.
+type Row = (Entry, Option<u64>, &'static [(&'static [u8], bool)]);
+
+const NULL: (&[u8], bool) = (b"null", false);
+
+const MARKER: (&[u8], bool) = (b"null", true);
+
+const V1: (&[u8], bool) = (b"v0000000000000001", false);
+
+const V2: (&[u8], bool) = (b"v0000000000000002", false);
+
+const V1_MARKER: (&[u8], bool) = (b"v0000000000000001", true);
+
+static SUSPENDED_DELETE: [Row; 3] = [
+    ((1, Enabled, Act::Put), None, &[V1]),
+    ((3, Suspended, Act::Put), None, &[NULL, V1]),
+    ((4, Suspended, Act::Delete), Some(3), &[MARKER, V1]),
+];
+
+static MARKER_REMOVED: [Row; 4] = [
+    ((1, Enabled, Act::Put), None, &[V1]),
+    ((3, Suspended, Act::Put), None, &[NULL, V1]),
+    ((4, Suspended, Act::Delete), Some(3), &[MARKER, V1]),
+    (
+        (6, Suspended, Act::DropVersion(VersionId::Null)),
+        Some(4),
+        &[V1],
+    ),
+];
+
+static MARKER_OF_NO_KEY: [Row; 1] = [((1, Enabled, Act::Delete), None, &[V1_MARKER])];
+
+static MARKERS_AND_NULL: [Row; 4] = [
+    ((0, Unversioned, Act::Put), None, &[NULL]),
+    ((2, Enabled, Act::Put), None, &[V2, NULL]),
+    ((4, Suspended, Act::Delete), Some(0), &[MARKER, V2]),
+    ((5, Suspended, Act::Put), Some(4), &[NULL, V2]),
+];
+
+static UNVERSIONED: [Row; 4] = [
+    ((0, Unversioned, Act::Put), None, &[NULL]),
+    ((1, Unversioned, Act::Put), Some(0), &[NULL]),
+    ((2, Unversioned, Act::Delete), Some(1), &[]),
+    ((3, Unversioned, Act::Delete), None, &[]),
+];
+
+static ONE_VERSION_DROPPED: [Row; 5] = [
+    ((1, Enabled, Act::Put), None, &[V1]),
+    ((2, Enabled, Act::Put), None, &[V2, V1]),
+    (
+        (3, Enabled, Act::DropVersion(VersionId::Numbered(3))),
+        None,
+        &[V2, V1],
+    ),
+    (
+        (4, Enabled, Act::DropVersion(VersionId::Numbered(1))),
+        Some(1),
+        &[V2],
+    ),
+    ((5, Enabled, Act::DropVersion(VersionId::Null)), None, &[V2]),
+];
+
+fn leaves(alloc: Global, versions: &mut Versions, row: &Row) -> Result<bool, NoMemory> {
+    let (entry, gone, left) = row;
+    let is_gone = take(alloc, versions, *entry)? == *gone;
+    Ok(is_gone && are(versions.as_slice(), left))
+}
+
+fn all_leave(alloc: Global, rows: &[Row]) -> Result<bool, NoMemory> {
+    let mut versions = Versions::new(alloc);
+    for row in rows {
+        if !leaves(alloc, &mut versions, row)? {
+            return Ok(false);
+        }
+    }
+    Ok(true)
+}
+
+#[test]
+fn suspended_delete(rt: HostRuntime) {
+    assert!(rt; all_leave(rt.alloc(), &SUSPENDED_DELETE) == Ok(true));
+}
+
+#[test]
+fn marker_removed(rt: HostRuntime) {
+    assert!(rt; all_leave(rt.alloc(), &MARKER_REMOVED) == Ok(true));
+}
+
+#[test]
+fn marker_of_no_key(rt: HostRuntime) {
+    assert!(rt; all_leave(rt.alloc(), &MARKER_OF_NO_KEY) == Ok(true));
+}
+
+#[test]
+fn markers_and_null(rt: HostRuntime) {
+    assert!(rt; all_leave(rt.alloc(), &MARKERS_AND_NULL) == Ok(true));
+}
+
+#[test]
+fn unversioned(rt: HostRuntime) {
+    assert!(rt; all_leave(rt.alloc(), &UNVERSIONED) == Ok(true));
+}
+
+#[test]
+fn one_version_dropped(rt: HostRuntime) {
+    assert!(rt; all_leave(rt.alloc(), &ONE_VERSION_DROPPED) == Ok(true));
+}

@@ -1,0 +1,4 @@
+pub mod CatalogueLemmas
+pub mod KeyLemmas
+pub mod LawLemmas
+pub mod MapLemmas

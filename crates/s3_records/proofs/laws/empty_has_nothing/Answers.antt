@@ -1,0 +1,11 @@
+use Rattle.s3_records.proofs.LawLemmas.{empty_has_nothing, others_have_something, keys_stay_filled}
+use Rattle.s3_records.proofs.laws.empty_has_nothing.Goals as goal
+
+pub returns-clause-nothing : goal.returns-clause-nothing
+returns-clause-nothing c = empty_has_nothing
+
+pub returns-clause-something : goal.returns-clause-something
+returns-clause-something c = others_have_something
+
+pub returns-clause-filled : goal.returns-clause-filled
+returns-clause-filled c = keys_stay_filled

@@ -1,0 +1,8 @@
+use Rattle.s3_records.proofs.LawLemmas.{versions_stay_in_order, opening_is_empty}
+use Rattle.s3_records.proofs.laws.versions_stay_in_order.Goals as goal
+
+pub returns-clause-stay : goal.returns-clause-stay
+returns-clause-stay c = versions_stay_in_order c.stay_versions.ensures.put c.stay_versions.ensures.deleted c.stay_versions.ensures.version_gone
+
+pub returns-clause-opening : goal.returns-clause-opening
+returns-clause-opening c = opening_is_empty

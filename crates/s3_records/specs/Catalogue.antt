@@ -1,0 +1,88 @@
+-- The catalogue: which buckets there are and what is under their keys, in rows that name bytes by a number
+-- (Amazon S3 User Guide, "Buckets overview" and "Using versioning in S3 buckets").
+use Rattle.std.specs.Prelude.{ℕ, ◌==◌, Bool, true, List, [], ◌∷◌, map as each, Option, Some, None, is_some, option_map}
+use Rattle.std.specs.FinMap as map
+use Rattle.s3_text.specs.Order.{byte_order}
+use Rattle.s3_versions.specs.declared.version.Version.{Version}
+use Rattle.s3_versions.specs.declared.version.Versioning.{Versioning}
+use Rattle.s3_versions.specs.declared.version.Versioning.TheVariants.{Unversioned}
+use Rattle.s3_records.specs.declared.records.BucketFacts.{BucketFacts}
+use Rattle.s3_records.specs.declared.records.ListedBucket.{ListedBucket}
+
+-- the versions, newest first, under each key that has some
+abbrev pub Keys : Type 0
+Keys = map.FinMap byte_order (List Version)
+
+-- a bucket: when it was made, its versioning, and its keys
+pub record Bucket : Type 0 where
+  pub made : ℕ
+  pub versioning : Versioning
+  pub keys : Keys
+
+-- the buckets, by their names
+abbrev pub Catalogue : Type 0
+Catalogue = map.FinMap byte_order Bucket
+
+-- a bucket that is made at moment t: unversioned, with nothing in it
+abbrev pub new_bucket : ℕ → Bucket
+new_bucket t = record { made = t; versioning = Unversioned; keys = map.empty }
+
+-- the opening catalogue: the named buckets, made at moment 0
+abbrev pub opening : List (List ℕ) → Catalogue
+opening [] = map.empty
+opening (name ∷ names) = map.insert (opening names) name (new_bucket 0)
+
+-- there is a bucket of this name
+abbrev pub has_bucket : Catalogue → List ℕ → Bool
+has_bucket c name = is_some (map.get c name)
+
+-- what is told of a bucket
+abbrev pub facts_of : Bucket → BucketFacts
+facts_of b = record { made = b.made; versioning = b.versioning }
+
+abbrev pub facts_in : Catalogue → List ℕ → Option BucketFacts
+facts_in c name = option_map facts_of (map.get c name)
+
+-- all buckets, by name in the order of bytes
+abbrev pub listed_bucket : List ℕ × Bucket → ListedBucket
+listed_bucket e = record { name = e.0; made = e.1.made }
+
+abbrev pub listed_buckets : Catalogue → List ListedBucket
+listed_buckets c = each listed_bucket (map.entries c)
+
+-- the versions that were found under a key: a key that is not there has none
+abbrev pub found_versions : Option (List Version) → List Version
+found_versions None = []
+found_versions (Some vs) = vs
+
+-- the versions under a key
+abbrev pub versions_at : Keys → List ℕ → List Version
+versions_at keys key = found_versions (map.get keys key)
+
+-- the same, in a bucket that is there or not
+abbrev pub versions_in : Option Bucket → List ℕ → List Version
+versions_in None key = []
+versions_in (Some b) key = versions_at b.keys key
+
+abbrev pub versions_of : Catalogue → List ℕ → List ℕ → List Version
+versions_of c name key = versions_in (map.get c name) key
+
+-- a bucket's versioning
+abbrev pub versioning_in : Option Bucket → Versioning
+versioning_in None = Unversioned
+versioning_in (Some b) = b.versioning
+
+abbrev pub versioning_of : Catalogue → List ℕ → Versioning
+versioning_of c name = versioning_in (map.get c name)
+
+-- no key has a version
+abbrev pub has_no_keys : Keys → Bool
+has_no_keys keys = map.len keys == 0
+
+-- nothing is in the bucket
+abbrev pub is_empty_in : Option Bucket → Bool
+is_empty_in None = true
+is_empty_in (Some b) = has_no_keys b.keys
+
+abbrev pub is_empty_bucket : Catalogue → List ℕ → Bool
+is_empty_bucket c name = is_empty_in (map.get c name)

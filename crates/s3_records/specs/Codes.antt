@@ -1,0 +1,24 @@
+-- How std numbers a catalogue, so that it may be what a keeper is seen as: by its parts. Nothing here is about
+-- the server.
+use Rattle.std.specs.Prelude.{ℕ, refl}
+use Rattle.std.specs.Coded.{Coded, code_by, coded×, coded_ℕ, coded_list}
+use Rattle.std.specs.FinMap as map
+use Rattle.s3_versions.specs.Codes.{coded_bytes, coded_version, coded_versioning}
+use Rattle.s3_versions.specs.declared.version.Versioning.{Versioning}
+use Rattle.s3_records.specs.Catalogue.{Keys, Bucket, Catalogue}
+
+-- the keys of a bucket, as their entries
+abbrev pub coded_keys : Coded Keys
+coded_keys = map.code coded_bytes (coded_list coded_version)
+
+-- a bucket, as when it was made, its versioning and its keys
+abbrev pub coded_bucket : Coded Bucket
+coded_bucket =
+    code_by (ℕ × (Versioning × Keys)) (coded× coded_ℕ (coded× coded_versioning coded_keys))
+    (λ b. (b.made, (b.versioning, b.keys)))
+    (λ p. record { made = p.0; versioning = p.1.0; keys = p.1.1 })
+    (λ _. refl)
+
+-- the buckets, as their entries
+abbrev pub coded_catalogue : Coded Catalogue
+coded_catalogue = map.code coded_bytes coded_bucket

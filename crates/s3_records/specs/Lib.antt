@@ -1,0 +1,5 @@
+pub mod Catalogue
+pub mod Changes
+pub mod Codes
+pub mod Laws
+pub use Rattle.s3_versions.specs.Rules

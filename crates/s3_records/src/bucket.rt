@@ -1,0 +1,136 @@
+//! One bucket, in memory.
+ghost use Rattle.std.specs.Prelude.{◌≡◌, ◌≢◌, None, IfOk, OnOk, OnErr, IsTrue, find};
+ghost use Rattle.std.specs.Option.{option_copied};
+ghost use Rattle.std.specs.FinMap as map;
+ghost use Rattle.s3_versions.specs.Rules.{is_under, replaced, is_new_number};
+
+use crate::keys::KeyMap;
+use crate::records::BucketFacts;
+use s3_calendar::Moment;
+use s3_names::{Key, VersionId};
+use s3_terms::NoMemory;
+use s3_versions::{Content, Data, Version, Versioning, VersioningStatus, Versions};
+use std::alloc::Global;
+use std::marker::Model;
+
+/// A bucket: when it was made, its versioning, and its keys.
+#[derive(Drop)]
+pub(crate) struct StoredBucket {
+    made: Moment,
+    versioning: Versioning,
+    keys: KeyMap,
+}
+
+impl Model for StoredBucket {
+    ghost use Rattle.s3_records.specs.Catalogue.{Bucket};
+    ghost use Rattle.s3_records.specs.Codes.{coded_bucket};
+
+    ghost Value = { Bucket };
+
+    ghost coded = { coded_bucket };
+
+    ghost view = { λ b. record { made = b.made; versioning = b.versioning; keys = b.keys } };
+}
+
+impl StoredBucket {
+    ghost use Rattle.s3_records.specs.Catalogue.{new_bucket, facts_of, has_no_keys, versions_at};
+    ghost use Rattle.s3_records.specs.Changes.{set_in, put_in, delete_in, drop_in};
+
+    /// A bucket made at this moment, unversioned and empty. It takes no memory yet.
+    pub(crate) fn new(alloc: Global, made: Moment) -> StoredBucket
+        ensures { result ≡ new_bucket made }
+    {
+        StoredBucket {
+            made,
+            versioning: Versioning::Unversioned,
+            keys: KeyMap::new(alloc),
+        }
+    }
+
+    /// When it was made, and its versioning.
+    pub(crate) fn facts(&self) -> BucketFacts
+        ensures { result ≡ facts_of self.now }
+    {
+        BucketFacts {
+            made: self.made,
+            versioning: self.versioning,
+        }
+    }
+
+    /// Whether nothing is in it.
+    pub(crate) fn is_empty(&self) -> bool
+        ensures { result ≡ has_no_keys self.now.keys }
+    {
+        self.keys.is_empty()
+    }
+
+    /// The versions under the key; `None` where there are none.
+    pub(crate) fn versions(&self, key: &Key) -> Option<&Versions>
+        ensures { option_copied result ≡ map.get self.now.keys key.now }
+    {
+        self.keys.get(key)
+    }
+
+    /// Sets its versioning.
+    pub(crate) fn set_versioning(&mut self, status: VersioningStatus)
+        ensures { self.new ≡ set_in status self.old }
+    {
+        self.versioning = status.versioning();
+    }
+
+    /// Puts a version under the key, and answers the one that goes. `NoMemory`, which comes only where none
+    /// goes, leaves the bucket as it was.
+    pub(crate) fn put(
+        &mut self,
+        alloc: Global,
+        key: Key,
+        number: u64,
+        moment: Moment,
+        stored: Data,
+    ) -> Result<Option<Version>, NoMemory>
+        requires { IsTrue (is_new_number number (versions_at self.old.keys key)) }
+        ensures ok { OnOk result (self.new ≡ put_in key number moment stored self.old) }
+        ensures gone { IfOk result (λ gone. gone ≡ replaced self.old.versioning (versions_at self.old.keys key)) }
+        ensures err { OnErr result (self.new ≡ self.old) }
+        ensures memory { OnErr result (replaced self.old.versioning (versions_at self.old.keys key) ≡ None) }
+    {
+        let content = Content::Stored(stored);
+        let versioning = self.versioning;
+        self.keys
+            .add(alloc, key, versioning, number, moment, content)
+    }
+
+    /// Deletes the key without naming a version, and answers the one that goes. `NoMemory`, which comes only
+    /// where none goes and a delete marker has to be held, leaves the bucket as it was.
+    pub(crate) fn delete(
+        &mut self,
+        alloc: Global,
+        key: Key,
+        number: u64,
+        moment: Moment,
+    ) -> Result<Option<Version>, NoMemory>
+        requires { IsTrue (is_new_number number (versions_at self.old.keys key)) }
+        ensures ok { OnOk result (self.new ≡ delete_in key number moment self.old) }
+        ensures gone { IfOk result (λ gone. gone ≡ replaced self.old.versioning (versions_at self.old.keys key)) }
+        ensures err { OnErr result (self.new ≡ self.old) }
+        ensures memory { OnErr result (replaced self.old.versioning (versions_at self.old.keys key) ≡ None) }
+        ensures held { OnErr result (self.old.versioning ≢ Versioning.Unversioned) }
+    {
+        match self.versioning {
+            Versioning::Unversioned => Ok(self.keys.drop_version(&key, VersionId::Null)),
+            Versioning::Enabled | Versioning::Suspended => {
+                let content = Content::DeleteMarker;
+                self.keys
+                    .add(alloc, key, self.versioning, number, moment, content)
+            }
+        }
+    }
+
+    /// Drops the version of this id under the key, and answers it. Takes no memory.
+    pub(crate) fn drop_version(&mut self, key: &Key, id: VersionId) -> Option<Version>
+        ensures value { self.new ≡ drop_in key.now id self.old }
+        ensures gone { result ≡ find (is_under id) (versions_at self.old.keys key.now) }
+    {
+        self.keys.drop_version(key, id)
+    }
+}

@@ -1,0 +1,16 @@
+//! The records of a server: which buckets there are and what is under their keys, in rows that name bytes by
+//! a number. `Records` is what every keeper of them promises, of one catalogue, and `MapRecords` keeps them in
+//! memory.
+#![tactic(auto)]
+
+mod bucket;
+mod keys;
+mod laws;
+mod map_records;
+mod records;
+
+pub use laws::{
+    changes_are_local, changes_follow_rules, empty_has_nothing, versions_stay_in_order,
+};
+pub use map_records::MapRecords;
+pub use records::{BucketFacts, ListedBucket, Records};

@@ -1,0 +1,283 @@
+//! Records in memory.
+ghost use Rattle.std.specs.Prelude.{◌≡◌, ◌≢◌, [], true, false, None, IfOk, OnOk, OnErr, IsTrue, find, map as each};
+ghost use Rattle.std.specs.FinMap as map;
+ghost use Rattle.std.specs.BTreeMap.{IsOrdered};
+ghost use Rattle.std.specs.Option.{option_copied};
+ghost use Rattle.s3_text.specs.Order.{byte_order};
+ghost use Rattle.s3_versions.specs.Rules.{asked_for};
+ghost use Rattle.s3_records.specs.Catalogue.{opening, new_bucket, found_versions, versions_of, listed_bucket, listed_buckets};
+
+use crate::bucket::StoredBucket;
+use crate::records::{BucketFacts, ListedBucket, Records};
+use s3_calendar::Moment;
+use s3_config::Config;
+use s3_names::{BucketName, Key, VersionId};
+use s3_terms::NoMemory;
+use s3_versions::{Data, Version, VersioningStatus, Versions, current, version_under};
+use std::alloc::Global;
+use std::collections::BTreeMap;
+use std::marker::Model;
+
+/// Records in memory, which are gone when the server ends. Contracts see them as the catalogue. To find a
+/// bucket and a key costs the logarithm of how many there are; a change costs that and the length of the
+/// key's list of versions.
+#[derive(Drop)]
+pub struct MapRecords {
+    by_name: BTreeMap<BucketName, StoredBucket>,
+}
+
+impl Model for MapRecords {
+    ghost use Rattle.std.specs.FinMap as map;
+    ghost use Rattle.s3_records.specs.Catalogue.{Catalogue};
+    ghost use Rattle.s3_records.specs.Codes.{coded_catalogue};
+
+    ghost Value = { Catalogue };
+
+    ghost coded = { coded_catalogue };
+
+    ghost view = { λ records. map.from_entries records.by_name.entries };
+}
+
+impl MapRecords {
+    /// The records that a server with these settings opens with: its first buckets, unversioned and empty,
+    /// made at moment 0. Their names are copied.
+    pub fn open(alloc: Global, config: &Config) -> Result<MapRecords, NoMemory>
+        ensures { IfOk result (λ records. records ≡ opening config.now.buckets) }
+    {
+        MapRecords::of_buckets(alloc, config.buckets())
+    }
+
+    // Records with these buckets. A name that stands twice is one bucket.
+    fn of_buckets(alloc: Global, names: &[BucketName]) -> Result<MapRecords, NoMemory>
+        ensures { IfOk result (λ records. records ≡ opening names.now) }
+    {
+        let mut records = MapRecords {
+            by_name: BTreeMap::new(alloc),
+        };
+        for name in names {
+            records.put_bucket(alloc, name.copy()?, first_moment())?;
+        }
+        Ok(records)
+    }
+
+    // The bucket of this name.
+    fn found_bucket(&self, name: &BucketName) -> Option<&StoredBucket>
+        ensures { option_copied result ≡ map.get self.now name.now }
+    {
+        self.by_name.get(name)
+    }
+
+    // The versions under a key; `None` where there are none.
+    fn found_versions(&self, bucket: &BucketName, key: &Key) -> Option<&Versions>
+        ensures { found_versions (option_copied result) ≡ versions_of self.now bucket.now key.now }
+    {
+        match self.found_bucket(bucket) {
+            None => None,
+            Some(bucket) => bucket.versions(key),
+        }
+    }
+
+    // The version that a request asks for.
+    fn asked_for(
+        &self,
+        bucket: &BucketName,
+        key: &Key,
+        asked: Option<VersionId>,
+    ) -> Option<&Version>
+        ensures { option_copied result ≡ asked_for asked (versions_of self.now bucket.now key.now) }
+    {
+        match self.found_versions(bucket, key) {
+            None => None,
+            Some(versions) => asked_among(versions.as_slice(), asked),
+        }
+    }
+
+    // All buckets.
+    #[tactic(auto, using(crate::proofs::MapLemmas::made_entries))]
+    fn listed(&self, alloc: Global) -> Result<Vec<ListedBucket>, NoMemory>
+        ensures value { IfOk result (λ rows. rows.items ≡ listed_buckets self.now) }
+        ensures memory { OnErr result (listed_buckets self.now ≢ []) }
+    {
+        rows_of(alloc, &self.by_name)
+    }
+
+    // Puts in an empty bucket, in the place of the one that has this name.
+    fn put_bucket(&mut self, alloc: Global, name: BucketName, made: Moment) -> Result<(), NoMemory>
+        ensures ok { OnOk result (self.new ≡ map.insert self.old name (new_bucket made)) }
+        ensures err { OnErr result (self.new ≡ self.old) }
+    {
+        self.by_name.insert(name, StoredBucket::new(alloc, made))?;
+        Ok(())
+    }
+}
+
+impl Records for MapRecords {
+    ghost catalogue = { λ records. records };
+
+    ghost is_in_memory = { true };
+
+    fn bucket(
+        &mut self,
+        _alloc: Global,
+        name: &BucketName,
+    ) -> Result<Option<BucketFacts>, NoMemory> {
+        match self.found_bucket(name) {
+            None => Ok(None),
+            Some(bucket) => Ok(Some(bucket.facts())),
+        }
+    }
+
+    fn buckets(&mut self, alloc: Global) -> Result<Vec<ListedBucket>, NoMemory> {
+        self.listed(alloc)
+    }
+
+    fn is_empty(&mut self, _alloc: Global, name: &BucketName) -> Result<bool, NoMemory> {
+        match self.found_bucket(name) {
+            None => Ok(true),
+            Some(bucket) => Ok(bucket.is_empty()),
+        }
+    }
+
+    fn versions_of(
+        &mut self,
+        alloc: Global,
+        bucket: &BucketName,
+        key: &Key,
+    ) -> Result<Vec<Version>, NoMemory> {
+        match self.found_versions(bucket, key) {
+            None => Ok(Vec::new(alloc)),
+            Some(versions) => versions.to_vec(alloc),
+        }
+    }
+
+    fn version(
+        &mut self,
+        alloc: Global,
+        bucket: &BucketName,
+        key: &Key,
+        asked: Option<VersionId>,
+    ) -> Result<Option<Version>, NoMemory> {
+        match self.asked_for(bucket, key, asked) {
+            None => Ok(None),
+            Some(version) => Ok(Some(version.copy(alloc)?)),
+        }
+    }
+
+    fn add_bucket(
+        &mut self,
+        alloc: Global,
+        name: BucketName,
+        moment: Moment,
+    ) -> Result<(), NoMemory> {
+        self.put_bucket(alloc, name, moment)
+    }
+
+    fn drop_bucket(&mut self, _alloc: Global, name: &BucketName) -> Result<(), NoMemory> {
+        let _ = self.by_name.remove(name);
+        Ok(())
+    }
+
+    fn set_versioning(
+        &mut self,
+        _alloc: Global,
+        name: &BucketName,
+        status: VersioningStatus,
+    ) -> Result<(), NoMemory> {
+        match self.by_name.get_mut(name) {
+            None => unreachable!(),
+            Some(bucket) => {
+                bucket.set_versioning(status);
+                Ok(())
+            }
+        }
+    }
+
+    fn put_version(
+        &mut self,
+        alloc: Global,
+        bucket: &BucketName,
+        key: Key,
+        number: u64,
+        moment: Moment,
+        stored: Data,
+    ) -> Result<Option<Version>, NoMemory> {
+        match self.by_name.get_mut(bucket) {
+            None => unreachable!(),
+            Some(bucket) => bucket.put(alloc, key, number, moment, stored),
+        }
+    }
+
+    fn delete(
+        &mut self,
+        alloc: Global,
+        bucket: &BucketName,
+        key: Key,
+        number: u64,
+        moment: Moment,
+    ) -> Result<Option<Version>, NoMemory> {
+        match self.by_name.get_mut(bucket) {
+            None => unreachable!(),
+            Some(bucket) => bucket.delete(alloc, key, number, moment),
+        }
+    }
+
+    fn drop_version(
+        &mut self,
+        _alloc: Global,
+        bucket: &BucketName,
+        key: &Key,
+        id: VersionId,
+    ) -> Result<Option<Version>, NoMemory> {
+        match self.by_name.get_mut(bucket) {
+            None => unreachable!(),
+            Some(bucket) => Ok(bucket.drop_version(key, id)),
+        }
+    }
+}
+
+// The moment at which the first buckets are made.
+fn first_moment() -> Moment
+    ensures { result ≡ 0 }
+{
+    match Moment::new(0) {
+        Some(moment) => moment,
+        None => unreachable!(),
+    }
+}
+
+// The version of a key's that a request asks for.
+fn asked_among(versions: &[Version], asked: Option<VersionId>) -> Option<&Version>
+    ensures { option_copied result ≡ asked_for asked versions.now }
+{
+    match asked {
+        None => current(versions),
+        Some(id) => version_under(versions, id),
+    }
+}
+
+// What the list of all buckets tells of one.
+fn listed_bucket(name: &BucketName, bucket: &StoredBucket) -> Result<ListedBucket, NoMemory>
+    ensures { IfOk result (λ row. row ≡ listed_bucket (name.now, bucket.now)) }
+{
+    let name = name.copy()?;
+    Ok(ListedBucket {
+        name,
+        made: bucket.facts().made,
+    })
+}
+
+// The rows of a list of all buckets.
+fn rows_of(
+    alloc: Global,
+    buckets: &BTreeMap<BucketName, StoredBucket>,
+) -> Result<Vec<ListedBucket>, NoMemory>
+    ensures value { IfOk result (λ rows. rows.items ≡ each listed_bucket buckets.now.entries) }
+    ensures rising { IsOrdered byte_order buckets.now }
+    ensures memory { OnErr result (each listed_bucket buckets.now.entries ≢ []) }
+{
+    let mut rows = Vec::new(alloc);
+    for (name, bucket) in buckets {
+        rows.push(listed_bucket(name, bucket)?)?;
+    }
+    Ok(rows)
+}

@@ -1,0 +1,174 @@
+//! What every keeper of records promises.
+ghost use Rattle.std.specs.Prelude.{◌≡◌, ◌≢◌, [], Bool, true, false, None, IfOk, OnOk, OnErr, IsTrue, find, is_some};
+ghost use Rattle.s3_versions.specs.Rules.{is_under, asked_for, replaced, is_new_number};
+ghost use Rattle.s3_records.specs.Catalogue.{Catalogue, facts_in, listed_buckets, has_bucket, is_empty_bucket, versions_of, versioning_of};
+ghost use Rattle.s3_records.specs.Changes.{bucket_added, bucket_dropped, versioning_changed, version_put, key_deleted, version_dropped};
+
+use s3_calendar::Moment;
+use s3_names::{BucketName, Key, VersionId};
+use s3_terms::NoMemory;
+use s3_versions::{Data, Version, Versioning, VersioningStatus};
+use std::alloc::Global;
+
+/// What is told of one bucket.
+#[derive(Clone, Copy)]
+pub struct BucketFacts {
+    /// When it was made.
+    pub made: Moment,
+    pub versioning: Versioning,
+}
+
+/// A bucket in the list of all.
+#[derive(Drop)]
+pub struct ListedBucket {
+    pub name: BucketName,
+    /// When it was made.
+    pub made: Moment,
+}
+
+/// A keeper of one catalogue: buckets, and the versions under their keys. Each call answers from the
+/// catalogue as it is; a change is the named one where it answers `Ok`, and none where it answers `NoMemory`.
+/// What is passed by value to a call that answers `NoMemory` is dropped.
+///
+/// Rows name bytes by a number, and a change that takes a version away answers it, so that its bytes can be
+/// given back.
+pub trait Records {
+    ghost catalogue: { Self → Catalogue };
+
+    // Whether the keeper holds all in memory, so that what needs no more room never lacks it.
+    ghost is_in_memory: { Bool };
+
+    /// When a bucket was made, and its versioning; `None` where there is no such bucket.
+    fn bucket(&mut self, alloc: Global, name: &BucketName) -> Result<Option<BucketFacts>, NoMemory>
+        ensures value { IfOk result (λ facts. facts ≡ facts_in (catalogue self.old) name.now) }
+        ensures there { IfOk result (λ facts. is_some facts ≡ has_bucket (catalogue self.old) name.now) }
+        ensures same { catalogue self.new ≡ catalogue self.old }
+        ensures memory { OnErr result (is_in_memory ≡ false) };
+
+    /// All buckets, by name in the order of bytes.
+    fn buckets(&mut self, alloc: Global) -> Result<Vec<ListedBucket>, NoMemory>
+        ensures value { IfOk result (λ rows. rows.items ≡ listed_buckets (catalogue self.old)) }
+        ensures same { catalogue self.new ≡ catalogue self.old }
+        ensures memory { OnErr result (is_in_memory ≡ true → listed_buckets (catalogue self.old) ≢ []) };
+
+    /// Whether a bucket has nothing in it, not even a delete marker; true where there is no such bucket.
+    fn is_empty(&mut self, alloc: Global, name: &BucketName) -> Result<bool, NoMemory>
+        ensures value { IfOk result (λ is_empty. is_empty ≡ is_empty_bucket (catalogue self.old) name.now) }
+        ensures same { catalogue self.new ≡ catalogue self.old }
+        ensures memory { OnErr result (is_in_memory ≡ false) };
+
+    /// The versions under a key, newest first; none where there is no such bucket. Costs each of them.
+    fn versions_of(
+        &mut self,
+        alloc: Global,
+        bucket: &BucketName,
+        key: &Key,
+    ) -> Result<Vec<Version>, NoMemory>
+        ensures value { IfOk result (λ versions. versions.items ≡ versions_of (catalogue self.old) bucket.now key.now) }
+        ensures same { catalogue self.new ≡ catalogue self.old }
+        ensures memory { OnErr result (is_in_memory ≡ true → versions_of (catalogue self.old) bucket.now key.now ≢ []) };
+
+    /// The version that a request asks for: that of the id that it names, or the current one where it names
+    /// none; `None` where there is none.
+    fn version(
+        &mut self,
+        alloc: Global,
+        bucket: &BucketName,
+        key: &Key,
+        asked: Option<VersionId>,
+    ) -> Result<Option<Version>, NoMemory>
+        ensures value { IfOk result (λ found. found ≡ asked_for asked (versions_of (catalogue self.old) bucket.now key.now)) }
+        ensures same { catalogue self.new ≡ catalogue self.old }
+        ensures memory { OnErr result (
+            is_in_memory ≡ true → asked_for asked (versions_of (catalogue self.old) bucket.now key.now) ≢ None) };
+
+    /// Makes a bucket at this moment, unversioned and empty. There is none of this name.
+    fn add_bucket(
+        &mut self,
+        alloc: Global,
+        name: BucketName,
+        moment: Moment,
+    ) -> Result<(), NoMemory>
+        requires { has_bucket (catalogue self.old) name ≡ false }
+        ensures ok { OnOk result (catalogue self.new ≡ bucket_added (catalogue self.old) name moment) }
+        ensures err { OnErr result (catalogue self.new ≡ catalogue self.old) };
+
+    /// Drops a bucket, which is there and has nothing in it.
+    fn drop_bucket(&mut self, alloc: Global, name: &BucketName) -> Result<(), NoMemory>
+        requires there { IsTrue (has_bucket (catalogue self.old) name.now) }
+        requires empty { IsTrue (is_empty_bucket (catalogue self.old) name.now) }
+        ensures ok { OnOk result (catalogue self.new ≡ bucket_dropped (catalogue self.old) name.now) }
+        ensures err { OnErr result (catalogue self.new ≡ catalogue self.old) }
+        ensures memory { OnErr result (is_in_memory ≡ false) };
+
+    /// Sets the versioning of a bucket, which is there.
+    fn set_versioning(
+        &mut self,
+        alloc: Global,
+        name: &BucketName,
+        status: VersioningStatus,
+    ) -> Result<(), NoMemory>
+        requires { IsTrue (has_bucket (catalogue self.old) name.now) }
+        ensures ok { OnOk result (catalogue self.new ≡ versioning_changed (catalogue self.old) name.now status) }
+        ensures err { OnErr result (catalogue self.new ≡ catalogue self.old) }
+        ensures memory { OnErr result (is_in_memory ≡ false) };
+
+    /// Puts a version under a key of a bucket, which is there, by the rules of the bucket's versioning. The
+    /// entry of this number makes it at this moment; the number is above those of the key's versions. The
+    /// version that goes is answered.
+    fn put_version(
+        &mut self,
+        alloc: Global,
+        bucket: &BucketName,
+        key: Key,
+        number: u64,
+        moment: Moment,
+        stored: Data,
+    ) -> Result<Option<Version>, NoMemory>
+        requires there { IsTrue (has_bucket (catalogue self.old) bucket.now) }
+        requires newer { IsTrue (is_new_number number (versions_of (catalogue self.old) bucket.now key)) }
+        ensures ok { OnOk result (catalogue self.new
+            ≡ version_put (catalogue self.old) bucket.now key number moment stored) }
+        ensures gone { IfOk result (λ gone. gone
+            ≡ replaced (versioning_of (catalogue self.old) bucket.now) (versions_of (catalogue self.old) bucket.now key)) }
+        ensures err { OnErr result (catalogue self.new ≡ catalogue self.old) }
+        ensures memory { OnErr result (is_in_memory ≡ true
+            → replaced (versioning_of (catalogue self.old) bucket.now) (versions_of (catalogue self.old) bucket.now key) ≡ None) };
+
+    /// Deletes a key of a bucket, which is there, without naming a version, by the rules of the bucket's
+    /// versioning. The entry has this number, above those of the key's versions, and this moment. The version
+    /// that goes is answered.
+    fn delete(
+        &mut self,
+        alloc: Global,
+        bucket: &BucketName,
+        key: Key,
+        number: u64,
+        moment: Moment,
+    ) -> Result<Option<Version>, NoMemory>
+        requires there { IsTrue (has_bucket (catalogue self.old) bucket.now) }
+        requires newer { IsTrue (is_new_number number (versions_of (catalogue self.old) bucket.now key)) }
+        ensures ok { OnOk result (catalogue self.new ≡ key_deleted (catalogue self.old) bucket.now key number moment) }
+        ensures gone { IfOk result (λ gone. gone
+            ≡ replaced (versioning_of (catalogue self.old) bucket.now) (versions_of (catalogue self.old) bucket.now key)) }
+        ensures err { OnErr result (catalogue self.new ≡ catalogue self.old) }
+        ensures memory { OnErr result (is_in_memory ≡ true
+            → replaced (versioning_of (catalogue self.old) bucket.now) (versions_of (catalogue self.old) bucket.now key) ≡ None) }
+        ensures held { OnErr result (is_in_memory ≡ true
+            → versioning_of (catalogue self.old) bucket.now ≢ Versioning.Unversioned) };
+
+    /// Drops the version of this id under a key of a bucket, which is there; other versions stay. The version
+    /// that goes is answered.
+    fn drop_version(
+        &mut self,
+        alloc: Global,
+        bucket: &BucketName,
+        key: &Key,
+        id: VersionId,
+    ) -> Result<Option<Version>, NoMemory>
+        requires { IsTrue (has_bucket (catalogue self.old) bucket.now) }
+        ensures ok { OnOk result (catalogue self.new ≡ version_dropped (catalogue self.old) bucket.now key.now id) }
+        ensures gone { IfOk result (λ gone. gone ≡ find (is_under id) (versions_of (catalogue self.old) bucket.now key.now)) }
+        ensures err { OnErr result (catalogue self.new ≡ catalogue self.old) }
+        ensures memory { OnErr result (is_in_memory ≡ false) };
+}

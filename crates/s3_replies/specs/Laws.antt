@@ -1,0 +1,71 @@
+-- What is known of all replies: they are fixed by what they answer, and a client sees in them what came of
+-- its request (RFC 9112, sections 4 to 6; RFC 9110, sections 8.6 and 15.3).
+use Rattle.std.specs.Prelude.{◌≡◌, IsTrue, ℕ, ◌==◌, Bool, true, false, not, ◌&&◌, List, ◌++◌, take, length, codes, Some}
+use Rattle.std.specs.Fmt.{decimal}
+use Rattle.std.specs.List.{list_all}
+use Rattle.std.specs.Str.{bytes_eq}
+use Rattle.s3_text.specs.Characters.{crlf, carriage_return}
+use Rattle.s3_terms.specs.declared.code.Code.{Code}
+use Rattle.s3_segments.specs.Payload.{tag_of}
+use Rattle.s3_store.specs.declared.object.Object.{Object}
+use Rattle.s3_store.specs.declared.answer.Answer.{Answer}
+use Rattle.s3_store.specs.Store.{is_refused, given}
+use Rattle.s3_replies.specs.declared.context.Context.{Context}
+use Rattle.s3_replies.specs.Lines.{Line, print_line, print_lines}
+use Rattle.s3_replies.specs.Replies.{Prints, PrintsRefusal}
+
+-- an answer has one printed reply to a message
+abbrev pub RepliesAreUnique : Type 0
+RepliesAreUnique =
+    (answer : Answer) (context : Context) (t u : List ℕ) → Prints answer context t
+    → Prints answer context u → t ≡ u
+
+-- a code has one printed refusal of a message
+abbrev pub RefusalsAreUnique : Type 0
+RefusalsAreUnique =
+    (code : Code) (moment : ℕ) (head_only : Bool) (t u : List ℕ) → PrintsRefusal code moment head_only t
+    → PrintsRefusal code moment head_only u → t ≡ u
+
+-- the bytes begin with these
+abbrev pub begins : List ℕ → List ℕ → Bool
+begins bytes front = bytes_eq (take (length front) bytes) front
+
+-- the status is one of those that tell of success, 200 to 299
+abbrev pub tells_success : List ℕ → Bool
+tells_success reply = begins reply (codes "HTTP/1.1 2")
+
+-- no carriage return is in the text, so that no line ends in it
+abbrev pub is_unbroken : List ℕ → Bool
+is_unbroken text = list_all (λ b. not (b == carriage_return)) text
+
+abbrev pub is_whole_line : Line → Bool
+is_whole_line line = is_unbroken line.0 && is_unbroken line.1
+
+-- the reply has the status 200; its last header line tells the size of the body, and behind the first
+-- empty line come the bytes of the body, and no more
+pub record Carries (body reply : List ℕ) : Type 0 where
+  pub lines : List Line
+  pub whole : IsTrue (list_all is_whole_line lines)
+  pub printed : reply
+      ≡ codes "HTTP/1.1 200 OK" ++ crlf
+      ++ print_lines lines
+      ++ print_line (codes "Content-Length", decimal (length body))
+      ++ crlf
+      ++ body
+
+-- a tag that a put gives has no carriage return
+abbrev pub TagsAreUnbroken : Type 0
+TagsAreUnbroken = (body : List ℕ) → is_unbroken (tag_of body) ≡ true
+
+-- a reply tells of success exactly where the store did not refuse
+abbrev pub SuccessIsShown : Type 0
+SuccessIsShown =
+    (answer : Answer) (context : Context) (text : List ℕ) → Prints answer context text
+    → tells_success text ≡ not (is_refused answer.outcome)
+
+-- an object that was asked for is carried, unless by the reply to a HEAD
+abbrev pub ObjectsAreCarried : Type 0
+ObjectsAreCarried =
+    (answer : Answer) (context : Context) (text : List ℕ) (object : Object) → Prints answer context text
+    → given answer.outcome ≡ Some object → is_unbroken object.tag ≡ true → context.head_only ≡ false
+    → Carries object.body text

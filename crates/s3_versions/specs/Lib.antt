@@ -1,0 +1,4 @@
+pub mod Codes
+pub mod Laws
+pub mod Metadata
+pub mod Rules

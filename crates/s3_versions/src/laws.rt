@@ -1,0 +1,41 @@
+//! Laws of the rules: what users rely on, with nothing to run.
+ghost use Rattle.s3_versions.specs.Laws.{OneUnderEachId, IdsAreTold, PutsLeaveVersions, DeletesLeaveVersions, DropsLeaveVersions, NextIsNew, PutsAreCurrent, MarkersHide, EnabledTakesNothing, OnlyNullGoes, OneVersionGoes, SumOfWhatGoes};
+
+/// A law, with nothing to run: no two versions of a key have one id, and a version is under its own id and
+/// no other.
+pub fn ids_differ()
+    ensures one { OneUnderEachId }
+    ensures told { IdsAreTold }
+{}
+
+/// A law, with nothing to run: what a put or a delete leaves are versions of one key again, newest first and
+/// at most one of them `null`, if the number of the entry is above those that made the versions there. The next
+/// number is above them again.
+pub fn stay_versions()
+    ensures put { PutsLeaveVersions }
+    ensures deleted { DeletesLeaveVersions }
+    ensures version_gone { DropsLeaveVersions }
+    ensures next { NextIsNew }
+{}
+
+/// A law, with nothing to run: after a put the current version is the one put, and a read that names no
+/// version gets it.
+pub fn puts_are_current()
+    ensures { PutsAreCurrent }
+{}
+
+/// A law, with nothing to run: after a delete that makes a marker, a read that names no version is told that
+/// there is no such key, and that it is a delete marker; where versioning is enabled, a put or a delete takes
+/// no version away, and elsewhere only `null`.
+pub fn markers_hide()
+    ensures hidden { MarkersHide }
+    ensures kept { EnabledTakesNothing }
+    ensures others { OnlyNullGoes }
+{}
+
+/// A law, with nothing to run: to delete a version by its id takes away that version alone. What goes and
+/// what stays are what was there, whatever is counted of it.
+pub fn one_version_goes()
+    ensures one { OneVersionGoes }
+    ensures sum { SumOfWhatGoes }
+{}
