@@ -1,5 +1,5 @@
 -- Verdicts on bodies are final, there is one for all bytes, and no second one.
-use Rattle.std.proofs.Common.{◌≡◌, ℕ, ◌<◌, ◌≤◌, Bool, true, false, List, [], ◌∷◌, ◌++◌, length, take, sym, ap, subst, ◌∙◌, arith, inl, inr}
+use Rattle.std.proofs.Common.{◌≡◌, ℕ, ◌<◌, ◌≤◌, Bool, true, false, List, [], ◌∷◌, ◌++◌, length, take, refl, sym, ap, subst, ◌∙◌, arith, inl, inr}
 use Rattle.std.proofs.lemmas.Bool.{false≢true, cases_lt}
 use Rattle.std.proofs.lemmas.List.{append-nil, length-append, length-take-le, take-append-le}
 use Rattle.s3_terms.specs.declared.code.Code.{Code}
@@ -7,7 +7,9 @@ use Rattle.s3_aws_chunked.specs.Chunk.{Chunk, data_of}
 use Rattle.s3_aws_chunked.specs.Body.{IsBody}
 use Rattle.s3_aws_chunked.specs.Verdict.{Terms, FaultAt, FirstLine, IsRefused, IsUnrefused, IsAccepted, Verdict, Accepted, Open, Refused, Judges, table}
 use Rattle.s3_aws_chunked.specs.Finality.{DecidesAs, IsDecided}
-use Rattle.s3_aws_chunked.specs.Decoder.{progress_of}
+use Rattle.s3_aws_chunked.specs.Decoder.{Progress, is_settled, progress_of, run, started, stopped}
+use Rattle.s3_aws_chunked.specs.declared.phase.Phase.{Phase}
+use Rattle.s3_aws_chunked.specs.declared.phase.Phase.TheVariants as phases
 use Rattle.s3_aws_chunked.specs.Reader.{verdict_at}
 use Rattle.s3_aws_chunked.proofs.TextLemmas.{parse_one}
 use Rattle.s3_aws_chunked.proofs.ParseLemmas.{are_chunks, chunks_push, data_push, partial_none, text_push}
@@ -141,3 +143,35 @@ verdicts_exist terms bytes ended = (
   verdict_at (progress_of terms bytes ended).place.phase (progress_of terms bytes ended).place.span.taken (progress_of terms bytes ended).held,
   progress_judges terms bytes ended,
 )
+
+-- ---- the end of the input decides
+
+-- where the input has stopped, the decoder has refused or is over
+phase_decides : (phase : Phase) (taken : ℕ) (held : List ℕ) → is_settled phase ≡ true → IsDecided (verdict_at phase taken held)
+phase_decides (phases.Refused fault) taken held is = tt
+phase_decides phases.Over taken held is = tt
+phase_decides (phases.Size digits) taken held is = absurd (cc)
+phase_decides (phases.Line place size) taken held is = absurd (cc)
+phase_decides (phases.Data left last) taken held is = absurd (cc)
+phase_decides (phases.Ending last) taken held is = absurd (cc)
+
+stop_decides : (p : Progress) (settled : Bool) → is_settled p.place.phase ≡ settled
+    → let after = stopped p in IsDecided (verdict_at after.place.phase after.place.span.taken after.held)
+stop_decides p true is = rw is (phase_decides p.place.phase p.place.span.taken p.held is)
+stop_decides p false is = rw is tt
+
+same_decided : (one other : Verdict) → DecidesAs one other → IsDecided one → IsDecided other
+same_decided (Refused place code) (Refused at other) same is = tt
+same_decided (Accepted held) (Accepted other) same is = tt
+same_decided (Refused place code) (Accepted other) same is = tt
+same_decided (Accepted held) (Refused at other) same is = tt
+same_decided (Refused place code) (Open other) same is = absurd same
+same_decided (Accepted held) (Open other) same is = absurd same
+same_decided (Open held) other same is = absurd is
+
+pub ends_decide : (terms : Terms) (bytes : List ℕ) (verdict : Verdict) → Judges terms bytes true verdict → IsDecided verdict
+unfolding verdicts_exist
+ends_decide terms bytes verdict judged =
+    let known = verdicts_exist terms bytes true in
+    let decided = stop_decides (run (started terms) bytes) (is_settled (run (started terms) bytes).place.phase) refl in
+    same_decided known.0 verdict (verdicts_one terms bytes true known.0 verdict known.1 judged) decided

@@ -17,3 +17,4 @@ pub mod JudgeLemmas
 pub mod FinalLemmas
 pub mod WritingLemmas
 pub mod StayLemmas
+pub mod AcceptLemmas

@@ -1,7 +1,7 @@
 -- One chunk of a body that is signed in chunks (Amazon S3 API Reference, "Signature calculations for the
 -- authorization header: transferring payload in multiple chunks"): its size in hexadecimal, its signature,
 -- and its data.
-use Rattle.std.specs.Prelude.{◌≡◌, ℕ, Bool, true, ◌&&◌, nat_le, List, [], ◌∷◌, ◌++◌, length, codes}
+use Rattle.std.specs.Prelude.{◌≡◌, ℕ, Bool, true, ◌&&◌, nat_le, List, ◌++◌, length, codes}
 use Rattle.std.specs.List.{list_all, flat_map}
 use Rattle.std.specs.Char.{is_digit}
 use Rattle.std.specs.Str.Parse.{digits_value}

@@ -1,5 +1,5 @@
 -- Verdicts on bodies are final, there is one for all bytes, and no second one.
-use Rattle.std.specs.Prelude.{◌≡◌, ℕ, Bool, false, List, ◌++◌}
+use Rattle.std.specs.Prelude.{◌≡◌, ℕ, Bool, true, false, List, ◌++◌}
 use Rattle.s3_aws_chunked.specs.Verdict.{Terms, Verdict, Judges, Accepted, Open, Refused}
 
 -- something is decided
@@ -30,3 +30,7 @@ VerdictsAreOne =
 -- all bytes have a verdict
 abbrev pub VerdictsExist : Type 0
 VerdictsExist = (terms : Terms) (bytes : List ℕ) (ended : Bool) → (verdict : Verdict) × Judges terms bytes ended verdict
+
+-- once no more bytes come, something is decided
+abbrev pub EndsDecide : Type 0
+EndsDecide = (terms : Terms) (bytes : List ℕ) (verdict : Verdict) → Judges terms bytes true verdict → IsDecided verdict

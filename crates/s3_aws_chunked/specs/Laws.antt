@@ -1,7 +1,9 @@
 -- What the clauses of the reader come to: laws about every reader, and every body.
 use Rattle.std.specs.Prelude.{◌≡◌, ℕ, Bool, false, List, ◌++◌, length, min}
 use Rattle.s3_terms.specs.declared.code.Code.{Code}
-use Rattle.s3_aws_chunked.specs.Verdict.{Terms, Verdict, Refused, Accepted, Open, Judges}
+use Rattle.s3_signing.specs.Chain.{Link}
+use Rattle.s3_aws_chunked.specs.Verdict.{Terms, Verdict, Refused, Accepted, Open, IsAccepted, Judges}
+use Rattle.s3_aws_chunked.specs.Write.{Writes}
 use Rattle.s3_aws_chunked.specs.Reader.{Stands, Failed, taken_of, verdict_of}
 use Rattle.s3_aws_chunked.specs.declared.reader.ChunkReader.{ChunkReader}
 
@@ -33,3 +35,19 @@ VerdictsStay =
 -- no bytes are without a verdict
 abbrev pub VerdictsExist : Type 0
 VerdictsExist = (terms : Terms) (bytes : List ℕ) (ended : Bool) → (verdict : Verdict) × Judges terms bytes ended verdict
+
+-- a body of the form, with the chain's signatures and the decoded length, is refused at no place: it is accepted
+abbrev pub BodiesAreAccepted : Type 0
+BodiesAreAccepted =
+    (terms : Terms) (bytes held : List ℕ) (ended : Bool) → IsAccepted terms bytes held → Judges terms bytes ended (Accepted held)
+
+-- and so is what is written, with its data, by what a head says of it
+abbrev pub WritingsAreAccepted : Type 0
+WritingsAreAccepted =
+    (seed : Link) (bytes : List ℕ) (size : ℕ) (text : List ℕ) (ended : Bool) → Writes seed bytes size text
+    → Judges (record { seed = seed; encoded = length text; decoded = length bytes }) text ended (Accepted bytes)
+
+-- and is one text
+abbrev pub WritingsAreOne : Type 0
+WritingsAreOne =
+    (seed : Link) (bytes : List ℕ) (size : ℕ) (one other : List ℕ) → Writes seed bytes size one → Writes seed bytes size other → one ≡ other

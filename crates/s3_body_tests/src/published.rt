@@ -1,7 +1,8 @@
 //! The published example of a put in chunks (Amazon S3 API Reference, "Signature calculations for the
 //! authorization header: transferring payload in multiple chunks"), and what is made of it.
-use crate::reading::{Came, Data, Lengths, judged, read};
+use crate::reading::{Came, Data, Lengths, came, read};
 use crate::request::{signed, verified};
+use s3_signing::Verified;
 use s3_terms::Code;
 use std::alloc::Global;
 
@@ -47,101 +48,119 @@ fn published(alloc: Global) -> Result<Vec<u8>, Code> {
     body(alloc, FIRST, 65_536, SECOND, 1_024)
 }
 
-// Whether it is what is written for so many letters.
-fn is_written(alloc: Global) -> Result<bool, Code> {
-    let data = letters(alloc, LENGTH)?;
-    Ok(signed(alloc, &data, 65_536)?.as_slice() == published(alloc)?.as_slice())
-}
-
-const fn whole(piece: usize) -> Lengths {
-    Lengths {
-        encoded: 66_824,
-        decoded: 66_560,
-        piece,
+// Whether this body is what is written for so many letters.
+fn is_written(alloc: Global, body: &[u8], data: &[u8]) -> bool {
+    match signed(alloc, data, 65_536) {
+        Ok(text) => text.as_slice() == body,
+        Err(_) => false,
     }
 }
 
-// What comes of the first so many of these bytes, in pieces of so many.
-fn came(alloc: Global, bytes: &[u8], count: usize, piece: usize) -> Result<Came, Code> {
-    let verified = verified(alloc)?;
-    let bytes = bytes.get(..count).ok_or(Code::InternalError)?;
-    Ok(judged(alloc, &verified, bytes, whole(piece)))
+const fn whole(piece: usize) -> Lengths {
+    (66_824, 66_560, piece)
 }
 
-// Whether these are the published letters.
-fn are_letters(alloc: Global, bytes: &[u8]) -> Result<bool, Code> {
-    Ok(bytes == letters(alloc, LENGTH)?.as_slice())
-}
-
-// Whether the published body, in pieces of so many bytes, is accepted with its letters.
-fn is_read(alloc: Global, piece: usize) -> Result<bool, Code> {
-    let verified = verified(alloc)?;
-    let bytes = published(alloc)?;
+// Whether this body, in pieces of so many bytes, is accepted with this data.
+fn is_read(alloc: Global, verified: &Verified, body: &[u8], wanted: &[u8], piece: usize) -> bool {
     let mut data = Data {
         bytes: Vec::new(alloc),
     };
-    let came = read(&verified, &bytes, whole(piece), &mut data);
-    Ok(came == ACCEPTED && are_letters(alloc, &data.bytes)?)
+    let came = read(verified, body, whole(piece), &mut data);
+    came == (None, 66_824) && data.bytes.as_slice() == wanted
 }
 
-const ACCEPTED: Came = Came {
-    refusal: None,
-    taken: 66_824,
-};
+static PIECES: [usize; 4] = [66_824, 1, 7, 4_096];
 
-const fn refused(code: Code, taken: u64) -> Came {
-    Came {
-        refusal: Some(code),
-        taken,
+// Whether this body is accepted with this data in pieces of each size.
+fn is_read_in_pieces(alloc: Global, verified: &Verified, body: &[u8], wanted: &[u8]) -> bool {
+    for piece in &PIECES {
+        if !is_read(alloc, verified, body, wanted, *piece) {
+            return false;
+        }
+    }
+    true
+}
+
+// Whether this body is written for these letters and read as them.
+fn is_body_of(alloc: Global, body: &[u8], letters: &[u8]) -> bool {
+    match verified(alloc) {
+        Ok(verified) => is_written(alloc, body, letters)
+            && is_read_in_pieces(alloc, &verified, body, letters),
+        Err(_) => false,
+    }
+}
+
+// Whether the published body is written for its letters and read as them.
+fn is_published(alloc: Global, body: &[u8]) -> bool {
+    match letters(alloc, LENGTH) {
+        Ok(letters) => is_body_of(alloc, body, &letters),
+        Err(_) => false,
+    }
+}
+
+const fn refused(code: Code, taken: u64) -> Option<Came> {
+    Some((Some(code), taken))
+}
+
+// Whether the body is refused that is published but for one byte of the second chunk's data.
+fn is_change_refused(alloc: Global, body: &mut Vec<u8>, piece: usize) -> bool {
+    match body.get_mut(66_000) {
+        Some(byte) => *byte = b'b',
+        None => return false,
+    }
+    came(alloc, body, whole(piece)) == refused(Code::SignatureDoesNotMatch, 66_738)
+}
+
+// Whether the published body without its empty chunk is incomplete.
+fn is_incomplete(alloc: Global, body: &[u8], piece: usize) -> bool {
+    match body.get(..66_738) {
+        Some(part) => came(alloc, part, whole(piece)) == refused(Code::IncompleteBody, 66_738),
+        None => false,
+    }
+}
+
+// Whether the same data and signatures, cut after one byte less, are refused.
+fn is_recut_refused(alloc: Global, piece: usize) -> bool {
+    match body(alloc, RECUT_FIRST, 65_535, RECUT_SECOND, 1_025) {
+        Ok(bytes) => came(alloc, &bytes, whole(piece))
+            == refused(Code::SignatureDoesNotMatch, 65_625),
+        Err(_) => false,
+    }
+}
+
+// Whether what is made of the published body is refused, in pieces of this size.
+fn are_refused(alloc: Global, mut body: Vec<u8>, piece: usize) -> bool {
+    is_incomplete(alloc, &body, piece)
+        && is_change_refused(alloc, &mut body, piece)
+        && is_recut_refused(alloc, piece)
+}
+
+// Whether what is made of the published body is refused, in pieces of this size.
+fn are_all_refused(alloc: Global, piece: usize) -> bool {
+    match published(alloc) {
+        Ok(body) => are_refused(alloc, body, piece),
+        Err(_) => false,
+    }
+}
+
+fn is_published_read(alloc: Global) -> bool {
+    match published(alloc) {
+        Ok(body) => is_published(alloc, &body),
+        Err(_) => false,
     }
 }
 
 #[test]
 fn published_chunked_put(rt: HostRuntime) {
-    assert!(rt; is_written(rt.alloc()) == Ok(true));
-    for piece in [66_824, 1, 7, 4_096] {
-        assert!(rt; is_read(rt.alloc(), piece) == Ok(true));
-    }
+    assert!(rt; is_published_read(rt.alloc()));
 }
 
-// What comes of the published body with this byte changed.
-fn changed(alloc: Global, at: usize, piece: usize) -> Result<Came, Code> {
-    let mut bytes = published(alloc)?;
-    *bytes.get_mut(at).ok_or(Code::InternalError)? = b'b';
-    came(alloc, &bytes, 66_824, piece)
-}
-
-// A byte of the second chunk's data.
+// With a byte of the second chunk's data changed, without the empty chunk, and cut after one byte less.
 #[test]
-fn chunk_byte_changed(rt: HostRuntime) {
-    for piece in [66_824, 1, 1_000] {
-        assert!(rt;
-            changed(rt.alloc(), 66_000, piece) == Ok(refused(Code::SignatureDoesNotMatch, 66_738))
-        );
-    }
-}
-
-fn cut_short(alloc: Global, piece: usize) -> Result<Came, Code> {
-    came(alloc, &published(alloc)?, 66_738, piece)
-}
-
-// Without the empty chunk.
-#[test]
-fn chunked_cut_short(rt: HostRuntime) {
-    for piece in [66_824, 1_000] {
-        assert!(rt; cut_short(rt.alloc(), piece) == Ok(refused(Code::IncompleteBody, 66_738)));
-    }
-}
-
-fn recut(alloc: Global, piece: usize) -> Result<Came, Code> {
-    let bytes = body(alloc, RECUT_FIRST, 65_535, RECUT_SECOND, 1_025)?;
-    came(alloc, &bytes, 66_824, piece)
-}
-
-// The same data and signatures, cut after one byte less.
-#[test]
-fn recut_chunks(rt: HostRuntime) {
-    for piece in [66_824, 1_000] {
-        assert!(rt; recut(rt.alloc(), piece) == Ok(refused(Code::SignatureDoesNotMatch, 65_625)));
-    }
+fn what_is_made_of_it(rt: HostRuntime) {
+    assert!(rt;
+        are_all_refused(rt.alloc(), 66_824)
+            && are_all_refused(rt.alloc(), 1)
+            && are_all_refused(rt.alloc(), 1_000)
+    );
 }

@@ -1,6 +1,7 @@
 //! A body that is fed to a reader in pieces, and what came of it.
 ghost use Rattle.std.specs.Prelude.{◌<◌};
 
+use crate::request::verified;
 use s3_aws_chunked::{ChunkReader, Sink};
 use s3_signing::Verified;
 use s3_terms::{Code, NoMemory};
@@ -21,20 +22,12 @@ impl Sink for Data {
     }
 }
 
-/// What a head says of its body, and in pieces of how many bytes it comes.
-#[derive(Clone, Copy)]
-pub(crate) struct Lengths {
-    pub(crate) encoded: u64,
-    pub(crate) decoded: u64,
-    pub(crate) piece: usize,
-}
+/// What a head says of its body: the bytes that are sent and those of its data; and in pieces of how many bytes
+/// it comes.
+pub(crate) type Lengths = (u64, u64, usize);
 
 /// What came of a body: the refusal, if there was one, and how many bytes were taken.
-#[derive(Clone, Copy, Debug, PartialEq, Eq)]
-pub(crate) struct Came {
-    pub(crate) refusal: Option<Code>,
-    pub(crate) taken: u64,
-}
+pub(crate) type Came = (Option<Code>, u64);
 
 // The count, or 1 in the place of none.
 fn some(count: usize) -> usize
@@ -55,19 +48,24 @@ fn feed(reader: &mut ChunkReader, bytes: &[u8], piece: usize, data: &mut Data) -
 
 /// Reads a body that ends with these bytes; `data` gets what it says.
 pub(crate) fn read(verified: &Verified, bytes: &[u8], lengths: Lengths, data: &mut Data) -> Came {
-    let mut reader = ChunkReader::new(verified, lengths.encoded, lengths.decoded);
-    let fed = feed(&mut reader, bytes, some(lengths.piece), data);
+    let (encoded, decoded, piece) = lengths;
+    let mut reader = ChunkReader::new(verified, encoded, decoded);
+    let fed = feed(&mut reader, bytes, some(piece), data);
     let refusal = fed.err().or(reader.end().err());
-    Came {
-        refusal,
-        taken: reader.taken(),
-    }
+    (refusal, reader.taken())
 }
 
-/// The same, of a body of whose data nobody asks.
-pub(crate) fn judged(alloc: Global, verified: &Verified, bytes: &[u8], lengths: Lengths) -> Came {
+fn judged(alloc: Global, verified: &Verified, bytes: &[u8], lengths: Lengths) -> Came {
     let mut data = Data {
         bytes: Vec::new(alloc),
     };
     read(verified, bytes, lengths, &mut data)
+}
+
+/// The same of the published head, of a body of whose data nobody asks; `None` where that head is not verified.
+pub(crate) fn came(alloc: Global, bytes: &[u8], lengths: Lengths) -> Option<Came> {
+    match verified(alloc) {
+        Ok(verified) => Some(judged(alloc, &verified, bytes, lengths)),
+        Err(_) => None,
+    }
 }

@@ -2,9 +2,10 @@
 //! bytes behind its size.
 ghost use Rattle.std.specs.Prelude.{[]};
 
-use crate::reading::{Came, Data, Lengths, judged};
+use crate::reading::{Data, came};
 use crate::request::{signed, verified};
 use s3_aws_chunked::{ChunkReader, Sink, written_length};
+use s3_signing::Verified;
 use s3_terms::{Code, NoMemory};
 use std::alloc::Global;
 
@@ -165,17 +166,6 @@ static CASES: &[Case] = &[
     },
 ];
 
-// What comes of these bytes, in pieces of so many.
-fn came(alloc: Global, bytes: &[u8], case: &Case, piece: usize) -> Result<Came, Code> {
-    let verified = verified(alloc)?;
-    let lengths = Lengths {
-        encoded: case.encoded,
-        decoded: case.decoded,
-        piece,
-    };
-    Ok(judged(alloc, &verified, bytes, lengths))
-}
-
 // The bytes of a case.
 fn bytes_of(alloc: Global, case: &Case) -> Result<Vec<u8>, Code> {
     let body = hello(alloc)?;
@@ -183,118 +173,138 @@ fn bytes_of(alloc: Global, case: &Case) -> Result<Vec<u8>, Code> {
     Ok([case.front, kept].concat(alloc)?)
 }
 
-fn is_so(alloc: Global, case: &Case, piece: usize) -> Result<bool, Code> {
-    let bytes = bytes_of(alloc, case)?;
-    let expected = Came {
-        refusal: case.refusal,
-        taken: case.taken,
-    };
-    Ok(came(alloc, &bytes, case, piece)? == expected)
+fn is_so(alloc: Global, bytes: &[u8], case: &Case, piece: usize) -> bool {
+    came(alloc, bytes, (case.encoded, case.decoded, piece)) == Some((case.refusal, case.taken))
+}
+
+static PIECES: [usize; 5] = [1_000, 1, 2, 3, 100];
+
+// Whether that comes of these bytes in pieces of each size.
+fn is_so_in_pieces(alloc: Global, bytes: &[u8], case: &Case) -> bool {
+    for piece in &PIECES {
+        if !is_so(alloc, bytes, case, *piece) {
+            return false;
+        }
+    }
+    true
+}
+
+fn is_right(alloc: Global, case: &Case) -> bool {
+    match bytes_of(alloc, case) {
+        Ok(bytes) => is_so_in_pieces(alloc, &bytes, case),
+        Err(_) => false,
+    }
+}
+
+fn are_right(alloc: Global, cases: &[Case]) -> bool {
+    for case in cases {
+        if !is_right(alloc, case) {
+            return false;
+        }
+    }
+    true
 }
 
 #[test]
 fn faults_at_their_places(rt: HostRuntime) {
-    for case in CASES {
-        for piece in [1_000, 1, 2, 3, 100] {
-            assert!(rt; is_so(rt.alloc(), case, piece) == Ok(true));
-        }
+    assert!(rt; are_right(rt.alloc(), CASES));
+}
+
+// That body with this byte in the place of another one, or, where there is none, with its lowest bit flipped.
+fn changed(alloc: Global, at: usize, byte: Option<u8>) -> Result<Vec<u8>, Code> {
+    let mut bytes = hello(alloc)?;
+    match bytes.get_mut(at) {
+        Some(there) => *there = byte.unwrap_or(*there ^ 1),
+        None => return Err(Code::InternalError),
+    }
+    Ok(bytes)
+}
+
+// What comes of that, in pieces of 5 bytes.
+fn came_changed(alloc: Global, at: usize, byte: Option<u8>) -> Option<(Option<Code>, u64)> {
+    match changed(alloc, at, byte) {
+        Ok(bytes) => came(alloc, &bytes, (263, 5, 5)),
+        Err(_) => None,
     }
 }
 
-const WHOLE: Case = Case {
-    front: b"",
-    from: 0,
-    to: 263,
-    encoded: 263,
-    decoded: 5,
-    refusal: None,
-    taken: 263,
-};
+// A first line that ends in LF alone, one with another byte before its signature, one with a capital digit
+// in its signature, and data that is followed by something else than the end of a line: the place, the byte, and
+// how many bytes are taken.
+static SPELLINGS: [(usize, u8, u64); 6] = [
+    (82, b'\n', 83),
+    (1, b',', 2),
+    (17, b'-', 18),
+    (40, b'A', 41),
+    (87, b'x', 88),
+    (88, b'x', 89),
+];
 
-// What comes of that body with this byte in the place of another one.
-fn changed(alloc: Global, at: usize, byte: u8) -> Result<Came, Code> {
-    let mut bytes = hello(alloc)?;
-    *bytes.get_mut(at).ok_or(Code::InternalError)? = byte;
-    came(alloc, &bytes, &WHOLE, 5)
+// Whether the body is refused at the byte that is changed so, after so many.
+fn is_misspelled(alloc: Global, at: usize, byte: u8, taken: u64) -> bool {
+    came_changed(alloc, at, Some(byte)) == Some((Some(Code::InvalidRequest), taken))
 }
 
-// A first line that ends in LF alone, one with another byte before its signature, one with a capital digit
-// in its signature, and data that is followed by something else than the end of a line.
 #[test]
 fn spelling_is_judged_at_each_byte(rt: HostRuntime) {
-    for (at, byte) in [
-        (82, b'\n'),
-        (1, b','),
-        (17, b'-'),
-        (40, b'A'),
-        (87, b'x'),
-        (88, b'x'),
-    ] {
-        let expected = Came {
-            refusal: Some(Code::InvalidRequest),
-            taken: at as u64 + 1,
-        };
-        assert!(rt; changed(rt.alloc(), at, byte) == Ok(expected));
+    for case in &SPELLINGS {
+        assert!(rt; is_misspelled(rt.alloc(), case.0, case.1, case.2));
     }
 }
 
 // Whether the body is refused with the lowest bit of this byte flipped.
-fn is_refused_flipped(alloc: Global, at: usize) -> Result<bool, Code> {
-    let byte = *hello(alloc)?.get(at).ok_or(Code::InternalError)?;
-    Ok(changed(alloc, at, byte ^ 1)?.refusal.is_some())
+fn is_refused_flipped(alloc: Global, at: usize) -> bool {
+    match came_changed(alloc, at, None) {
+        Some((refusal, _)) => refusal.is_some(),
+        None => false,
+    }
 }
 
 #[test]
 fn each_byte_counts(rt: HostRuntime) {
     for at in 0..263 {
-        assert!(rt; is_refused_flipped(rt.alloc(), at) == Ok(true));
+        assert!(rt; is_refused_flipped(rt.alloc(), at));
     }
 }
 
-fn empty(alloc: Global) -> Result<Came, Code> {
-    let bytes = signed(alloc, b"", 3)?;
-    let lengths = Lengths {
-        encoded: 86,
-        decoded: 0,
-        piece: 10,
-    };
-    Ok(judged(alloc, &verified(alloc)?, &bytes, lengths))
+// Whether the empty chunk alone is accepted.
+fn is_empty_read(alloc: Global) -> bool {
+    match signed(alloc, b"", 3) {
+        Ok(bytes) => came(alloc, &bytes, (86, 0, 10)) == Some((None, 86)),
+        Err(_) => false,
+    }
 }
 
-// The empty chunk alone.
+// The empty chunk alone, and the lengths of the published body, of `hello` in chunks of 3 bytes, and of the
+// empty chunk alone.
 #[test]
-fn chunked_empty(rt: HostRuntime) {
-    let expected = Came {
-        refusal: None,
-        taken: 86,
-    };
-    assert!(rt; empty(rt.alloc()) == Ok(expected));
+fn empty_chunk_and_written_lengths(rt: HostRuntime) {
+    assert!(rt;
+        is_empty_read(rt.alloc())
+            && written_length(66_560, 65_536) == Some(66_824)
+            && written_length(5, 3) == Some(263)
+            && written_length(0, 1) == Some(86)
+    );
 }
 
-// The body, and the beginning of a message behind it.
-fn two(alloc: Global) -> Result<Vec<u8>, Code> {
-    let body = hello(alloc)?;
-    Ok([body.as_slice(), b"GET / HTTP/1.1\r\n".as_slice()].concat(alloc)?)
-}
-
-// How many of these bytes are taken.
-fn taken_of(alloc: Global, bytes: &[u8]) -> Result<usize, Code> {
-    let mut reader = ChunkReader::new(&verified(alloc)?, 263, 5);
+// How many of these bytes are taken, where they are a body and the beginning of a message behind it.
+fn taken_of(alloc: Global, verified: &Verified, bytes: &[u8]) -> Option<usize> {
+    let mut reader = ChunkReader::new(verified, 263, 5);
     let mut data = Data {
         bytes: Vec::new(alloc),
     };
-    let taken = reader.feed(bytes, &mut data)?;
-    reader.end()?;
-    Ok(taken)
+    match (reader.feed(bytes, &mut data), reader.end()) {
+        (Ok(taken), Ok(())) => Some(taken),
+        _ => None,
+    }
 }
 
-fn taken_of_two(alloc: Global) -> Result<usize, Code> {
-    taken_of(alloc, &two(alloc)?)
-}
-
-#[test]
-fn next_message_is_left(rt: HostRuntime) {
-    assert!(rt; taken_of_two(rt.alloc()) == Ok(263));
+// Whether the message behind the body is left.
+fn is_next_left(alloc: Global, verified: &Verified, body: &[u8]) -> bool {
+    match [body, b"GET / HTTP/1.1\r\n".as_slice()].concat(alloc) {
+        Ok(bytes) => taken_of(alloc, verified, &bytes) == Some(263),
+        Err(_) => false,
+    }
 }
 
 // What has no room.
@@ -309,25 +319,32 @@ impl Sink for Full {
     }
 }
 
-// The codes with which two pieces and the end are refused, where the data finds no room.
-fn refused_thrice(alloc: Global) -> Result<[Option<Code>; 3], Code> {
-    let body = hello(alloc)?;
-    let mut reader = ChunkReader::new(&verified(alloc)?, 263, 5);
-    let first = reader.feed(&body, &mut Full).err();
-    let second = reader.feed(&body, &mut Full).err();
-    Ok([first, second, reader.end().err()])
+const NO_ROOM: Option<Code> = Some(Code::InternalError);
+
+// Whether two pieces and the end are refused, where the data finds no room.
+fn is_refused_thrice(verified: &Verified, body: &[u8]) -> bool {
+    let mut reader = ChunkReader::new(verified, 263, 5);
+    let first = reader.feed(body, &mut Full).err();
+    let second = reader.feed(body, &mut Full).err();
+    first == NO_ROOM && second == NO_ROOM && reader.end().err() == NO_ROOM
 }
 
-#[test]
-fn no_room_is_told_for_ever(rt: HostRuntime) {
-    let code = Some(Code::InternalError);
-    assert!(rt; refused_thrice(rt.alloc()) == Ok([code, code, code]));
-}
-
-// The lengths of the published body, of `hello` in chunks of 3 bytes, and of the empty chunk alone.
-#[test]
-fn written_lengths(rt: HostRuntime) {
-    for (count, size, length) in [(66_560, 65_536, 66_824), (5, 3, 263), (0, 1, 86)] {
-        assert!(rt; written_length(count, size) == Some(length));
+fn are_ended(alloc: Global, body: &[u8]) -> bool {
+    match verified(alloc) {
+        Ok(verified) => is_next_left(alloc, &verified, body) && is_refused_thrice(&verified, body),
+        Err(_) => false,
     }
+}
+
+fn is_hello_ended(alloc: Global) -> bool {
+    match hello(alloc) {
+        Ok(body) => are_ended(alloc, &body),
+        Err(_) => false,
+    }
+}
+
+// What stands behind a body is left, and that there is no room is told for ever.
+#[test]
+fn ends_of_bodies(rt: HostRuntime) {
+    assert!(rt; is_hello_ended(rt.alloc()));
 }

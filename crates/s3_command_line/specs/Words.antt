@@ -51,13 +51,14 @@ replay_app = with_rule (with_settings (new_app (codes "replay"))) (option_rule (
 -- `s3d sign`
 abbrev pub sign_app : App
 sign_app =
-    with_rule (with_rule (with_rule (with_rule (with_rule (with_rule (with_rule (with_settings (new_app (codes "sign")))
+    with_rule (with_rule (with_rule (with_rule (with_rule (with_rule (with_rule (with_rule (with_settings (new_app (codes "sign")))
     (required_rule (codes "id")))
     (required_rule (codes "moment")))
     (required_rule (codes "method")))
     (required_rule (codes "target")))
     (required_rule (codes "host")))
     (option_rule (codes "body")))
+    (option_rule (codes "chunk")))
     (words_rule (codes "header"))
 
 -- `s3d` before it has a subcommand
@@ -104,6 +105,7 @@ pub record HasSignOptions (rows : List Row) (o : SignOptions) : Type 0 where
   pub target : option_map (λ text. text.now) o.target ≡ first_of (codes "target") rows
   pub host : option_map (λ text. text.now) o.host ≡ first_of (codes "host") rows
   pub body : option_map (λ text. text.now) o.body ≡ first_of (codes "body") rows
+  pub chunk : option_map (λ text. text.now) o.chunk ≡ first_of (codes "chunk") rows
   pub headers : map (λ text. text.now) o.headers.items ≡ unwrap_or (all_of (codes "header") rows) []
 
 -- the words are those of a subcommand, and this holds of the matches that they give it

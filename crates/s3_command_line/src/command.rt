@@ -84,7 +84,7 @@ static REPLAYING: [Argument; 1] = [Argument {
 }];
 
 // The further arguments of `s3d sign`.
-static SIGNING: [Argument; 7] = [
+static SIGNING: [Argument; 8] = [
     Argument {
         name: "id",
         value: "ID",
@@ -119,6 +119,12 @@ static SIGNING: [Argument; 7] = [
         name: "body",
         value: "FILE",
         help: "The body; empty by default",
+        kind: Kind::Optional,
+    },
+    Argument {
+        name: "chunk",
+        value: "N",
+        help: "Sends the body in signed chunks of so many bytes",
         kind: Kind::Optional,
     },
     Argument {

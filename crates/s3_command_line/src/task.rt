@@ -68,6 +68,7 @@ fn sign_options<'a>(alloc: Global, matches: &ArgMatches<'a>) -> Result<SignOptio
         target: matches.get_str("target"),
         host: matches.get_str("host"),
         body: matches.get_str("body"),
+        chunk: matches.get_str("chunk"),
         headers,
     })
 }

@@ -275,7 +275,7 @@ module _ (bytes more : List ℕ) where
 
 -- ---- the pairs that were skipped
 
-skip_pairs-twice : (bytes more : List ℕ) → skip_pairs (skip_pairs bytes ++ more) ≡ skip_pairs (bytes ++ more)
+pub skip_pairs-twice : (bytes more : List ℕ) → skip_pairs (skip_pairs bytes ++ more) ≡ skip_pairs (bytes ++ more)
 unfolding skip_pairs
 skip_pairs-twice [] more = refl
 skip_pairs-twice (b ∷ []) more = refl

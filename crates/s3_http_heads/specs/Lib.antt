@@ -1,5 +1,6 @@
 pub mod Find
 pub mod Scan
+pub mod Search
 pub mod Target
 pub mod Parameters
 pub mod Head

@@ -75,7 +75,7 @@ fn head_length(text: &[u8]) -> Option<usize>
 }
 
 // How many bytes of an empty line a text ends with after `byte`, where it ended with `matched` before.
-fn matched_after(matched: u8, byte: u8) -> u8
+pub(crate) fn matched_after(matched: u8, byte: u8) -> u8
     ensures { result ≡ after_byte matched byte }
 {
     match (matched, byte) {
@@ -109,5 +109,6 @@ pub fn verdicts_stay()
 
 /// A law: the skipped pairs decide nothing, so that a connection may drop them as they come.
 pub fn pairs_may_be_dropped()
-    ensures { (bytes more : List ℕ) → found_in (skip_pairs bytes ++ more) ≡ found_in (bytes ++ more) }
+    ensures found { (bytes more : List ℕ) → found_in (skip_pairs bytes ++ more) ≡ found_in (bytes ++ more) }
+    ensures rest { (bytes more : List ℕ) → skip_pairs (skip_pairs bytes ++ more) ≡ skip_pairs (bytes ++ more) }
 {}

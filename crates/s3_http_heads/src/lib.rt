@@ -5,6 +5,7 @@ mod body_length;
 mod find;
 mod head;
 mod parameters;
+mod search;
 mod target;
 mod text;
 
@@ -13,5 +14,6 @@ pub use find::{
     Found, HEAD_LIMIT, find_head, pairs_may_be_dropped, skipped, verdict_is_exact, verdicts_stay,
 };
 pub use head::{Head, LINE_LIMIT, texts_say_one_thing};
+pub use search::HeadSearch;
 pub use target::Target;
 pub use text::{is_named, trimmed};

@@ -32,6 +32,8 @@ pub struct SignOptions<'a> {
     pub host: Option<&'a str>,
     /// The path of the file that has its body.
     pub body: Option<&'a str>,
+    /// How many bytes of the body a signed chunk has, where it is sent in such.
+    pub chunk: Option<&'a str>,
     /// Its further header lines, each as `NAME:VALUE`.
     pub headers: Vec<&'a str>,
 }

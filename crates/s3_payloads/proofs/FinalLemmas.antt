@@ -1,13 +1,18 @@
 -- Verdicts on bodies are final, there is one for all bytes, and no second one.
-use Rattle.std.proofs.Common.{◌≡◌, ℕ, ◌≤◌, Bool, false, List, ◌++◌, length, refl, sym, ◌∙◌, subst, Option}
-use Rattle.s3_aws_chunked.specs.Verdict.{Verdict, Accepted, Open, Refused}
+use Rattle.std.proofs.Common.{◌≡◌, ℕ, ◌≤◌, Bool, true, false, List, ◌++◌, take, drop, length, refl, sym, ap, arith, ◌∙◌, subst, Option, inl, inr}
+use Rattle.std.specs.Prelude.{nat_le, not}
+use Rattle.std.proofs.lemmas.Bool.{cases_Bool}
+use Rattle.std.proofs.lemmas.List.{length-take-le, take-append-drop, take_all}
+use Rattle.s3_aws_chunked.specs.Body.{IsBody}
+use Rattle.s3_aws_chunked.specs.Verdict.{Verdict, Accepted, Open, Refused, IsAccepted, Terms}
 use Rattle.s3_aws_chunked.specs.Finality.{DecidesAs, IsDecided}
 use Rattle.s3_aws_chunked.specs.Finality as chunked
 use Rattle.s3_payloads.specs.declared.form.Form.{Form}
 use Rattle.s3_payloads.specs.declared.form.Form.TheVariants.{Whole, Chunks}
-use Rattle.s3_payloads.specs.Form.{Announced}
-use Rattle.s3_payloads.specs.Verdict.{JudgesForm, terms_of, whole_verdict}
-use Rattle.s3_payloads.proofs.JudgeLemmas.{whole_come}
+use Rattle.s3_payloads.specs.Form.{Announced, IsSentAsItIs}
+use Rattle.s3_payloads.specs.Verdict.{JudgesForm, checked_data, decided_at, has_digest, has_hash, terms_of, whole_verdict}
+use Rattle.s3_payloads.proofs.JudgeLemmas.{accepted_come, whole_come}
+use Rattle.s3_payloads.proofs.WholeLemmas.{decided_never_open, nat_le-true, never_open}
 use Rattle.s3_payloads.proofs.StandsLemmas.{refused_whole, verdict_stays}
 
 whole_decided : (hash digest : Option (List ℕ)) (size : ℕ) (bytes : List ℕ) (verdict : Verdict) → verdict ≡ whole_verdict hash digest size false bytes
@@ -38,3 +43,89 @@ pub exist_form : chunked.VerdictsExist → (form : Form) (announced : Announced)
     → (verdict : Verdict) × JudgesForm form announced bytes ended verdict
 exist_form law (Whole hash digest) announced bytes ended = (whole_verdict hash digest announced.length ended bytes, refl)
 exist_form law (Chunks decoded) announced bytes ended = law (terms_of announced decoded) bytes ended
+
+-- ---- the end of the input decides
+
+whole_ends : (hash digest : Option (List ℕ)) (size : ℕ) (bytes : List ℕ) (verdict : Verdict) → verdict ≡ whole_verdict hash digest size true bytes → IsDecided verdict
+whole_ends hash digest size bytes (Refused place code) is = tt
+whole_ends hash digest size bytes (Accepted held) is = tt
+whole_ends hash digest size bytes (Open held) is = never_open hash digest size bytes held is
+
+pub end_form : chunked.EndsDecide → (form : Form) (announced : Announced) (bytes : List ℕ) (verdict : Verdict)
+    → JudgesForm form announced bytes true verdict → IsDecided verdict
+end_form law (Whole hash digest) announced bytes verdict is = whole_ends hash digest announced.length bytes verdict is
+end_form law (Chunks decoded) announced bytes verdict judged = law (terms_of announced decoded) bytes verdict judged
+
+-- ---- a body that is accepted is whole
+
+-- nothing is open once all bytes of Content-Length have come
+whole_open : (hash digest : Option (List ℕ)) (size : ℕ) (bytes held : List ℕ) → size ≤ length bytes → ¬ (Open held ≡ whole_verdict hash digest size false bytes)
+unfolding whole_verdict
+whole_open hash digest size bytes held come is =
+    decided_never_open size (checked_data hash digest (take size bytes)) held (rw (nat_le-true size (length bytes) come) at is)
+
+-- the bytes of Content-Length are accepted for themselves
+accepted_front : (terms : Terms) (bytes held : List ℕ) → IsAccepted terms bytes held → IsAccepted terms (take terms.encoded bytes) held
+accepted_front terms bytes held is =
+    let size : length (take terms.encoded bytes) ≡ terms.encoded = length-take-le terms.encoded bytes is.come in
+    let front : take terms.encoded (take terms.encoded bytes) ≡ take terms.encoded bytes = take_all terms.encoded (take terms.encoded bytes) (omega (arith, size)) in
+    record {
+      come = omega (arith, size);
+      chunks = is.chunks;
+      last = is.last;
+      body = subst (λ (text : List ℕ). IsBody text is.chunks is.last) (sym front) is.body;
+      signed = is.signed;
+      sum = is.sum;
+      joined = is.joined;
+    }
+
+-- where all bytes of a body have come, and it is accepted, these alone have decided
+front_decides : (form : Form) (announced : Announced) (bytes : List ℕ) (ended : Bool) (payload : List ℕ) (verdict : Verdict)
+    → announced.length ≤ length bytes → JudgesForm form announced bytes ended (Accepted payload)
+    → JudgesForm form announced (take announced.length bytes) false verdict → IsDecided verdict
+front_decides form announced bytes ended payload (Refused place code) come accepted front = tt
+front_decides form announced bytes ended payload (Accepted held) come accepted front = tt
+front_decides (Whole hash digest) announced bytes ended payload (Open held) come accepted front =
+    absurd (whole_open hash digest announced.length (take announced.length bytes) held (omega (arith, length-take-le announced.length bytes come)) front)
+front_decides (Chunks decoded) announced bytes ended payload (Open held) come accepted front =
+    absurd (front.1 payload (accepted_front (terms_of announced decoded) bytes payload accepted.1))
+
+same_accepted : (verdict : Verdict) (payload : List ℕ) → DecidesAs verdict (Accepted payload) → verdict ≡ Accepted payload
+same_accepted (Refused place code) payload same = absurd same
+same_accepted (Accepted held) payload same = ap Accepted same
+same_accepted (Open held) payload same = absurd same
+
+pub accepted_whole : chunked.VerdictsStay → chunked.VerdictsAreOne → chunked.VerdictsExist
+    → (announced : Announced) (bytes : List ℕ) (ended : Bool) (payload : List ℕ) → JudgesForm announced.form announced bytes ended (Accepted payload)
+    → (announced.length ≤ length bytes) × JudgesForm announced.form announced (take announced.length bytes) false (Accepted payload)
+accepted_whole stay one exist announced bytes ended payload accepted =
+    let form = announced.form in
+    let size = announced.length in
+    let come = accepted_come form announced bytes ended payload accepted in
+    let front = exist_form exist form announced (take size bytes) false in
+    let decided = front_decides form announced bytes ended payload front.0 come accepted front.1 in
+    let stays = stay_form stay form announced (take size bytes) (drop size bytes) ended front.0 front.1 decided in
+    let whole = subst (λ (all : List ℕ). JudgesForm form announced all ended front.0) (take-append-drop size bytes) stays in
+    let same = same_accepted front.0 payload (one_form one form announced bytes ended front.0 (Accepted payload) whole accepted) in
+    (come, subst (λ (verdict : Verdict). JudgesForm form announced (take size bytes) false verdict) same front.1)
+
+-- ---- the payload of a body that is sent as it is
+
+decided_payload : (place : ℕ) (hash digest : Option (List ℕ)) (bytes payload : List ℕ)
+    → Accepted payload ≡ decided_at place (checked_data hash digest bytes) → payload ≡ bytes
+unfolding checked_data
+decided_payload place hash digest bytes payload is = elim (cases_Bool (not (has_hash hash bytes))) [
+  | inl wrong ↦ let refused = rw wrong at is in absurd (cc)
+  | inr right ↦ elim (cases_Bool (not (has_digest digest bytes))) [
+    | inl wrong ↦ let refused = rw (right, wrong) at is in absurd (cc)
+    | inr fits ↦ let same = rw (right, fits) at is in cc
+  ]
+]
+
+pub whole_payload : (form : Form) (announced : Announced) (body payload : List ℕ) (ended : Bool) → IsSentAsItIs form → length body ≡ announced.length
+    → JudgesForm form announced body ended (Accepted payload) → payload ≡ body
+unfolding whole_verdict
+whole_payload (Chunks decoded) announced body payload ended sent size is = absurd sent
+whole_payload (Whole hash digest) announced body payload ended sent size is =
+    let come : nat_le announced.length (length body) ≡ true = nat_le-true announced.length (length body) (omega (arith, size)) in
+    decided_payload announced.length hash digest body payload (rw (come, take_all announced.length body (omega (arith, size))) at is)

@@ -145,7 +145,7 @@ whole_come hash digest size ended bytes held is = elim (cases_lt (length bytes) 
 ]
 
 -- a body that is accepted has come
-accepted_come : (form : Form) (announced : Announced) (bytes : List ℕ) (ended : Bool) (held : List ℕ)
+pub accepted_come : (form : Form) (announced : Announced) (bytes : List ℕ) (ended : Bool) (held : List ℕ)
     → JudgesForm form announced bytes ended (Accepted held) → announced.length ≤ length bytes
 accepted_come (forms.Whole hash digest) announced bytes ended held is = whole_come hash digest announced.length ended bytes held is
 accepted_come (forms.Chunks decoded) announced bytes ended held is = is.1.come

@@ -76,3 +76,8 @@ unfoldable pub announced_payload : Settings → HeadParts → Proved → Result 
 announced_payload settings head proved = do
   form ← form_of settings head proved.word
   Ok (record { length = unwrap_or (announced (length_lines head)) 0; form = form; proved = proved })
+
+-- the body is sent as it is, and not in chunks
+abbrev pub IsSentAsItIs : Form → Type 0
+IsSentAsItIs (Whole hash digest) = Unit {0}
+IsSentAsItIs (Chunks decoded) = ⊥

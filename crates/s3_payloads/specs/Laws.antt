@@ -1,12 +1,12 @@
 -- What is known of every body, as laws: they speak of the definitions, and of no code.
-use Rattle.std.specs.Prelude.{◌≡◌, ◌↔◌, ℕ, Bool, false, min, List, ◌++◌, length, Some}
+use Rattle.std.specs.Prelude.{◌≡◌, ◌↔◌, ℕ, ◌≤◌, Bool, true, false, min, List, ◌++◌, length, take, Some}
 use Rattle.base64.specs.Engines.{standard}
 use Rattle.base64.specs.GeneralPurpose.{IsBytes, encode_of}
 use Rattle.s3_terms.specs.declared.code.Code.{Code}
 use Rattle.s3_aws_chunked.specs.Verdict.{Verdict, Accepted, Refused}
 use Rattle.s3_aws_chunked.specs.Finality.{DecidesAs, IsDecided}
 use Rattle.s3_payloads.specs.declared.reader.PayloadReader.{PayloadReader}
-use Rattle.s3_payloads.specs.Form.{Announced, digest_of}
+use Rattle.s3_payloads.specs.Form.{Announced, IsSentAsItIs, digest_of}
 use Rattle.s3_payloads.specs.Reader.{HasFailed, HasPassed, Stands, taken_of, verdict_of}
 use Rattle.s3_payloads.specs.Verdict.{Judges}
 
@@ -57,3 +57,20 @@ VerdictsAreOne =
 abbrev pub VerdictsExist : Type 0
 VerdictsExist =
     (announced : Announced) (bytes : List ℕ) (ended : Bool) → (verdict : Verdict) × Judges announced bytes ended verdict
+
+-- once no more bytes come, something is decided
+abbrev pub EndsDecide : Type 0
+EndsDecide = (announced : Announced) (bytes : List ℕ) (verdict : Verdict) → Judges announced bytes true verdict → IsDecided verdict
+
+-- a body is accepted once its last byte has come, and by its own bytes alone: whatever stands behind them, and whether
+-- or not the input ends there, isn't looked at
+abbrev pub AcceptedAreWhole : Type 0
+AcceptedAreWhole =
+    (announced : Announced) (bytes : List ℕ) (ended : Bool) (payload : List ℕ) → Judges announced bytes ended (Accepted payload)
+    → (announced.length ≤ length bytes) × Judges announced (take announced.length bytes) false (Accepted payload)
+
+-- the payload of a body that is sent as it is is the body
+abbrev pub WholePayloadsAreBodies : Type 0
+WholePayloadsAreBodies =
+    (announced : Announced) (body payload : List ℕ) (ended : Bool) → IsSentAsItIs announced.form → length body ≡ announced.length
+    → Judges announced body ended (Accepted payload) → payload ≡ body

@@ -37,12 +37,11 @@ ModeStands (modes.Chunks chunks) announced bytes ended = ChunksFor announced.for
 abbrev pub Stands : PayloadReader → Announced → List ℕ → Bool → Type 0
 Stands reader announced bytes ended = ModeStands reader.mode announced bytes ended
 
--- a reader that has begun stands before all bytes; none begins where something is wrong with what was announced
+-- a reader that has begun stands before all bytes of what was announced; none begins where something is wrong with
+-- that, and this is what
 abbrev pub Begins : Result Announced Code → Result PayloadReader Code → Type 0
-Begins (Ok announced) (Ok reader) = Stands reader announced [] false
-Begins (Err code) (Err other) = other ≡ code
-Begins (Ok announced) (Err code) = ⊥
-Begins (Err code) (Ok reader) = ⊥
+Begins rule (Ok reader) = (announced : Announced) × (rule ≡ Ok announced) × Stands reader announced [] false
+Begins rule (Err code) = rule ≡ Err code
 
 abbrev pub mode_verdict : Mode → Verdict
 mode_verdict (modes.Whole whole) = told whole.bytes whole.stage

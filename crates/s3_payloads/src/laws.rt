@@ -1,6 +1,6 @@
 //! Laws of the definitions: there is nothing to run.
 
-ghost use Rattle.s3_payloads.specs.Laws.{DigestsAreEncoded, PayloadsCount, PayloadsFail, PayloadsJudge, PayloadsPass, VerdictsAreOne, VerdictsExist, VerdictsStay};
+ghost use Rattle.s3_payloads.specs.Laws.{AcceptedAreWhole, DigestsAreEncoded, EndsDecide, PayloadsCount, PayloadsFail, PayloadsJudge, PayloadsPass, VerdictsAreOne, VerdictsExist, VerdictsStay, WholePayloadsAreBodies};
 
 use s3_aws_chunked::readers_judge;
 
@@ -24,11 +24,22 @@ pub fn payloads_are_judged()
 }
 
 /// A law: what is decided about a body before its input has ended stays decided, whatever follows; the same bytes
-/// have no two verdicts that decide something else; and none are without one.
+/// have no two verdicts that decide something else; none are without one; and once the input has ended, something is
+/// decided.
 pub fn verdicts_are_final()
     ensures stay { VerdictsStay }
     ensures one { VerdictsAreOne }
     ensures exist { VerdictsExist }
+    ensures end { EndsDecide }
+{
+    s3_aws_chunked::verdicts_are_final();
+}
+
+/// A law: a body is accepted once its last byte has come, by its own bytes alone; and where it is sent as it is,
+/// its payload is the body.
+pub fn accepted_bodies_are_whole()
+    ensures whole { AcceptedAreWhole }
+    ensures payload { WholePayloadsAreBodies }
 {
     s3_aws_chunked::verdicts_are_final();
 }

@@ -10,5 +10,7 @@ mod running_hash;
 mod whole;
 
 pub use form::{Form, form_of};
-pub use laws::{digests_are_encoded, payloads_are_judged, verdicts_are_final};
+pub use laws::{
+    accepted_bodies_are_whole, digests_are_encoded, payloads_are_judged, verdicts_are_final,
+};
 pub use reader::PayloadReader;

@@ -82,7 +82,7 @@ fn is_line(text: &[u8], fault: &str) -> bool {
 }
 
 // Where two things are wrong the first in order is told.
-static FAULTS: [(&str, &str); 42] = [
+static FAULTS: [(&str, &str); 49] = [
     ("bad setting", "s3d replay --keys keys"),
     (
         "cannot read shelf",
@@ -211,6 +211,34 @@ static FAULTS: [(&str, &str); 42] = [
     (
         "bad setting",
         "s3d sign --keys keys --id secret --moment 0 --method GET --target / --host h --body body",
+    ),
+    (
+        "bad setting",
+        "s3d sign --keys shelf --id id --moment 0 --method GET --target / --host h --chunk 0",
+    ),
+    (
+        "bad setting",
+        "s3d sign --keys shelf --id id --moment 0 --method GET --target / --host h --chunk 67108865",
+    ),
+    (
+        "bad setting",
+        "s3d sign --keys shelf --id id --moment 0 --method GET --target / --host h --chunk 0x10",
+    ),
+    (
+        "bad setting",
+        "s3d sign --keys shelf --id id --moment 0 --method GET --target / --host h --chunk 0000000000003",
+    ),
+    (
+        "cannot read shelf",
+        "s3d sign --keys shelf --id id --moment 0 --method GET --target / --host h --chunk 67108864",
+    ),
+    (
+        "bad setting",
+        "s3d sign --keys keys --id id --moment 0 --method GET --target / --host h --chunk 3 content-encoding:gzip",
+    ),
+    (
+        "cannot read body",
+        "s3d sign --keys keys --id id --moment 0 --method GET --target / --host h --chunk 3 --body body content-encoding:gzip",
     ),
 ];
 

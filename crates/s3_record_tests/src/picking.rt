@@ -2,11 +2,10 @@
 
 use crate::steps::{Act, take};
 use s3_names::VersionId;
-use s3_terms::{Code, NoMemory};
+use s3_terms::Code;
 use s3_versions::Versioning::{Enabled, Suspended};
 use s3_versions::{Version, Versions, pick};
 use std::alloc::Global;
-use std::test::Fail;
 
 /// The number of the bytes that are read, or the refusal and whether it tells of a delete marker.
 type Outcome = Result<u64, (Code, bool)>;
@@ -33,28 +32,29 @@ fn read(versions: &[Version], asked: Option<VersionId>) -> Outcome {
     }
 }
 
-fn suspended_delete(alloc: Global) -> Result<Versions, NoMemory> {
-    let mut versions = Versions::new(alloc);
-    take(alloc, &mut versions, (1, Enabled, Act::Put))?;
-    take(alloc, &mut versions, (3, Suspended, Act::Put))?;
-    take(alloc, &mut versions, (4, Suspended, Act::Delete))?;
-    Ok(versions)
-}
-
+// Whether, of these versions, each of these is asked for with this outcome.
 fn reads(versions: &[Version], wanted: &[(Option<VersionId>, Outcome)]) -> bool {
-    wanted
-        .iter()
-        .all(|(asked, outcome)| read(versions, *asked) == *outcome)
+    for (asked, outcome) in wanted {
+        if read(versions, *asked) != *outcome {
+            return false;
+        }
+    }
+    true
+}
+
+// A put, a put while versioning is suspended, and a delete.
+fn suspended_delete(alloc: Global, versions: &mut Versions) -> bool {
+    take(alloc, versions, (1, Enabled, Act::Put)).is_ok()
+        && take(alloc, versions, (3, Suspended, Act::Put)).is_ok()
+        && take(alloc, versions, (4, Suspended, Act::Delete)).is_ok()
+}
+
+fn is_read_after_suspended_delete(alloc: Global) -> bool {
+    let mut versions = Versions::new(alloc);
+    suspended_delete(alloc, &mut versions) && reads(versions.as_slice(), &AFTER_SUSPENDED_DELETE)
 }
 
 #[test]
-fn after_suspended_delete(rt: HostRuntime) -> Result<(), Fail> {
-    let versions = suspended_delete(rt.alloc())?;
-    assert!(rt; reads(versions.as_slice(), &AFTER_SUSPENDED_DELETE));
-    Ok(())
-}
-
-#[test]
-fn of_no_versions(rt: HostRuntime) {
-    assert!(rt; reads(&[], &OF_NO_VERSIONS));
+fn picking(rt: HostRuntime) {
+    assert!(rt; reads(&[], &OF_NO_VERSIONS) && is_read_after_suspended_delete(rt.alloc()));
 }

@@ -1,72 +1,95 @@
 //! What a keeper of records answers, step by step.
-ghost use Rattle.std.specs.Prelude.{◌≡◌, IfOk, IsTrue};
+ghost use Rattle.std.specs.Prelude.{◌≡◌, IsTrue};
 ghost use Rattle.s3_versions.specs.Rules.{is_new_number};
-ghost use Rattle.s3_records.specs.Catalogue.{has_bucket, versions_of};
+ghost use Rattle.s3_records.specs.Catalogue.{has_bucket, is_empty_bucket, versions_of};
 
-use crate::steps::{are, is_new, moment, stored_by};
+use crate::steps::{Known, are, is_new, moment, stored_by};
 use s3_config::{Config, Credential};
 use s3_names::{BucketName, Key, VersionId};
-use s3_records::{MapRecords, Records};
+use s3_records::{ListedBucket, MapRecords, Records};
 use s3_terms::Code;
 use s3_versions::VersioningStatus::{self, Enabled, Suspended};
 use std::alloc::Global;
 
-/// What an entry does with the key `k` of the bucket `pail`, or beside it.
+/// What an entry does with a key of the bucket `pail`, or what is asked or done beside it.
 #[derive(Clone, Copy)]
 enum Change {
     Switch(VersioningStatus),
-    Put,
+    /// A put of this key.
+    Put(&'static [u8]),
+    /// A delete of the key `k`.
     Delete,
+    /// The end of one version of the key `k`.
     DropVersion(VersionId),
-    PutBeside,
+    /// Whether the bucket is empty: this is the answer.
+    AskEmpty(bool),
+    /// The bucket `vat`, which is not there, is made.
+    Make,
+    /// These are the names of all buckets, in their order.
+    List(&'static [&'static [u8]]),
+    /// The bucket `vat`, which is empty, is dropped, and is not there after.
+    Drop,
 }
 
 /// An entry's change, and the versions of `k` after it.
-type Row = (Change, &'static [(&'static [u8], bool)]);
+type Row = (Change, &'static [Known]);
 
-const V1: (&[u8], bool) = (b"v0000000000000001", false);
+const V1: Known = (b"v0000000000000001", false);
 
-const NULL: (&[u8], bool) = (b"null", false);
+const V2_MARKER: Known = (b"v0000000000000002", true);
 
-const MARKER: (&[u8], bool) = (b"null", true);
+const NULL: Known = (b"null", false);
 
+const MARKER: Known = (b"null", true);
+
+/// A delete while versioning is suspended.
 static SUSPENDED_DELETE: [Row; 8] = [
     (Change::Switch(Enabled), &[]),
-    (Change::Put, &[V1]),
+    (Change::Put(b"k"), &[V1]),
     (Change::Switch(Suspended), &[V1]),
-    (Change::Put, &[NULL, V1]),
+    (Change::Put(b"k"), &[NULL, V1]),
     (Change::Delete, &[MARKER, V1]),
-    (Change::PutBeside, &[MARKER, V1]),
+    (Change::Put(b"j"), &[MARKER, V1]),
     (Change::DropVersion(VersionId::Null), &[V1]),
     (Change::DropVersion(VersionId::Numbered(1)), &[]),
 ];
 
+/// A bucket that was never versioned.
 static UNVERSIONED: [Row; 6] = [
-    (Change::Put, &[NULL]),
-    (Change::Put, &[NULL]),
-    (Change::PutBeside, &[NULL]),
+    (Change::Put(b"k"), &[NULL]),
+    (Change::Put(b"k"), &[NULL]),
+    (Change::Put(b"j"), &[NULL]),
     (Change::Delete, &[]),
     (Change::Delete, &[]),
     (Change::DropVersion(VersionId::Null), &[]),
 ];
 
-/// A bucket and two of its keys.
+/// A bucket that is made and dropped.
+static MADE_AND_DROPPED: [Row; 3] = [
+    (Change::Make, &[]),
+    (Change::List(&[b"crate", b"pail", b"vat"]), &[]),
+    (Change::Drop, &[]),
+];
+
+/// A bucket that a delete marker fills.
+static FILLED_BY_A_MARKER: [Row; 4] = [
+    (Change::AskEmpty(true), &[]),
+    (Change::Switch(Enabled), &[]),
+    (Change::Delete, &[V2_MARKER]),
+    (Change::AskEmpty(false), &[V2_MARKER]),
+];
+
+/// A bucket and a key in it.
 #[derive(Drop)]
 struct Place {
     bucket: BucketName,
     key: Key,
-    beside: Key,
 }
 
 fn one_place(alloc: Global) -> Result<Place, Code> {
     let bucket = BucketName::read(alloc, b"pail")?;
     let key = Key::read(alloc, b"k")?;
-    let beside = Key::read(alloc, b"j")?;
-    Ok(Place {
-        bucket,
-        key,
-        beside,
-    })
+    Ok(Place { bucket, key })
 }
 
 /// Settings with these two buckets.
@@ -94,43 +117,66 @@ fn keys(alloc: Global) -> Result<Vec<Credential>, Code> {
     Ok(keys)
 }
 
-fn opened(alloc: Global) -> Result<Option<MapRecords>, Code> {
-    match settings(alloc)? {
-        Some(config) => Ok(Some(MapRecords::open(alloc, &config)?)),
-        None => Ok(None),
+/// Records of these settings, with nothing in them.
+fn opened(alloc: Global) -> Option<MapRecords> {
+    match settings(alloc) {
+        Ok(Some(config)) => MapRecords::open(alloc, &config).ok(),
+        _ => None,
     }
 }
 
-/// Whether the bucket is there, and the number may be given to a version of the key.
-fn may_change<R: Records>(
+/// Whether the bucket is there.
+fn is_there<R: Records>(alloc: Global, records: &mut R, bucket: &BucketName) -> bool
+    ensures same { R.catalogue records.new ≡ R.catalogue records.old }
+    ensures there { IsTrue result → IsTrue (has_bucket (R.catalogue records.old) bucket.now) }
+{
+    match records.bucket(alloc, bucket) {
+        Ok(facts) => facts.is_some(),
+        Err(_) => false,
+    }
+}
+
+/// Whether the number may be given to a version of the key.
+fn is_newer<R: Records>(
     alloc: Global,
     records: &mut R,
     bucket: &BucketName,
     key: &Key,
     number: u64,
-) -> Result<bool, Code>
+) -> bool
     ensures same { R.catalogue records.new ≡ R.catalogue records.old }
-    ensures there { IfOk result (λ may. IsTrue may → IsTrue (has_bucket (R.catalogue records.old) bucket.now)) }
-    ensures newer { IfOk result (λ may. IsTrue may
-        → IsTrue (is_new_number number (versions_of (R.catalogue records.old) bucket.now key.now))) }
+    ensures newer { IsTrue result → IsTrue (is_new_number number (versions_of (R.catalogue records.old) bucket.now key.now)) }
 {
-    let is_there = records.bucket(alloc, bucket)?.is_some();
-    let versions = records.versions_of(alloc, bucket, key)?;
-    Ok(is_there && is_new(number, versions.as_slice()))
+    match records.versions_of(alloc, bucket, key) {
+        Ok(versions) => is_new(number, versions.as_slice()),
+        Err(_) => false,
+    }
 }
 
+/// Puts the key of this text, where the bucket is there and the number may be given.
 fn put<R: Records>(
     alloc: Global,
     records: &mut R,
     bucket: &BucketName,
-    key: &Key,
+    text: &[u8],
     number: u64,
-) -> Result<bool, Code> {
-    if !may_change(alloc, records, bucket, key, number)? {
-        return Ok(false);
+) -> bool {
+    match Key::read(alloc, text) {
+        Ok(key) => put_key(alloc, records, bucket, key, number),
+        Err(_) => false,
     }
-    let key = key.copy()?;
-    put_moved(alloc, records, bucket, key, number)
+}
+
+fn put_key<R: Records>(
+    alloc: Global,
+    records: &mut R,
+    bucket: &BucketName,
+    key: Key,
+    number: u64,
+) -> bool {
+    is_there(alloc, records, bucket)
+        && is_newer(alloc, records, bucket, &key, number)
+        && put_moved(alloc, records, bucket, key, number)
 }
 
 fn put_moved<R: Records>(
@@ -139,27 +185,43 @@ fn put_moved<R: Records>(
     bucket: &BucketName,
     key: Key,
     number: u64,
-) -> Result<bool, Code>
+) -> bool
     requires there { IsTrue (has_bucket (R.catalogue records.old) bucket.now) }
     requires newer { IsTrue (is_new_number number (versions_of (R.catalogue records.old) bucket.now key)) }
 {
-    let stored = stored_by(alloc, number)?;
-    let _ = records.put_version(alloc, bucket, key, number, moment(), stored)?;
-    Ok(true)
+    match stored_by(alloc, number) {
+        Ok(stored) => {
+            let put = records.put_version(alloc, bucket, key, number, moment(), stored);
+            put.err().is_none()
+        }
+        Err(_) => false,
+    }
 }
 
-fn delete<R: Records>(
+fn delete<R: Records>(alloc: Global, records: &mut R, place: &Place, number: u64) -> bool {
+    let (bucket, key) = (&place.bucket, &place.key);
+    is_there(alloc, records, bucket)
+        && is_newer(alloc, records, bucket, key, number)
+        && delete_copy(alloc, records, bucket, key, number)
+}
+
+fn delete_copy<R: Records>(
     alloc: Global,
     records: &mut R,
     bucket: &BucketName,
     key: &Key,
     number: u64,
-) -> Result<bool, Code> {
-    let may = may_change(alloc, records, bucket, key, number)?;
-    if may {
-        let _ = records.delete(alloc, bucket, key.copy()?, number, moment())?;
+) -> bool
+    requires there { IsTrue (has_bucket (R.catalogue records.old) bucket.now) }
+    requires newer { IsTrue (is_new_number number (versions_of (R.catalogue records.old) bucket.now key.now)) }
+{
+    match key.copy() {
+        Ok(key) => {
+            let deleted = records.delete(alloc, bucket, key, number, moment());
+            deleted.err().is_none()
+        }
+        Err(_) => false,
     }
-    Ok(may)
 }
 
 fn drop_version<R: Records>(
@@ -168,12 +230,8 @@ fn drop_version<R: Records>(
     bucket: &BucketName,
     key: &Key,
     id: VersionId,
-) -> Result<bool, Code> {
-    let is_there = records.bucket(alloc, bucket)?.is_some();
-    if is_there {
-        let _ = records.drop_version(alloc, bucket, key, id)?;
-    }
-    Ok(is_there)
+) -> bool {
+    is_there(alloc, records, bucket) && records.drop_version(alloc, bucket, key, id).err().is_none()
 }
 
 fn switch<R: Records>(
@@ -181,161 +239,159 @@ fn switch<R: Records>(
     records: &mut R,
     bucket: &BucketName,
     status: VersioningStatus,
-) -> Result<bool, Code> {
-    let is_there = records.bucket(alloc, bucket)?.is_some();
-    if is_there {
-        records.set_versioning(alloc, bucket, status)?;
-    }
-    Ok(is_there)
+) -> bool {
+    is_there(alloc, records, bucket) && records.set_versioning(alloc, bucket, status).is_ok()
 }
 
+/// Whether the bucket has nothing in it.
+fn is_empty<R: Records>(alloc: Global, records: &mut R, bucket: &BucketName) -> bool
+    ensures same { R.catalogue records.new ≡ R.catalogue records.old }
+    ensures empty { IsTrue result → IsTrue (is_empty_bucket (R.catalogue records.old) bucket.now) }
+{
+    match records.is_empty(alloc, bucket) {
+        Ok(is_empty) => is_empty,
+        Err(_) => false,
+    }
+}
+
+/// The bucket is made, which was not there.
+fn make<R: Records>(alloc: Global, records: &mut R, name: BucketName) -> bool {
+    match records.bucket(alloc, &name) {
+        Ok(None) => records.add_bucket(alloc, name, moment()).is_ok(),
+        _ => false,
+    }
+}
+
+/// The empty bucket is dropped, and is not there after.
+fn drop_empty<R: Records>(alloc: Global, records: &mut R, name: &BucketName) -> bool {
+    if !is_there(alloc, records, name) || !is_empty(alloc, records, name) {
+        return false;
+    }
+    let is_dropped = records.drop_bucket(alloc, name).is_ok();
+    match records.bucket(alloc, name) {
+        Ok(None) => is_dropped,
+        _ => false,
+    }
+}
+
+/// The bucket `vat` is made, or else it is dropped.
+fn change_vat<R: Records>(alloc: Global, records: &mut R, makes: bool) -> bool {
+    match BucketName::read(alloc, b"vat") {
+        Ok(name) if makes => make(alloc, records, name),
+        Ok(name) => drop_empty(alloc, records, &name),
+        Err(_) => false,
+    }
+}
+
+/// Whether these are the names of the buckets.
+fn are_named(rows: &[ListedBucket], names: &[&[u8]]) -> bool {
+    if rows.len() != names.len() {
+        return false;
+    }
+    for at in 0..names.len() {
+        if rows[at].name.as_bytes() != names[at] {
+            return false;
+        }
+    }
+    true
+}
+
+/// Whether these are the names of all buckets, in their order.
+fn are_listed<R: Records>(alloc: Global, records: &mut R, names: &[&[u8]]) -> bool {
+    match records.buckets(alloc) {
+        Ok(rows) => are_named(rows.as_slice(), names),
+        Err(_) => false,
+    }
+}
+
+/// Whether the change is made, and answered as it has to be.
 fn apply<R: Records>(
     alloc: Global,
     records: &mut R,
     place: &Place,
     number: u64,
     change: Change,
-) -> Result<bool, Code> {
+) -> bool {
     let bucket = &place.bucket;
     match change {
         Change::Switch(status) => switch(alloc, records, bucket, status),
-        Change::Put => put(alloc, records, bucket, &place.key, number),
-        Change::Delete => delete(alloc, records, bucket, &place.key, number),
+        Change::Put(text) => put(alloc, records, bucket, text, number),
+        Change::Delete => delete(alloc, records, place, number),
         Change::DropVersion(id) => drop_version(alloc, records, bucket, &place.key, id),
-        Change::PutBeside => put(alloc, records, bucket, &place.beside, number),
+        Change::AskEmpty(answer) => records.is_empty(alloc, bucket) == Ok(answer),
+        Change::Make => change_vat(alloc, records, true),
+        Change::List(names) => are_listed(alloc, records, names),
+        Change::Drop => change_vat(alloc, records, false),
     }
 }
 
-/// Whether these are the versions of the key, and the first of them is the current one.
-fn holds<R: Records>(
+/// Whether the first version of the key is the current one, or there is none.
+fn has_current<R: Records>(alloc: Global, records: &mut R, place: &Place, is_there: bool) -> bool {
+    match records.version(alloc, &place.bucket, &place.key, None) {
+        Ok(current) => current.is_some() == is_there,
+        Err(_) => false,
+    }
+}
+
+/// Whether these are the versions of the key.
+fn has_versions<R: Records>(
     alloc: Global,
     records: &mut R,
     place: &Place,
-    wanted: &[(&[u8], bool)],
-) -> Result<bool, Code> {
-    let current = records
-        .version(alloc, &place.bucket, &place.key, None)?
-        .is_some();
-    let versions = records.versions_of(alloc, &place.bucket, &place.key)?;
-    Ok(are(versions.as_slice(), wanted) && current == !wanted.is_empty())
+    wanted: &[Known],
+) -> bool {
+    match records.versions_of(alloc, &place.bucket, &place.key) {
+        Ok(versions) => are(versions.as_slice(), wanted),
+        Err(_) => false,
+    }
 }
 
+/// Whether the entry is made, and leaves these versions, the first of them as the current one.
 fn leaves<R: Records>(
     alloc: Global,
     records: &mut R,
     place: &Place,
     number: u64,
     row: &Row,
-) -> Result<bool, Code> {
+) -> bool {
     let (change, left) = row;
-    let is_made = apply(alloc, records, place, number, *change)?;
-    Ok(is_made && holds(alloc, records, place, left)?)
+    apply(alloc, records, place, number, *change)
+        && has_current(alloc, records, place, !left.is_empty())
+        && has_versions(alloc, records, place, left)
 }
 
-fn all_leave<R: Records>(
-    alloc: Global,
-    records: &mut R,
-    place: &Place,
-    rows: &[Row],
-) -> Result<bool, Code> {
+fn all_leave<R: Records>(alloc: Global, records: &mut R, place: &Place, rows: &[Row]) -> bool {
     let mut number = 0u64;
     for row in rows {
-        if !leaves(alloc, records, place, number, row)? {
-            return Ok(false);
+        if !leaves(alloc, records, place, number, row) {
+            return false;
         }
         number = number.saturating_add(1);
     }
-    Ok(true)
+    true
 }
 
-fn scenario(alloc: Global, rows: &[Row]) -> Result<bool, Code> {
-    let place = one_place(alloc)?;
-    match opened(alloc)? {
-        Some(mut records) => all_leave(alloc, &mut records, &place, rows),
-        None => Ok(false),
+/// Whether the entries, from empty records on, are made so in that place.
+fn is_so_in(alloc: Global, place: &Place, rows: &[Row]) -> bool {
+    match opened(alloc) {
+        Some(mut records) => all_leave(alloc, &mut records, place, rows),
+        None => false,
     }
 }
 
-/// A bucket is made, found among all, and dropped.
-fn makes_and_drops<R: Records>(
-    alloc: Global,
-    records: &mut R,
-    name: &BucketName,
-) -> Result<bool, Code> {
-    let is_made = makes(alloc, records, name)?;
-    let is_listed = are_listed(alloc, records, &[b"crate", b"pail", b"vat"])?;
-    Ok(is_made && is_listed && drops(alloc, records, name)?)
-}
-
-fn makes<R: Records>(alloc: Global, records: &mut R, name: &BucketName) -> Result<bool, Code> {
-    if records.bucket(alloc, name)?.is_some() {
-        return Ok(false);
-    }
-    records.add_bucket(alloc, name.copy()?, moment())?;
-    Ok(true)
-}
-
-/// The empty bucket is dropped, and is not there after.
-fn drops<R: Records>(alloc: Global, records: &mut R, name: &BucketName) -> Result<bool, Code> {
-    if records.bucket(alloc, name)?.is_none() || !records.is_empty(alloc, name)? {
-        return Ok(false);
-    }
-    records.drop_bucket(alloc, name)?;
-    Ok(records.bucket(alloc, name)?.is_none())
-}
-
-/// Whether these are the names of all buckets, in their order.
-fn are_listed<R: Records>(alloc: Global, records: &mut R, names: &[&[u8]]) -> Result<bool, Code> {
-    let rows = records.buckets(alloc)?;
-    Ok(
-        rows.len() == names.len()
-            && rows
-                .iter()
-                .zip(names)
-                .all(|(row, name)| row.name.as_bytes() == *name),
-    )
-}
-
-fn makes_and_drops_over_maps(alloc: Global) -> Result<bool, Code> {
-    let name = BucketName::read(alloc, b"vat")?;
-    match opened(alloc)? {
-        Some(mut records) => makes_and_drops(alloc, &mut records, &name),
-        None => Ok(false),
-    }
-}
-
-/// A bucket with a delete marker and nothing else is not empty.
-fn marker_fills<R: Records>(alloc: Global, records: &mut R, place: &Place) -> Result<bool, Code> {
-    let was_empty = records.is_empty(alloc, &place.bucket)?;
-    switch(alloc, records, &place.bucket, Enabled)?;
-    delete(alloc, records, &place.bucket, &place.key, 1)?;
-    Ok(was_empty && !records.is_empty(alloc, &place.bucket)?)
-}
-
-fn marker_fills_over_maps(alloc: Global) -> Result<bool, Code> {
-    let place = one_place(alloc)?;
-    match opened(alloc)? {
-        Some(mut records) => marker_fills(alloc, &mut records, &place),
-        None => Ok(false),
+fn is_so(alloc: Global, rows: &[Row]) -> bool {
+    match one_place(alloc) {
+        Ok(place) => is_so_in(alloc, &place, rows),
+        Err(_) => false,
     }
 }
 
 #[test]
-fn suspended_delete(rt: HostRuntime) {
-    assert!(rt; scenario(rt.alloc(), &SUSPENDED_DELETE) == Ok(true));
-}
-
-#[test]
-fn unversioned(rt: HostRuntime) {
-    assert!(rt; scenario(rt.alloc(), &UNVERSIONED) == Ok(true));
-}
-
-#[test]
-fn bucket_made_and_dropped(rt: HostRuntime) {
-    assert!(rt; makes_and_drops_over_maps(rt.alloc()) == Ok(true));
-}
-
-#[test]
-fn delete_marker_fills_bucket(rt: HostRuntime) {
-    assert!(rt; marker_fills_over_maps(rt.alloc()) == Ok(true));
+fn scenarios(rt: HostRuntime) {
+    assert!(rt;
+        is_so(rt.alloc(), &SUSPENDED_DELETE)
+            && is_so(rt.alloc(), &UNVERSIONED)
+            && is_so(rt.alloc(), &MADE_AND_DROPPED)
+            && is_so(rt.alloc(), &FILLED_BY_A_MARKER)
+    );
 }

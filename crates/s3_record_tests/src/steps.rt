@@ -70,20 +70,32 @@ pub(crate) fn take(
         Act::Delete => versions.delete(versioning, number, moment())?,
         Act::DropVersion(id) => versions.delete_version(id),
     };
-    Ok(number_of(gone))
+    Ok(number_of(&gone))
 }
 
-fn number_of(version: Option<Version>) -> Option<u64> {
+fn number_of(version: &Option<Version>) -> Option<u64> {
     match version {
         Some(version) => Some(version.number),
         None => None,
     }
 }
 
-/// Whether these are the versions, newest first, each by its id and whether it is a delete marker.
-pub(crate) fn are(versions: &[Version], wanted: &[(&[u8], bool)]) -> bool {
-    versions.len() == wanted.len()
-        && versions.iter().zip(wanted).all(|(version, (id, is_marker))| {
-            version.id().text().as_bytes() == *id && version.is_delete_marker() == *is_marker
-        })
+/// A version, by its id and whether it is a delete marker.
+pub(crate) type Known = (&'static [u8], bool);
+
+fn is_known(version: &Version, known: &Known) -> bool {
+    version.id().text().as_bytes() == known.0 && version.is_delete_marker() == known.1
+}
+
+/// Whether these are the versions, newest first.
+pub(crate) fn are(versions: &[Version], wanted: &[Known]) -> bool {
+    if versions.len() != wanted.len() {
+        return false;
+    }
+    for at in 0..wanted.len() {
+        if !is_known(&versions[at], &wanted[at]) {
+            return false;
+        }
+    }
+    true
 }

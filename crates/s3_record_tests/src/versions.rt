@@ -1,24 +1,23 @@
 //! The lists of versions that puts and deletes leave.
 
-use crate::steps::{Act, Entry, are, take};
+use crate::steps::{Act, Entry, Known, are, take};
 use s3_names::VersionId;
-use s3_terms::NoMemory;
 use s3_versions::Versioning::{Enabled, Suspended, Unversioned};
 use s3_versions::Versions;
 use std::alloc::Global;
 
 /// An entry, the number of the version that goes, and the versions that it leaves.
-type Row = (Entry, Option<u64>, &'static [(&'static [u8], bool)]);
+type Row = (Entry, Option<u64>, &'static [Known]);
 
-const NULL: (&[u8], bool) = (b"null", false);
+const NULL: Known = (b"null", false);
 
-const MARKER: (&[u8], bool) = (b"null", true);
+const MARKER: Known = (b"null", true);
 
-const V1: (&[u8], bool) = (b"v0000000000000001", false);
+const V1: Known = (b"v0000000000000001", false);
 
-const V2: (&[u8], bool) = (b"v0000000000000002", false);
+const V2: Known = (b"v0000000000000002", false);
 
-const V1_MARKER: (&[u8], bool) = (b"v0000000000000001", true);
+const V1_MARKER: Known = (b"v0000000000000001", true);
 
 static SUSPENDED_DELETE: [Row; 3] = [
     ((1, Enabled, Act::Put), None, &[V1]),
@@ -69,48 +68,31 @@ static ONE_VERSION_DROPPED: [Row; 5] = [
     ((5, Enabled, Act::DropVersion(VersionId::Null)), None, &[V2]),
 ];
 
-fn leaves(alloc: Global, versions: &mut Versions, row: &Row) -> Result<bool, NoMemory> {
+fn leaves(alloc: Global, versions: &mut Versions, row: &Row) -> bool {
     let (entry, gone, left) = row;
-    let is_gone = take(alloc, versions, *entry)? == *gone;
-    Ok(is_gone && are(versions.as_slice(), left))
+    take(alloc, versions, *entry) == Ok(*gone) && are(versions.as_slice(), left)
 }
 
-fn all_leave(alloc: Global, rows: &[Row]) -> Result<bool, NoMemory> {
+fn all_leave(alloc: Global, rows: &[Row]) -> bool {
     let mut versions = Versions::new(alloc);
     for row in rows {
-        if !leaves(alloc, &mut versions, row)? {
-            return Ok(false);
+        if !leaves(alloc, &mut versions, row) {
+            return false;
         }
     }
-    Ok(true)
+    true
 }
 
 #[test]
-fn suspended_delete(rt: HostRuntime) {
-    assert!(rt; all_leave(rt.alloc(), &SUSPENDED_DELETE) == Ok(true));
-}
-
-#[test]
-fn marker_removed(rt: HostRuntime) {
-    assert!(rt; all_leave(rt.alloc(), &MARKER_REMOVED) == Ok(true));
-}
-
-#[test]
-fn marker_of_no_key(rt: HostRuntime) {
-    assert!(rt; all_leave(rt.alloc(), &MARKER_OF_NO_KEY) == Ok(true));
-}
-
-#[test]
-fn markers_and_null(rt: HostRuntime) {
-    assert!(rt; all_leave(rt.alloc(), &MARKERS_AND_NULL) == Ok(true));
-}
-
-#[test]
-fn unversioned(rt: HostRuntime) {
-    assert!(rt; all_leave(rt.alloc(), &UNVERSIONED) == Ok(true));
-}
-
-#[test]
-fn one_version_dropped(rt: HostRuntime) {
-    assert!(rt; all_leave(rt.alloc(), &ONE_VERSION_DROPPED) == Ok(true));
+fn scenarios(rt: HostRuntime) {
+    assert!(rt;
+        all_leave(rt.alloc(), &SUSPENDED_DELETE)
+            && all_leave(rt.alloc(), &MARKER_REMOVED)
+            && all_leave(rt.alloc(), &MARKER_OF_NO_KEY)
+    );
+    assert!(rt;
+        all_leave(rt.alloc(), &MARKERS_AND_NULL)
+            && all_leave(rt.alloc(), &UNVERSIONED)
+            && all_leave(rt.alloc(), &ONE_VERSION_DROPPED)
+    );
 }

@@ -7,7 +7,7 @@ use Rattle.s3_text.specs.Order.{byte_order}
 use Rattle.s3_records.specs.Catalogue.{Bucket, Catalogue, new_bucket, opening, has_bucket}
 use Rattle.s3_records.specs.Changes.{changed, in_bucket}
 use Rattle.s3_records.proofs.KeyLemmas.{written}
-use Rattle.s3_records.proofs.MapLemmas.{value_at, put-put}
+use Rattle.s3_text.proofs.MapLemmas.{value_at, put-put}
 
 -- a bucket that is there is found
 pub not_absent : (c : Catalogue) (name : List ℕ) → map.get c name ≡ None → IsTrue (has_bucket c name) → ⊥

@@ -11,7 +11,7 @@ use Rattle.s3_versions.specs.declared.version.Versioning.TheVariants.{Unversione
 use Rattle.s3_versions.specs.Rules.{after_adding, replaced, without}
 use Rattle.s3_records.specs.Catalogue.{Keys}
 use Rattle.s3_records.specs.Changes.{with_versions}
-use Rattle.s3_records.proofs.MapLemmas.{value_at, made_by_write, put_again}
+use Rattle.s3_text.proofs.MapLemmas.{value_at, made_by_write, put_again}
 
 -- what holds of a value follows to another, whatever the call answered
 pub then_ok : {T E P Q : Type 0} (r : Result T E) → (P → Q) → OnOk r P → OnOk r Q

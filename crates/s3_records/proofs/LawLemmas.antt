@@ -21,7 +21,8 @@ use Rattle.s3_versions.specs.Laws.{PutsLeaveVersions, DeletesLeaveVersions, Drop
 use Rattle.s3_records.specs.Catalogue.{Keys, Bucket, Catalogue, new_bucket, opening, facts_of, facts_in, versions_at, versions_in, versions_of, versioning_in, versioning_of, found_versions, has_bucket, is_empty_in}
 use Rattle.s3_records.specs.Changes.{with_versions, changed, in_bucket, set_in, put_in, delete_in, drop_in}
 use Rattle.s3_records.specs.Laws.{SameElsewhere, ChangesAreLocal, ChangesNameOneKey, KeyFollowsRules, ChangesFollowRules, SwitchesKeepKeys, AreCatalogued, VersionsStayInOrder, OpensEmpty, OpeningIsEmpty, EmptyHasNothing, KeysHaveVersions, StayFilled, KeysStayFilled, OthersHaveSomething}
-use Rattle.s3_records.proofs.MapLemmas.{get-put, get-put_here, tied_equal}
+use Rattle.s3_text.proofs.MapLemmas.{get-put, tied_equal}
+use Rattle.s3_records.proofs.MapLemmas.{get-put_here}
 
 -- a write at one key leaves what is at another
 not_tied : (q k : List ℕ) → q ≢ k → eq_by_cmp byte_order q k ≡ false

@@ -9,7 +9,6 @@ use s3_segments::Body;
 use s3_store::{Answer, Object, Outcome};
 use s3_terms::Code;
 use std::alloc::{AllocError, Global};
-use std::test::Fail;
 
 /// 2013-05-24T00:00:00Z.
 const MOMENT: u64 = 1_369_353_600;
@@ -20,7 +19,7 @@ const HELLO: [u8; 16] = [
 ];
 
 /// Each status line, and the codes that are answered with it.
-const STATUSES: &[(&str, &[Code])] = &[
+static STATUSES: [(&str, &[Code]); 10] = [
     (
         "400 Bad Request",
         &[
@@ -94,7 +93,9 @@ const GET_REPLY: &[u8] = b"HTTP/1.1 200 OK\r\n\
 
 /// The moment, whether the message is a HEAD that ends its connection, whether a delete marker stands
 /// under the key, and the refusal of a missing key.
-const REFUSALS: &[(u64, bool, bool, &[u8])] = &[
+type Refused = (u64, bool, bool, &'static [u8]);
+
+static REFUSALS: [Refused; 3] = [
     (
         MOMENT,
         false,
@@ -134,34 +135,32 @@ const REFUSALS: &[(u64, bool, bool, &[u8])] = &[
     ),
 ];
 
-fn context_at(moment: u64, head_only: bool, closes: bool) -> Result<Context, Fail> {
-    let moment = Moment::new(moment).ok_or("no moment")?;
-    Ok(Context {
-        moment,
-        head_only,
-        closes,
-    })
-}
-
-/// What is sent for an answer: its head, and behind it the bytes of an object.
-fn sent(alloc: Global, answer: &Answer, context: &Context) -> Result<Vec<u8>, AllocError> {
-    let mut output = head_of(answer, context).as_slice().to_vec(alloc)?;
-    if let Outcome::Got { object } = &answer.outcome {
-        output.extend_from_slice(object.body.as_slice())?;
+fn context_at(moment: u64, head_only: bool, closes: bool) -> Option<Context> {
+    match Moment::new(moment) {
+        Some(moment) => Some(Context {
+            moment,
+            head_only,
+            closes,
+        }),
+        None => None,
     }
-    Ok(output)
 }
 
-/// A command's answer of this number and what came of the command is sent as these bytes.
-fn is_sent(
-    alloc: Global,
-    number: u64,
-    outcome: Outcome,
-    context: &Context,
-    bytes: &[u8],
-) -> Result<bool, AllocError> {
-    let answer = Answer { number, outcome };
-    Ok(sent(alloc, &answer, context)?.as_slice() == bytes)
+/// The bytes of an object, which are sent behind the head.
+fn body_of(outcome: &Outcome) -> &[u8] {
+    match outcome {
+        Outcome::Got { object } => object.body.as_slice(),
+        Outcome::Put { .. } | Outcome::Refused { .. } => b"",
+    }
+}
+
+/// Whether an answer is sent as these bytes: its head, and behind it the bytes of an object.
+fn is_sent(answer: &Answer, context: &Context, bytes: &[u8]) -> bool {
+    let head = head_of(answer, context);
+    match bytes.strip_prefix(head.as_slice()) {
+        Some(rest) => rest == body_of(&answer.outcome),
+        None => false,
+    }
 }
 
 fn put_of_hello() -> Outcome {
@@ -176,68 +175,80 @@ fn get_of_hello(alloc: Global, moment: Moment) -> Result<Outcome, AllocError> {
     Ok(Outcome::Got { object })
 }
 
-fn put_is_sent(alloc: Global, bytes: &[u8]) -> Result<bool, Fail> {
-    let context = context_at(MOMENT, false, false)?;
-    Ok(is_sent(alloc, 0, put_of_hello(), &context, bytes)?)
-}
-
-fn get_is_sent(alloc: Global, bytes: &[u8]) -> Result<bool, Fail> {
-    let context = context_at(MOMENT, false, false)?;
-    let got = get_of_hello(alloc, context.moment)?;
-    Ok(is_sent(alloc, 1, got, &context, bytes)?)
-}
-
-#[test]
-fn put_and_get_hello(rt: HostRuntime) -> Result<(), Fail> {
-    assert!(rt; put_is_sent(rt.alloc(), PUT_REPLY)?);
-    assert!(rt; get_is_sent(rt.alloc(), GET_REPLY)?);
-    Ok(())
-}
-
-/// A missing key, or one with a delete marker, is refused at this moment, to a HEAD that ends its
-/// connection or to another message that does not, with these bytes.
-fn is_refused(
-    alloc: Global,
-    moment: u64,
-    is_last_head: bool,
-    is_delete_marker: bool,
-    bytes: &[u8],
-) -> Result<bool, Fail> {
-    let context = context_at(moment, is_last_head, is_last_head)?;
-    let outcome = Outcome::Refused {
-        code: Code::NoSuchKey,
-        is_delete_marker,
+fn is_put_sent(context: &Context) -> bool {
+    let answer = Answer {
+        number: 0,
+        outcome: put_of_hello(),
     };
-    Ok(is_sent(alloc, 255, outcome, &context, bytes)?)
+    is_sent(&answer, context, PUT_REPLY)
 }
 
-#[test]
-fn refusals_of_the_store(rt: HostRuntime) -> Result<(), Fail> {
-    for (moment, is_last_head, is_delete_marker, bytes) in REFUSALS {
-        assert!(rt; is_refused(rt.alloc(), *moment, *is_last_head, *is_delete_marker, bytes)?);
+fn is_got_sent(outcome: Outcome, context: &Context) -> bool {
+    let answer = Answer { number: 1, outcome };
+    is_sent(&answer, context, GET_REPLY)
+}
+
+fn is_get_sent(alloc: Global, context: &Context) -> bool {
+    match get_of_hello(alloc, context.moment) {
+        Ok(outcome) => is_got_sent(outcome, context),
+        Err(_) => false,
     }
-    Ok(())
+}
+
+/// Whether the answers to a put and a get of `hello` are sent so.
+fn are_sent(alloc: Global) -> bool {
+    match context_at(MOMENT, false, false) {
+        Some(context) => is_put_sent(&context) && is_get_sent(alloc, &context),
+        None => false,
+    }
 }
 
 #[test]
-fn malformed_head(rt: HostRuntime) -> Result<(), Fail> {
-    let moment = Moment::new(MOMENT).ok_or("no moment")?;
-    assert_eq!(rt;
-        refusal(Code::MalformedHead, moment, false).as_slice(),
-        b"HTTP/1.1 400 Bad Request\r\n\
-        Date: Fri, 24 May 2013 00:00:00 GMT\r\n\
-        Connection: close\r\n\
-        x-amz-request-id: 0000000000000000\r\n\
-        Content-Type: application/json\r\n\
-        Content-Length: 59\r\n\
-        \r\n\
-        {\"Code\":\"MalformedHead\",\"Message\":\"The head is malformed.\"}"
-            .as_slice()
-    );
-    Ok(())
+fn put_and_get_hello(rt: HostRuntime) {
+    assert!(rt; are_sent(rt.alloc()));
 }
 
-/// The refusal with the code starts with the version and then this status.
+/// Whether a missing key, or one with a delete marker, is refused at this moment, to a HEAD that ends its
+/// connection or to another message that does not, with these bytes.
+fn is_refused(case: &Refused) -> bool {
+    let (moment, is_last_head, is_delete_marker, bytes) = case;
+    let answer = Answer {
+        number: 255,
+        outcome: Outcome::Refused {
+            code: Code::NoSuchKey,
+            is_delete_marker: *is_delete_marker,
+        },
+    };
+    match context_at(*moment, *is_last_head, *is_last_head) {
+        Some(context) => is_sent(&answer, &context, bytes),
+        None => false,
+    }
+}
+
+fn are_all_refused(cases: &[Refused]) -> bool {
+    for case in cases {
+        if !is_refused(case) {
+            return false;
+        }
+    }
+    true
+}
+
+#[test]
+fn refusals_of_the_store(rt: HostRuntime) {
+    assert!(rt; are_all_refused(&REFUSALS));
+}
+
+const MALFORMED: &[u8] = b"HTTP/1.1 400 Bad Request\r\n\
+    Date: Fri, 24 May 2013 00:00:00 GMT\r\n\
+    Connection: close\r\n\
+    x-amz-request-id: 0000000000000000\r\n\
+    Content-Type: application/json\r\n\
+    Content-Length: 59\r\n\
+    \r\n\
+    {\"Code\":\"MalformedHead\",\"Message\":\"The head is malformed.\"}";
+
+/// Whether the refusal with the code starts with the version and then this status.
 fn has_status(code: Code, status: &str, moment: Moment) -> bool {
     let reply = refusal(code, moment, true);
     match reply.as_slice().get(9..) {
@@ -247,26 +258,46 @@ fn has_status(code: Code, status: &str, moment: Moment) -> bool {
 }
 
 fn have_status(codes: &[Code], status: &str, moment: Moment) -> bool {
-    codes.iter().all(|code| has_status(*code, status, moment))
+    for code in codes {
+        if !has_status(*code, status, moment) {
+            return false;
+        }
+    }
+    true
 }
 
-#[test]
-fn status_lines(rt: HostRuntime) -> Result<(), Fail> {
-    let moment = Moment::new(MOMENT).ok_or("no moment")?;
-    for (status, codes) in STATUSES {
-        assert!(rt; have_status(codes, status, moment), "{status}");
+fn all_have_status(statuses: &[(&str, &[Code])], moment: Moment) -> bool {
+    for case in statuses {
+        if !have_status(case.1, case.0, moment) {
+            return false;
+        }
     }
-    Ok(())
+    true
 }
+
+fn are_refused(seconds: u64) -> bool {
+    match Moment::new(seconds) {
+        Some(moment) => {
+            refusal(Code::MalformedHead, moment, false).as_slice() == MALFORMED
+                && all_have_status(&STATUSES, moment)
+        }
+        None => false,
+    }
+}
+
+// The bytes of one, and the status lines of all.
+#[test]
+fn refusals_of_connections(rt: HostRuntime) {
+    assert!(rt; are_refused(MOMENT));
+}
+
+const EXPECTED: &[u8] =
+    b"HTTP/1.1 500 Internal Server Error\r\nConnection: close\r\nContent-Length: 0\r\n\
+    x-amz-request-id: 0000000000000000\r\n\r\n";
 
 #[test]
 fn internal_error_bytes(rt: HostRuntime) {
-    let expected =
-        "HTTP/1.1 500 Internal Server Error\r\nConnection: close\r\nContent-Length: 0\r\n\
-        x-amz-request-id: 0000000000000000\r\n\r\n";
-    for reply in [internal_error_reply(), INTERNAL_ERROR] {
-        assert_eq!(rt; reply, expected.as_bytes());
-    }
+    assert!(rt; internal_error_reply() == EXPECTED && INTERNAL_ERROR == EXPECTED);
     replies_are_unique();
     refusals_are_unique();
     replies_show_what_came();

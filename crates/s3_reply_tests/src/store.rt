@@ -7,7 +7,6 @@ use s3_segments::{Body, Payload};
 use s3_store::{Answer, Object, Outcome, Store};
 use s3_terms::Code;
 use std::alloc::Global;
-use std::test::Fail;
 
 /// A command.
 #[derive(Clone, Copy)]
@@ -113,31 +112,49 @@ fn answer_to(
     store: &mut Store,
     number: u64,
     asked: Asked,
-    seconds: u64,
-) -> Result<Answer, Fail> {
-    let moment = Moment::new(seconds).ok_or("no moment")?;
+    moment: Moment,
+) -> Result<Answer, Code> {
     let command = command_of(alloc, asked)?;
     Ok(store.apply(alloc, LEAST_PART, command, moment, number)?)
 }
 
-fn is_right(alloc: Global, store: &mut Store, number: u64, step: Step) -> Result<bool, Fail> {
-    let (asked, seconds, expected) = step;
-    let answer = answer_to(alloc, store, number, asked, seconds)?;
-    Ok(answer.number == number && is_outcome(&answer.outcome, expected))
-}
-
-/// The first step, from 0, of which something else comes, in a store with the buckets `pail` and `vat`.
-fn first_wrong(alloc: Global, steps: &[Step]) -> Result<Option<usize>, Fail> {
-    let mut store = opened(alloc)?;
-    for (at, step) in steps.iter().enumerate() {
-        if !is_right(alloc, &mut store, at as u64, *step)? {
-            return Ok(Some(at));
-        }
+/// Whether this comes of a command, under its number.
+fn is_answered(alloc: Global, store: &mut Store, number: u64, step: &Step, moment: Moment) -> bool {
+    match answer_to(alloc, store, number, step.0, moment) {
+        Ok(answer) => answer.number == number && is_outcome(&answer.outcome, step.2),
+        Err(_) => false,
     }
-    Ok(None)
 }
 
-const ONE_OBJECT: &[Step] = &[
+fn is_right(alloc: Global, store: &mut Store, number: u64, step: &Step) -> bool {
+    match Moment::new(step.1) {
+        Some(moment) => is_answered(alloc, store, number, step, moment),
+        None => false,
+    }
+}
+
+/// Whether the steps, numbered from 0, come to what they have to.
+fn are_right(alloc: Global, store: &mut Store, steps: &[Step]) -> bool {
+    let mut number = 0_u64;
+    for step in steps {
+        if !is_right(alloc, store, number, step) {
+            return false;
+        }
+        number = number.saturating_add(1);
+    }
+    true
+}
+
+/// Whether they do in a store with the buckets `pail` and `vat`.
+fn are_right_from_nothing(alloc: Global, steps: &[Step]) -> bool {
+    match opened(alloc) {
+        Ok(mut store) => are_right(alloc, &mut store, steps),
+        Err(_) => false,
+    }
+}
+
+/// A put object is got.
+static ONE_OBJECT: [Step; 2] = [
     (
         Asked::Put(b"pail", b"k", b"hello"),
         NOW,
@@ -150,13 +167,8 @@ const ONE_OBJECT: &[Step] = &[
     ),
 ];
 
-#[test]
-fn a_put_object_is_got(rt: HostRuntime) -> Result<(), Fail> {
-    assert_eq!(rt; first_wrong(rt.alloc(), ONE_OBJECT)?, None);
-    Ok(())
-}
-
-const THREE_OBJECTS: &[Step] = &[
+/// A put replaces its key alone.
+static THREE_OBJECTS: [Step; 5] = [
     (
         Asked::Put(b"pail", b"k", b"one"),
         NOW,
@@ -184,13 +196,8 @@ const THREE_OBJECTS: &[Step] = &[
     ),
 ];
 
-#[test]
-fn a_put_replaces_its_key_alone(rt: HostRuntime) -> Result<(), Fail> {
-    assert_eq!(rt; first_wrong(rt.alloc(), THREE_OBJECTS)?, None);
-    Ok(())
-}
-
-const NO_OBJECTS: &[Step] = &[
+/// What is absent is refused.
+static NO_OBJECTS: [Step; 3] = [
     (
         Asked::Get(b"pail", b"k"),
         NOW,
@@ -209,7 +216,10 @@ const NO_OBJECTS: &[Step] = &[
 ];
 
 #[test]
-fn what_is_absent_is_refused(rt: HostRuntime) -> Result<(), Fail> {
-    assert_eq!(rt; first_wrong(rt.alloc(), NO_OBJECTS)?, None);
-    Ok(())
+fn scenarios(rt: HostRuntime) {
+    assert!(rt;
+        are_right_from_nothing(rt.alloc(), &ONE_OBJECT)
+            && are_right_from_nothing(rt.alloc(), &THREE_OBJECTS)
+            && are_right_from_nothing(rt.alloc(), &NO_OBJECTS)
+    );
 }

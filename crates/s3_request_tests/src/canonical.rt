@@ -18,12 +18,20 @@ fn is(answer: Result<Vec<u8>, Code>, expected: Result<&[u8], Code>) -> bool {
 // The canonical URI of a target.
 fn uri_of(alloc: Global, target: &[u8]) -> Result<Vec<u8>, Code> {
     let head = head_of(alloc, target)?;
+    uri_in(alloc, &head)
+}
+
+fn uri_in(alloc: Global, head: &Head) -> Result<Vec<u8>, Code> {
     uri(alloc, head.decoded_target()?)
 }
 
 // The canonical query of a target.
 fn query_of(alloc: Global, target: &[u8]) -> Result<Vec<u8>, Code> {
     let head = head_of(alloc, target)?;
+    query_in(alloc, &head)
+}
+
+fn query_in(alloc: Global, head: &Head) -> Result<Vec<u8>, Code> {
     query(alloc, head.decoded_target()?)
 }
 
@@ -33,13 +41,6 @@ static PATHS: [(&[u8], Expected); 4] = [
     (b"/pail/%4a", Ok(b"/pail/J")),
     (b"pail", Err(Code::InvalidURI)),
 ];
-
-#[test]
-fn paths(rt: HostRuntime) {
-    for (target, expected) in &PATHS {
-        assert!(rt; is(uri_of(rt.alloc(), target), *expected));
-    }
-}
 
 static QUERIES: [(&[u8], Expected); 7] = [
     (b"/pail?a=%4g", Err(Code::InvalidURI)),
@@ -52,23 +53,30 @@ static QUERIES: [(&[u8], Expected); 7] = [
 ];
 
 #[test]
-fn queries(rt: HostRuntime) {
-    for (target, expected) in &QUERIES {
-        assert!(rt; is(query_of(rt.alloc(), target), *expected));
+fn paths_and_queries(rt: HostRuntime) {
+    for case in &PATHS {
+        assert!(rt; is(uri_of(rt.alloc(), case.0), case.1));
+    }
+    for case in &QUERIES {
+        assert!(rt; is(query_of(rt.alloc(), case.0), case.1));
     }
 }
 
-// The lines of these names in a head.
-fn lines_of(alloc: Global, text: &[u8], names: &[u8]) -> Result<Vec<u8>, Code> {
-    let head = Head::read(alloc, text)?;
-    Ok(headers(alloc, &head, names)?)
+const META: &[u8] = b"GET / HTTP/1.1\r\nx-amz-meta-a: 1  2\r\nX-Amz-Meta-A:  3 \r\nhost: a\r\n\r\n";
+
+// Whether the values of one name are joined, and a name that is not there has none.
+fn has_joined(alloc: Global, head: &Head) -> bool {
+    match headers(alloc, head, b"absent;x-amz-meta-a") {
+        Ok(lines) => lines.as_slice() == b"absent:\nx-amz-meta-a:1 2,3\n".as_slice(),
+        Err(_) => false,
+    }
 }
 
-#[test]
-fn values_of_one_name(rt: HostRuntime) {
-    let text = b"GET / HTTP/1.1\r\nx-amz-meta-a: 1  2\r\nX-Amz-Meta-A:  3 \r\nhost: a\r\n\r\n";
-    let lines = lines_of(rt.alloc(), text, b"absent;x-amz-meta-a");
-    assert!(rt; is(lines, Ok(b"absent:\nx-amz-meta-a:1 2,3\n")));
+fn are_joined(alloc: Global) -> bool {
+    match Head::read(alloc, META) {
+        Ok(head) => has_joined(alloc, &head),
+        Err(_) => false,
+    }
 }
 
 // The hash of a head's canonical request.
@@ -92,6 +100,6 @@ static HASH: [u8; 32] = [
 // The example of a GET in "Signature Calculations for the Authorization Header" of the Amazon S3 API
 // Reference.
 #[test]
-fn published_get(rt: HostRuntime) {
-    assert!(rt; hash_of(rt.alloc(), GET, NAMES, WORD) == Ok(HASH));
+fn published_get_and_values_of_one_name(rt: HostRuntime) {
+    assert!(rt; hash_of(rt.alloc(), GET, NAMES, WORD) == Ok(HASH) && are_joined(rt.alloc()));
 }

@@ -3,24 +3,32 @@ use crate::texts::repeated;
 use s3_http_heads::{Found, Head, find_head, framing, skipped};
 use s3_terms::Code;
 use std::alloc::Global;
-use std::process::Abort;
 
-// How many lines are read of a head with that many.
-fn lines_read(alloc: Global, count: usize) -> Result<usize, Code> {
-    let text = repeated(
+// Whether this comes of reading a head with that many lines: how many there are, or why it cannot be read.
+fn are_read(alloc: Global, count: usize, wanted: Result<usize, Code>) -> bool {
+    match repeated(
         alloc,
         b"GET /pail/k HTTP/1.1\r\n",
         b"a: b\r\n",
         count,
         b"\r\n",
-    )?;
-    Ok(Head::read(alloc, &text)?.header_count())
+    ) {
+        Ok(text) => lines_read(alloc, &text) == wanted,
+        Err(_) => false,
+    }
 }
 
-// What is found in that many letters with this end.
-fn found(alloc: Global, count: usize, end: &[u8]) -> Result<Found, Code> {
-    let text = repeated(alloc, b"", b"A", count, end)?;
-    Ok(find_head(&text))
+// How many lines are read of this head.
+fn lines_read(alloc: Global, text: &[u8]) -> Result<usize, Code> {
+    Ok(Head::read(alloc, text)?.header_count())
+}
+
+// Whether this is found in that many letters with this end.
+fn is_found(alloc: Global, case: &(usize, &[u8], Found)) -> bool {
+    match repeated(alloc, b"", b"A", case.0, case.1) {
+        Ok(text) => find_head(&text) == case.2,
+        Err(_) => false,
+    }
 }
 
 // A head's text, and whether the connection ends with the reply to it or why it cannot be read.
@@ -31,25 +39,6 @@ fn closes(alloc: Global, text: &[u8]) -> Result<bool, Code> {
     Ok(Head::read(alloc, text)?.closes())
 }
 
-fn expect_closes(rt: &impl Abort, alloc: Global, cases: &[Close]) {
-    for (text, wanted) in cases {
-        assert!(rt; closes(alloc, text) == *wanted);
-    }
-}
-
-static MALFORMED: [Close; 2] = [
-    (
-        b"GET /pail/k HTTP/1.1\r\nBad Name: x\r\n\r\n",
-        Err(Code::MalformedHead),
-    ),
-    (
-        b"GET / HTTP/1.1\r\n\r\nGET / HTTP/1.1\r\n\r\n",
-        Err(Code::MalformedHead),
-    ),
-];
-
-static COUNTS: [(usize, Result<usize, Code>); 2] = [(64, Ok(64)), (65, Err(Code::MalformedHead))];
-
 static SIZES: [(usize, &[u8], Found); 4] = [
     (16_383, b"", Found::NeedMore),
     (16_384, b"", Found::TooLarge),
@@ -58,14 +47,13 @@ static SIZES: [(usize, &[u8], Found); 4] = [
 ];
 
 #[test]
-fn malformed_and_large_heads(rt: HostRuntime) {
-    expect_closes(&rt, rt.alloc(), &MALFORMED);
-    for (count, wanted) in &COUNTS {
-        assert!(rt; lines_read(rt.alloc(), *count) == *wanted);
+fn large_heads(rt: HostRuntime) {
+    for case in &SIZES {
+        assert!(rt; is_found(rt.alloc(), case));
     }
-    for (count, end, wanted) in &SIZES {
-        assert!(rt; found(rt.alloc(), *count, end) == Ok(*wanted));
-    }
+    assert!(rt;
+        are_read(rt.alloc(), 64, Ok(64)) && are_read(rt.alloc(), 65, Err(Code::MalformedHead))
+    );
 }
 
 static FOUND: [(&[u8], Found); 4] = [
@@ -77,19 +65,31 @@ static FOUND: [(&[u8], Found); 4] = [
 
 #[test]
 fn leading_pairs_are_skipped(rt: HostRuntime) {
+    for case in &FOUND {
+        assert!(rt; find_head(case.0) == case.1);
+    }
     assert!(rt; skipped(b"\r\n\r\nGET / HTTP/1.1\r\n\r\n") == 4);
-    for (text, wanted) in &FOUND {
-        assert!(rt; find_head(text) == *wanted);
+}
+
+// A request line with header lines, and what `framing` says of it at a limit of 100 bytes.
+type Length = (&'static [u8], Result<u64, Code>);
+
+// Whether `framing` says this of a head's text.
+fn is_framing(alloc: Global, text: &[u8], wanted: Result<u64, Code>) -> bool {
+    match Head::read(alloc, text) {
+        Ok(head) => framing(&head, 100) == wanted,
+        Err(_) => false,
     }
 }
 
-// What `framing` says of a request line and header lines, at a limit of 100 bytes.
-fn framing_at_100(alloc: Global, front: &[u8]) -> Result<u64, Code> {
-    let text = [front, b"\r\n"].concat(alloc)?;
-    framing(&Head::read(alloc, &text)?, 100)
+fn is_framed(alloc: Global, case: &Length) -> bool {
+    match [case.0, b"\r\n"].concat(alloc) {
+        Ok(text) => is_framing(alloc, &text, case.1),
+        Err(_) => false,
+    }
 }
 
-static LENGTHS: [(&[u8], Result<u64, Code>); 17] = [
+static LENGTHS: [Length; 17] = [
     (b"GET / HTTP/1.1\r\n", Ok(0)),
     (b"GET / HTTP/1.1\r\ncontent-LENGTH:5\r\n", Ok(5)),
     (b"GET / HTTP/1.1\r\nContent-Length:  5 \r\n", Ok(5)),
@@ -139,14 +139,22 @@ static LENGTHS: [(&[u8], Result<u64, Code>); 17] = [
     (b"PUT /pail/k HTTP/1.1\r\nContent-Length: 0\r\n", Ok(0)),
 ];
 
-#[test]
-fn content_lengths(rt: HostRuntime) {
-    for (text, wanted) in &LENGTHS {
-        assert!(rt; framing_at_100(rt.alloc(), text) == *wanted);
+// Whether `framing` says this of all cases.
+fn are_framed(alloc: Global, cases: &[Length]) -> bool {
+    for case in cases {
+        if !is_framed(alloc, case) {
+            return false;
+        }
     }
+    true
 }
 
-static CONNECTIONS: [Close; 6] = [
+#[test]
+fn content_lengths(rt: HostRuntime) {
+    assert!(rt; are_framed(rt.alloc(), &LENGTHS));
+}
+
+static CONNECTIONS: [Close; 8] = [
     (b"GET / HTTP/1.0\r\n\r\n", Ok(true)),
     (b"GET / HTTP/1.1\r\n\r\n", Ok(false)),
     (
@@ -162,11 +170,30 @@ static CONNECTIONS: [Close; 6] = [
         Ok(false),
     ),
     (b"GET / HTTP/1.1\r\nClose: close\r\n\r\n", Ok(false)),
+    // Malformed heads.
+    (
+        b"GET /pail/k HTTP/1.1\r\nBad Name: x\r\n\r\n",
+        Err(Code::MalformedHead),
+    ),
+    (
+        b"GET / HTTP/1.1\r\n\r\nGET / HTTP/1.1\r\n\r\n",
+        Err(Code::MalformedHead),
+    ),
 ];
+
+// Whether that comes of all cases.
+fn are_closed(alloc: Global, cases: &[Close]) -> bool {
+    for case in cases {
+        if closes(alloc, case.0) != case.1 {
+            return false;
+        }
+    }
+    true
+}
 
 #[test]
 fn connections_close(rt: HostRuntime) {
-    expect_closes(&rt, rt.alloc(), &CONNECTIONS);
+    assert!(rt; are_closed(rt.alloc(), &CONNECTIONS));
 }
 
 // Whether the first line is cut into its parts.
@@ -187,14 +214,16 @@ fn has_lines(head: &Head) -> bool {
         && head.is_sent(b"host")
 }
 
-// Whether a head's first line is right, and whether its header lines are.
-fn parts(alloc: Global, text: &[u8]) -> Result<(bool, bool), Code> {
-    let head = Head::read(alloc, text)?;
-    Ok((has_first_line(&head), has_lines(&head)))
+// Whether the first line of a head's text is right, and its header lines are.
+fn has_parts(alloc: Global, text: &[u8]) -> bool {
+    match Head::read(alloc, text) {
+        Ok(head) => has_first_line(&head) && has_lines(&head),
+        Err(_) => false,
+    }
 }
 
 #[test]
 fn parts_of_a_head(rt: HostRuntime) {
     let text = b"HEAD /pail/k?a=b?c HTTP/1.1\r\nHost:  h \r\nX-A: 1\r\nx-a: 2\r\n\r\n";
-    assert!(rt; parts(rt.alloc(), text) == Ok((true, true)));
+    assert!(rt; has_parts(rt.alloc(), text));
 }

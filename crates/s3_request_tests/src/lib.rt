@@ -9,6 +9,8 @@ mod heads;
 #[cfg(test)]
 mod routing;
 #[cfg(test)]
+mod search;
+#[cfg(test)]
 mod targets;
 #[cfg(test)]
 mod texts;

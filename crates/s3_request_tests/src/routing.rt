@@ -4,7 +4,6 @@ use s3_http_heads::Head;
 use s3_requests::{Plan, route};
 use s3_terms::Code;
 use std::alloc::Global;
-use std::process::Abort;
 
 // A method, a target, and the refusal of the request if there is one.
 type Case = (&'static [u8], &'static [u8], Option<Code>);
@@ -20,17 +19,17 @@ fn refusal(alloc: Global, text: &[u8]) -> Option<Code> {
     planned(alloc, text).err()
 }
 
-// The refusal of a method on a target, if there is one.
-fn refusal_at(alloc: Global, method: &[u8], target: &[u8]) -> Result<Option<Code>, Code> {
-    let text = [method, b" ", target, b" HTTP/1.1\r\n\r\n"].concat(alloc)?;
-    Ok(refusal(alloc, &text))
-}
-
-fn expect_refusals(rt: &impl Abort, alloc: Global, cases: &[Case]) {
-    for (method, target, code) in cases {
-        assert!(rt; refusal_at(alloc, method, target) == Ok(*code));
+// Whether the method on the target is refused so, if at all.
+fn is_refused(alloc: Global, case: &Case) -> bool {
+    match [case.0, b" ", case.1, b" HTTP/1.1\r\n\r\n"].concat(alloc) {
+        Ok(text) => refusal(alloc, &text) == case.2,
+        Err(_) => false,
     }
 }
+
+const LACKS: Option<Code> = Some(Code::NotImplemented);
+
+const NEVER: Option<Code> = Some(Code::MethodNotAllowed);
 
 static REFUSED: [Case; 13] = [
     (b"GET", b"/", Some(Code::NotImplemented)),
@@ -48,15 +47,7 @@ static REFUSED: [Case; 13] = [
     (b"get", b"/pail/k", Some(Code::MethodNotAllowed)),
 ];
 
-#[test]
-fn refusals_of_routing(rt: HostRuntime) {
-    expect_refusals(&rt, rt.alloc(), &REFUSED);
-}
-
-const LACKS: Option<Code> = Some(Code::NotImplemented);
-
-const NEVER: Option<Code> = Some(Code::MethodNotAllowed);
-
+// Every method on the service, a bucket and a key.
 static METHODS: [Case; 18] = [
     (b"GET", b"/", LACKS),
     (b"GET", b"/pail", LACKS),
@@ -78,11 +69,7 @@ static METHODS: [Case; 18] = [
     (b"OPTIONS", b"/pail/k", NEVER),
 ];
 
-#[test]
-fn every_method_on_the_service_a_bucket_and_a_key(rt: HostRuntime) {
-    expect_refusals(&rt, rt.alloc(), &METHODS);
-}
-
+// The first fault refuses.
 static FAULTS: [Case; 6] = [
     (b"PUT", b"/?acl", Some(Code::NotImplemented)),
     (b"GET", b"/Pail/%ff?acl", Some(Code::NotImplemented)),
@@ -92,24 +79,39 @@ static FAULTS: [Case; 6] = [
     (b"OPTIONS", b"/pail/%ff", Some(Code::InvalidURI)),
 ];
 
+// Whether all cases are refused so, if at all.
+fn are_refused(alloc: Global, cases: &[Case]) -> bool {
+    for case in cases {
+        if !is_refused(alloc, case) {
+            return false;
+        }
+    }
+    true
+}
+
 #[test]
-fn the_first_fault_refuses(rt: HostRuntime) {
-    expect_refusals(&rt, rt.alloc(), &FAULTS);
+fn refusals_of_routing(rt: HostRuntime) {
+    assert!(rt;
+        are_refused(rt.alloc(), &REFUSED)
+            && are_refused(rt.alloc(), &METHODS)
+            && are_refused(rt.alloc(), &FAULTS)
+    );
 }
 
-// The refusal of a GET of a key of that many bytes, if there is one.
-fn refusal_of_key(alloc: Global, length: usize) -> Result<Option<Code>, Code> {
-    let text = repeated(alloc, b"GET /pail/", b"k", length, b" HTTP/1.1\r\n\r\n")?;
-    Ok(refusal(alloc, &text))
+// Whether a GET of a key of that many bytes is refused so, if at all.
+fn is_key_refused(alloc: Global, length: usize, code: Option<Code>) -> bool {
+    match repeated(alloc, b"GET /pail/", b"k", length, b" HTTP/1.1\r\n\r\n") {
+        Ok(text) => refusal(alloc, &text) == code,
+        Err(_) => false,
+    }
 }
-
-static LENGTHS: [(usize, Option<Code>); 2] = [(1_024, None), (1_025, Some(Code::KeyTooLongError))];
 
 #[test]
 fn the_longest_key(rt: HostRuntime) {
-    for (length, code) in &LENGTHS {
-        assert!(rt; refusal_of_key(rt.alloc(), *length) == Ok(*code));
-    }
+    assert!(rt;
+        is_key_refused(rt.alloc(), 1_024, None)
+            && is_key_refused(rt.alloc(), 1_025, Some(Code::KeyTooLongError))
+    );
 }
 
 // Whether the plan is to put, or else to get, this key in this bucket.
@@ -125,27 +127,30 @@ fn is_plan(plan: &Plan, puts: bool, name: &[u8], text: &[u8]) -> bool {
 }
 
 // Whether a head's text asks to put, or else to get, this key in this bucket.
-fn asks(alloc: Global, text: &[u8], puts: bool, name: &[u8], key: &[u8]) -> Result<bool, Code> {
-    let plan = planned(alloc, text)?;
-    Ok(is_plan(&plan, puts, name, key))
+fn asks(alloc: Global, text: &[u8], puts: bool, name: &[u8], key: &[u8]) -> bool {
+    match planned(alloc, text) {
+        Ok(plan) => is_plan(&plan, puts, name, key),
+        Err(_) => false,
+    }
 }
 
+// A key has slashes and escapes; a bucket has escapes, and a query may be empty.
 #[test]
-fn a_key_has_slashes_and_escapes(rt: HostRuntime) {
-    let text = b"GET /pail/a%2Fb/c+%20 HTTP/1.1\r\n\r\n";
-    assert!(rt; asks(rt.alloc(), text, false, b"pail", b"a/b/c+ ") == Ok(true));
-}
-
-#[test]
-fn a_bucket_has_escapes_and_a_query_may_be_empty(rt: HostRuntime) {
-    let text = b"PUT /p%61il/k? HTTP/1.1\r\n\r\n";
-    assert!(rt; asks(rt.alloc(), text, true, b"pail", b"k") == Ok(true));
+fn names_with_escapes(rt: HostRuntime) {
+    let get = b"GET /pail/a%2Fb/c+%20 HTTP/1.1\r\n\r\n";
+    let put = b"PUT /p%61il/k? HTTP/1.1\r\n\r\n";
+    assert!(rt;
+        asks(rt.alloc(), get, false, b"pail", b"a/b/c+ ")
+            && asks(rt.alloc(), put, true, b"pail", b"k")
+    );
 }
 
 #[test]
 fn a_copy_source_is_for_puts_alone(rt: HostRuntime) {
-    let text = b"PUT /pail/k HTTP/1.1\r\nX-Amz-Copy-Source: /pail/j\r\n\r\n";
-    assert!(rt; refusal(rt.alloc(), text) == Some(Code::NotImplemented));
-    let text = b"GET /pail/k HTTP/1.1\r\nX-Amz-Copy-Source: /pail/j\r\n\r\n";
-    assert!(rt; asks(rt.alloc(), text, false, b"pail", b"k") == Ok(true));
+    let put = b"PUT /pail/k HTTP/1.1\r\nX-Amz-Copy-Source: /pail/j\r\n\r\n";
+    let get = b"GET /pail/k HTTP/1.1\r\nX-Amz-Copy-Source: /pail/j\r\n\r\n";
+    assert!(rt;
+        refusal(rt.alloc(), put) == Some(Code::NotImplemented)
+            && asks(rt.alloc(), get, false, b"pail", b"k")
+    );
 }

@@ -1,7 +1,5 @@
 -- Where memory may run out: at a head, where something is decided.
-use Rattle.std.proofs.Common.{◌≢◌, ℕ, Bool, true, List, length, Result, Ok, Err, refl, ap, ◌∙◌, inl, inr}
-use Rattle.std.specs.Prelude.{nat_lt}
-use Rattle.std.proofs.lemmas.Bool.{cases_Bool}
+use Rattle.std.proofs.Common.{ℕ, Bool, true, List, Result, Ok, Err, ap, inl, inr}
 use Rattle.s3_config.specs.Settings.{Settings}
 use Rattle.s3_terms.specs.declared.code.Code.{Code}
 use Rattle.s3_http_heads.specs.Find.{found_in}
@@ -10,32 +8,25 @@ use Rattle.s3_http_heads.specs.declared.find.Found.TheVariants as found
 use Rattle.s3_http_heads.specs.Head.{HeadParts}
 use Rattle.s3_requests.specs.declared.commands.Command.{Command}
 use Rattle.s3_replies.specs.declared.context.Context.{Context}
-use Rattle.s3_requests.specs.declared.commands.Plan.{Plan}
-use Rattle.s3_session.specs.declared.verdict.Admission.{Admission}
 use Rattle.s3_session.specs.declared.verdict.Verdict.TheVariants as verdicts
-use Rattle.s3_session.specs.Admission.{admission_of}
-use Rattle.s3_session.specs.Decision.{Decision, Judges, FoundJudged, FoundHead, HoldsHead, open_yet, body_at, concluded, body_decision, admitted_decision, decision_of, behind_text}
+use Rattle.s3_aws_chunked.specs.Verdict as bodies
+use Rattle.s3_payloads.specs.Laws.{EndsDecide}
+use Rattle.s3_session.specs.Admission.{Asked, admission_of}
+use Rattle.s3_session.specs.Decision.{Decision, Judges, AskedJudged, FoundJudged, FoundHead, HoldsHead, open_yet, behind_text}
 
 -- where a head stands and no more bytes come, something is decided
-module _ (settings : Settings) (moment : ℕ) (bytes : List ℕ) where
-  cut_decided : (head : HeadParts) (plan : Plan) (cut : Result (List ℕ × List ℕ) Code) → open_yet ≢ concluded head moment plan cut
-  cut_decided head plan (Ok c) is = let same = ap (λ (d : Decision). d.0) is in absurd (cc)
-  cut_decided head plan (Err code) is = let same = ap (λ (d : Decision). d.0) is in absurd (cc)
-
-  body_decided : (head : HeadParts) (behind : List ℕ) (admitted : Result Admission Code) → open_yet ≢ admitted_decision head moment true behind admitted
-  unfolding body_decision
-  body_decided head behind (Err code) is = let same = ap (λ (d : Decision). d.0) is in absurd (cc)
-  body_decided head behind (Ok admission) is = elim (cases_Bool (nat_lt (length behind) admission.size)) [
-    | inl few ↦ cut_decided head admission.plan (body_at behind admission) (is ∙ rw few refl)
-    | inr whole ↦ cut_decided head admission.plan (body_at behind admission) (is ∙ rw whole refl)
-  ]
+module _ (decide : EndsDecide) (settings : Settings) (moment : ℕ) (bytes : List ℕ) where
+  asked_decided : (head : HeadParts) (behind : List ℕ) (rule : Result Asked Code) → ¬ (AskedJudged head moment true behind rule open_yet)
+  asked_decided head behind (Err code) is = let same = ap (λ (d : Decision). d.0) is in absurd (cc)
+  asked_decided head behind (Ok asked) (bodies.Open held, judged, is) = decide asked.announced behind (bodies.Open held) judged
+  asked_decided head behind (Ok asked) (bodies.Accepted payload, judged, is) = let same = ap (λ (d : Decision). d.0) is in absurd (cc)
+  asked_decided head behind (Ok asked) (bodies.Refused place code, judged, is) = let same = ap (λ (d : Decision). d.0) is in absurd (cc)
 
   found_decided : (f : Found) → FoundHead bytes f → ¬ (FoundJudged settings moment true bytes f open_yet)
-  unfolding decision_of
   found_decided found.NeedMore holds is = holds
   found_decided found.TooLarge holds is = holds
   found_decided (found.Head n) holds (inl unreadable) = holds unreadable.0
-  found_decided (found.Head n) holds (inr said) = body_decided said.0 (behind_text n bytes) (admission_of settings said.0 moment) said.2
+  found_decided (found.Head n) holds (inr said) = asked_decided said.0 (behind_text n bytes) (admission_of settings said.0 moment) said.2
 
   pub head_decided : HoldsHead bytes → ¬ (Judges settings moment true bytes open_yet)
   unfolding Judges HoldsHead

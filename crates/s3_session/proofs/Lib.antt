@@ -1,4 +1,3 @@
-pub mod WordLemmas
 pub mod EarlyLemmas
 pub mod ReplayLemmas
 pub mod StayLemmas

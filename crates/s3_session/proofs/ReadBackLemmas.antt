@@ -3,7 +3,6 @@ use Rattle.std.proofs.Common.{rules, ◌≡◌, ℕ, suc, Bool, true, false, not
 use Rattle.std.specs.List.{AllByRecursion}
 use Rattle.std.proofs.lemmas.List.{map-append}
 use Rattle.s3_requests.specs.declared.commands.Plan.{Plan}
-use Rattle.s3_requests.specs.declared.commands.Plan.TheVariants as plans
 use Rattle.s3_requests.specs.Routing.{command_of}
 use Rattle.s3_store.specs.declared.object.Object.{Object}
 use Rattle.s3_store.specs.Store.{State, opening, put_object}
@@ -13,7 +12,9 @@ use Rattle.s3_store.specs.Kept.{LeavesKey, Brought, PutsAreKept, OnlyPutsAreGive
 use Rattle.s3_replies.specs.Laws.{tells_success, SuccessIsShown, ObjectsAreCarried, TagsAreUnbroken}
 use Rattle.s3_session.specs.Output.{Exchange, IsAnswered}
 use Rattle.s3_session.specs.Replay.{entries_of}
-use Rattle.s3_session.specs.ReadBack.{LeavesAlone, LastWrote, PutsAreReadBack, OnlyPutsAreReadBack, BodiesAreBrought}
+use Rattle.s3_payloads.specs.Laws.{WholePayloadsAreBodies}
+use Rattle.s3_session.proofs.SoundLemmas.{admitted_length, one_count}
+use Rattle.s3_session.specs.ReadBack.{LeavesAlone, LastWrote, PutsAreReadBack, OnlyPutsAreReadBack, PayloadsAreBrought}
 
 -- what holds of all of two lists holds of all of each
 all_of_two : {X : Type 0} (P : X → Type 0) (xs ys : List X) → AllByRecursion P (xs ++ ys) → AllByRecursion P xs × AllByRecursion P ys
@@ -138,11 +139,14 @@ only_puts_are_read_back only or_refused success dead settings moment bytes out r
     last_wrote success address found.0 earlier last.before last.between last.write answered.0
     (split_at earlier last.before last.write last.between last.parts) last.brought last.leaves
 
--- ---- bodies
+-- ---- payloads
 
-planned_body : (plan : Plan) (came body : List ℕ) → brings (command_of plan came) ≡ Some body → body ≡ came
-planned_body plan came body is = search rules
+planned_payload : (plan : Plan) (came brought : List ℕ) → brings (command_of plan came) ≡ Some brought → brought ≡ came
+planned_payload plan came brought is = search rules
 
-pub bodies_are_brought : BodiesAreBrought
-bodies_are_brought settings moment bytes rest context command body sound is =
-    planned_body sound.admission.plan sound.body body (ap brings (sym sound.asked) ∙ is)
+pub payloads_are_brought : WholePayloadsAreBodies → PayloadsAreBrought
+payloads_are_brought law settings moment bytes rest context command brought sound is =
+    let same = planned_payload sound.asks.plan sound.payload brought (ap brings (sym sound.asked) ∙ is) in
+    let told = admitted_length settings sound.head moment sound.asks sound.admitted in
+    let size = one_count _ _ (sym sound.message.whole ∙ told) in
+    (same, λ sent. same ∙ law sound.asks.announced sound.body sound.payload false sent size sound.accepted)

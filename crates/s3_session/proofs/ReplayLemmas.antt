@@ -17,8 +17,8 @@ use Rattle.s3_session.specs.Output.{Exchange, message_of, IsAnswered, Finishes}
 use Rattle.s3_session.specs.Replay.{entries_of, replies_of, Replays}
 use Rattle.s3_session.specs.Turn.{answer_of, TakesStep, IsLonger, added, Turned}
 use Rattle.s3_session.specs.Laws.{OneVerdict}
+use Rattle.s3_session.specs.Laws.{SoundMessages}
 use Rattle.s3_session.proofs.StayLemmas.{IsExact}
-use Rattle.s3_session.proofs.SoundLemmas.{sound_is_message}
 use Rattle.s3_session.proofs.ShorterLemmas.{sound_shorter}
 
 if_false : (b : Bool) (P Q : Type 0) → b ≡ false → Q → MatchBool b P Q
@@ -98,14 +98,14 @@ module _ (settings : Settings) (moment : ℕ) (bytes rest out : List ℕ) (s : S
 
   -- one more message that is answered
   stands_on : (new : State) (context : Context) (after_it text : List ℕ) (left : Option (List ℕ))
-      → IsExact → StaysLegal → LeavesStep → Stands settings moment bytes s number (Some rest) out
+      → SoundMessages → StaysLegal → LeavesStep → Stands settings moment bytes s number (Some rest) out
       → TakesStep settings moment number rest s new context after_it text
       → MatchBool context.closes ((◌≡◌ {A = List Message} [] []) × (left ≡ None)) (left ≡ Some after_it)
       → Stands settings moment bytes new (number + 1) left (out ++ text)
-  stands_on new context after_it text left exact stays leaves h t behind =
+  stands_on new context after_it text left law stays leaves h t behind =
       let entry : Entry = record { command = t.command; moment = moment; answer = answer_of settings s moment number t.command } in
       let x : Exchange = record { context = context; entry = entry; reply = text } in
-      let sound = sound_is_message exact settings moment true rest after_it context t.command t.judged in
+      let sound = law settings moment true rest after_it context t.command t.judged in
       let right : IsAnswer settings.min_part (after settings.min_part (opening settings.buckets) (entries_of h.exchanges)) (0 + length (entries_of h.exchanges)) entry =
       rw (h.state, h.count, zero-add) refl in
       let entries = map_push (λ (y : Exchange). y.entry) h.exchanges x in
@@ -150,29 +150,29 @@ module _ (settings : Settings) (moment : ℕ) (bytes rest out : List ℕ) (s : S
       (finished settings moment bytes rest out s number true (Some rest) (added out longer) h (at_turn turns.Died is turned).1)
 
   module _ (context : Context) (after_it : Bor (List ℕ)) where
-    pub by_closed : IsExact → StaysLegal → LeavesStep → Stands settings moment bytes s number (Some rest) out → turn ≡ turns.Answered context after_it → IsLonger out longer
+    pub by_closed : SoundMessages → StaysLegal → LeavesStep → Stands settings moment bytes s number (Some rest) out → turn ≡ turns.Answered context after_it → IsLonger out longer
         → Turned settings moment number rest s new turn (added out longer) → context.closes ≡ true → Replays settings moment bytes longer
-    by_closed exact stays leaves h is grows turned closing =
-        let stands = stands_on settings moment bytes rest out s number new context after_it.now (added out longer) None exact stays leaves h
+    by_closed law stays leaves h is grows turned closing =
+        let stands = stands_on settings moment bytes rest out s number new context after_it.now (added out longer) None law stays leaves h
         (at_turn (turns.Answered context after_it) is turned) (rw closing (refl, refl)) in
         subst (Replays settings moment bytes) (append-nil _ ∙ sym grows)
         (finished settings moment bytes rest (out ++ added out longer) new (number + 1) false None [] stands refl)
 
-    pub by_answered : IsExact → StaysLegal → LeavesStep → Stands settings moment bytes s number (Some rest) out → turn ≡ turns.Answered context after_it → IsLonger out longer
+    pub by_answered : SoundMessages → StaysLegal → LeavesStep → Stands settings moment bytes s number (Some rest) out → turn ≡ turns.Answered context after_it → IsLonger out longer
         → Turned settings moment number rest s new turn (added out longer) → context.closes ≡ false
         → Stands settings moment bytes new (number + 1) (Some after_it.now) longer
-    by_answered exact stays leaves h is grows turned open_still =
+    by_answered law stays leaves h is grows turned open_still =
         subst (Stands settings moment bytes new (number + 1) (Some after_it.now)) (sym grows)
-        (stands_on settings moment bytes rest out s number new context after_it.now (added out longer) (Some after_it.now) exact stays leaves h
+        (stands_on settings moment bytes rest out s number new context after_it.now (added out longer) (Some after_it.now) law stays leaves h
         (at_turn (turns.Answered context after_it) is turned) (rw open_still refl))
 
     -- there are as many bytes as turns taken and bytes left
-    pub fewer_left : IsExact → number + length rest ≤ length bytes → turn ≡ turns.Answered context after_it
+    pub fewer_left : IsExact → SoundMessages → number + length rest ≤ length bytes → turn ≡ turns.Answered context after_it
         → Turned settings moment number rest s new turn (added out longer)
         → number + 1 + length after_it.now ≤ length bytes
-    fewer_left exact count is turned =
+    fewer_left exact law count is turned =
         let t = at_turn (turns.Answered context after_it) is turned in
-        omega (arith, count, sound_shorter exact settings moment true rest after_it.now context t.command t.judged)
+        omega (arith, count, sound_shorter exact law settings moment true rest after_it.now context t.command t.judged)
 
 -- where something is decided behind some messages, something is decided at the first
 pub asked_at_first : OneVerdict → (settings : Settings) (moment : ℕ) (bytes rest : List ℕ) (messages : List Message)

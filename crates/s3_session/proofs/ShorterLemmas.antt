@@ -10,7 +10,7 @@ use Rattle.s3_replies.specs.declared.context.Context.{Context}
 use Rattle.s3_session.specs.declared.verdict.Verdict.TheVariants as verdicts
 use Rattle.s3_session.specs.Decision.{Judges}
 use Rattle.s3_session.proofs.StayLemmas.{IsExact}
-use Rattle.s3_session.proofs.SoundLemmas.{sound_is_message}
+use Rattle.s3_session.specs.Laws.{SoundMessages}
 
 skip_shorter : (bytes : List ℕ) → length (skip_pairs bytes) ≤ length bytes
 unfolding skip_pairs
@@ -21,10 +21,10 @@ skip_shorter (b ∷ c ∷ rest) = elim (cases_Bool (b == 13 && c == 10)) [
   | inr other ↦ rw other (omega arith)
 ]
 
-pub sound_shorter : IsExact → (settings : Settings) (moment : ℕ) (ended : Bool) (bytes rest : List ℕ) (context : Context) (command : Command)
+pub sound_shorter : IsExact → SoundMessages → (settings : Settings) (moment : ℕ) (ended : Bool) (bytes rest : List ℕ) (context : Context) (command : Command)
     → Judges settings moment ended bytes (verdicts.Sound context command, rest) → length rest < length bytes
-sound_shorter exact settings moment ended bytes rest context command judges =
-    let s = sound_is_message exact settings moment ended bytes rest context command judges in
+sound_shorter exact law settings moment ended bytes rest context command judges =
+    let s = law settings moment ended bytes rest context command judges in
     let m = s.message in
     let t = (exact bytes (length m.text)).0 m.found in
     let size : length (skip_pairs bytes) ≡ length m.text + (length s.body + length rest) =

@@ -1,24 +1,20 @@
 -- The message at the front of a connection's bytes, and what is decided about it (RFC 9112, sections
 -- 2.2, 6.3 and 9.3; AWS Signature Version 4; Amazon S3 API Reference, "Error responses").
-use Rattle.std.specs.Prelude.{◌≡◌, ℕ, ◌⊎◌, Bool, false, not, ◌&&◌, nat_lt, if◌then◌else◌, List, [], take, drop, length, Result, Ok, Err}
-use Rattle.std.specs.Str.{bytes_eq}
-use Rattle.hex.specs.Hex.{encode_lower}
-use Rattle.sha2.specs.Sha256.{sha256}
-use Rattle.s3_terms.specs.Fault.{refuse, ◌>>◌}
+use Rattle.std.specs.Prelude.{◌≡◌, ℕ, ◌⊎◌, Bool, false, List, [], take, drop, Result, Ok, Err}
 use Rattle.s3_config.specs.Settings.{Settings}
 use Rattle.s3_terms.specs.declared.code.Code.{Code}
-use Rattle.s3_terms.specs.declared.code.Code.TheVariants.{IncompleteBody, XAmzContentSHA256Mismatch, HeadTooLarge, MalformedHead}
+use Rattle.s3_terms.specs.declared.code.Code.TheVariants.{HeadTooLarge, MalformedHead}
 use Rattle.s3_http_heads.specs.Find.{found_in, skip_pairs}
 use Rattle.s3_http_heads.specs.declared.find.Found.{Found}
 use Rattle.s3_http_heads.specs.declared.find.Found.TheVariants as found
 use Rattle.s3_http_heads.specs.Head.{HeadParts, Says, HasNoHead, closes, asks_head_only}
-use Rattle.s3_requests.specs.declared.commands.Plan.{Plan}
+use Rattle.s3_aws_chunked.specs.Verdict as bodies
+use Rattle.s3_payloads.specs.Verdict as payloads
 use Rattle.s3_requests.specs.Routing.{command_of}
 use Rattle.s3_replies.specs.declared.context.Context.{Context}
-use Rattle.s3_session.specs.declared.verdict.Admission.{Admission}
 use Rattle.s3_session.specs.declared.verdict.Verdict.{Verdict}
 use Rattle.s3_session.specs.declared.verdict.Verdict.TheVariants as verdicts
-use Rattle.s3_session.specs.Admission.{admission_of}
+use Rattle.s3_session.specs.Admission.{Asked, admission_of}
 
 -- what a reply takes from its message
 abbrev pub context_of : HeadParts → ℕ → Context
@@ -36,36 +32,23 @@ open_yet = (verdicts.Open, [])
 abbrev pub refused_message : Code → Bool → Decision
 refused_message code head_only = (verdicts.Refused code head_only, [])
 
--- the body has the hash that the head's word says
-abbrev pub meets : List ℕ → List ℕ → Bool
-meets word body = bytes_eq (encode_lower (sha256 body)) word
+-- what comes of a message whose head asks for this, by what is known of its body
+abbrev pub concluded : HeadParts → ℕ → Asked → List ℕ → bodies.Verdict → Decision
+concluded head moment asked bytes (bodies.Open held) = open_yet
+concluded head moment asked bytes (bodies.Accepted payload) =
+    (verdicts.Sound (context_of head moment) (command_of asked.plan payload), drop asked.announced.length bytes)
+concluded head moment asked bytes (bodies.Refused place code) = refused_message code (asks_head_only head)
 
--- the body at the front of the bytes, where it is whole and has its hash, and what comes after it
-unfoldable pub body_at : List ℕ → Admission → Result (List ℕ × List ℕ) Code
-body_at bytes admission = do
-  refuse (nat_lt (length bytes) admission.size) IncompleteBody
-  refuse (not (meets admission.word (take admission.size bytes))) XAmzContentSHA256Mismatch
-  Ok (take admission.size bytes, drop admission.size bytes)
-
--- what comes of a message by its body and the bytes after it, or by what refuses them
-abbrev pub concluded : HeadParts → ℕ → Plan → Result (List ℕ × List ℕ) Code → Decision
-concluded head moment plan (Ok cut) = (verdicts.Sound (context_of head moment) (command_of plan cut.0), cut.1)
-concluded head moment plan (Err code) = refused_message code (asks_head_only head)
-
--- a body is judged once it is whole, or once it is known that it never will be
-unfoldable pub body_decision : HeadParts → ℕ → Bool → List ℕ → Admission → Decision
-body_decision head moment ended bytes admission =
-    if nat_lt (length bytes) admission.size && not ended then open_yet
-    else concluded head moment admission.plan (body_at bytes admission)
-
-abbrev pub admitted_decision : HeadParts → ℕ → Bool → List ℕ → Result Admission Code → Decision
-admitted_decision head moment ended bytes (Ok admission) = body_decision head moment ended bytes admission
-admitted_decision head moment ended bytes (Err code) = refused_message code (asks_head_only head)
+-- the verdict by what the head asks for and the bytes behind it, or by the first fault of the head
+abbrev pub AskedJudged : HeadParts → ℕ → Bool → List ℕ → Result Asked Code → Decision → Type 0
+AskedJudged head moment ended bytes (Err code) decision = decision ≡ refused_message code (asks_head_only head)
+AskedJudged head moment ended bytes (Ok asked) decision =
+    (verdict : bodies.Verdict) × payloads.Judges asked.announced bytes ended verdict × (decision ≡ concluded head moment asked bytes verdict)
 
 -- the verdict on a message whose head has been read, by the bytes that follow the head
-unfoldable pub decision_of : Settings → ℕ → Bool → HeadParts → List ℕ → Decision
-decision_of settings moment ended head bytes =
-    admitted_decision head moment ended bytes (admission_of settings head moment)
+abbrev pub HeadJudged : Settings → ℕ → Bool → HeadParts → List ℕ → Decision → Type 0
+HeadJudged settings moment ended head bytes decision =
+    AskedJudged head moment ended bytes (admission_of settings head moment) decision
 
 -- the text at the front of the bytes, after the pairs that are skipped, and what follows it
 abbrev pub text_at : ℕ → List ℕ → List ℕ
@@ -78,7 +61,7 @@ behind_text n bytes = drop n (skip_pairs bytes)
 abbrev pub TextJudged : Settings → ℕ → Bool → List ℕ → List ℕ → Decision → Type 0
 TextJudged settings moment ended text bytes decision =
     (HasNoHead text × (decision ≡ refused_message MalformedHead false))
-    ⊎ ((head : HeadParts) × Says text head × (decision ≡ decision_of settings moment ended head bytes))
+    ⊎ ((head : HeadParts) × Says text head × HeadJudged settings moment ended head bytes decision)
 
 -- the verdict by what was found at the front
 abbrev pub FoundJudged : Settings → ℕ → Bool → List ℕ → Found → Decision → Type 0

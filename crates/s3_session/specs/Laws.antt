@@ -1,17 +1,18 @@
 -- What a verdict on a connection's bytes says of them (RFC 9112, sections 2.1 and 6.2), and that the
 -- bytes fix what is written.
-use Rattle.std.specs.Prelude.{◌≡◌, ◌≢◌, IsTrue, ℕ, Bool, false, List, ◌++◌, Ok}
+use Rattle.std.specs.Prelude.{◌≡◌, ◌≢◌, ℕ, Bool, false, List, ◌++◌, Ok}
 use Rattle.s3_config.specs.Settings.{Settings}
 use Rattle.s3_http_heads.specs.Head.{HeadParts}
 use Rattle.s3_http_heads.specs.Message.{IsMessage}
+use Rattle.s3_aws_chunked.specs.Verdict.{Accepted}
+use Rattle.s3_payloads.specs.Verdict as payloads
 use Rattle.s3_requests.specs.declared.commands.Command.{Command}
 use Rattle.s3_requests.specs.Routing.{command_of}
 use Rattle.s3_replies.specs.declared.context.Context.{Context}
-use Rattle.s3_session.specs.declared.verdict.Admission.{Admission}
 use Rattle.s3_session.specs.declared.verdict.Verdict.{Verdict}
 use Rattle.s3_session.specs.declared.verdict.Verdict.TheVariants as verdicts
-use Rattle.s3_session.specs.Admission.{admission_of}
-use Rattle.s3_session.specs.Decision.{Decision, Judges, meets, context_of}
+use Rattle.s3_session.specs.Admission.{Asked, admission_of}
+use Rattle.s3_session.specs.Decision.{Decision, Judges, context_of}
 use Rattle.s3_session.specs.Replay.{LiveReplays}
 
 -- settings, moment, bytes and whether they end leave at most one verdict, with one rest
@@ -42,17 +43,18 @@ VerdictsStay =
     → Judges settings moment false bytes (verdict, rest) → verdict ≢ verdicts.Open
     → Judges settings moment ended (bytes ++ more) (verdict, rest_with verdict rest more)
 
--- at the front of the bytes stands a whole message, and then the rest: its head is admitted, its body
--- has the hash that the head's word says, and the context and the command are what they ask for
+-- at the front of the bytes stands a whole message, and then the rest: its head asks for this, its body is accepted
+-- with this payload, and the context and the command are what they ask for
 pub record IsSound (settings : Settings) (moment : ℕ) (bytes : List ℕ) (context : Context) (command : Command) (rest : List ℕ) : Type 0 where
   pub head : HeadParts
   pub body : List ℕ
-  pub admission : Admission
+  pub asks : Asked
+  pub payload : List ℕ
   pub message : IsMessage bytes head body rest
-  pub admitted : admission_of settings head moment ≡ Ok admission
-  pub met : IsTrue (meets admission.word body)
+  pub admitted : admission_of settings head moment ≡ Ok asks
+  pub accepted : payloads.Judges asks.announced body false (Accepted payload)
   pub replied : context ≡ context_of head moment
-  pub asked : command ≡ command_of admission.plan body
+  pub asked : command ≡ command_of asks.plan payload
 
 -- a sound verdict is about a sound message at the front of the bytes
 abbrev pub SoundMessages : Type 0

@@ -10,6 +10,8 @@ pub use Rattle.s3_http_heads.specs.Find
 pub use Rattle.s3_http_heads.specs.Head
 pub use Rattle.s3_http_heads.specs.BodyLength
 pub use Rattle.s3_signing.specs.Verdict
+pub use Rattle.s3_payloads.specs.Form
+pub use Rattle.s3_payloads.specs.Verdict as Payloads
 pub use Rattle.s3_requests.specs.Routing
 pub use Rattle.s3_store.specs.Store
 pub use Rattle.s3_store.specs.History

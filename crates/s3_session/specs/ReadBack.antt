@@ -3,6 +3,7 @@
 use Rattle.std.specs.Prelude.{◌≡◌, ℕ, Bool, true, false, List, ◌∷◌, ◌++◌, Some}
 use Rattle.std.specs.List.{AllByRecursion}
 use Rattle.s3_config.specs.Settings.{Settings}
+use Rattle.s3_payloads.specs.Form.{IsSentAsItIs}
 use Rattle.s3_requests.specs.declared.commands.Command.{Command}
 use Rattle.s3_store.specs.Store.{Address, writes, brings, reads}
 use Rattle.s3_replies.specs.declared.context.Context.{Context}
@@ -56,10 +57,10 @@ OnlyPutsAreReadBack =
     → tells_success get.reply ≡ true
     → (body : List ℕ) × LastWrote address body earlier
 
--- the bytes that a command brings are the body of its message
-abbrev pub BodiesAreBrought : Type 0
-BodiesAreBrought =
-    (settings : Settings) (moment : ℕ) (bytes rest : List ℕ) (context : Context) (command : Command) (body : List ℕ)
+-- the bytes that a command brings are the payload of its message's body, which is the body where that is sent as it is
+abbrev pub PayloadsAreBrought : Type 0
+PayloadsAreBrought =
+    (settings : Settings) (moment : ℕ) (bytes rest : List ℕ) (context : Context) (command : Command) (brought : List ℕ)
     → (sound : IsSound settings moment bytes context command rest)
-    → brings command ≡ Some body
-    → body ≡ sound.body
+    → brings command ≡ Some brought
+    → (brought ≡ sound.payload) × (IsSentAsItIs sound.asks.announced.form → brought ≡ sound.body)

@@ -1,9 +1,10 @@
 //! What is known of all connections: laws, with nothing to run.
 
-ghost use Rattle.s3_session.specs.ReadBack.{PutsAreReadBack, OnlyPutsAreReadBack, BodiesAreBrought};
+ghost use Rattle.s3_session.specs.ReadBack.{PutsAreReadBack, OnlyPutsAreReadBack, PayloadsAreBrought};
 ghost use Rattle.s3_session.specs.Laws.{OneOutput, OneVerdict, VerdictsExist, VerdictsStay, SoundMessages, SoundIsJudged};
 
 use s3_http_heads::{texts_say_one_thing, verdict_is_exact};
+use s3_payloads::{accepted_bodies_are_whole, verdicts_are_final};
 use s3_replies::{refusals_are_unique, replies_are_unique, replies_show_what_came};
 use s3_store::{only_puts_are_given, puts_are_kept};
 
@@ -15,6 +16,8 @@ pub fn verdicts_stay()
 {
     s3_http_heads::verdicts_stay();
     verdict_is_exact();
+    verdicts_are_final();
+    accepted_bodies_are_whole();
 }
 
 /// A law: settings, moment, bytes and whether they end leave at most one verdict, with one rest, so that
@@ -23,21 +26,26 @@ pub fn verdicts_are_one()
     ensures { OneVerdict }
 {
     texts_say_one_thing();
+    verdicts_are_final();
 }
 
 /// A law: settings, moment, bytes and whether they end can't be without a verdict, so that `Judges` is
 /// empty nowhere, not even where `decide` runs out of memory. There is nothing to run.
 pub fn verdicts_exist()
     ensures { VerdictsExist }
-{}
+{
+    verdicts_are_final();
+}
 
-/// A law: a sound verdict is about a whole message at the front of the bytes, which passed each test,
-/// and each such message has the sound verdict. There is nothing to run.
+/// A law: a sound verdict is about a whole message at the front of the bytes, whose head is admitted and whose
+/// body is accepted, and each such message has the sound verdict. There is nothing to run.
 pub fn sound_verdicts_are_exact()
     ensures message { SoundMessages }
     ensures judged { SoundIsJudged }
 {
     verdict_is_exact();
+    verdicts_are_final();
+    accepted_bodies_are_whole();
 }
 
 /// A law: settings, moment and the bytes of a connection fix what a replay writes, as long as memory
@@ -52,12 +60,14 @@ pub fn outputs_are_one()
 
 /// A law: in the output of a connection, the reply to a get carries the bytes that the last put to its
 /// bucket and key before it brought, of those whose reply tells of success; where there is no such put, its
-/// reply tells of none. What a put brings is the body of its message. There is nothing to run.
+/// reply tells of none. What a put brings is the payload of its message: its body, or, where that is sent in
+/// signed chunks, the data in them. There is nothing to run.
 pub fn puts_are_read_back()
     ensures back { PutsAreReadBack }
     ensures only { OnlyPutsAreReadBack }
-    ensures bodies { BodiesAreBrought }
+    ensures payloads { PayloadsAreBrought }
 {
+    accepted_bodies_are_whole();
     puts_are_kept();
     only_puts_are_given();
     replies_show_what_came();

@@ -5,7 +5,7 @@ ghost use Rattle.s3_store.specs.Store.{opening};
 ghost use Rattle.s3_session.specs.Decision.{Judges, open_yet};
 ghost use Rattle.s3_session.specs.Replay.{Replays};
 
-use crate::laws::verdicts_are_one;
+use crate::laws::{sound_verdicts_are_exact, verdicts_are_one};
 use crate::turn::{Turn, take_turn};
 use s3_calendar::Moment;
 use s3_config::Config;
@@ -57,6 +57,7 @@ fn take_turns(
 {
     one_more_entry();
     verdict_is_exact();
+    sound_verdicts_are_exact();
     verdicts_are_one();
     let mut rest = bytes;
     for number in 0..bytes.len() as u64 {

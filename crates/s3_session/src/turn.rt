@@ -10,6 +10,7 @@ use crate::decision::decide;
 use crate::laws::verdicts_are_one;
 use s3_calendar::Moment;
 use s3_config::Config;
+use s3_payloads::verdicts_are_final;
 use s3_replies::{Context, head_of, internal_error_reply, refusal};
 use s3_store::{Answer, Outcome, Store};
 use s3_terms::NoMemory;
@@ -45,6 +46,7 @@ pub(crate) fn take_turn<'b>(
     ensures memory { OnErr result (¬ (Judges config.now moment true bytes.now open_yet)) }
 {
     verdicts_are_one();
+    verdicts_are_final();
     match decide(alloc, config, bytes, true, moment) {
         Err(e) => die(out, e),
         Ok((verdict, rest)) => match verdict {

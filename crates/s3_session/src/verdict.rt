@@ -1,19 +1,8 @@
-//! What a head asks for, and what is decided about a message.
+//! What is decided about a message.
 
 use s3_replies::Context;
-use s3_requests::{Command, Plan};
+use s3_requests::Command;
 use s3_terms::Code;
-
-/// What a head that nothing refuses asks for.
-#[derive(Drop)]
-pub struct Admission {
-    /// How many bytes the body has.
-    pub size: u64,
-    /// The word that the body has to meet: its SHA-256 in lower-case hexadecimal digits.
-    pub word: [u8; 64],
-    /// The operation.
-    pub plan: Plan,
-}
 
 /// What is decided about the message at the front of a connection's bytes.
 #[derive(Drop)]

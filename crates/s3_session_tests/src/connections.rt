@@ -2,7 +2,7 @@
 use crate::messages::{
     ABSENT, CLOSE, GET, HELLO_TAG, MALFORMED, Message, PUT, Refusal, Reply, Request, is_answered,
 };
-use std::test::Fail;
+use std::alloc::Global;
 
 // A connection, and what it is answered. The requests are signed outside of this program, by AWS's own library
 // or Python's `hmac`; the replies are those of `docs/PROTOCOL.md`.
@@ -153,15 +153,19 @@ static CONNECTIONS: [Connection; 10] = [
     },
 ];
 
+// The name of the first of these that is not answered so.
+fn first_wrong(alloc: Global, connections: &[Connection<'static>]) -> Option<&'static str> {
+    for it in connections {
+        if !is_answered(alloc, it.messages, it.replies) {
+            return Some(it.name);
+        }
+    }
+    None
+}
+
 // What is answered is as long as what has to be, and each byte is the same.
 #[test]
-fn connections(rt: HostRuntime) -> Result<(), Fail> {
-    for Connection {
-        name,
-        messages,
-        replies,
-    } in &CONNECTIONS {
-        assert!(rt; is_answered(rt.alloc(), messages, replies)?, "at {name}");
-    }
-    Ok(())
+fn connections(rt: HostRuntime) {
+    let wrong = first_wrong(rt.alloc(), &CONNECTIONS);
+    assert!(rt; wrong.is_none(), "at {}", wrong.unwrap_or(""));
 }

@@ -1,5 +1,6 @@
 -- The lines of a text, and the keys that they say.
-use Rattle.std.proofs.Common.{◌≡◌, ℕ, zero, suc, ◌+◌, ◌<◌, ◌≤◌, Bool, true, false, not, ◌&&◌, ◌||◌, cond, nat_lt, List, [], ◌∷◌, ◌++◌, length, take, drop, get_or, refl, sym, ◌∙◌, ap, ap₂, subst, arith, append_assoc, append-nil, map, Option, Some, None, option_and_then, position, inl, inr, if◌then◌else◌, ◌==◌}
+use Rattle.std.proofs.Common.{◌≡◌, ℕ, zero, suc, ◌+◌, ◌<◌, ◌≤◌, Bool, true, false, not, ◌&&◌, ◌||◌, cond, nat_lt, List, [], ◌∷◌, ◌++◌, length, take, drop, get_or, refl, sym, ◌∙◌, ap, ap₂, subst, arith, append_assoc, append-nil, map, Option, Some, None, is_some, option_and_then, position, inl, inr, if◌then◌else◌, ◌==◌, Result, Ok, Err}
+use Rattle.std.specs.Prelude.{IfErr, IsErrAnd}
 use Rattle.std.specs.List.{slice_split, position_or_len, All, list_any}
 use Rattle.std.specs.Str.{bytes_eq}
 use Rattle.std.proofs.Math.Seq.{take-append-add}
@@ -12,9 +13,9 @@ use Rattle.std.proofs.lemmas.Bool.{eqb-true}
 use Rattle.std.proofs.lemmas.List.{map-append, length-map, take-map, take-append-le}
 use Rattle.s3_config.specs.Settings.{Credentials, are_credentials, all_different}
 use Rattle.s3_settings.specs.declared.fault.Fault.{Fault}
-use Rattle.s3_settings.specs.declared.fault.Fault.TheVariants.{BadKeysLine}
+use Rattle.s3_settings.specs.declared.fault.Fault.TheVariants.{BadKeysLine, OutOfMemory}
 use Rattle.s3_settings.specs.Fault.{MemoryOr}
-use Rattle.s3_settings.specs.Keys.{without_empty_end, lines_of, is_space, parts_at, valid_key, key_of_line, ids_of, SayKeys, IsFirstBadLine, IsKeysFault, has_id, new_key, line_of_key}
+use Rattle.s3_settings.specs.Keys.{without_empty_end, lines_of, is_space, parts_at, valid_key, key_of_line, ids_of, SayKeys, IsFirstBadLine, AsksRoom, IsKeysFault, has_id, new_key, line_of_key}
 
 -- a place that was found is the first of its kind
 place_found : (p : ℕ → Bool) (xs : List ℕ) (b : Bool) (place : ℕ) → nat_lt (position_or_len p xs) (length xs) ≡ b → cond b (Some (position_or_len p xs)) None ≡ Some place → (position_or_len p xs < length xs) × (place ≡ position_or_len p xs)
@@ -252,11 +253,38 @@ bad_line keys lines rest all line number before says next new is =
           (take count keys, subst (λ (ls : List (List ℕ)). SayKeys ls (take count keys)) same (beginning_said count front keys says));
     }
 
+-- a line that says a key has a space
+has_space : (line : List ℕ) (found : Option ℕ) (key : Credentials) → option_and_then (λ place. valid_key (parts_at line place)) found ≡ Some key → is_some found ≡ true
+has_space line None key e = absurd cc
+has_space line (Some place) key e = refl
+
+said_has_space : (line : List ℕ) (key : Credentials) → key_of_line line ≡ Some key → is_some (position is_space line) ≡ true
+unfolding key_of_line
+said_has_space line key e = has_space line (position is_space line) key e
+
+-- where a line has a space behind those that say keys, the first line has one
+room_asked : (keys : List Credentials) (lines rest all : List (List ℕ)) (line : List ℕ) → map line_of_key keys ++ lines ≡ all → SayKeys (map line_of_key keys) keys → lines ≡ line ∷ rest → is_some (position is_space line) ≡ true → AsksRoom all
+room_asked [] lines rest all line before says next has = subst AsksRoom (sym next ∙ before) has
+room_asked (key ∷ keys) lines rest all line before says next has =
+    let said = says.said in
+    let first : key_of_line (line_of_key key) ≡ Some key = cc in
+    subst AsksRoom before (said_has_space (line_of_key key) key first)
+
+-- a call that answers out of memory says why the file gives no keys
+memory_told : {A : Type 0} (result : Result A Fault) (text : List ℕ) → AsksRoom (lines_of text) → IsErrAnd result (λ fault. fault ≡ OutOfMemory) → IfErr result (IsKeysFault text)
+memory_told (Ok keys) text asks told = tt
+memory_told (Err fault) text asks told = subst (IsKeysFault text) (sym told) asks
+
+-- so it does where there was no room for one key more
+pub push_fault : {A : Type 0} (result : Result A Fault) (keys slice : List Credentials) (lines rest : List (List ℕ)) (text line : List ℕ) (key : Credentials) → map line_of_key keys ++ lines ≡ lines_of text → SayKeys (map line_of_key keys) keys → lines ≡ line ∷ rest → new_key slice line ≡ Some key → IsErrAnd result (λ fault. fault ≡ OutOfMemory) → IfErr result (IsKeysFault text)
+push_fault result keys slice lines rest text line key before says next new told =
+    memory_told result text (room_asked keys lines rest (lines_of text) line before says next (said_has_space line key (new_key-says slice line key new).said)) told
+
 -- why the next line gives no key is why the file gives none
-pub key_fault : (keys slice : List Credentials) (lines rest : List (List ℕ)) (text line : List ℕ) (fault : Fault) → map line_of_key keys ++ lines ≡ lines_of text → SayKeys (map line_of_key keys) keys → lines ≡ line ∷ rest → slice ≡ keys → MemoryOr (BadKeysLine (length slice + 1)) (new_key slice line ≡ None) fault → IsKeysFault text fault
-key_fault keys slice lines rest text line fault before says next same why =
+pub key_fault : (keys slice : List Credentials) (lines rest : List (List ℕ)) (text line : List ℕ) (fault : Fault) → map line_of_key keys ++ lines ≡ lines_of text → SayKeys (map line_of_key keys) keys → lines ≡ line ∷ rest → slice ≡ keys → MemoryOr (BadKeysLine (length slice + 1)) (new_key slice line ≡ None) fault → (fault ≡ OutOfMemory → is_some (position is_space line) ≡ true) → IsKeysFault text fault
+key_fault keys slice lines rest text line fault before says next same why asks =
     elim why [
-      | inl memory ↦ subst (IsKeysFault text) (sym memory) tt
+      | inl memory ↦ subst (IsKeysFault text) (sym memory) (room_asked keys lines rest (lines_of text) line before says next (asks memory))
       | inr bad ↦
           let new : new_key keys line ≡ None = cc (bad.1) in
           let size : length slice + 1 ≡ length keys + 1 = ap (λ (ks : List Credentials). length ks + 1) same in
@@ -264,4 +292,4 @@ key_fault keys slice lines rest text line fault before says next same why =
           subst (IsKeysFault text) (sym bad.0) found
     ]
 
-pub ruleset keys = (none_said, key_pushed, key_said, all_spelled, all_said, key_fault)
+pub ruleset keys = (none_said, key_pushed, key_said, all_spelled, all_said, push_fault, key_fault)

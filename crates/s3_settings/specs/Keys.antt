@@ -1,6 +1,6 @@
 -- What a keys file says: one credential a line, which is an id, one space, and as the secret
 -- everything up to the line's end (LF), which the last line may lack. No id stands on two lines.
-use Rattle.std.specs.Prelude.{◌≡◌, ⊤, ℕ, ◌+◌, ◌<◌, Bool, true, ◌==◌, if◌then◌else◌, List, [], ◌∷◌, ◌++◌, length, map, take, drop, Option, Some, None, option_and_then, position}
+use Rattle.std.specs.Prelude.{◌≡◌, ℕ, ◌+◌, ◌<◌, Bool, true, ◌==◌, if◌then◌else◌, List, [], ◌∷◌, ◌++◌, length, map, take, drop, Option, Some, None, is_some, option_and_then, position}
 use Rattle.std.specs.List.{list_any, slice_split}
 use Rattle.std.specs.Str.{bytes_eq}
 use Rattle.s3_config.specs.Settings.{Credentials, are_credentials, all_different}
@@ -66,8 +66,14 @@ unfoldable pub new_key : List Credentials → List ℕ → Option Credentials
 new_key keys line =
     option_and_then (λ (key : Credentials). if has_id keys key.id then None else Some key) (key_of_line line)
 
--- a fault says why a file of this text gives no keys: its first bad line, or out of memory
+-- the first of the lines has a space, so that the parts round it are copied
+abbrev pub AsksRoom : List (List ℕ) → Type 0
+AsksRoom [] = ⊥
+AsksRoom (line ∷ lines) = is_some (position is_space line) ≡ true
+
+-- a fault says why a file of this text gives no keys: its first bad line, or out of memory for a line that
+-- may say one
 abbrev pub IsKeysFault : List ℕ → Fault → Type 0
 IsKeysFault text (BadKeysLine number) = IsFirstBadLine (lines_of text) number
-IsKeysFault text OutOfMemory = ⊤
+IsKeysFault text OutOfMemory = AsksRoom (lines_of text)
 IsKeysFault text _ = ⊥

@@ -1,7 +1,7 @@
 //! The keys file.
 
-ghost use Rattle.std.specs.Prelude.{◌≡◌, ◌+◌, ◌<◌, ◌==◌, ◌∷◌, [], length, map, position, Some, None, IfOk, IfErr, IfSome, MatchOption};
-ghost use Rattle.s3_settings.specs.Keys.{lines_of, key_of_line, has_id, new_key, line_of_key, SayKeys, IsKeysFault};
+ghost use Rattle.std.specs.Prelude.{◌≡◌, ◌+◌, ◌<◌, ◌==◌, ◌∷◌, [], length, map, position, is_some, true, Some, None, IfOk, IfErr, OnErr, IsErrOf, IfSome, MatchOption};
+ghost use Rattle.s3_settings.specs.Keys.{lines_of, is_space, key_of_line, has_id, new_key, line_of_key, SayKeys, IsKeysFault};
 ghost use Rattle.s3_settings.specs.Fault.{MemoryOr};
 ghost use Rattle.s3_settings.specs.declared.fault.Fault.TheVariants.{BadKeysLine};
 
@@ -11,8 +11,8 @@ use std::alloc::{AllocError, Global};
 
 /// The credentials that a keys file of this text says, in its order. A line is an id, one space, and
 /// as the secret all bytes up to LF, which the last line may lack; no id stands on two lines.
-/// `BadKeysLine` has the number of the first line, from 1, that breaks one of these rules. Compares
-/// each id with those before it.
+/// `BadKeysLine` has the number of the first line, from 1, that breaks one of these rules; memory runs out
+/// only where the first line has a space. Compares each id with those before it.
 #[tactic(auto, using(crate::proofs::KeysLemmas::keys))]
 pub fn read_keys<'a>(alloc: Global, text: &[u8]) -> Result<Vec<Credential>, Fault<'a>>
     ensures value { IfOk result (λ keys. SayKeys (lines_of text.now) keys.items) }
@@ -52,6 +52,7 @@ fn next_line(text: &[u8]) -> Option<(&[u8], &[u8])>
 fn new_key<'a>(alloc: Global, keys: &[Credential], line: &[u8]) -> Result<Credential, Fault<'a>>
     ensures value { IfOk result (λ key. new_key keys.now line.now ≡ Some key) }
     ensures refused { IfErr result (MemoryOr (BadKeysLine (length keys.now + 1)) (new_key keys.now line.now ≡ None)) }
+    ensures memory { IsErrOf result Fault.OutOfMemory → is_some (position is_space line.now) ≡ true }
 {
     match key_of_line(alloc, line)? {
         Some(key) if !has_id(keys, key.id()) => Ok(key),
@@ -62,7 +63,8 @@ fn new_key<'a>(alloc: Global, keys: &[Credential], line: &[u8]) -> Result<Creden
 // The credential that a line says.
 #[tactic(auto, unfolding(crate::specs::Keys::key_of_line))]
 fn key_of_line(alloc: Global, line: &[u8]) -> Result<Option<Credential>, AllocError>
-    ensures { IfOk result (λ key. key ≡ key_of_line line.now) }
+    ensures value { IfOk result (λ key. key ≡ key_of_line line.now) }
+    ensures memory { OnErr result (is_some (position is_space line.now) ≡ true) }
 {
     let Some(at) = first_place(line, b' ') else {
         return Ok(None);

@@ -12,4 +12,4 @@ pub use devices::{read_file, read_input, write_output};
 pub use fault::Fault;
 pub use files::Files;
 pub use keys::read_keys;
-pub use settings::{Setup, configure};
+pub use settings::{Setup, configure, option_number};

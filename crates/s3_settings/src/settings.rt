@@ -1,6 +1,6 @@
 //! The settings that the options and the keys file make.
 
-ghost use Rattle.std.specs.Prelude.{◌≡◌, true, false, Some, None, IfSome, IfOk, IfErr, OnOk, IsTrue, option_map, option_to_list};
+ghost use Rattle.std.specs.Prelude.{◌≡◌, true, false, Some, None, IfSome, IfOk, IfErr, OnOk, IsErrOf, IsTrue, is_some, option_map, option_to_list};
 ghost use Rattle.s3_config.specs.Settings.{are_settings, is_region, is_region_byte};
 ghost use Rattle.s3_settings.specs.Fault.{MemoryOr};
 ghost use Rattle.s3_settings.specs.Settings.{option_number, option_moment, is_bucket_option, are_options, IsSetupOf, HasKeys, settings_of, IsConfigured, IsConfigFault};
@@ -43,6 +43,10 @@ impl<'a> Setup<'a> {
     pub fn read(alloc: Global, options: &Options<'a>) -> Result<Setup<'a>, Fault<'a>>
         ensures value { IfOk result (IsSetupOf options.now) }
         ensures refused { IfErr result (MemoryOr Fault.BadSetting (are_options options.now ≡ false)) }
+
+        // Memory runs out only where nothing is wrong, and for the name of the bucket.
+        ensures memory { IsErrOf result Fault.OutOfMemory
+            → (are_options options.now ≡ true) × (is_some options.now.bucket ≡ true) }
     {
         let Some(parts) = fixed_parts(options) else {
             return Err(Fault::BadSetting);
@@ -112,8 +116,8 @@ fn fixed_parts<'a>(options: &Options<'a>) -> Option<FixedParts<'a>>
 {
     Some(FixedParts {
         keys: options.keys?,
-        min_part: number(options.min_part)?,
-        body_limit: number(options.body_limit)?,
+        min_part: option_number(options.min_part)?,
+        body_limit: option_number(options.body_limit)?,
         moment: moment(options.moment)?,
     })
 }
@@ -132,8 +136,8 @@ fn in_list(alloc: Global, name: Option<BucketName>) -> Result<Vec<BucketName>, A
     }
 }
 
-// The number that an option says in 1 to 12 decimal digits.
-fn number(text: &str) -> Option<u64>
+/// The number that an option says in 1 to 12 decimal digits; `None` where it says none.
+pub fn option_number(text: &str) -> Option<u64>
     ensures { result ≡ option_number text.now }
 {
     decimal_number(text.as_bytes(), DIGITS_MAX)
@@ -143,7 +147,7 @@ fn number(text: &str) -> Option<u64>
 fn moment(option: Option<&str>) -> Option<Moment>
     ensures { result ≡ option_moment (option_map (λ text. text.now) option.entry) }
 {
-    Moment::new(number(option?)?)
+    Moment::new(option_number(option?)?)
 }
 
 // The bucket that an option names, if it does.
@@ -151,6 +155,8 @@ fn bucket<'a>(alloc: Global, option: Option<&str>) -> Result<Option<BucketName>,
     ensures value { IfOk result (λ bucket. bucket ≡ option_map (λ name. name.now) option.entry) }
     ensures valid { OnOk result (IsTrue (is_bucket_option (option_map (λ name. name.now) option.entry))) }
     ensures refused { IfErr result (MemoryOr Fault.BadSetting (is_bucket_option (option_map (λ name. name.now) option.entry) ≡ false)) }
+    ensures memory { IsErrOf result Fault.OutOfMemory
+        → (is_bucket_option (option_map (λ name. name.now) option.entry) ≡ true) × (is_some option.entry ≡ true) }
 {
     let Some(name) = option else {
         return Ok(None);

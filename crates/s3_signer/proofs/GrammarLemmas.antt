@@ -1,6 +1,6 @@
 -- What a head says is of the grammar, and so is a head of the first of its lines.
 use Rattle.std.proofs.Common.{◌≡◌, ℕ, ◌<◌, ◌≤◌, Bool, true, not, ◌||◌, List, [], ◌∷◌, ◌++◌, map, length, reverse, append-nil, length-append, refl, sym, ap, ap₂, ◌∙◌, subst, arith, ⊎_elim}
-use Rattle.std.specs.Prelude.{codes, ◌&&◌, ◌==◌, All, IsUtf8, nat_lt}
+use Rattle.std.specs.Prelude.{◌&&◌, ◌==◌, All, IsUtf8, nat_lt}
 use Rattle.std.specs.Char.{to_ascii_lowercase}
 use Rattle.std.specs.List.{list_all}
 use Rattle.std.proofs.Math.Bool.{and_comm, and-true}
@@ -17,7 +17,7 @@ use Rattle.s3_signing.specs.Cover.{lower_name, sent_names}
 use Rattle.s3_text.proofs.SortingLemmas.{length-sorted_by}
 use Rattle.s3_text.proofs.ListLemmas.{all_weaker}
 use Rattle.s3_signer.specs.Line.{ReadsBack}
-use Rattle.s3_signer.specs.Request.{HeaderLine, IsSignable, added_lines, authorization_of, field_of, head_of, line_cmp, lower_line, unsigned_head, unsigned_lines}
+use Rattle.s3_signer.specs.Request.{CanBeSent, HeaderLine, Told, added_lines, authorization_line, field_of, head_of, line_cmp, lower_line, unsigned_head, unsigned_lines}
 
 -- ---- values: the white space around one is of the grammar's bytes
 
@@ -91,12 +91,13 @@ few_lines method target lines text (h, is, same) =
     omega (arith, many, is.1, length-map lines field_of, length-map (map field_of lines) name_and_value, length-map h.fields name_and_value)
 
 -- so that no more are given, beside those that are added
-pub not_more : (method target id secret region : List ℕ) (given : List HeaderLine) (body stamp : List ℕ) → 64 < length given → ¬ (IsSignable id secret region method target given body stamp)
+pub not_more : (id secret region method target : List ℕ) (given : List HeaderLine) (told : Told) (stamp body : List ℕ) → 64 < length given → ¬ (CanBeSent id secret region method target given told stamp body)
 unfolding unsigned_lines
-not_more method target id secret region given body stamp more signable =
-    let own = unsigned_lines method given body stamp in
-    let few = few_lines method target (own ++ (codes "authorization", authorization_of id secret region (unsigned_head method target given body stamp) stamp) ∷ []) signable.message.text signable.message.says in
-    omega (arith, few, more, length-append own ((codes "authorization", authorization_of id secret region (unsigned_head method target given body stamp) stamp) ∷ []), length-sorted_by line_cmp (map lower_line given ++ added_lines method body stamp), length-append (map lower_line given) (added_lines method body stamp), length-map given lower_line)
+not_more id secret region method target given told stamp body more sent =
+    let own = unsigned_lines given told stamp in
+    let line = authorization_line id secret region (unsigned_head method target given told stamp) stamp in
+    let few = few_lines method target (own ++ line ∷ []) sent.message.text sent.message.says in
+    omega (arith, few, more, length-append own (line ∷ []), length-sorted_by line_cmp (map lower_line (given ++ added_lines told stamp)), length-append given (added_lines told stamp), length-map (given ++ added_lines told stamp) lower_line)
 
 -- ---- a head of the first lines of another
 

@@ -2,3 +2,5 @@ pub mod LineLemmas
 pub mod MessageLemmas
 pub mod GrammarLemmas
 pub mod VerifiedLemmas
+pub mod NumberLemmas
+pub mod ChunkedLemmas

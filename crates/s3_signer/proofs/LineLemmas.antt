@@ -1,6 +1,6 @@
 -- Lines, put in their places one after the other.
-use Rattle.std.proofs.Common.{◌≡◌, ℕ, ◌+◌, ◌-◌, ◌<◌, ◌≤◌, suc, Bool, true, false, not, List, [], ◌∷◌, ◌++◌, map, drop, get_or, length, refl, sym, ap, ◌∙◌, arith}
-use Rattle.std.specs.List.{insert, position_or_len}
+use Rattle.std.proofs.Common.{◌≡◌, ◌↔◌, ℕ, ◌+◌, ◌-◌, ◌<◌, ◌≤◌, suc, Bool, true, false, not, List, [], ◌∷◌, ◌++◌, append-nil, map, drop, get_or, length, refl, sym, ap, ◌∙◌, arith, subst}
+use Rattle.std.specs.List.{AllByRecursion, insert, position_or_len}
 use Rattle.std.specs.declared.cmp.Ordering.{Ordering}
 use Rattle.std.specs.Ordering.{is_gt}
 use Rattle.std.proofs.lemmas.List.Sums.{position_or_len_is}
@@ -10,7 +10,7 @@ use Rattle.std.specs.Prelude.{if◌then◌else◌}
 use Rattle.s3_text.specs.Sorting.{insert_by, sorted_by}
 use Rattle.s3_signer.specs.declared.line.Line.{Line}
 use Rattle.s3_signer.specs.Line.{pair, pairs}
-use Rattle.s3_signer.specs.Request.{HeaderLine, added_lines, given_lines, hash_line, length_line, line_cmp, lower_line, stamp_line, tells_length}
+use Rattle.s3_signer.specs.Request.{HeaderLine, Told, added_lines, given_lines, length_line, line_cmp, lower_line, stamp_line, word_line}
 
 -- where none passes, the place is the end
 pub no_place : {X : Type 0} (p : X → Bool) (xs : List X) → ((k : ℕ) (d : X) → k < length xs → p (get_or xs k d) ≡ false) → length xs ≡ position_or_len p xs
@@ -39,17 +39,25 @@ inserted f cmp x (y ∷ ys) = by (is_gt (cmp (f x) (f y))) refl (inserted f cmp 
         rw (h, next) (ap (λ zs. f y ∷ zs) rest)
     by false h rest = rw h refl
 
--- one line, or none, is in order
-one_in_order : (b : Bool) (line : HeaderLine) → (if b then line ∷ [] else []) ≡ sorted_by line_cmp (if b then line ∷ [] else [])
+-- a line that may be there, in front of others
+one_more : (b : Bool) (line : HeaderLine) (more : List HeaderLine) → (if b then insert_by line_cmp (lower_line line) (sorted_by line_cmp (map lower_line more)) else sorted_by line_cmp (map lower_line more)) ≡ sorted_by line_cmp (map lower_line ((if b then line ∷ [] else []) ++ more))
 unfolding sorted_by
-one_in_order true line = refl
-one_in_order false line = refl
+one_more true line more = refl
+one_more false line more = refl
 
--- the lines of the hash and of the stamp, added to that of the length or to none
-pub added_in_order : (method body stamp : List ℕ) → insert_by line_cmp (lower_line (hash_line body)) (insert_by line_cmp (lower_line (stamp_line stamp)) (if tells_length method body then length_line body ∷ [] else [])) ≡ sorted_by line_cmp (added_lines method body stamp)
+-- no lines are in order
+pub none_in_order : (none : List HeaderLine) → none ≡ [] → none ≡ sorted_by line_cmp []
 unfolding sorted_by
-added_in_order method body stamp =
-    ap (λ lines. insert_by line_cmp (hash_line body) (insert_by line_cmp (stamp_line stamp) lines)) (one_in_order (tells_length method body) (length_line body))
+none_in_order none is = is
+
+-- the lines of the word, the stamp and the size, added to the further ones
+pub added_in_order : (told : Told) (stamp : List ℕ) (first second : List HeaderLine) → first ≡ sorted_by line_cmp (map lower_line told.more ++ []) → second ≡ (if told.sized then insert_by line_cmp (lower_line (length_line told.size)) first else first)
+    → insert_by line_cmp (lower_line (word_line told.word)) (insert_by line_cmp (lower_line (stamp_line stamp)) second) ≡ sorted_by line_cmp (map lower_line (added_lines told stamp))
+unfolding sorted_by
+added_in_order told stamp first second begun sized =
+    let more : first ≡ sorted_by line_cmp (map lower_line told.more) = begun ∙ ap (sorted_by line_cmp) (append-nil (map lower_line told.more)) in
+    ap (λ lines. insert_by line_cmp (lower_line (word_line told.word)) (insert_by line_cmp (lower_line (stamp_line stamp)) lines))
+    (sized ∙ ap (λ lines. if told.sized then insert_by line_cmp (lower_line (length_line told.size)) lines else lines) more ∙ one_more told.sized (length_line told.size) told.more)
 
 -- the text of a given line
 abbrev pub given_line : Bor (List ℕ) × Bor (List ℕ) → HeaderLine
@@ -65,6 +73,18 @@ given_in_order headers i d added some within =
     let more : drop (i - 1) (given_lines headers) ≡ get_or (given_lines headers) (i - 1) (given_line d) ∷ drop (i - 1 + 1) (given_lines headers) =
     drop_more (given_lines headers) (i - 1) (given_line d) (omega (arith, length-map headers given_line)) in
     rw (more, next, same) refl
+
+-- the line at a place, and those behind it
+pub next_given : (headers : List (Bor (List ℕ) × Bor (List ℕ))) (i : ℕ) (d : Bor (List ℕ) × Bor (List ℕ)) → i < length headers → drop i (given_lines headers) ≡ given_line (get_or headers i d) ∷ drop (i + 1) (given_lines headers)
+next_given headers i d within =
+    drop_more (given_lines headers) i (given_line d) (omega (arith, within, length-map headers given_line))
+    ∙ ap (λ line. line ∷ drop (i + 1) (given_lines headers)) (get_or-map given_line headers i d (given_line d) within)
+
+-- a fact of each line from a place on, by that of the line at it
+pub each_from : (P : HeaderLine → Type 0) (headers : List (Bor (List ℕ) × Bor (List ℕ))) (i : ℕ) (d : Bor (List ℕ) × Bor (List ℕ)) → i < length headers → AllByRecursion P (drop i (given_lines headers)) ↔ (P (given_line (get_or headers i d)) × AllByRecursion P (drop (i + 1) (given_lines headers)))
+each_from P headers i d within =
+    let same = next_given headers i d within in
+    (λ all. subst (AllByRecursion P) same all, λ both. subst (AllByRecursion P) (sym same) both)
 
 -- one more line at the end
 pub pairs_more : (lines : List Line) (line : Line) → pairs (lines ++ line ∷ []) ≡ pairs lines ++ pair line ∷ []

@@ -6,3 +6,6 @@ pub use Rattle.s3_http_heads.specs.Message
 pub use Rattle.s3_text.specs.Sorting
 pub use Rattle.s3_signing.specs.Authorize
 pub mod Verified
+pub mod Chunked
+pub use Rattle.s3_aws_chunked.specs.Verdict
+pub use Rattle.s3_aws_chunked.specs.Write

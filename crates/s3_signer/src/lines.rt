@@ -1,86 +1,68 @@
 //! The header lines of a request: those given and those added, in their order.
 
-ghost use Rattle.std.specs.Prelude.{◌≡◌, ◌∷◌, ◌||◌, [], true, nat_lt, length, IfOk, if◌then◌else◌};
-ghost use Rattle.hex.specs.Hex.{encode_lower};
-ghost use Rattle.sha2.specs.Sha256.{sha256};
-ghost use Rattle.s3_text.specs.Digest.{is_hex_digest};
-ghost use Rattle.s3_text.specs.Sorting.{sorted_by};
-ghost use Rattle.s3_signer.specs.Line.{pairs};
-ghost use Rattle.s3_signer.specs.Request.{added_lines, given_lines, length_line, line_cmp, tells_length, unsigned_lines};
+ghost use Rattle.std.specs.Prelude.{◌≡◌, ◌++◌, List, [], map, IfOk, OnOk, if◌then◌else◌};
+ghost use Rattle.s3_text.specs.Sorting.{insert_by, sorted_by};
+ghost use Rattle.s3_signer.specs.Line.{pairs, told_by};
+ghost use Rattle.s3_signer.specs.Request.{HeaderLine, added_lines, given_lines, length_line, line_cmp, lower_line, unsigned_lines};
 
 use crate::line::{Line, add_line};
+use crate::telling::Telling;
 use itoa::Buffer;
 use s3_terms::NoMemory;
-use s3_text::hex_digest;
-use sha2::{Digest, Sha256};
 use std::alloc::Global;
 
-// The SHA-256 of a body, in lower-case hexadecimal.
-pub(crate) fn hash_text(body: &[u8]) -> [u8; 64]
-    ensures value { result ≡ encode_lower (sha256 body.now) }
-    ensures form { is_hex_digest result ≡ true }
+// Puts the given lines to their places among others. The last one goes first, so that those of one name stay
+// as they were given.
+fn add_lines(alloc: Global, given: &[(&[u8], &[u8])], lines: &mut Vec<Line>) -> Result<(), NoMemory>
+    ensures { OnOk result ((others : List HeaderLine) → pairs lines.old.items ≡ sorted_by line_cmp others
+        → pairs lines.new.items ≡ sorted_by line_cmp (map lower_line (given_lines given.now) ++ others)) }
 {
-    hex_digest(&Sha256::digest(body))
-}
-
-// Whether a request of this method tells the size of this body.
-pub(crate) fn tells_length(method: &[u8], body: &[u8]) -> bool
-    ensures { result ≡ tells_length method.now body.now }
-{
-    method == b"PUT".as_slice() || method == b"POST".as_slice() || !body.is_empty()
-}
-
-// The line that tells the size of a body, where a request of this method tells it.
-fn length_lines(alloc: Global, method: &[u8], body: &[u8]) -> Result<Vec<Line>, NoMemory>
-    ensures { IfOk result (λ lines. pairs lines.items
-        ≡ (if tells_length method.now body.now then length_line body.now ∷ [] else [])) }
-{
-    let mut lines = Vec::new(alloc);
-    if tells_length(method, body) {
-        let mut digits = Buffer::new();
-        let size = digits.format(body.len()).as_bytes();
-        add_line(alloc, b"content-length", size, &mut lines)?;
+    for index in (0..given.len()).rev() {
+        let (name, value) = given[index];
+        add_line(alloc, name, value, lines)?;
     }
-    Ok(lines)
+    Ok(())
+}
+
+// Puts the line that tells the size of the body to its place, where it is told.
+fn add_size(alloc: Global, telling: &Telling, lines: &mut Vec<Line>) -> Result<(), NoMemory>
+    ensures { OnOk result (pairs lines.new.items ≡ (if telling.now.sized
+        then insert_by line_cmp (lower_line (length_line telling.now.size)) (pairs lines.old.items)
+        else pairs lines.old.items)) }
+{
+    if !telling.sized {
+        return Ok(());
+    }
+    let mut digits = Buffer::new();
+    let size = digits.format(telling.size).as_bytes();
+    add_line(alloc, b"content-length", size, lines)
 }
 
 // The lines that a signer adds, in their order.
-fn added_lines(
-    alloc: Global,
-    method: &[u8],
-    body: &[u8],
-    hash: &[u8],
-    stamp: &[u8],
-) -> Result<Vec<Line>, NoMemory>
-    requires { hash.now ≡ encode_lower (sha256 body.now) }
+fn added_lines(alloc: Global, telling: &Telling, stamp: &[u8]) -> Result<Vec<Line>, NoMemory>
     ensures { IfOk result (λ lines. pairs lines.items
-        ≡ sorted_by line_cmp (added_lines method.now body.now stamp.now)) }
+        ≡ sorted_by line_cmp (map lower_line (added_lines (told_by telling.now) stamp.now))) }
 {
-    let mut lines = length_lines(alloc, method, body)?;
+    let mut lines = Vec::new(alloc);
+    add_lines(alloc, telling.more, &mut lines)?;
+    add_size(alloc, telling, &mut lines)?;
     add_line(alloc, b"x-amz-date", stamp, &mut lines)?;
-    add_line(alloc, b"x-amz-content-sha256", hash, &mut lines)?;
+    add_line(alloc, b"x-amz-content-sha256", telling.word, &mut lines)?;
     Ok(lines)
 }
 
-// All lines but that of the authorization, in their order. The last one that is given goes first to its
-// place, so that those of one name stay as they were given.
+// All lines but that of the authorization, in their order.
 #[tactic(auto, unfolding(crate::specs::Request::unsigned_lines))]
 pub(crate) fn unsigned_lines(
     alloc: Global,
-    method: &[u8],
     headers: &[(&[u8], &[u8])],
-    body: &[u8],
-    hash: &[u8],
+    telling: &Telling,
     stamp: &[u8],
 ) -> Result<Vec<Line>, NoMemory>
-    requires { hash.now ≡ encode_lower (sha256 body.now) }
     ensures { IfOk result (λ lines. pairs lines.items
-        ≡ unsigned_lines method.now (given_lines headers.now) body.now stamp.now) }
+        ≡ unsigned_lines (given_lines headers.now) (told_by telling.now) stamp.now) }
 {
-    let mut lines = added_lines(alloc, method, body, hash, stamp)?;
-    for index in (0..headers.len()).rev() {
-        let (name, value) = headers[index];
-        add_line(alloc, name, value, &mut lines)?;
-    }
+    let mut lines = added_lines(alloc, telling, stamp)?;
+    add_lines(alloc, headers, &mut lines)?;
     Ok(lines)
 }

@@ -1,20 +1,35 @@
 //! What a head has to have before it is signed.
 
 ghost use Rattle.std.specs.Prelude.{◌≡◌, ◌↔◌, ◌∷◌, [], not, true, if◌then◌else◌};
+ghost use Rattle.std.specs.List.{AllByRecursion};
 ghost use Rattle.s3_http_heads.specs.Head.{values_of};
 ghost use Rattle.s3_http_heads.specs.Target.{is_unreadable};
-ghost use Rattle.s3_signer.specs.Request.{IsReadyFor};
+ghost use Rattle.s3_signer.specs.Line.{told_by};
+ghost use Rattle.s3_signer.specs.Request.{HasOne, IsReadyFor, given_lines};
 
+use crate::telling::Telling;
 use s3_http_heads::Head;
 
 // Whether a head has one line of this name, with this value.
 pub(crate) fn has_one(head: &Head, name: &[u8], value: &[u8]) -> bool
-    ensures { (result ≡ true) ↔ (values_of name.now head.now ≡ value.now ∷ []) }
+    ensures { (result ≡ true) ↔ HasOne head.now (name.now, value.now) }
 {
     match head.first(name) {
         Some(first) => head.count(name) == 1 && first == value,
         None => false,
     }
+}
+
+// Whether a head has one line of each of these names, with its value.
+fn has_each(head: &Head, lines: &[(&[u8], &[u8])]) -> bool
+    ensures { (result ≡ true) ↔ AllByRecursion (HasOne head.now) (given_lines lines.now) }
+{
+    for line in lines {
+        if !has_one(head, line.0, line.1) {
+            return false;
+        }
+    }
+    true
 }
 
 // Whether the target can be read.
@@ -27,12 +42,13 @@ fn is_readable(head: &Head) -> bool
 
 // Whether the target can be read, and the host and the signer's own names have just the lines that they
 // should.
-pub(crate) fn is_ready(head: &Head, told: bool, hash: &[u8], stamp: &[u8]) -> bool
-    ensures { (result ≡ true) ↔ IsReadyFor told hash.now stamp.now head.now }
+pub(crate) fn is_ready(head: &Head, telling: &Telling, stamp: &[u8]) -> bool
+    ensures { (result ≡ true) ↔ IsReadyFor (told_by telling.now) stamp.now head.now }
 {
     is_readable(head)
         && head.count(b"host") == 1
-        && head.count(b"content-length") == if told { 1 } else { 0 }
-        && has_one(head, b"x-amz-content-sha256", hash)
+        && head.count(b"content-length") == if telling.sized { 1 } else { 0 }
+        && has_one(head, b"x-amz-content-sha256", telling.word)
         && has_one(head, b"x-amz-date", stamp)
+        && has_each(head, telling.more)
 }

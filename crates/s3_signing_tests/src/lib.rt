@@ -3,6 +3,8 @@
 #![tactic(auto)]
 
 #[cfg(test)]
+mod chunked;
+#[cfg(test)]
 mod server;
 #[cfg(test)]
 mod signer;

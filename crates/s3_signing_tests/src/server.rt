@@ -33,15 +33,20 @@ fn config(alloc: Global, region: &[u8]) -> Result<Config, Code> {
     Config::new(region, keys, 5, 1024, Vec::new(alloc)).ok_or(Code::InternalError)
 }
 
-/// What the server in this region says of a head at that moment; an error where there is no such
+/// What the server in this region says of a head at that moment; an internal error where there is no such
 /// server.
 pub(crate) fn verdict(
     alloc: Global,
     region: &[u8],
     head: &Head,
     seconds: u64,
-) -> Result<Result<Verified, Code>, Code> {
+) -> Result<Verified, Code> {
     let moment = Moment::new(seconds).ok_or(Code::InternalError)?;
     let config = config(alloc, region)?;
-    Ok(verify_head(alloc, &config, head, moment))
+    verify_head(alloc, &config, head, moment)
+}
+
+/// Its refusal of the head, if it is refused.
+pub(crate) fn refusal_of(alloc: Global, region: &[u8], head: &Head, seconds: u64) -> Option<Code> {
+    verdict(alloc, region, head, seconds).err()
 }

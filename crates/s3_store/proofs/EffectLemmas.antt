@@ -11,7 +11,7 @@ use Rattle.s3_requests.specs.declared.commands.Command.TheVariants as commands
 use Rattle.s3_store.specs.declared.object.Object.{Object}
 use Rattle.s3_store.specs.Store.{State, Objects, Stepped, object_in, object_at, put_object, put_step, got, get_step, step}
 use Rattle.s3_store.specs.Store.{Address, writes, brings, reads, only_reads, is_refused, given, acknowledged}
-use Rattle.s3_store.proofs.MapLemmas.{get-put, tied_equal}
+use Rattle.s3_text.proofs.MapLemmas.{get-put, tied_equal}
 use Rattle.s3_store.proofs.StepLemmas.{get_step-state}
 
 -- the object under an address

@@ -1,7 +1,6 @@
 pub mod EffectLemmas
 pub mod HistoryLemmas
 pub mod KeptLemmas
-pub mod MapLemmas
 pub mod OpeningLemmas
 pub mod OriginLemmas
 pub mod StepLemmas

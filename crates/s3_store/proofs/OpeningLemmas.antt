@@ -2,7 +2,7 @@
 use Rattle.std.proofs.Common.{◌≡◌, refl, ap, ◌∙◌, ℕ, List, [], ◌∷◌, ◌++◌}
 use Rattle.std.specs.FinMap as map
 use Rattle.s3_store.specs.Store.{opening}
-use Rattle.s3_store.proofs.MapLemmas.{put-put}
+use Rattle.s3_text.proofs.MapLemmas.{put-put}
 
 pub opening-push : (names : List (List ℕ)) (name : List ℕ) → opening (names ++ name ∷ []) ≡ map.insert (opening names) name map.empty
 opening-push [] name = refl

@@ -12,7 +12,7 @@ use Rattle.s3_store.specs.Kept.{Leaves, LeavesKey, Brought, LastBrought, OnlyPut
 use Rattle.s3_store.proofs.EffectLemmas.{held}
 use Rattle.s3_store.proofs.HistoryLemmas.{Legal-append}
 use Rattle.s3_store.proofs.KeptLemmas.{entry_does, entry_gives}
-use Rattle.s3_store.proofs.MapLemmas.{get-put}
+use Rattle.s3_text.proofs.MapLemmas.{get-put}
 
 -- the opening state has no object
 opening_with : (s : State) (name : List ℕ) (a : Address) (b : Bool) → eq_by_cmp byte_order a.bucket name ≡ b → held s a ≡ None → held (map.insert s name map.empty) a ≡ None

@@ -1,18 +1,19 @@
 -- What `s3d sign` writes, over the bytes that its files tell: `None` stands for those of a file that
 -- tells none.
-use Rattle.std.specs.Prelude.{◌≡◌, ◌⊎◌, ⊤, ℕ, Bool, true, false, IsTrue, ◌&&◌, ◌==◌, List, [], ◌∷◌, map, codes, Option, Some, None, is_some, IfSome, option_map, position}
+use Rattle.std.specs.Prelude.{◌≡◌, ◌⊎◌, ⊤, ℕ, Bool, true, false, IsTrue, ◌&&◌, ◌==◌, nat_le, if◌then◌else◌, List, [], ◌∷◌, map, codes, Option, Some, None, is_some, IfSome, option_map, position}
 use Rattle.std.specs.List.{list_all, before_first, after_first}
 use Rattle.std.specs.Borrow.{Bor}
 use Rattle.s3_calendar.specs.Moment.{is_stamp, stamp_seconds}
 use Rattle.s3_config.specs.Settings.{Settings, secret_of}
 use Rattle.s3_signer.specs.Request.{HeaderLine, IsSignable, given_lines, request_text}
+use Rattle.s3_signer.specs.Chunked.{IsChunkedText, IsSignableInChunks, greatest_chunk}
 use Rattle.s3_settings.specs.declared.fault.Fault.{Fault}
 use Rattle.s3_settings.specs.declared.fault.Fault.TheVariants.{CannotRead, BadKeysLine, BadSetting, InputFailed, OutputFailed, OutOfMemory}
 use Rattle.s3_settings.specs.declared.settings.Setup.{Setup}
 use Rattle.s3_tasks.specs.declared.sign.Draft.{Draft}
 use Rattle.s3_options.specs.declared.options.SignOptions.{SignOptions}
 use Rattle.s3_settings.specs.Fault.{IsReadFault}
-use Rattle.s3_settings.specs.Settings.{are_options, IsSetupOf, IsConfigured, IsConfigFault, HasConfigFault}
+use Rattle.s3_settings.specs.Settings.{option_number, are_options, IsSetupOf, IsConfigured, IsConfigFault, HasConfigFault}
 
 -- the texts behind references
 abbrev pub texts_of : List (Bor (List ℕ)) → List (List ℕ)
@@ -37,10 +38,22 @@ line_of_word word = (before_first is_colon word, after_first is_colon word)
 abbrev pub header_lines : List ℕ → List (List ℕ) → List HeaderLine
 header_lines host words = (codes "host", host) ∷ map line_of_word words
 
--- the options that a request needs are there, and each further word is a header line
+-- the number, if it is a size of chunks
+abbrev pub chunk_of : Option ℕ → Option ℕ
+chunk_of None = None
+chunk_of (Some bytes) = if nat_le 1 bytes && nat_le bytes greatest_chunk then Some bytes else None
+
+-- the size of the chunks that an option asks for, if it says one; without the option the body is sent as it is
+abbrev pub chunk_asked : Option (List ℕ) → Option (Option ℕ)
+chunk_asked None = Some None
+chunk_asked (Some text) = option_map Some (chunk_of (option_number text))
+
+-- the options that a request needs are there, that of the chunks says a size of theirs, and each further word is
+-- a header line
 unfoldable pub are_sign_options : SignOptions → Bool
 are_sign_options o =
     is_some o.id && is_some o.method && is_some o.target && is_some o.host
+    && is_some (chunk_asked (option_map (λ text. text.now) o.chunk))
     && list_all has_colon (texts_of o.headers.items)
 
 -- a draft has what the options say
@@ -51,6 +64,7 @@ pub record IsDraftOf (o : SignOptions) (d : Draft) : Type 0 where
   pub headers : option_map (λ host. header_lines host.now (texts_of o.headers.items)) o.host ≡ Some (given_lines d.headers.items)
   pub words : list_all has_colon (texts_of o.headers.items) ≡ true
   pub body : option_map (λ path. path.now) o.body ≡ option_map (λ path. path.now) d.body
+  pub chunk : chunk_asked (option_map (λ text. text.now) o.chunk) ≡ Some d.chunk
 
 -- the bytes are those of the file at the path, where they are known; without a path there are none
 abbrev pub IsBodyOf : (List ℕ → Option (List ℕ)) → Option (Bor (List ℕ)) → List ℕ → Type 0
@@ -59,14 +73,33 @@ IsBodyOf known (Some path) bytes = IfSome (known path.now) (λ text. bytes ≡ t
 
 -- why there is no body
 abbrev pub IsBodyFault : (List ℕ → Option (List ℕ)) → Option (Bor (List ℕ)) → Fault → Type 0
-IsBodyFault known None fault = fault ≡ OutOfMemory
+IsBodyFault known None fault = ⊥
 IsBodyFault known (Some path) fault = IsReadFault (known path.now) path.now fault
+
+-- the request can be signed whose body is sent as it is, or in signed chunks of so many bytes
+abbrev pub IsSignableIn : Option ℕ → List ℕ → List ℕ → List ℕ → List ℕ → List ℕ → List HeaderLine → List ℕ → List ℕ → Type 0
+IsSignableIn None id secret region method target headers body stamp =
+    IsSignable id secret region method target headers body stamp
+IsSignableIn (Some size) id secret region method target headers body stamp =
+    IsSignableInChunks id secret region method target headers body size stamp
+
+-- the text is that request
+abbrev pub IsTextIn : Option ℕ → List ℕ → List ℕ → List ℕ → List ℕ → List ℕ → List HeaderLine → List ℕ → List ℕ → List ℕ → Type 0
+IsTextIn None id secret region method target headers body stamp text =
+    text ≡ request_text id secret region method target headers body stamp
+IsTextIn (Some size) id secret region method target headers body stamp text =
+    IsChunkedText id secret region method target headers body size stamp text
 
 -- a request of the draft with this body, at this stamp, can be signed by this secret for a server of these
 -- settings
 abbrev pub IsSignableDraft : Settings → List ℕ → Draft → List ℕ → List ℕ → Type 0
 IsSignableDraft settings secret draft body stamp =
-    IsSignable draft.id.now secret settings.region draft.method.now draft.target.now (given_lines draft.headers.items) body stamp
+    IsSignableIn draft.chunk draft.id.now secret settings.region draft.method.now draft.target.now (given_lines draft.headers.items) body stamp
+
+-- the text is that request
+abbrev pub IsSignedDraft : Settings → List ℕ → Draft → List ℕ → List ℕ → List ℕ → Type 0
+IsSignedDraft settings secret draft body stamp text =
+    IsTextIn draft.chunk draft.id.now secret settings.region draft.method.now draft.target.now (given_lines draft.headers.items) body stamp text
 
 -- the text is the signed request of the draft: by the secret that the settings have for its id, with
 -- the bytes of its body's file
@@ -76,7 +109,7 @@ pub record IsRequestOf (known : List ℕ → Option (List ℕ)) (settings : Sett
   pub owned : secret_of settings.keys draft.id.now ≡ Some secret
   pub body : IsBodyOf known draft.body bytes
   pub signable : IsSignableDraft settings secret draft bytes stamp
-  pub signed : text ≡ request_text draft.id.now secret settings.region draft.method.now draft.target.now (given_lines draft.headers.items) bytes stamp
+  pub signed : IsSignedDraft settings secret draft bytes stamp text
 
 -- why there is none
 abbrev pub IsRequestFault : (List ℕ → Option (List ℕ)) → Settings → Draft → List ℕ → Fault → Type 0

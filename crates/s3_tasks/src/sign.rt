@@ -1,16 +1,17 @@
 //! The signed request that the options of `s3d sign` describe.
 
-ghost use Rattle.std.specs.Prelude.{◌≡◌, ◌++◌, [], ◌∷◌, IfOk, OnOk, IfErr, MatchOption, position, false, true};
+ghost use Rattle.std.specs.Prelude.{◌≡◌, ◌++◌, [], ◌∷◌, Some, None, IfOk, OnOk, IfErr, IsErrOf, MatchOption, option_map, position, false, true};
 ghost use Rattle.std.specs.List.{list_all};
-ghost use Rattle.s3_signer.specs.Request.{given_lines, request_text};
+ghost use Rattle.s3_signer.specs.Request.{given_lines};
 ghost use Rattle.s3_settings.specs.Fault.{MemoryOr};
-ghost use Rattle.s3_tasks.specs.Sign.{texts_of, is_colon, has_colon, line_of_word, header_lines, are_sign_options, IsSignableDraft, IsDraftOf, IsBodyOf, IsBodyFault, IsRequestOf, IsRequestFault, IsTextOf, IsSignFault, IsDraftText, IsDraftFault};
+ghost use Rattle.s3_settings.specs.Settings.{option_number};
+ghost use Rattle.s3_tasks.specs.Sign.{texts_of, is_colon, has_colon, line_of_word, header_lines, are_sign_options, chunk_asked, chunk_of, IsSignableDraft, IsSignedDraft, IsDraftOf, IsBodyOf, IsBodyFault, IsRequestOf, IsRequestFault, IsTextOf, IsSignFault, IsDraftText, IsDraftFault};
 
 use s3_calendar::Stamp;
 use s3_config::Config;
 use s3_options::SignOptions;
-use s3_settings::{Fault, Files, Setup, configure, read_file};
-use s3_signer::{Unsigned, signed_request};
+use s3_settings::{Fault, Files, Setup, configure, option_number, read_file};
+use s3_signer::{ChunkSize, Unsigned, chunked_request, signed_request};
 use std::alloc::Global;
 
 /// A request that is to be signed.
@@ -26,10 +27,13 @@ pub struct Draft<'a> {
     pub headers: Vec<(&'a [u8], &'a [u8])>,
     /// The path of the file that has its body; without one the body is empty.
     pub body: Option<&'a str>,
+    /// How many bytes of it each signed chunk has; without one it is sent as it is.
+    pub chunk: Option<ChunkSize>,
 }
 
 impl<'a> Draft<'a> {
-    /// The request that the options describe; `BadSetting` where a header line has no `:`.
+    /// The request that the options describe; `BadSetting` where one that it needs isn't there, a header line has
+    /// no `:`, or the size of chunks isn't one from 1 to 67,108,864 in 1 to 12 decimal digits.
     #[tactic(auto, unfolding(crate::specs::Sign::are_sign_options))]
     pub fn read(alloc: Global, options: &SignOptions<'a>) -> Result<Draft<'a>, Fault<'a>>
         ensures value { IfOk result (IsDraftOf options.now) }
@@ -43,6 +47,7 @@ impl<'a> Draft<'a> {
         ) else {
             return Err(Fault::BadSetting);
         };
+        let chunk = chunk_asked(options.chunk)?;
         let headers = header_lines(alloc, host, options.headers.as_slice())?;
         Ok(Draft {
             id,
@@ -50,8 +55,31 @@ impl<'a> Draft<'a> {
             target,
             headers,
             body: options.body,
+            chunk,
         })
     }
+}
+
+// The size of chunks that an option asks for, where it is there.
+fn chunk_asked<'a>(option: Option<&str>) -> Result<Option<ChunkSize>, Fault<'a>>
+    ensures value { IfOk result (λ size. chunk_asked (option_map (λ text. text.now) option.entry) ≡ Some size) }
+    ensures refused { IfErr result (λ fault. (fault ≡ Fault.BadSetting)
+        × (chunk_asked (option_map (λ text. text.now) option.entry) ≡ None)) }
+{
+    let Some(text) = option else {
+        return Ok(None);
+    };
+    match chunk_size(text) {
+        Some(size) => Ok(Some(size)),
+        None => Err(Fault::BadSetting),
+    }
+}
+
+// The size of chunks that a text says.
+fn chunk_size(text: &str) -> Option<ChunkSize>
+    ensures { result ≡ chunk_of (option_number text.now) }
+{
+    ChunkSize::new(option_number(text)?)
 }
 
 // The header lines that the host and the words say.
@@ -161,19 +189,40 @@ fn signed<'a>(
     body: &[u8],
     stamp: Stamp,
 ) -> Result<Vec<u8>, Fault<'a>>
-    ensures value { IfOk result (λ text. text.items ≡ request_text draft.now.id.now secret.now config.now.region draft.now.method.now draft.now.target.now (given_lines draft.now.headers.items) body.now stamp) }
+    ensures value { IfOk result (λ text. IsSignedDraft config.now secret.now draft.now body.now stamp text.items) }
     ensures signable { OnOk result (IsSignableDraft config.now secret.now draft.now body.now stamp) }
     ensures refused { IfErr result (MemoryOr Fault.BadSetting (¬ IsSignableDraft config.now secret.now draft.now body.now stamp)) }
+{
+    match written(alloc, config, secret, draft, body, stamp) {
+        Ok(text) => Ok(text),
+        Err(Unsigned::NotSignable) => Err(Fault::BadSetting),
+        Err(Unsigned::OutOfMemory) => Err(Fault::OutOfMemory),
+    }
+}
+
+// The same, with its body as it is or in signed chunks, as the draft says.
+fn written(
+    alloc: Global,
+    config: &Config,
+    secret: &[u8],
+    draft: &Draft<'_>,
+    body: &[u8],
+    stamp: Stamp,
+) -> Result<Vec<u8>, Unsigned>
+    ensures value { IfOk result (λ text. IsSignedDraft config.now secret.now draft.now body.now stamp text.items) }
+    ensures signable { OnOk result (IsSignableDraft config.now secret.now draft.now body.now stamp) }
+    ensures refused { IsErrOf result Unsigned.NotSignable → ¬ (IsSignableDraft config.now secret.now draft.now body.now stamp) }
 {
     let (id, region) = (draft.id.as_bytes(), config.region());
     let (method, target) = (draft.method.as_bytes(), draft.target.as_bytes());
     let headers = draft.headers.as_slice();
-    match signed_request(
-        alloc, id, secret, region, method, target, headers, body, stamp,
-    ) {
-        Ok(text) => Ok(text),
-        Err(Unsigned::NotSignable) => Err(Fault::BadSetting),
-        Err(Unsigned::OutOfMemory) => Err(Fault::OutOfMemory),
+    match draft.chunk {
+        Some(size) => chunked_request(
+            alloc, id, secret, region, method, target, headers, body, size, stamp,
+        ),
+        None => signed_request(
+            alloc, id, secret, region, method, target, headers, body, stamp,
+        ),
     }
 }
 

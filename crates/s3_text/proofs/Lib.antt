@@ -6,3 +6,4 @@ pub mod JoinLemmas
 pub mod ListLemmas
 pub mod OptionLemmas
 pub mod SortingLemmas
+pub mod MapLemmas

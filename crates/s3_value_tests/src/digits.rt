@@ -2,28 +2,23 @@
 
 use s3_text::{decimal_number, number_digits};
 
-#[test]
-fn decimal_numbers(rt: HostRuntime) {
-    const CASES: [(&[u8], Option<u64>); 6] = [
-        (b"007", Some(7)),
-        (b"999", Some(999)),
-        (b"0070", None),
-        (b"", None),
-        (b"+7", None),
-        (b" 7", None),
-    ];
-    for (text, number) in &CASES {
-        assert!(rt; decimal_number(text, 3) == *number);
-    }
-}
+// A text, and the number of at most three decimal digits that it is.
+static DECIMALS: [(&[u8], Option<u64>); 6] = [
+    (b"007", Some(7)),
+    (b"999", Some(999)),
+    (b"0070", None),
+    (b"", None),
+    (b"+7", None),
+    (b" 7", None),
+];
 
 #[test]
-fn numbers_in_hexadecimal(rt: HostRuntime) {
-    const CASES: [(u64, &[u8; 16]); 2] = [
-        (0x0123_4567_89ab_cdef, b"0123456789abcdef"),
-        (u64::MAX, b"ffffffffffffffff"),
-    ];
-    for (number, digits) in &CASES {
-        assert!(rt; number_digits(*number) == **digits);
+fn numbers_in_digits(rt: HostRuntime) {
+    for case in &DECIMALS {
+        assert!(rt; decimal_number(case.0, 3) == case.1);
     }
+    assert!(rt;
+        number_digits(0x0123_4567_89ab_cdef) == *b"0123456789abcdef"
+            && number_digits(u64::MAX) == *b"ffffffffffffffff"
+    );
 }

@@ -13,47 +13,51 @@ fn is_written(mac: [u8; 32], digits: &[u8; 64]) -> bool {
     written == *digits
 }
 
+// A key, a message and its MAC.
+type Case = (&'static [u8], &'static [u8], &'static [u8; 64]);
+
 // The first two are test cases of RFC 4231, with SHA-256. A key of a block is used as it is, and one of
 // 65 bytes is hashed: these two MACs are those of Python's `hmac`.
-#[test]
-fn hmac_vectors(rt: HostRuntime) {
-    const CASES: [(&[u8], &[u8], &[u8; 64]); 4] = [
-        (
-            &[0x0b; 20],
-            b"Hi There",
-            b"b0344c61d8db38535ca8afceaf0bf12b881dc200c9833da726e9376c2e32cff7",
-        ),
-        (b"Jefe", b"what do ya want for nothing?", QUESTION_MAC),
-        (
-            &[0xaa; 64],
-            b"however the message is cut",
-            b"d51625c32649ef6a2ce23b581c896bbb21767a3603446888578c26b6120b357a",
-        ),
-        (
-            &[0xaa; 65],
-            b"however the message is cut",
-            b"af51c5cc0cf0b40a7a6f88807ea6713f1f0fc2f4f8a68451b2ffd9bbbc658c1a",
-        ),
-    ];
-    for (key, message, digits) in &CASES {
-        assert!(rt; is_written(hmac(key, message), digits));
-    }
-}
+static CASES: [Case; 4] = [
+    (
+        &[0x0b; 20],
+        b"Hi There",
+        b"b0344c61d8db38535ca8afceaf0bf12b881dc200c9833da726e9376c2e32cff7",
+    ),
+    (b"Jefe", b"what do ya want for nothing?", QUESTION_MAC),
+    (
+        &[0xaa; 64],
+        b"however the message is cut",
+        b"d51625c32649ef6a2ce23b581c896bbb21767a3603446888578c26b6120b357a",
+    ),
+    (
+        &[0xaa; 65],
+        b"however the message is cut",
+        b"af51c5cc0cf0b40a7a6f88807ea6713f1f0fc2f4f8a68451b2ffd9bbbc658c1a",
+    ),
+];
 
-// A key of 65 bytes gives what its digest gives.
-#[test]
-fn long_key(rt: HostRuntime) {
+// Whether a key of 65 bytes gives what its digest gives.
+fn is_hashed() -> bool {
     let digest = Sha256::digest(&[0xaa; 65]);
-    assert!(rt; hmac(&[0xaa; 65], b"message") == hmac(&digest, b"message"));
-    long_keys_are_hashed();
+    hmac(&[0xaa; 65], b"message") == hmac(&digest, b"message")
 }
 
-// A message in three pieces has the MAC of the whole.
-#[test]
-fn message_in_pieces(rt: HostRuntime) {
+// The MAC of the question, in three pieces.
+fn in_pieces() -> [u8; 32] {
     let mut mac = Mac::new(b"Jefe");
     mac.update(b"what do ya ");
     mac.update(b"want for ");
     mac.update(b"nothing?");
-    assert!(rt; is_written(mac.finish(), QUESTION_MAC));
+    mac.finish()
+}
+
+// A long key is hashed, and a message in three pieces has the MAC of the whole.
+#[test]
+fn hmac_vectors(rt: HostRuntime) {
+    for case in &CASES {
+        assert!(rt; is_written(hmac(case.0, case.1), case.2));
+    }
+    assert!(rt; is_hashed() && is_written(in_pieces(), QUESTION_MAC));
+    long_keys_are_hashed();
 }

@@ -1,7 +1,7 @@
 //! Tests of `s3_names`: the names of buckets and the keys of objects, alone and in maps.
 
 use s3_names::{BucketName, Key};
-use s3_terms::Code;
+use s3_terms::{Code, NoMemory};
 use std::alloc::Global;
 use std::collections::BTreeMap;
 
@@ -10,126 +10,154 @@ fn fault_of_name(alloc: Global, name: &[u8]) -> Option<Code> {
     BucketName::read(alloc, name).err()
 }
 
+const INVALID: Option<Code> = Some(Code::InvalidBucketName);
+
+// Texts, and why they name no bucket, if they don't.
+static NAMES: [(&[u8], Option<Code>); 21] = [
+    (b"pail", None),
+    (b"a.b.c", None),
+    (b"a-.b", None),
+    (b"a.-b", None),
+    (b"1234.5.6", None),
+    (b"1.2.3.4.5", None),
+    (b"1.2.3.x", None),
+    (b"abc", None),
+    (&[b'a'; 63], None),
+    (b"", INVALID),
+    (b"ab", INVALID),
+    (b"Pail", INVALID),
+    (b"p_il", INVALID),
+    (b"-ab", INVALID),
+    (b"ab-", INVALID),
+    (b".ab", INVALID),
+    (b"ab.", INVALID),
+    (b"a..b", INVALID),
+    (b"192.168.0.1", INVALID),
+    (b"1234.5.6.7890", INVALID),
+    (&[b'a'; 64], INVALID),
+];
+
 #[test]
 fn names_of_buckets(rt: HostRuntime) {
-    const NAMES: [&[u8]; 9] = [
-        b"pail",
-        b"a.b.c",
-        b"a-.b",
-        b"a.-b",
-        b"1234.5.6",
-        b"1.2.3.4.5",
-        b"1.2.3.x",
-        b"abc",
-        &[b'a'; 63],
-    ];
-    for name in &NAMES {
-        assert!(rt; fault_of_name(rt.alloc(), name).is_none());
+    for case in &NAMES {
+        assert!(rt; fault_of_name(rt.alloc(), case.0) == case.1);
     }
 }
 
-#[test]
-fn texts_that_name_no_bucket(rt: HostRuntime) {
-    const TEXTS: [&[u8]; 12] = [
-        b"",
-        b"ab",
-        b"Pail",
-        b"p_il",
-        b"-ab",
-        b"ab-",
-        b".ab",
-        b"ab.",
-        b"a..b",
-        b"192.168.0.1",
-        b"1234.5.6.7890",
-        &[b'a'; 64],
-    ];
-    for text in &TEXTS {
-        assert!(rt; fault_of_name(rt.alloc(), text) == Some(Code::InvalidBucketName));
+// Whether that many of one byte are a key, or this is why they are none.
+fn is_fault_of_key(alloc: Global, case: &(u8, usize, Option<Code>)) -> bool {
+    match vec![in alloc; case.0; case.1] {
+        Ok(key) => Key::read(alloc, key.as_slice()).err() == case.2,
+        Err(_) => false,
     }
 }
 
-// Why that many of one byte are no key.
-fn fault_of_key(alloc: Global, byte: u8, len: usize) -> Result<Option<Code>, Code> {
-    let key = vec![in alloc; byte; len]?;
-    Ok(Key::read(alloc, key.as_slice()).err())
-}
+static KEYS: [(u8, usize, Option<Code>); 4] = [
+    (b'k', 1_024, None),
+    (b'k', 1_025, Some(Code::KeyTooLongError)),
+    (0xff, 1_025, Some(Code::InvalidURI)),
+    (b'k', 0, Some(Code::InvalidURI)),
+];
 
 #[test]
 fn keys(rt: HostRuntime) {
-    const CASES: [(u8, usize, Option<Code>); 4] = [
-        (b'k', 1_024, None),
-        (b'k', 1_025, Some(Code::KeyTooLongError)),
-        (0xff, 1_025, Some(Code::InvalidURI)),
-        (b'k', 0, Some(Code::InvalidURI)),
-    ];
-    for (byte, len, fault) in &CASES {
-        assert!(rt; fault_of_key(rt.alloc(), *byte, *len) == Ok(*fault));
+    for case in &KEYS {
+        assert!(rt; is_fault_of_key(rt.alloc(), case));
     }
 }
 
 // Whether a copy of the name has these bytes, and is the same name.
-fn has_copy(name: &BucketName, bytes: &[u8]) -> Result<bool, Code> {
-    let copied = name.copy()?;
-    Ok(copied.as_bytes() == bytes && copied == *name)
+fn has_copy(name: &BucketName, bytes: &[u8]) -> bool {
+    match name.copy() {
+        Ok(copied) => copied.as_bytes() == bytes && copied == *name,
+        Err(_) => false,
+    }
 }
 
-fn copies_name(alloc: Global, bytes: &[u8]) -> Result<bool, Code> {
-    let name = BucketName::read(alloc, bytes)?;
-    has_copy(&name, bytes)
+fn copies_name(alloc: Global, bytes: &[u8]) -> bool {
+    match BucketName::read(alloc, bytes) {
+        Ok(name) => has_copy(&name, bytes),
+        Err(_) => false,
+    }
 }
 
-// Whether a copy of the key of this text has these bytes.
-fn copies_key(alloc: Global, text: &[u8], bytes: &[u8]) -> Result<bool, Code> {
-    let copied = Key::read(alloc, text)?.copy()?;
-    Ok(copied.as_bytes() == bytes)
+// Whether a copy of the key has these bytes.
+fn has_copied_key(key: &Key, bytes: &[u8]) -> bool {
+    match key.copy() {
+        Ok(copied) => copied.as_bytes() == bytes,
+        Err(_) => false,
+    }
+}
+
+fn copies_key(alloc: Global, text: &[u8], bytes: &[u8]) -> bool {
+    match Key::read(alloc, text) {
+        Ok(key) => has_copied_key(&key, bytes),
+        Err(_) => false,
+    }
 }
 
 #[test]
 fn copies(rt: HostRuntime) {
     let text = "k\u{e9}".as_bytes();
-    assert!(rt; copies_name(rt.alloc(), b"pail") == Ok(true));
-    assert!(rt; copies_key(rt.alloc(), text, b"k\xc3\xa9") == Ok(true));
+    assert!(rt; copies_name(rt.alloc(), b"pail") && copies_key(rt.alloc(), text, b"k\xc3\xa9"));
 }
 
 // Whether a map that has a value at `key` alone answers it at `same`, and none at `other`.
-fn is_found<K: Ord + Drop>(
-    alloc: Global,
-    key: K,
-    value: u8,
-    same: &K,
-    other: &K,
-) -> Result<bool, Code> {
+fn is_found<K: Ord + Drop>(alloc: Global, key: K, same: &K, other: &K) -> bool {
     let mut values = BTreeMap::new(alloc);
-    values.insert(key, value)?;
-    Ok(values.get(same) == Some(&value) && values.get(other).is_none())
+    values.insert(key, 7_u8).is_ok() && tells_apart(&values, same, other)
 }
 
-fn finds_key(alloc: Global, key: &Key, other: &Key) -> Result<bool, Code> {
-    is_found(alloc, key.copy()?, 7, key, other)
+fn tells_apart<K: Ord>(values: &BTreeMap<K, u8>, same: &K, other: &K) -> bool {
+    values.get(same) == Some(&7) && values.get(other).is_none()
 }
 
-fn finds_name(alloc: Global, name: &BucketName, other: &BucketName) -> Result<bool, Code> {
-    is_found(alloc, name.copy()?, 1, name, other)
+// Whether the first is below the second, and a map that has a copy of it tells them apart.
+fn are_in_order<K: Ord + Drop>(
+    alloc: Global,
+    copied: Result<K, NoMemory>,
+    low: &K,
+    high: &K,
+) -> bool {
+    match copied {
+        Ok(copy) => *low < *high && is_found(alloc, copy, low, high),
+        Err(_) => false,
+    }
 }
 
-// Whether the first key is below the second, and a map tells them apart.
-fn are_keys_in_order(alloc: Global, low: &[u8], high: &[u8]) -> Result<bool, Code> {
-    let low = Key::read(alloc, low)?;
-    let high = Key::read(alloc, high)?;
-    Ok(low < high && finds_key(alloc, &low, &high) == Ok(true))
+fn is_below_key(alloc: Global, low: &[u8], high: &Key) -> bool {
+    match Key::read(alloc, low) {
+        Ok(low) => are_in_order(alloc, low.copy(), &low, high),
+        Err(_) => false,
+    }
 }
 
-// Whether the first name is below the second, and a map tells them apart.
-fn are_names_in_order(alloc: Global, low: &[u8], high: &[u8]) -> Result<bool, Code> {
-    let low = BucketName::read(alloc, low)?;
-    let high = BucketName::read(alloc, high)?;
-    Ok(low < high && finds_name(alloc, &low, &high) == Ok(true))
+fn are_keys_in_order(alloc: Global, low: &[u8], high: &[u8]) -> bool {
+    match Key::read(alloc, high) {
+        Ok(high) => is_below_key(alloc, low, &high),
+        Err(_) => false,
+    }
+}
+
+fn is_below_name(alloc: Global, low: &[u8], high: &BucketName) -> bool {
+    match BucketName::read(alloc, low) {
+        Ok(low) => are_in_order(alloc, low.copy(), &low, high),
+        Err(_) => false,
+    }
+}
+
+fn are_names_in_order(alloc: Global, low: &[u8], high: &[u8]) -> bool {
+    match BucketName::read(alloc, high) {
+        Ok(high) => is_below_name(alloc, low, &high),
+        Err(_) => false,
+    }
 }
 
 // Byte order: `/` is below `0`.
 #[test]
 fn maps(rt: HostRuntime) {
-    assert!(rt; are_keys_in_order(rt.alloc(), b"a/b", b"a0") == Ok(true));
-    assert!(rt; are_names_in_order(rt.alloc(), b"pail", b"tub") == Ok(true));
+    assert!(rt;
+        are_keys_in_order(rt.alloc(), b"a/b", b"a0")
+            && are_names_in_order(rt.alloc(), b"pail", b"tub")
+    );
 }

@@ -11,35 +11,47 @@ fn key(alloc: Global, id: &[u8], secret: &[u8]) -> Result<Option<Credential>, Co
     Ok(Credential::new(id, secret))
 }
 
-// Whether the access key of this id and this secret tells both; `None` where there is no such key.
-fn tells_both(alloc: Global, id: &[u8], secret: &[u8]) -> Result<Option<bool>, Code> {
-    match key(alloc, id, secret)? {
-        Some(key) => Ok(Some(key.id() == id && key.secret() == secret)),
-        None => Ok(None),
+// An id, a secret, and whether they are an access key.
+type Case = (&'static [u8], &'static [u8], bool);
+
+static CREDENTIALS: [Case; 8] = [
+    (b"one", b"any byte, / and \n", true),
+    (&[b'a'; 128], b"s", true),
+    (&[b'a'; 129], b"s", false),
+    (b"a,b", b"s", false),
+    (b"a b", b"s", false),
+    (b"a/b", b"s", false),
+    (b"a", b"", false),
+    (b"", b"s", false),
+];
+
+// Whether this is no access key, or one that tells its id and its secret, as the case says.
+fn is_key_of(made: &Option<Credential>, case: &Case) -> bool {
+    match made {
+        Some(key) => case.2 && key.id() == case.0 && key.secret() == case.1,
+        None => !case.2,
+    }
+}
+
+fn is_right(alloc: Global, case: &Case) -> bool {
+    match key(alloc, case.0, case.1) {
+        Ok(made) => is_key_of(&made, case),
+        Err(_) => false,
     }
 }
 
 #[test]
 fn credentials(rt: HostRuntime) {
-    const CASES: [(&[u8], &[u8], Option<bool>); 8] = [
-        (b"one", b"any byte, / and \n", Some(true)),
-        (&[b'a'; 128], b"s", Some(true)),
-        (&[b'a'; 129], b"s", None),
-        (b"a,b", b"s", None),
-        (b"a b", b"s", None),
-        (b"a/b", b"s", None),
-        (b"a", b"", None),
-        (b"", b"s", None),
-    ];
-    for (id, secret, told) in &CASES {
-        assert!(rt; tells_both(rt.alloc(), id, secret) == Ok(*told));
+    for case in &CREDENTIALS {
+        assert!(rt; is_right(rt.alloc(), case));
     }
 }
 
 fn push_key(alloc: Global, keys: &mut Vec<Credential>, id: &[u8]) -> Result<(), Code> {
-    let key = key(alloc, id, b"secret")?.ok_or(Code::InvalidAccessKeyId)?;
-    keys.push(key)?;
-    Ok(())
+    match key(alloc, id, b"secret")? {
+        Some(key) => Ok(keys.push(key)?),
+        None => Err(Code::InvalidAccessKeyId),
+    }
 }
 
 // The keys of these ids, all with one secret.
@@ -65,46 +77,42 @@ fn buckets(alloc: Global, names: &[&[u8]]) -> Result<Vec<BucketName>, Code> {
     Ok(buckets)
 }
 
-fn config(
-    alloc: Global,
-    region: &[u8],
-    ids: &[&[u8]],
-    body_limit: u64,
-    names: &[&[u8]],
-) -> Result<Option<Config>, Code> {
-    let region = Vec::from_slice(alloc, region)?;
-    let keys = keys(alloc, ids)?;
-    let buckets = buckets(alloc, names)?;
-    Ok(Config::new(region, keys, 5, body_limit, buckets))
+// A region, the ids of keys, the greatest body, and the names of buckets.
+type Parts = (
+    &'static [u8],
+    &'static [&'static [u8]],
+    u64,
+    &'static [&'static [u8]],
+);
+
+// The settings of these parts, if they are any.
+fn config(alloc: Global, parts: &Parts) -> Result<Option<Config>, Code> {
+    let region = Vec::from_slice(alloc, parts.0)?;
+    let keys = keys(alloc, parts.1)?;
+    let buckets = buckets(alloc, parts.3)?;
+    Ok(Config::new(region, keys, 5, parts.2, buckets))
 }
 
-// Whether these are settings.
-fn are_settings(
-    alloc: Global,
-    region: &[u8],
-    ids: &[&[u8]],
-    body_limit: u64,
-    names: &[&[u8]],
-) -> Result<bool, Code> {
-    Ok(config(alloc, region, ids, body_limit, names)?.is_some())
-}
+const ONE: &[&[u8]] = &[b"one"];
 
-#[test]
-fn limits(rt: HostRuntime) {
-    const ONE: &[&[u8]] = &[b"one"];
-    const PAIL: &[&[u8]] = &[b"pail"];
-    const CASES: [(&[u8], &[&[u8]], u64, &[&[u8]], bool); 7] = [
-        (b"r", ONE, 0, &[], true),
-        (b"us-east-1", ONE, 67_108_865, PAIL, false),
-        (b"us-east-1", &[b"one", b"one"], 5, PAIL, false),
-        (b"us-east-1", ONE, 5, &[b"pail", b"pail"], false),
-        (b"us-east-1", &[], 5, PAIL, false),
-        (b"", ONE, 5, PAIL, false),
-        (b"us_east", ONE, 5, PAIL, false),
-    ];
-    for (region, ids, body_limit, names, allowed) in &CASES {
-        let made = are_settings(rt.alloc(), region, ids, *body_limit, names);
-        assert!(rt; made == Ok(*allowed));
+const PAIL: &[&[u8]] = &[b"pail"];
+
+// Parts, and whether they are settings.
+static LIMITS: [(Parts, bool); 7] = [
+    ((b"r", ONE, 0, &[]), true),
+    ((b"us-east-1", ONE, 67_108_865, PAIL), false),
+    ((b"us-east-1", &[b"one", b"one"], 5, PAIL), false),
+    ((b"us-east-1", ONE, 5, &[b"pail", b"pail"]), false),
+    ((b"us-east-1", &[], 5, PAIL), false),
+    ((b"", ONE, 5, PAIL), false),
+    ((b"us_east", ONE, 5, PAIL), false),
+];
+
+// Whether the parts are settings, or are none, as the case says.
+fn is_allowed(alloc: Global, case: &(Parts, bool)) -> bool {
+    match config(alloc, &case.0) {
+        Ok(made) => made.is_some() == case.1,
+        Err(_) => false,
     }
 }
 
@@ -119,15 +127,25 @@ fn tells_its_secrets(made: &Config) -> bool {
     made.secret_of(b"two") == Some(b"secret".as_slice()) && made.secret_of(b"three").is_none()
 }
 
-fn tells_settings(alloc: Global) -> Result<bool, Code> {
-    let (ids, names): ([&[u8]; 2], [&[u8]; 2]) = ([b"one", b"two"], [b"pail", b"tub"]);
-    match config(alloc, b"us-east-1", &ids, 67_108_864, &names)? {
-        Some(made) => Ok(tells_its_parts(&made) && tells_its_secrets(&made)),
-        None => Ok(false),
+static GREATEST: Parts = (
+    b"us-east-1",
+    &[b"one", b"two"],
+    67_108_864,
+    &[b"pail", b"tub"],
+);
+
+// Whether those parts are settings that tell them.
+fn tells_settings(alloc: Global) -> bool {
+    match config(alloc, &GREATEST) {
+        Ok(Some(made)) => tells_its_parts(&made) && tells_its_secrets(&made),
+        _ => false,
     }
 }
 
 #[test]
 fn settings(rt: HostRuntime) {
-    assert!(rt; tells_settings(rt.alloc()) == Ok(true));
+    for case in &LIMITS {
+        assert!(rt; is_allowed(rt.alloc(), case));
+    }
+    assert!(rt; tells_settings(rt.alloc()));
 }

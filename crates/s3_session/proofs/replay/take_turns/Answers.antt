@@ -27,18 +27,18 @@ pub returns-then-context-clause-output : goal.returns-then-context-clause-output
 returns-then-context-clause-output c =
     by_closed c.args.config.now c.args.moment c.args.bytes.now c.loop-number.rest.now c.loop-number.out.items c.loop-number.store c.loop-number.number
     c.take_turn.new.store c.in-Ok.turn c.take_turn.new.out.items c.in-Answered.context c.in-Answered.after
-    c.verdict_is_exact.ensures.head c.one_more_entry.ensures.legal c.one_more_entry.ensures.leaves
+    c.sound_verdicts_are_exact.ensures.message c.one_more_entry.ensures.legal c.one_more_entry.ensures.leaves
     c.loop-number.invariant.0 c.in-Answered.is c.in-Ok.ensures.longer c.in-Ok.ensures.turned c.if-context.true
 
 pub loop-number-preserved : goal.loop-number-preserved
 loop-number-preserved c = (
   by_answered c.args.config.now c.args.moment c.args.bytes.now c.loop-number.rest.now c.loop-number.out.items c.loop-number.store c.loop-number.number
       c.take_turn.new.store c.in-Ok.turn c.take_turn.new.out.items c.in-Answered.context c.in-Answered.after
-      c.verdict_is_exact.ensures.head c.one_more_entry.ensures.legal c.one_more_entry.ensures.leaves
+      c.sound_verdicts_are_exact.ensures.message c.one_more_entry.ensures.legal c.one_more_entry.ensures.leaves
       c.loop-number.invariant.0 c.in-Answered.is c.in-Ok.ensures.longer c.in-Ok.ensures.turned c.if-context.false,
   fewer_left c.args.config.now c.args.moment c.args.bytes.now c.loop-number.rest.now c.loop-number.out.items c.loop-number.store c.loop-number.number
       c.take_turn.new.store c.in-Ok.turn c.take_turn.new.out.items c.in-Answered.context c.in-Answered.after
-      c.verdict_is_exact.ensures.head c.loop-number.invariant.1 c.in-Answered.is c.in-Ok.ensures.turned,
+      c.verdict_is_exact.ensures.head c.sound_verdicts_are_exact.ensures.message c.loop-number.invariant.1 c.in-Answered.is c.in-Ok.ensures.turned,
 )
 
 pub returns-clause-output : goal.returns-clause-output

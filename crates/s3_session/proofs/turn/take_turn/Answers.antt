@@ -9,4 +9,4 @@ returns-in-Sound-clause-turned c =
     c.in-Ok.ensures.judged c.in-Sound.is c.apply-answered.ensures.state c.apply-answered.ensures.answer c.apply-answered.ensures.err c.reply_with.ensures.replied
 
 pub returns-in-Err-clause-memory : goal.returns-in-Err-clause-memory
-returns-in-Err-clause-memory c = on_err c.die.result (head_decided c.args.config.now c.args.moment c.args.bytes.now c.in-Err.ensures.memory)
+returns-in-Err-clause-memory c = on_err c.die.result (head_decided c.verdicts_are_final.ensures.end c.args.config.now c.args.moment c.args.bytes.now c.in-Err.ensures.memory)

@@ -3,7 +3,7 @@ use Rattle.std.specs.FinMap as map
 use Rattle.s3_versions.specs.Rules.{after_adding, replaced}
 use Rattle.s3_records.specs.Catalogue.{found_versions}
 use Rattle.s3_records.proofs.KeyLemmas.{then_ok, then_err, on_err, with_versions-added, replaced-none, written, left}
-use Rattle.s3_records.proofs.MapLemmas.{get_by_tree, made_by_insert}
+use Rattle.s3_text.proofs.MapLemmas.{get_by_tree, made_by_insert}
 use Rattle.s3_records.proofs.keys.KeyMap.add.Goals as goal
 
 -- where the key has versions

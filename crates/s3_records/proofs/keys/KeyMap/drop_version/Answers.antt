@@ -5,7 +5,8 @@ use Rattle.s3_versions.specs.Rules.{is_under, without}
 use Rattle.s3_records.specs.Catalogue.{found_versions}
 use Rattle.s3_records.specs.Changes.{with_versions}
 use Rattle.s3_records.proofs.KeyLemmas.{with_versions-some, without-none, written}
-use Rattle.s3_records.proofs.MapLemmas.{get_by_tree, made_by_remove, remove_absent, remove-over}
+use Rattle.s3_text.proofs.MapLemmas.{get_by_tree}
+use Rattle.s3_records.proofs.MapLemmas.{made_by_remove, remove_absent, remove-over}
 use Rattle.s3_records.proofs.keys.KeyMap.drop_version.Goals as goal
 
 -- where the key has no versions

@@ -1,6 +1,6 @@
 use Rattle.std.proofs.Common.{sym, ap, ◌∙◌}
 use Rattle.std.specs.FinMap as map
-use Rattle.s3_records.proofs.MapLemmas.{get-made}
+use Rattle.s3_text.proofs.MapLemmas.{get-made}
 use Rattle.s3_records.proofs.keys.KeyMap.get.Goals as goal
 
 pub returns : goal.returns

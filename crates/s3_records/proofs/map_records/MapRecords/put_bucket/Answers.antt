@@ -1,6 +1,6 @@
 use Rattle.std.proofs.Common.{ap, ◌∙◌}
 use Rattle.std.specs.FinMap as map
-use Rattle.s3_records.proofs.MapLemmas.{made_by_insert}
+use Rattle.s3_text.proofs.MapLemmas.{made_by_insert}
 use Rattle.s3_records.proofs.map_records.MapRecords.put_bucket.Goals as goal
 
 pub returns-clause-ok : goal.returns-clause-ok

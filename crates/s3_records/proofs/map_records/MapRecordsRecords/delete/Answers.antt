@@ -3,7 +3,7 @@ use Rattle.s3_records.specs.Catalogue.{versions_in}
 use Rattle.s3_records.specs.Changes.{delete_in}
 use Rattle.s3_records.proofs.CatalogueLemmas.{not_absent, bucket_written}
 use Rattle.s3_records.proofs.KeyLemmas.{then_ok, then_err, left}
-use Rattle.s3_records.proofs.MapLemmas.{get_by_tree}
+use Rattle.s3_text.proofs.MapLemmas.{get_by_tree}
 use Rattle.s3_records.proofs.map_records.MapRecordsRecords.delete.Goals as goal
 
 -- the bucket is there

@@ -1,7 +1,7 @@
 use Rattle.std.proofs.Common.{Some, None}
 use Rattle.s3_records.specs.Changes.{set_in}
 use Rattle.s3_records.proofs.CatalogueLemmas.{not_absent, bucket_written}
-use Rattle.s3_records.proofs.MapLemmas.{get_by_tree}
+use Rattle.s3_text.proofs.MapLemmas.{get_by_tree}
 use Rattle.s3_records.proofs.map_records.MapRecordsRecords.set_versioning.Goals as goal
 
 -- the bucket is there

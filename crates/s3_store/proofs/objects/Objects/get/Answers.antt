@@ -1,6 +1,6 @@
 use Rattle.std.proofs.Common.{sym, ap, ◌∙◌}
 use Rattle.std.specs.FinMap as map
-use Rattle.s3_store.proofs.MapLemmas.{get-made}
+use Rattle.s3_text.proofs.MapLemmas.{get-made}
 use Rattle.s3_store.proofs.objects.Objects.get.Goals as goal
 
 pub returns : goal.returns

@@ -1,6 +1,6 @@
 use Rattle.std.proofs.Common.{sym, ap, ◌∙◌, None, Result, Ok, Err, OnErr}
 use Rattle.std.specs.FinMap as map
-use Rattle.s3_store.proofs.MapLemmas.{get_by_tree, made_by_insert}
+use Rattle.s3_text.proofs.MapLemmas.{get_by_tree, made_by_insert}
 use Rattle.s3_store.proofs.objects.Objects.put.Goals as goal
 
 pub returns-clause-ok : goal.returns-clause-ok

@@ -1,6 +1,6 @@
 use Rattle.std.proofs.Common.{ap, ◌∙◌}
 use Rattle.std.specs.FinMap as map
-use Rattle.s3_store.proofs.MapLemmas.{made_by_insert}
+use Rattle.s3_text.proofs.MapLemmas.{made_by_insert}
 use Rattle.s3_store.proofs.store.Store.add_bucket.Goals as goal
 
 pub returns : goal.returns

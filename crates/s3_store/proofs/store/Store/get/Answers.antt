@@ -2,7 +2,7 @@ use Rattle.std.proofs.Common.{sym, ap, ◌∙◌, None, Some}
 use Rattle.s3_store.specs.declared.answer.Outcome.TheVariants as outcomes
 use Rattle.s3_store.specs.Store.{is_refused}
 use Rattle.s3_store.specs.Store.{got, get_step}
-use Rattle.s3_store.proofs.MapLemmas.{get_by_tree}
+use Rattle.s3_text.proofs.MapLemmas.{get_by_tree}
 use Rattle.s3_store.proofs.store.Store.get.Goals as goal
 
 pub returns-in-None-clause-outcome : goal.returns-in-None-clause-outcome

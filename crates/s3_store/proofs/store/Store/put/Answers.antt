@@ -3,7 +3,7 @@ use Rattle.std.specs.FinMap as map
 use Rattle.s3_store.specs.declared.answer.Outcome.TheVariants as outcomes
 use Rattle.s3_store.specs.Store.{is_refused}
 use Rattle.s3_store.specs.Store.{object_in, put_step}
-use Rattle.s3_store.proofs.MapLemmas.{get_by_tree, made_by_write, put_again}
+use Rattle.s3_text.proofs.MapLemmas.{get_by_tree, made_by_write, put_again}
 use Rattle.s3_store.proofs.store.Store.put.Goals as goal
 use Rattle.s3_store.proofs.store.Store.put.Goals.{in-None, in-Some+in-Ok, in-Some+in-Err}
 

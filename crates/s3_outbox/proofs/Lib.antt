@@ -1,0 +1,2 @@
+pub mod WovenLemmas
+pub mod SentLemmas

@@ -1,0 +1,9 @@
+//! What a connection has still to send: the texts and bodies of its replies, in their order, as they wait for
+//! somebody who takes their bytes.
+#![tactic(auto)]
+
+mod outbox;
+mod pending;
+mod placed;
+
+pub use outbox::Outbox;

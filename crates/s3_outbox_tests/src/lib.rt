@@ -1,0 +1,5 @@
+//! Tests of what a connection has still to send. There is nothing else here.
+#![tactic(auto)]
+
+#[cfg(test)]
+mod outbox;

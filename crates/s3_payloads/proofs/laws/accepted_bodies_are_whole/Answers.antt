@@ -1,0 +1,8 @@
+use Rattle.s3_payloads.proofs.FinalLemmas.{accepted_whole, whole_payload}
+use Rattle.s3_payloads.proofs.laws.accepted_bodies_are_whole.Goals as goal
+
+pub returns : goal.returns
+returns c = record {
+  whole = accepted_whole c.verdicts_are_final.ensures.stay c.verdicts_are_final.ensures.one c.verdicts_are_final.ensures.exist;
+  payload = λ announced. whole_payload announced.form announced;
+}

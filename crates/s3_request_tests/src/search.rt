@@ -1,0 +1,128 @@
+//! Heads that arrive in pieces, cut everywhere.
+ghost use Rattle.std.specs.Prelude.{◌≡◌};
+ghost use Rattle.s3_http_heads.specs.Find.{found_in};
+
+use crate::texts::repeated;
+use s3_http_heads::{Found, HeadSearch};
+use s3_terms::Code;
+use std::alloc::Global;
+
+// How many bytes are taken, what is found with them, and what is held then.
+type Taken<'a> = (usize, Found, &'a [u8]);
+
+// Feeds a first piece of `at` bytes and then pieces of that size, while nothing is found: how many bytes are
+// taken, and what is found with them.
+fn feed_pieces(
+    search: &mut HeadSearch,
+    bytes: &[u8],
+    at: usize,
+    size: usize,
+) -> Result<(usize, Found), Code>
+    requires { found_in search.old ≡ Found.NeedMore }
+{
+    let (front, rest) = bytes.split_at(at.min(bytes.len()));
+    let (mut count, mut found) = search.feed(front)?;
+    for piece in rest.chunks(size.max(1)) {
+        if let Found::NeedMore = found {
+            let (len, now) = search.feed(piece)?;
+            count = count.saturating_add(len);
+            found = now;
+        }
+    }
+    Ok((count, found))
+}
+
+// Whether this is taken of bytes that come so.
+fn is_taken(
+    alloc: Global,
+    bytes: &[u8],
+    taken: &Taken,
+    at: usize,
+    size: usize,
+) -> Result<bool, Code> {
+    let mut search = HeadSearch::new(alloc);
+    let (count, found) = feed_pieces(&mut search, bytes, at, size)?;
+    Ok(count == taken.0 && found == taken.1 && search.text() == taken.2)
+}
+
+// Whether it is taken of them wherever they are cut in two, and byte by byte.
+fn is_taken_in_pieces(alloc: Global, bytes: &[u8], taken: &Taken) -> Result<bool, Code> {
+    for at in 0..bytes.len() {
+        if !is_taken(alloc, bytes, taken, at, bytes.len())? {
+            return Ok(false);
+        }
+    }
+    is_taken(alloc, bytes, taken, 0, 1)
+}
+
+static ARRIVALS: [(&[u8], Taken); 12] = [
+    (b"", (0, Found::NeedMore, b"")),
+    (b"\r\n\r\n", (4, Found::NeedMore, b"")),
+    (b"\r\n\r", (3, Found::NeedMore, b"\r")),
+    (b"a\r\n\n\r\n", (6, Found::NeedMore, b"a\r\n\n\r\n")),
+    (
+        b"GET / HTTP/1.1\r\n\r",
+        (17, Found::NeedMore, b"GET / HTTP/1.1\r\n\r"),
+    ),
+    (
+        b"GET / HTTP/1.1\r\n\r\n\r\nGET",
+        (18, Found::Head { len: 18 }, b"GET / HTTP/1.1\r\n\r\n"),
+    ),
+    (
+        b"\r\n\r\nGET / HTTP/1.1\r\n\r\nbody",
+        (22, Found::Head { len: 18 }, b"GET / HTTP/1.1\r\n\r\n"),
+    ),
+    (
+        b"\r\n\n\r\n\r\n",
+        (7, Found::Head { len: 5 }, b"\n\r\n\r\n"),
+    ),
+    (b"\r\r\n\r\n", (5, Found::Head { len: 5 }, b"\r\r\n\r\n")),
+    (
+        b"\rX\r\n\r\n\r\n\r\n",
+        (6, Found::Head { len: 6 }, b"\rX\r\n\r\n"),
+    ),
+    (
+        b"a\r\r\n\r\r\n\r\nb",
+        (9, Found::Head { len: 9 }, b"a\r\r\n\r\r\n\r\n"),
+    ),
+    (
+        b"a\r\n\rb\r\n\r\n",
+        (9, Found::Head { len: 9 }, b"a\r\n\rb\r\n\r\n"),
+    ),
+];
+
+#[test]
+fn heads_cut_everywhere(rt: HostRuntime) {
+    for (bytes, taken) in &ARRIVALS {
+        assert!(rt; is_taken_in_pieces(rt.alloc(), bytes, taken) == Ok(true));
+    }
+}
+
+// A pair, that many letters and an end: how many of these bytes are taken, and what is found with them.
+type Large = (usize, &'static [u8], usize, Found);
+
+// Whether this is taken where the pair is cut, and pieces of that size come after it.
+fn is_large(alloc: Global, case: &Large, size: usize) -> Result<bool, Code> {
+    let (count, end, taken, found) = *case;
+    let bytes = repeated(alloc, b"\r\n", b"A", count, end)?;
+    match bytes.get(2..taken) {
+        Some(held) => is_taken(alloc, &bytes, &(taken, found, held), 1, size),
+        None => Ok(false),
+    }
+}
+
+static LARGE: [Large; 5] = [
+    (16_383, b"", 16_385, Found::NeedMore),
+    (16_384, b"", 16_386, Found::TooLarge),
+    (20_000, b"\r\n\r\n", 16_386, Found::TooLarge),
+    (16_380, b"\r\n\r\nrest", 16_386, Found::Head { len: 16_384 }),
+    (16_381, b"\r\n\r\n", 16_386, Found::TooLarge),
+];
+
+#[test]
+fn large_heads_in_pieces(rt: HostRuntime) {
+    for case in &LARGE {
+        assert!(rt; is_large(rt.alloc(), case, 1) == Ok(true));
+        assert!(rt; is_large(rt.alloc(), case, 30_000) == Ok(true));
+    }
+}
