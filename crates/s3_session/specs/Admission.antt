@@ -45,5 +45,5 @@ IsRuled (Err code) admission = ⊥
 
 -- what is answered is what the rule says; memory ran out only past what is judged without it
 abbrev pub Admits : Result Checked Code → Result Admission Code → Result Asked Code → Type 0
-Admits early (Ok admission) rule = IsRuled rule admission
+Admits early (Ok admission) rule = IsOk early × IsRuled rule admission
 Admits early (Err code) rule = ((code ≡ InternalError) × IsOk early) ⊎ (rule ≡ Err code)

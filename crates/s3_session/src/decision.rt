@@ -1,8 +1,8 @@
 //! What is decided about the message at the front of a connection's bytes.
 
-ghost use Rattle.std.specs.Prelude.{◌≡◌, Result, IfOk, OnErr, []};
+ghost use Rattle.std.specs.Prelude.{◌≡◌, ◌⊎◌, Result, Err, IsOk, IfOk, OnErr, []};
 ghost use Rattle.s3_http_heads.specs.Head.{HasNoHead};
-ghost use Rattle.s3_session.specs.Admission.{Asked, IsAsked, IsRuled};
+ghost use Rattle.s3_session.specs.Admission.{Asked, IsAsked, IsRuled, admission_of, early_admission};
 ghost use Rattle.s3_session.specs.Decision as rules;
 
 use crate::Verdict;
@@ -76,6 +76,8 @@ fn decide_head<'b>(
 ) -> Result<(Verdict, &'b [u8]), NoMemory>
     ensures judged { IfOk result (λ d. rules.HeadJudged config.now moment ended head.now bytes.now (d.0, d.1.now)) }
     ensures rest { IfOk result (λ d. rules.EndsOrGoesOn d.0 d.1.now) }
+    ensures memory { OnErr result (IsOk (early_admission config.now head.now moment)
+        ⊎ (admission_of config.now head.now moment ≡ Err Code.InternalError)) }
 {
     match admit(alloc, config, head, moment) {
         Ok(admission) => decide_body(head, admission, bytes, ended, moment),
