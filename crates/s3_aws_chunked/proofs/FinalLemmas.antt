@@ -1,7 +1,7 @@
 -- Verdicts on bodies are final, there is one for all bytes, and no second one.
-use Rattle.std.proofs.Common.{◌≡◌, ℕ, ◌<◌, ◌≤◌, Bool, true, false, List, [], ◌∷◌, ◌++◌, length, take, refl, sym, ap, subst, ◌∙◌, arith, inl, inr}
+use Rattle.std.proofs.Common.{◌≡◌, ℕ, ◌<◌, ◌≤◌, Bool, true, false, List, [], ◌∷◌, ◌++◌, length, take, drop, refl, sym, ap, subst, ◌∙◌, arith, inl, inr}
 use Rattle.std.proofs.lemmas.Bool.{false≢true, cases_lt}
-use Rattle.std.proofs.lemmas.List.{append-nil, length-append, length-take-le, take-append-le}
+use Rattle.std.proofs.lemmas.List.{append-nil, length-append, length-take-le, take-append-drop, take-append-le}
 use Rattle.s3_terms.specs.declared.code.Code.{Code}
 use Rattle.s3_aws_chunked.specs.Chunk.{Chunk, data_of}
 use Rattle.s3_aws_chunked.specs.Body.{IsBody}
@@ -91,6 +91,29 @@ verdicts_stay terms bytes more ended (Refused place code) judged is = refused_st
 verdicts_stay terms bytes more ended (Accepted held) judged is =
     (unrefused_stays terms bytes more ended judged.1.come judged.0, accepted_stays terms bytes more held judged.1)
 verdicts_stay terms bytes more ended (Open held) judged is = absurd is
+
+-- ---- refusals stand at their places
+
+pub refused_front : (terms : Terms) (bytes : List ℕ) (place : ℕ) (code : Code) → IsRefused terms bytes false place code
+    → (place ≤ length bytes) × IsRefused terms (take place bytes) false place code
+refused_front terms bytes place code r =
+    let front = take place bytes in
+    let rest = drop place bytes in
+    let whole : front ++ rest ≡ bytes = take-append-drop place bytes in
+    let long : length front ≡ place = length-take-le place bytes r.come in (
+      r.come,
+      record {
+        within = r.within;
+        come = omega (arith, long);
+        fault =
+            fault_back terms front rest false place code (omega (arith, long)) (λ x. false≢true x.0)
+            (subst (λ (all : List ℕ). FaultAt terms all false place code) (sym whole) r.fault);
+        least = λ earlier other less fault.
+            r.least earlier other less
+            (subst (λ (all : List ℕ). FaultAt terms all false earlier other) whole
+            (fault_moves terms front rest false earlier other (omega (arith, long, less)) fault));
+      },
+    )
 
 -- ---- verdicts are one
 

@@ -159,7 +159,7 @@ unrefused_by terms bytes ended silent more place code r =
     (λ x. more place r.within x.0.0 x.0.1 x.1)
     r.fault
 
-judges_halted : (terms : Terms) (bytes : List ℕ) (ended : Bool) (p : Progress) → (h : Halted terms bytes p) → IsRefused terms bytes ended p.place.span.taken (code_of h.fault)
+pub judges_halted : (terms : Terms) (bytes : List ℕ) (ended : Bool) (p : Progress) → (h : Halted terms bytes p) → IsRefused terms bytes ended p.place.span.taken (code_of h.fault)
 judges_halted terms bytes ended p h = record {
   within = h.within;
   come = h.come;
@@ -186,7 +186,7 @@ judges_going terms bytes p g = (
   subst (λ (t : List ℕ). HoldsSoFar t p.held) (sym (take_all terms.encoded bytes (omega (arith, g.below)))) (course_holds terms bytes p.place p.current p.held g.course),
 )
 
-judges_stopped : (terms : Terms) (bytes : List ℕ) (p : Progress) → (g : Going terms bytes p) → IsRefused terms bytes true p.place.span.taken IncompleteBody
+pub judges_stopped : (terms : Terms) (bytes : List ℕ) (p : Progress) → (g : Going terms bytes p) → IsRefused terms bytes true p.place.span.taken IncompleteBody
 judges_stopped terms bytes p g =
     let taken : p.place.span.taken ≡ length bytes = ap (λ (s : Count). s.taken) g.course.span in
     let long : length (take p.place.span.taken bytes) ≡ p.place.span.taken = length-take-le p.place.span.taken bytes (omega (arith, taken)) in
@@ -235,13 +235,13 @@ judges_open terms bytes p known =
     (judges_settled terms bytes false p)
     known
 
-stopped_shut : (p : Progress) → is_settled p.place.phase ≡ true → stopped p ≡ p
+pub stopped_shut : (p : Progress) → is_settled p.place.phase ≡ true → stopped p ≡ p
 stopped_shut p h = rw h refl
 
-stopped_open : (p : Progress) → is_settled p.place.phase ≡ false → stopped p ≡ record p { place = refused p.place Incomplete }
+pub stopped_open : (p : Progress) → is_settled p.place.phase ≡ false → stopped p ≡ record p { place = refused p.place Incomplete }
 stopped_open p h = rw h refl
 
-settled_phase : (terms : Terms) (bytes : List ℕ) (p : Progress) → Halted terms bytes p ⊎ Completed terms bytes p → is_settled p.place.phase ≡ true
+pub settled_phase : (terms : Terms) (bytes : List ℕ) (p : Progress) → Halted terms bytes p ⊎ Completed terms bytes p → is_settled p.place.phase ≡ true
 settled_phase terms bytes p ends =
     ⊎_elim (λ (h : Halted terms bytes p). ap is_settled h.phase) (λ (d : Completed terms bytes p). ap is_settled d.over) ends
 

@@ -15,6 +15,7 @@ pub mod CloseLemmas
 pub mod KnownLemmas
 pub mod JudgeLemmas
 pub mod FinalLemmas
+pub mod OpenLemmas
 pub mod WritingLemmas
 pub mod StayLemmas
 pub mod AcceptLemmas

@@ -1,5 +1,5 @@
 -- What the clauses of the reader come to: laws about every reader, and every body.
-use Rattle.std.specs.Prelude.{◌≡◌, ℕ, Bool, false, List, ◌++◌, length, min}
+use Rattle.std.specs.Prelude.{◌≡◌, ℕ, ◌≤◌, Bool, false, List, ◌++◌, length, min}
 use Rattle.s3_terms.specs.declared.code.Code.{Code}
 use Rattle.s3_signing.specs.Chain.{Link}
 use Rattle.s3_aws_chunked.specs.Verdict.{Terms, Verdict, Refused, Accepted, Open, IsAccepted, Judges}
@@ -19,6 +19,12 @@ ReadersCount =
     (reader : ChunkReader) (terms : Terms) (bytes : List ℕ) (ended : Bool) (held : List ℕ)
     → Stands reader terms bytes ended held → ((code : Code) → Failed reader code → ⊥)
     → taken_of reader ≡ min terms.encoded (length bytes)
+
+-- and never more than have come
+abbrev pub ReadersStayWithin : Type 0
+ReadersStayWithin =
+    (reader : ChunkReader) (terms : Terms) (bytes : List ℕ) (ended : Bool) (held : List ℕ)
+    → Stands reader terms bytes ended held → taken_of reader ≤ length bytes
 
 -- the verdict is reached
 abbrev pub IsFinal : Verdict → Type 0

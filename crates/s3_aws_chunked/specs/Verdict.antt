@@ -1,6 +1,6 @@
 -- What is known of a body that is signed in chunks after some of its bytes: it is refused at a place, accepted
 -- with its data, or still open.
-use Rattle.std.specs.Prelude.{◌≡◌, ℕ, ◌+◌, ◌-◌, ◌<◌, ◌≤◌, ◌⊎◌, Bool, true, List, [], ◌∷◌, ◌++◌, length, take}
+use Rattle.std.specs.Prelude.{◌≡◌, ℕ, ◌+◌, ◌-◌, ◌<◌, ◌≤◌, ◌⊎◌, Bool, true, false, List, [], ◌∷◌, ◌++◌, length, take}
 use Rattle.s3_terms.specs.declared.code.Code.{Code}
 use Rattle.s3_terms.specs.declared.code.Code.TheVariants.{InvalidRequest, SignatureDoesNotMatch, IncompleteBody}
 use Rattle.s3_text.specs.Digest.{is_hex_digest}
@@ -129,6 +129,12 @@ pub data Verdict : Type 0 where
   Refused : ℕ → Code → Verdict
   Accepted : List ℕ → Verdict
   Open : List ℕ → Verdict
+
+-- whether the body is accepted
+abbrev pub accepts : Verdict → Bool
+accepts (Accepted held) = true
+accepts (Refused place code) = false
+accepts (Open held) = false
 
 -- what these bytes of a body say of it, where `ended` says that no more come
 abbrev pub Judges : Terms → List ℕ → Bool → Verdict → Type 0

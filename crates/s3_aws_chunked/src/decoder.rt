@@ -195,12 +195,15 @@ impl Decoder {
         ensures count { IfOk result (λ n. n ≤ length «bytes».now) }
         ensures all { IfOk result (λ n. (n ≡ length «bytes».now) ⊎ (reading.is_closed self.new.place ≡ true)) }
         ensures span { IfOk result (λ n. self.new.place.span ≡ advanced self.old.place.span n) }
+        ensures counts { (self.old.place.span.taken ≤ self.new.place.span.taken)
+            × (self.new.place.span.taken ≤ self.old.place.span.taken + length «bytes».now) }
         ensures shows { IfOk result (λ n. (p : reading.Progress) → reading.Shows self.old p
             → reading.Shows self.new (reading.run p (take n «bytes».now))) }
         ensures sink { IfOk result (λ n. (p : reading.Progress) → reading.Shows self.old p
             → reading.Keeps (S.taken sink.old) (S.taken sink.new) p (reading.run p (take n «bytes».now))) }
         ensures grows { Grows (S.taken sink.old) (S.taken sink.new) }
         ensures some { OnErr result (0 < length «bytes».now) }
+        ensures room { OnErr result (self.old.place.span.taken < self.old.place.span.whole) }
         ensures cause { OnErr result ((state : S) × (refused : List ℕ) × S.may_refuse state refused) }
     {
         let mut taken = 0;

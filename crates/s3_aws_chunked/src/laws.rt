@@ -1,14 +1,16 @@
 //! What the clauses of the reader come to, and what is known of verdicts.
 
-ghost use Rattle.s3_aws_chunked.specs.Laws.{BodiesAreAccepted, ReadersCount, ReadersJudge, VerdictsExist, VerdictsStay, WritingsAreAccepted, WritingsAreOne};
+ghost use Rattle.s3_aws_chunked.specs.Laws.{BodiesAreAccepted, ReadersCount, ReadersJudge, ReadersStayWithin, VerdictsExist, VerdictsStay, WritingsAreAccepted, WritingsAreOne};
 
 /// A law: a reader that stands after some bytes of a body says of it what these bytes say. Where it has
 /// refused, that is at the place and with the code of the first line of the table that applies; where it is
 /// done, the body is accepted, and its sinks got its data; else it is open, and they got the data so far.
-/// Where it refused nothing, it has taken the bytes up to Content-Length. There is nothing to run.
+/// Where it refused nothing, it has taken the bytes up to Content-Length; and never more than have come. There is
+/// nothing to run.
 pub fn readers_judge()
     ensures verdict { ReadersJudge }
     ensures count { ReadersCount }
+    ensures within { ReadersStayWithin }
 {}
 
 /// A law: a body that is refused or accepted is so whatever follows, so that how it is cut into pieces

@@ -12,7 +12,7 @@ mod reader;
 mod span;
 mod write;
 
-pub use finality::verdicts_are_final;
+pub use finality::{open_bodies_are_short, refusals_stand, verdicts_are_final};
 pub use laws::{readers_judge, verdicts_exist, verdicts_stay, writings_are_accepted};
 pub use reader::ChunkReader;
 pub use s3_segments::Sink;

@@ -2,10 +2,10 @@
 
 ghost use Rattle.std.specs.Prelude.{◌≡◌, ◌≢◌, ℕ, ◌+◌, ◌<◌, ◌≤◌, ◌⊎◌, true, false, List, [], ◌++◌, length, IfOk, OnOk, IfErr, Err};
 ghost use Rattle.s3_signing.specs.Chain.{seed_of};
-ghost use Rattle.s3_aws_chunked.specs.Verdict.{Judges, Terms};
+ghost use Rattle.s3_aws_chunked.specs.Verdict.{Judges, Terms, accepts};
 
 use crate::decoder::Decoder;
-use crate::phase::Fault;
+use crate::phase::{Fault, Phase};
 use s3_segments::Sink;
 use s3_signing::{ChunkChain, Verified};
 use s3_terms::Code;
@@ -69,6 +69,10 @@ impl ChunkReader {
         ensures ok { IfOk result (λ n. (code : Code) → Failed self.new code → ⊥) }
         ensures err { IfErr result (λ code. Failed self.new code) }
         ensures count { IfOk result (λ n. taken_of self.new ≡ taken_of self.old + n) }
+
+        // Whatever it answers, it takes bytes of the piece alone.
+        ensures counts { (taken_of self.old ≤ taken_of self.new)
+            × (taken_of self.new ≤ taken_of self.old + length «piece».now) }
         ensures within { IfOk result (λ n. n ≤ length «piece».now) }
         ensures all { IfOk result (λ n. (terms : Terms) (bytes held : List ℕ) → Stands self.old terms bytes false held
             → (n ≡ length «piece».now) ⊎ IsDone self.new) }
@@ -84,6 +88,10 @@ impl ChunkReader {
         ensures memory { result ≡ Err Code.InternalError
             → Failed self.old Code.InternalError
             ⊎ ((0 < length «piece».now) × (state : S) × (refused : List ℕ) × S.may_refuse state refused) }
+
+        // And only while bytes of Content-Length are to come.
+        ensures short { result ≡ Err Code.InternalError → (terms : Terms) (bytes held : List ℕ)
+            → Stands self.old terms bytes false held → length bytes < terms.encoded }
     {
         if let Some(code) = self.refusal() {
             return Err(code);
@@ -122,6 +130,17 @@ impl ChunkReader {
         }
         self.decoder.place.refuse(Fault::Incomplete);
         Err(Code::IncompleteBody)
+    }
+
+    /// Whether it has read a whole body, with nothing wrong.
+    pub fn is_whole(&self) -> bool
+        ensures { (held : List ℕ) → result ≡ accepts (verdict_of self.now held) }
+    {
+        match self.decoder.place.phase {
+            Phase::Over => true,
+            Phase::Size(_) | Phase::Line(_, _) | Phase::Data(_, _) => false,
+            Phase::Ending(_) | Phase::Refused(_) => false,
+        }
     }
 
     /// How many bytes of the body it has taken; after a refusal of the body, the place of that.

@@ -1,6 +1,6 @@
 -- The names of header lines, and the lines of one name.
 use Rattle.std.proofs.Common.{◌≡◌, ℕ, ◌+◌, ◌≤◌, Bool, true, false, ◌||◌, eqb, List, ◌∷◌, take, drop, length, map, filter, Option, Some, None, refl, sym, ap, ◌∙◌, arith, cond, slice_get}
-use Rattle.std.specs.Prelude.{is_some, codes}
+use Rattle.std.specs.Prelude.{is_some, codes, ◌&&◌}
 use Rattle.std.specs.Option.{option_copied}
 use Rattle.std.specs.Borrow.{Bor}
 use Rattle.std.specs.List.{list_any, flat_map}
@@ -11,7 +11,7 @@ use Rattle.std.proofs.lemmas.List.{drop_all, take_all, length-map}
 use Rattle.std.proofs.lemmas.List.Filters.{length-filter_more}
 use Rattle.std.proofs.lemmas.Option.{get_or_from_slice_get, slice_get_within}
 use Rattle.s3_text.proofs.ListLemmas.{elements_from, is_some-first_kept}
-use Rattle.s3_http_heads.specs.Head.{HeadParts, is_named, values_of, first_value, is_sent, words_of, closes}
+use Rattle.s3_http_heads.specs.Head.{HeadParts, is_named, values_of, first_value, is_sent, words_of, closes, says_continue, expects_continue}
 
 -- the rest of a name that was sent is the rest of the given one
 abbrev pub same_rest : List ℕ → List ℕ → ℕ → Bool
@@ -147,3 +147,15 @@ unfolding closes values_of
 close_nowhere parts i new rest past =
     sym (or_from (eqb parts.minor 0) (close_in parts.headers) (ne_eqb _ _ new)
     (sym rest ∙ ap close_in (drop_all i parts.headers past)))
+
+-- ---- the first Expect line
+
+pub expect_old : (parts : HeadParts) → (parts.minor ≡ 1 → ⊥) → false ≡ expects_continue parts
+unfolding expects_continue
+expect_old parts old = sym (ap (λ b. b && says_continue (first_value (codes "expect") parts)) (ne_eqb _ _ old))
+
+pub expect_said : (parts : HeadParts) (o : Option (List ℕ)) → parts.minor ≡ 1 → o ≡ first_value (codes "expect") parts
+    → says_continue o ≡ expects_continue parts
+unfolding expects_continue
+expect_said parts o new is =
+    ap says_continue is ∙ sym (ap (λ b. b && says_continue (first_value (codes "expect") parts)) (eq-eqb _ _ new))

@@ -1,16 +1,22 @@
 -- What a search knows between the pieces that it is fed.
-use Rattle.std.proofs.Common.{◌≡◌, ◌≢◌, ℕ, zero, suc, ◌+◌, ◌-◌, min, ◌≤◌, ◌<◌, ◌⊎◌, inl, inr, Bool, true, false, List, [], ◌∷◌, ◌++◌, take, drop, length, get_or, Option, Some, None, refl, sym, ap, ◌∙◌, arith, cond, subst}
-use Rattle.std.specs.Prelude.{option_map, ◌==◌, ◌&&◌, if◌then◌else◌}
-use Rattle.std.proofs.lemmas.Bool.{cases_Bool, and_parts}
-use Rattle.std.proofs.lemmas.List.{append_assoc, append-nil, length-append, length-take, length-drop, take_all, take-take, take_more, take_rest, take-append-drop}
+use Rattle.std.proofs.Common.{◌≡◌, ◌≢◌, ℕ, zero, suc, ◌+◌, ◌-◌, min, ◌≤◌, ◌<◌, inl, inr, Bool, true, false, List, [], ◌∷◌, ◌++◌, take, drop, length, get_or, Option, Some, None, refl, sym, ap, ◌∙◌, arith, cond, subst}
+use Rattle.std.specs.Prelude.{option_map, nat_eq, slice_range, ◌==◌, ◌&&◌, if◌then◌else◌}
+use Rattle.std.specs.List.{starts_with}
+use Rattle.std.proofs.lemmas.Bool.{cases_Bool, cases_eq, ne_eqb, and_parts, false≢true}
+use Rattle.std.proofs.lemmas.Bool.Decides.{Decides-eqb}
+use Rattle.std.proofs.lemmas.Slice.Eq.{starts_is}
+use Rattle.std.proofs.lemmas.List.{append_assoc, append-nil, length-append, length-take, length-drop, take_all, take-take, take_more, take-append-drop}
 use Rattle.std.proofs.Math.Seq.{take-append-add}
 use Rattle.s3_http_heads.specs.declared.find.Found.{Found}
 use Rattle.s3_http_heads.specs.declared.find.Found.TheVariants.{NeedMore, Head, TooLarge}
 use Rattle.s3_http_heads.specs.Scan.{after_byte}
 use Rattle.s3_http_heads.specs.Find.{skip_pairs, text_length, head_end, head_limit, found_by, found_in}
-use Rattle.s3_http_heads.specs.Search.{IsPassed, IsScanned, IsSearched}
-use Rattle.s3_http_heads.proofs.TextLemmas.{longer_by, Stands, GoesOn, Stands_more, Stands_none, Stands_all}
-use Rattle.s3_http_heads.proofs.VerdictLemmas.{skip_pairs-twice, skip_pairs-append, pairs_stay, head_verdict, too_large_verdict, head_verdict_stays, found_in-dropped}
+use Rattle.s3_http_heads.specs.Search.{IsPassed, IsScanned, IsOpen, IsPlaced, IsStep, IsSearched, Holds, Stands, kept, step_text}
+use Rattle.s3_http_heads.specs.declared.search.HeadSearch.{HeadSearch}
+use Rattle.s3_http_heads.specs.declared.search.Position.{Position}
+use Rattle.s3_http_heads.specs.declared.search.Step.{Step}
+use Rattle.s3_http_heads.proofs.TextLemmas.{longer_by, Stands as ScanStands, GoesOn, Stands_more, Stands_none as ScanStands_none, Stands_all}
+use Rattle.s3_http_heads.proofs.VerdictLemmas.{skip_pairs-twice, skip_pairs-append, pairs_stay, head_verdict, too_large_verdict, need_more_verdict, from_head, head_verdict_stays, found_in-dropped}
 
 -- ---- the scan
 
@@ -18,10 +24,10 @@ longer_by-map : (k : ℕ) (o : Option ℕ) → longer_by k o ≡ option_map (λ 
 longer_by-map k None = refl
 longer_by-map k (Some n) = refl
 
-stands : (text : List ℕ) (m : ℕ) → IsPassed text m → (rest : List ℕ) → Stands (text ++ rest) (length text) m rest
+stands : (text : List ℕ) (m : ℕ) → IsPassed text m → (rest : List ℕ) → ScanStands (text ++ rest) (length text) m rest
 stands text m p rest = (p.few, p.held, p.alike rest ∙ sym (longer_by-map (length text - m) (text_length (take m head_end ++ rest))))
 
-passed : (text : List ℕ) (m : ℕ) → ((rest : List ℕ) → Stands (text ++ rest) (length text) m rest) → IsPassed text m
+passed : (text : List ℕ) (m : ℕ) → ((rest : List ℕ) → ScanStands (text ++ rest) (length text) m rest) → IsPassed text m
 passed text m s = record {
   few = (s []).0;
   held = (s []).1;
@@ -29,12 +35,12 @@ passed text m s = record {
 }
 
 pub IsPassed-none : IsPassed [] 0
-IsPassed-none = passed [] 0 Stands_none
+IsPassed-none = passed [] 0 ScanStands_none
 
 one_more : (text : List ℕ) (m b : ℕ) → IsPassed text m → (rest : List ℕ) → GoesOn ((text ++ b ∷ []) ++ rest) (length text) (after_byte m b) rest
 one_more text m b p rest =
     Stands_more ((text ++ b ∷ []) ++ rest) (length text) m b rest
-    (subst (λ t. Stands t (length text) m (b ∷ rest)) (sym (append_assoc text (b ∷ []) rest)) (stands text m p (b ∷ rest)))
+    (subst (λ t. ScanStands t (length text) m (b ∷ rest)) (sym (append_assoc text (b ∷ []) rest)) (stands text m p (b ∷ rest)))
 
 length_one : (text : List ℕ) (b : ℕ) → length text + 1 ≡ length (text ++ b ∷ [])
 length_one text b = sym (length-append text (b ∷ []))
@@ -48,7 +54,7 @@ IsScanned-more text m b p = (
   ],
   λ apart. passed (text ++ b ∷ []) (after_byte m b) (λ rest. elim (one_more text m b p rest) [
     | inl done ↦ absurd (apart done.0)
-    | inr on ↦ subst (λ n. Stands ((text ++ b ∷ []) ++ rest) n (after_byte m b) rest) (length_one text b) on.1
+    | inr on ↦ subst (λ n. ScanStands ((text ++ b ∷ []) ++ rest) n (after_byte m b) rest) (length_one text b) on.1
   ]),
 )
 
@@ -80,28 +86,31 @@ length_scanned text m s = elim (cases_Bool (m == 4)) [
   | inr is ↦ rw is (none_passed text m (s.1 (grind (arith, is))))
 ]
 
-found_searched : (text : List ℕ) (m : ℕ) → IsSearched text m → found_by (if m == 4 then Some (length text) else None) (length text) ≡ found_in text
-found_searched text m s =
-    ap (λ o. found_by o (length text)) (sym (length_scanned text m s.scanned)) ∙ sym (found_within text s.whole s.within)
+found_placed : (text : List ℕ) (p : Position) → IsPlaced text p → found_by (if p.matched == 4 then Some p.len else None) p.len ≡ found_in text
+found_placed text p s =
+    ap (λ n. found_by (if p.matched == 4 then Some n else None) n) s.count
+    ∙ ap (λ o. found_by o (length text)) (sym (length_scanned text p.matched s.scanned))
+    ∙ sym (found_within text s.whole (omega (arith, s.count, s.within)))
 
--- the same of a length that was asked for
-pub found_taken : (text : List ℕ) (m len : ℕ) (f : Found) → IsSearched text m → len ≡ length text
-    → f ≡ found_by (if m == 4 then Some len else None) len → f ≡ found_in text
-found_taken text m len f s same is = is ∙ ap (λ n. found_by (if m == 4 then Some n else None) n) same ∙ found_searched text m s
+-- a head that is found is all that was passed
+head_is_all : (m len n : ℕ) → found_by (if m == 4 then Some len else None) len ≡ Head n → n ≡ len
+head_is_all m len n is = by (m == 4) (from_head (if m == 4 then Some len else None) len n is)
+  where
+    by : (t : Bool) → cond t (Some len) None ≡ Some n → n ≡ len
+    by true is = cc
+    by false is = cc
 
--- ---- at the start
-
-pub IsSearched_none : (text : List ℕ) → text ≡ [] → IsSearched text 0
-unfolding skip_pairs
-IsSearched_none text none = rw none (record {
-  whole = refl;
-  within = omega arith;
-  scanned = (λ e. absurd (omega (arith, e)), λ _. IsPassed-none);
-})
-
-pub found_none : (text : List ℕ) → text ≡ [] → found_in text ≡ NeedMore
-unfolding found_in skip_pairs text_length
-found_none text none = rw none refl
+-- while nothing is found, no head has ended, and more may come
+open_from : (text : List ℕ) (p : Position) → IsPlaced text p → found_in text ≡ NeedMore → IsOpen text p
+open_from text p s goes = record {
+  whole = s.whole;
+  count = s.count;
+  few = omega (arith, s.count, ((need_more_verdict text).0 goes).0, ap length s.whole);
+  passed = s.scanned.1 (λ four. head≢more (ap (λ n. found_by (if n == 4 then Some p.len else None) p.len) (sym four) ∙ found_placed text p s ∙ goes));
+}
+  where
+    head≢more : Head p.len ≢ NeedMore
+    head≢more e = cc
 
 -- ---- the pairs in front
 
@@ -204,50 +213,104 @@ whole-more-take held piece n whole =
     ap skip_pairs (sym front) ∙ whole-take (held ++ piece) (length held + n) whole ∙ front
 
 pub front_all : (held piece : List ℕ) (n : ℕ) → skip_pairs held ≡ held → 0 < length held → (held ≡ 13 ∷ [] → piece ≢ 10 ∷ drop 1 piece)
-    → skip_pairs (held ++ take (0 + n) piece) ≡ take (length held) held ++ take n piece
+    → skip_pairs (held ++ take (0 + n) piece) ≡ held ++ take n piece
 front_all held piece n whole some apart =
     let same : 0 + n ≡ n = omega arith in
-    rw (same, take_all (length held) held (omega arith)) (whole-more-take held piece n (whole-more held piece whole some apart))
+    rw same (whole-more-take held piece n (whole-more held piece whole some apart))
 
--- ---- a piece that is taken
-
--- while nothing is found, no head has ended
-goes_on_passed : (text : List ℕ) (m : ℕ) → IsSearched text m → found_in text ≡ NeedMore → IsPassed text m
-goes_on_passed text m s goes = s.scanned.1 (λ four. head≢more (ap (λ n. found_by (if n == 4 then Some (length text) else None) (length text)) (sym four) ∙ found_searched text m s ∙ goes))
+-- a lone byte is CR exactly where one byte of an empty line is matched
+pub return_held : (text : List ℕ) → length text ≡ 1 → IsPassed text 1 → text ≡ 13 ∷ []
+unfolding text_length
+return_held [] one p = absurd (omega (arith, one))
+return_held (b ∷ c ∷ rest) one p = absurd (omega (arith, one))
+return_held (b ∷ []) one p = elim (cases_eq b 13) [
+  | inl is ↦ ap (λ v. v ∷ []) is
+  | inr apart ↦ absurd (none≢some _ (sym (ap (λ t. cond (t && true) (Some 4) None) (ne_eqb 13 b (λ e. apart (sym e)))) ∙ p.alike (10 ∷ 13 ∷ 10 ∷ [])))
+]
   where
-    head≢more : Head (length text) ≢ NeedMore
-    head≢more e = cc
+    none≢some : (n : ℕ) → None ≢ Some n
+    none≢some n e = cc
 
--- all that is held is kept, or nothing
-kept_passed : (text : List ℕ) (kept was m : ℕ) → IsSearched text was → found_in text ≡ NeedMore
-    → (kept ≡ 0) ⊎ (kept ≡ length text) → ((kept ≡ 0) × (m ≡ 0)) ⊎ ((kept ≢ 0) × (m ≡ was)) → IsPassed (take kept text) m
-kept_passed text kept was m s goes part (inl none) = rw (none.0, none.1) IsPassed-none
-kept_passed text kept was m s goes (inl none) (inr some) = absurd (some.0 none)
-kept_passed text kept was m s goes (inr all) (inr some) =
-    rw (some.1, all, take_all (length text) text (omega arith)) (goes_on_passed text was s goes)
+pub return_matched : (m : ℕ) → IsPassed (13 ∷ []) m → m ≡ 1
+unfolding text_length
+return_matched zero p = absurd (some≢none _ (p.alike (10 ∷ 13 ∷ 10 ∷ [])))
+  where
+    some≢none : (n : ℕ) → Some n ≢ None
+    some≢none n e = cc
+return_matched (suc m) p = omega (arith, p.held)
 
-searched_on : (front rest : List ℕ) (n room m : ℕ) → skip_pairs (front ++ rest) ≡ front ++ rest → n ≤ room → length front + room ≤ head_limit
-    → IsScanned (front ++ take n (take room rest)) m → IsSearched (front ++ take n rest) m
-searched_on front rest n room m whole few within scanned = record {
-  whole = whole-more-take front rest n whole;
-  within = omega (arith, few, within, length-append front (take n rest), length-take n rest);
-  scanned = subst (λ t. IsScanned (front ++ t) m) (take-take n room rest few) scanned;
+-- a pair that ends with a piece, and one that doesn't
+pub pair_held : (text piece : List ℕ) (p : Position) → IsOpen text p
+    → (p.len == 1 && p.matched == 1 && starts_with nat_eq piece (10 ∷ [])) ≡ true → (text ≡ 13 ∷ []) × (piece ≡ 10 ∷ drop 1 piece)
+pair_held text piece p o is =
+    let both = and_parts (p.len == 1 && p.matched == 1) (starts_with nat_eq piece (10 ∷ [])) is in
+    let lone = and_parts (p.len == 1) (p.matched == 1) both.0 in
+    let len : p.len ≡ 1 = grind (arith, lone.0) in
+    let one : p.matched ≡ 1 = grind (arith, lone.1) in (
+      return_held text (omega (arith, len, o.count)) (subst (IsPassed text) one o.passed),
+      (starts_is Decides-eqb piece (10 ∷ []) _ refl).0 both.1,
+    )
+
+pub pair_apart : (text piece : List ℕ) (p : Position) → IsOpen text p
+    → (p.len == 1 && p.matched == 1 && starts_with nat_eq piece (10 ∷ [])) ≡ false → text ≡ 13 ∷ [] → piece ≢ 10 ∷ drop 1 piece
+pair_apart text piece p o is cr lf =
+    let len : p.len ≡ 1 = omega (arith, o.count, ap length cr) in
+    let matched : p.matched ≡ 1 = return_matched p.matched (subst (λ t. IsPassed t p.matched) cr o.passed) in
+    let starts : starts_with nat_eq piece (10 ∷ []) ≡ true = (starts_is Decides-eqb piece (10 ∷ []) _ refl).1 (drop 1 piece) lf in
+    false≢true (sym is ∙ (rw (len, matched, starts) refl))
+
+-- what stays before a piece
+pub open_none : (p : Position) → p.len ≡ 0 → p.matched ≡ 0 → IsOpen [] p
+unfolding skip_pairs
+open_none p len matched = record {
+  whole = refl;
+  count = len;
+  few = omega (arith, len);
+  passed = subst (IsPassed []) (sym matched) IsPassed-none;
 }
 
--- what is held then, in the words of the calls: `was` is matched before, m of what is kept, and j at the end
-pub taken_searched : (held now rest new : List ℕ) (was kept m room n j : ℕ) → IsSearched held was → held ≡ now → found_in now ≡ NeedMore
-    → (kept ≡ 0) ⊎ (kept ≡ length now) → ((kept ≡ 0) × (m ≡ 0)) ⊎ ((kept ≢ 0) × (m ≡ was))
-    → skip_pairs (take kept now ++ rest) ≡ take kept now ++ rest
-    → room ≡ min (length rest) (head_limit - kept) → n ≤ length (take room rest)
-    → ((text : List ℕ) → IsPassed text m → IsScanned (text ++ take n (take room rest)) j)
-    → new ≡ take kept now ++ take n rest → IsSearched new j
-taken_searched held now rest new was kept m room n j s same goes part branch whole fits few scanned is =
-    let was_searched : IsSearched now was = subst (λ t. IsSearched t was) same s in
-    let front : kept ≤ head_limit = elim part [ inl none ↦ omega (arith, none) | inr all ↦ omega (arith, all, was_searched.within) ] in
-    rw is (searched_on (take kept now) rest n room j whole
-    (omega (arith, few, length-take room rest))
-    (omega (arith, front, fits, length-take kept now))
-    (scanned (take kept now) (kept_passed now kept was m was_searched goes part branch)))
+-- without pairs in front is without pairs in front
+whole_from : (bytes text : List ℕ) → skip_pairs bytes ≡ text → skip_pairs text ≡ text
+whole_from bytes text is =
+    let twice = skip_pairs-twice bytes [] in
+    ap skip_pairs (sym is ∙ sym (append-nil (skip_pairs bytes))) ∙ twice ∙ ap skip_pairs (append-nil bytes) ∙ is
+
+found_skipped : (bytes : List ℕ) → found_in (skip_pairs bytes) ≡ found_in bytes
+found_skipped bytes =
+    ap found_in (sym (append-nil (skip_pairs bytes))) ∙ found_in-dropped bytes [] ∙ ap found_in (append-nil bytes)
+
+-- ---- a step
+
+-- the place behind a piece of the rest, of which there is room for so much
+placed_on : (front rest : List ℕ) (p q : Position) (room n : ℕ) → IsOpen front p
+    → room ≡ min (length rest) (head_limit - p.len) → n ≤ length (take room rest)
+    → skip_pairs (front ++ take n rest) ≡ front ++ take n rest
+    → q.len ≡ p.len + n → IsScanned (front ++ take n (take room rest)) q.matched → IsPlaced (front ++ take n rest) q
+placed_on front rest p q room n o fits few whole len scanned = record {
+  whole = whole;
+  count = omega (arith, len, few, o.count, length-append front (take n rest), length-take n rest, length-take room rest);
+  within = omega (arith, len, few, fits, o.few, length-take room rest);
+  scanned = subst (λ t. IsScanned (front ++ t) q.matched) (take-take n room rest (omega (arith, few, length-take room rest))) scanned;
+}
+
+-- a step in the words of the calls: the rest stands behind what is skipped, and n of its bytes are passed
+pub step_from : (text piece rest : List ℕ) (p : Position) (s : Step) (room n : ℕ) → IsOpen (kept s.is_anew text) p
+    → ((k : ℕ) → skip_pairs (text ++ take (s.start + k) piece) ≡ kept s.is_anew text ++ take k (drop s.start piece))
+    → rest ≡ drop s.start piece → s.start ≤ length piece → room ≡ min (length rest) (head_limit - p.len)
+    → n ≤ length (take room rest) → (s.position.matched ≢ 4 → n ≡ length (take room rest))
+    → IsScanned (kept s.is_anew text ++ take n (take room rest)) s.position.matched
+    → s.end ≡ s.start + n → s.position.len ≡ p.len + n → IsStep text piece s
+step_from text piece rest p s room n o front behind start fits few all scanned end len =
+    let part : slice_range piece s.start s.end ≡ take n rest =
+    ap (λ k. take k (drop s.start piece)) (omega (arith, end)) ∙ ap (take n) (sym behind) in
+    let skipped : kept s.is_anew text ++ take n rest ≡ skip_pairs (text ++ take s.end piece) =
+    ap (λ t. kept s.is_anew text ++ take n t) behind ∙ sym (front n) ∙ ap (λ k. skip_pairs (text ++ take k piece)) (sym end) in
+    record {
+      skipped = ap (λ t. kept s.is_anew text ++ t) part ∙ skipped;
+      placed = subst (λ t. IsPlaced (kept s.is_anew text ++ t) s.position) (sym part)
+          (placed_on (kept s.is_anew text) rest p s.position room n o fits few (whole_from _ _ (sym skipped)) len scanned);
+      all = λ apart more. omega (arith, all apart, end, len, more, fits, start, ap length behind, length-take room rest, length-drop s.start piece);
+    }
 
 -- ---- told at the byte
 
@@ -265,33 +328,74 @@ at_once bytes more some within last = by (found_in bytes) refl
         let was = (too_large_verdict bytes).0 is in
         absurd (omega (arith, was.0, within, some, ap length (skip_pairs-append bytes more (omega (arith, was.0))), length-append (skip_pairs bytes) more))
 
--- ---- a piece that is fed
-
--- without pairs in front is without pairs in front
-pub whole_from : (bytes text : List ℕ) → skip_pairs bytes ≡ text → skip_pairs text ≡ text
-whole_from bytes text is =
-    let twice = skip_pairs-twice bytes [] in
-    ap skip_pairs (sym is ∙ sym (append-nil (skip_pairs bytes))) ∙ twice ∙ ap skip_pairs (append-nil bytes) ∙ is
-
--- what is held then: `held` was held before, and k bytes were taken behind the pairs
-pub fed_holds : (held piece new : List ℕ) (kept at k : ℕ)
-    → ((n : ℕ) → skip_pairs (held ++ take (at + n) piece) ≡ take kept held ++ take n (drop at piece))
-    → new ≡ take kept held ++ take k (take (length piece - at) (drop at piece)) → new ≡ skip_pairs (held ++ take (at + k) piece)
-fed_holds held piece new kept at k front is =
-    is ∙ ap (λ t. take kept held ++ take k t) (take_rest piece at) ∙ sym (front k)
-
-pub fed_found : (bytes new : List ℕ) (f : Found) → new ≡ skip_pairs bytes → f ≡ found_in new → f ≡ found_in bytes
-fed_found bytes new f holds is =
-    is ∙ ap found_in (holds ∙ sym (append-nil (skip_pairs bytes))) ∙ found_in-dropped bytes [] ∙ ap found_in (append-nil bytes)
-
-pub fed_at_once : (held piece new : List ℕ) (k n : ℕ) (f : Found) → new ≡ skip_pairs (held ++ take k piece) → f ≡ found_in (held ++ take k piece)
-    → length new ≤ head_limit → ((len : ℕ) → f ≡ Head len → len ≡ length new)
-    → n < k → k ≤ length piece → found_in (held ++ take n piece) ≡ NeedMore
-fed_at_once held piece new k n f holds found within last less fits =
+at_once_fed : (held piece : List ℕ) (k n : ℕ) → n < k → k ≤ length piece → length (skip_pairs (held ++ take k piece)) ≤ head_limit
+    → ((len : ℕ) → found_in (held ++ take k piece) ≡ Head len → len ≡ length (skip_pairs (held ++ take k piece)))
+    → found_in (held ++ take n piece) ≡ NeedMore
+at_once_fed held piece k n less fits within last =
     let more = drop n (take k piece) in
     let all : (held ++ take n piece) ++ more ≡ held ++ take k piece =
     append_assoc held (take n piece) more ∙ ap (λ t. held ++ (t ++ more)) (sym (take-take n k piece (omega (arith, less)))) ∙ ap (λ t. held ++ t) (take-append-drop n (take k piece)) in
     at_once (held ++ take n piece) more
     (omega (arith, less, fits, length-drop n (take k piece), length-take k piece))
-    (rw (all, ← holds) within)
-    (λ len is. last len (found ∙ ap found_in (sym all) ∙ is) ∙ ap length (holds ∙ ap skip_pairs (sym all)))
+    (rw all within)
+    (rw all last)
+
+-- ---- a piece that is fed
+
+pub Stands_none : (s : HeadSearch) → s.text.items ≡ [] → s.position.len ≡ 0 → s.position.matched ≡ 0 → s.is_lost ≡ false → Stands s []
+unfolding found_in skip_pairs text_length
+Stands_none s text len matched found = record {
+  held = record {
+    text = text ∙ ap (λ b. kept b []) (sym found);
+    placed = record {
+      whole = refl;
+      count = len;
+      within = omega (arith, len);
+      scanned = (λ four. absurd (omega (arith, four, matched)), λ _. (open_none s.position len matched).passed);
+    };
+  };
+  goes_on = refl;
+}
+
+pub open_stands : (s : HeadSearch) (bytes : List ℕ) → Stands s bytes → IsOpen (skip_pairs bytes) s.position
+open_stands s bytes st = open_from (skip_pairs bytes) s.position st.held.placed (found_skipped bytes ∙ st.goes_on)
+
+-- the text of a search that holds one has no more bytes than may be
+pub held_within : (s : HeadSearch) (bytes : List ℕ) → Holds s bytes → length (skip_pairs bytes) ≤ head_limit
+held_within s bytes h = omega (arith, h.placed.count, h.placed.within)
+
+pub head_whole : (s : HeadSearch) (bytes : List ℕ) (len : ℕ) → Holds s bytes → found_in bytes ≡ Head len → len ≡ length (skip_pairs bytes)
+head_whole s bytes len h is =
+    head_is_all s.position.matched s.position.len len (found_placed (skip_pairs bytes) s.position h.placed ∙ found_skipped bytes ∙ is) ∙ h.placed.count
+
+pub searched_from : (bytes piece : List ℕ) (step : Step) (f : Found) (old new : HeadSearch) → Stands old bytes
+    → step.end ≤ length piece → (IsOpen (skip_pairs bytes) old.position → IsStep (skip_pairs bytes) piece step)
+    → f ≡ found_by (if step.position.matched == 4 then Some step.position.len else None) step.position.len
+    → new.position ≡ step.position
+    → new.text.items ≡ kept new.is_lost (step_text (skip_pairs bytes) piece step)
+    → IsSearched bytes piece (step.end, f) new
+searched_from bytes piece step f old new st within steps found place text =
+    let s = steps (open_stands old bytes st) in
+    let skipped : step_text (skip_pairs bytes) piece step ≡ skip_pairs (bytes ++ take step.end piece) =
+    s.skipped ∙ skip_pairs-twice bytes (take step.end piece) in
+    let placed : IsPlaced (skip_pairs (bytes ++ take step.end piece)) step.position = subst (λ t. IsPlaced t step.position) skipped s.placed in
+    let is : f ≡ found_in (bytes ++ take step.end piece) =
+    found ∙ found_placed (skip_pairs (bytes ++ take step.end piece)) step.position placed ∙ found_skipped (bytes ++ take step.end piece) in
+    let held : Holds new (bytes ++ take step.end piece) = record {
+      text = text ∙ ap (kept new.is_lost) skipped;
+      placed = subst (IsPlaced (skip_pairs (bytes ++ take step.end piece))) (sym place) placed;
+    } in
+    let all : f ≡ NeedMore → step.end ≡ length piece = λ more.
+    let o = open_from (skip_pairs (bytes ++ take step.end piece)) step.position placed (found_skipped (bytes ++ take step.end piece) ∙ sym is ∙ more) in
+    s.all (λ four. omega (arith, four, o.passed.few)) o.few in
+    record {
+      within = within;
+      found = is;
+      at_once = λ n less. at_once_fed bytes piece step.end n less within (held_within new _ held) (λ len. head_whole new _ len held);
+      all = all;
+      held = held;
+      stands = λ more. record {
+        held = subst (λ t. Holds new (bytes ++ t)) (take_all step.end piece (omega (arith, all more))) held;
+        goes_on = ap (λ t. found_in (bytes ++ t)) (sym (take_all step.end piece (omega (arith, all more)))) ∙ sym is ∙ more;
+      };
+    }

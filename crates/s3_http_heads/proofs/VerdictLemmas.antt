@@ -167,7 +167,7 @@ module _ (bytes : List ℕ) where
       by (Some n) is = absurd (no_text n (text_length-head_text n is))
 
 -- the verdict, read backwards
-from_head : (o : Option ℕ) (held n : ℕ) → found_by o held ≡ Head n → o ≡ Some n
+pub from_head : (o : Option ℕ) (held n : ℕ) → found_by o held ≡ Head n → o ≡ Some n
 from_head (Some m) held n is = cc
 from_head None held n is = elim (cases_lt held head_limit) [
   | inl less ↦ let e : NeedMore ≡ Head n = rw (lt-leb head_limit held less) at is in cc

@@ -1,6 +1,6 @@
 -- What a head says (RFC 9112, sections 3 and 5), by the grammar of the kit's `httparse`.
-use Rattle.std.specs.Prelude.{◌≡◌, ℕ, ◌≤◌, Bool, ◌||◌, ◌==◌, List, [], map, filter, length, codes, Option}
-use Rattle.std.specs.List.{list_any, flat_map, slice_split, slice_get}
+use Rattle.std.specs.Prelude.{◌≡◌, ℕ, ◌≤◌, Bool, false, ◌&&◌, ◌||◌, ◌==◌, List, [], map, filter, length, codes, Option, None, Some}
+use Rattle.std.specs.List.{list_any, flat_map, slice_get}
 use Rattle.std.specs.Str.{bytes_eq, str_to_ascii_lowercase}
 use Rattle.httparse.specs.Grammar.{RequestHead, ReadsRequest, trim_ows}
 use Rattle.httparse.specs.Spans.{name_and_value}
@@ -64,6 +64,16 @@ connection_words parts = flat_map words_of (values_of (codes "connection") parts
 -- kept)
 unfoldable pub closes : HeadParts → Bool
 closes parts = (parts.minor == 0) || list_any (λ word. bytes_eq word (codes "close")) (connection_words parts)
+
+-- a line with the value `100-continue`, in any case
+abbrev pub says_continue : Option (List ℕ) → Bool
+says_continue None = false
+says_continue (Some value) = bytes_eq (str_to_ascii_lowercase value) (codes "100-continue")
+
+-- the client of this head may wait for a first reply before it sends the body: the head is one of HTTP/1.1, and
+-- its first Expect line says so (RFC 9110, section 10.1.1)
+unfoldable pub expects_continue : HeadParts → Bool
+expects_continue parts = (parts.minor == 1) && says_continue (first_value (codes "expect") parts)
 
 -- the reply to this head has no body (RFC 9110, section 9.3.2)
 abbrev pub asks_head_only : HeadParts → Bool

@@ -2,7 +2,7 @@
 ghost use Rattle.std.specs.Prelude.{◌≡◌, ◌≤◌, ◌<◌, ◌⊎◌, ◌↔◌, ℕ, List, length, map, All, IfOk, IfErr, MatchResult, Ok, Err, Some, slice_get};
 ghost use Rattle.httparse.specs.Grammar.{RequestHead};
 ghost use Rattle.httparse.specs.Spans.{IsWithin, IsHeaderWithin, header_bytes, span_bytes};
-ghost use Rattle.s3_http_heads.specs.Head.{HeadParts, IsHead, HasNoHead, Says, parts_of, values_of, first_value, is_sent, closes, asks_head_only};
+ghost use Rattle.s3_http_heads.specs.Head.{HeadParts, IsHead, HasNoHead, Says, parts_of, values_of, first_value, is_sent, closes, asks_head_only, expects_continue};
 ghost use Rattle.s3_http_heads.specs.Target.{path_of, target_of, target_parts};
 ghost use Rattle.std.specs.Option.{option_copied};
 
@@ -216,6 +216,21 @@ impl Head {
             }
         }
         false
+    }
+
+    /// Whether the client of this head may wait for a reply of status 100 before it sends the body: the head
+    /// is one of HTTP/1.1, and the value of its first Expect line is `100-continue` in any case (RFC 9110,
+    /// section 10.1.1).
+    pub fn expects_continue(&self) -> bool
+        ensures { result ≡ expects_continue self.now }
+    {
+        if self.minor() != 1 {
+            return false;
+        }
+        match self.first(b"expect") {
+            Some(value) => is_named(value, b"100-continue"),
+            None => false,
+        }
     }
 
     /// Whether the method is `HEAD`, so that the reply has no body.

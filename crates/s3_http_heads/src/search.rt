@@ -1,41 +1,56 @@
 //! The search for the head text at the front of a connection's bytes, as they arrive.
-ghost use Rattle.std.specs.Prelude.{◌≡◌, ◌≢◌, ◌≤◌, ◌<◌, ◌==◌, ◌⊎◌, ◌++◌, ◌+◌, ℕ, List, [], Some, None, if◌then◌else◌, length, take, drop, IfOk, OnErr};
+ghost use Rattle.std.specs.Prelude.{◌≡◌, ◌≢◌, ◌≤◌, ◌<◌, ◌==◌, ◌&&◌, ◌⊎◌, ◌++◌, ◌+◌, ℕ, true, false, nat_eq, List, [], ◌∷◌, Some, None, is_none, if◌then◌else◌, length, take, drop, IfSome};
+ghost use Rattle.std.specs.List.{starts_with};
+ghost use Rattle.s3_text.specs.Characters.{line_feed};
 ghost use Rattle.s3_http_heads.specs.Find.{head_limit, skip_pairs, found_by, found_in};
-ghost use Rattle.s3_http_heads.specs.Search.{IsPassed, IsScanned};
+ghost use Rattle.s3_http_heads.specs.Search.{Holds, IsOpen, IsPassed, IsScanned, IsSearched, IsStep, Stands, is_lost, kept};
 
 use crate::find::{Found, HEAD_LIMIT, matched_after, skipped};
-use s3_terms::NoMemory;
 use std::alloc::Global;
-use std::marker::Model;
 
 // How many bytes an empty line has with the end of the line before it, by which every head ends.
 const HEAD_END: u8 = 4;
 
 /// Looks for the head text at the front of a connection's bytes as they arrive, and never looks again at
-/// what it holds. Contracts see it as those bytes: all that came since it began, without the pairs of CR
-/// and LF before the head.
+/// those that it has taken.
+///
+/// It never fails: where memory runs out it loses the text, and goes on by its position.
 #[derive(Drop)]
 pub struct HeadSearch {
+    // The bytes without the skipped pairs; none where they are lost.
     text: Vec<u8>,
+    position: Position,
+    // Whether memory ran out for one of them.
+    is_lost: bool,
+}
+
+// Where a search stands: how many bytes came since the skipped pairs, and how many bytes of an empty line
+// are the last ones of them.
+#[derive(Clone, Copy)]
+struct Position {
+    len: usize,
     matched: u8,
 }
 
-impl Model for HeadSearch {
-    ghost use Rattle.std.specs.Prelude.{List, ℕ};
-    ghost use Rattle.s3_http_heads.specs.Search.{IsSearched};
+// The place at which a search begins.
+const BEGINNING: Position = Position { len: 0, matched: 0 };
 
-    ghost Value = { List ℕ };
-
-    ghost view = { λ s. s.text.items };
-
-    ghost invariant = { λ s. IsSearched s.text.items s.matched };
-}
-
-// What stays of the held bytes and of a piece behind them, without the pairs of CR and LF in front.
+// What stays of the bytes before a piece, all or, where they began a pair of CR and LF, none; how many of
+// the piece's bytes are skipped; and the place behind what stays.
 #[derive(Clone, Copy)]
 struct Front {
-    kept: usize,
+    is_anew: bool,
     passed: usize,
+    position: Position,
+}
+
+// What a piece adds: its bytes from `start` to `end`, after those before it or anew.
+#[derive(Clone, Copy)]
+struct Step {
+    is_anew: bool,
+    start: usize,
+    end: usize,
+    position: Position,
 }
 
 // How far a scan came: how many bytes it passed, and how many bytes of an empty line are the last ones.
@@ -46,108 +61,149 @@ struct Reach {
 }
 
 impl HeadSearch {
-    /// A search that holds nothing yet and takes no memory.
-    #[tactic(auto, using(crate::proofs::SearchLemmas::IsSearched_none, crate::proofs::SearchLemmas::found_none))]
+    /// A search that has taken nothing yet, and takes no memory before it is fed.
     pub fn new(alloc: Global) -> HeadSearch
-        ensures holds { result ≡ [] }
-        ensures begins { found_in result ≡ Found.NeedMore }
+        ensures begins { Stands result [] }
+        ensures whole { is_lost result ≡ false }
     {
         HeadSearch {
             text: Vec::new(alloc),
-            matched: 0,
+            position: BEGINNING,
+            is_lost: false,
         }
     }
 
-    /// The bytes that it holds: at most 16,384, and the head text where one was found.
-    pub fn text(&self) -> &[u8]
-        ensures text { result.now ≡ self.now }
-        ensures within { length result.now ≤ head_limit }
-    {
-        &self.text
-    }
-
     /// Begins anew, with the memory that it has.
-    #[tactic(auto, using(crate::proofs::SearchLemmas::IsSearched_none, crate::proofs::SearchLemmas::found_none))]
     pub fn clear(&mut self)
-        ensures holds { self.new ≡ [] }
-        ensures begins { found_in self.new ≡ Found.NeedMore }
+        ensures begins { Stands self.new [] }
+        ensures whole { is_lost self.new ≡ false }
     {
         self.text.clear();
-        self.matched = 0;
+        self.position = BEGINNING;
+        self.is_lost = false;
     }
 
-    /// Takes as much of the piece as is the head's: up to the head's last byte, or to the byte that
-    /// makes it too large, and else all. Gives how many bytes those are, and what is found with them.
+    /// The bytes that it has taken, without the pairs of CR and LF in front: at most 16,384, and the head
+    /// text where one was found. Nothing where memory ran out for one of them.
+    pub fn text(&self) -> Option<&[u8]>
+        ensures text { (bytes : List ℕ) → Holds self.now bytes → IfSome result (λ text. text.now ≡ skip_pairs bytes) }
+        ensures within { (bytes : List ℕ) → Holds self.now bytes → IfSome result (λ text. length text.now ≤ head_limit) }
+        ensures lost { is_none result ≡ is_lost self.now }
+    {
+        if self.is_lost { None } else { Some(&self.text) }
+    }
+
+    /// Takes as much of the piece as is the head's: up to the head's last byte, or to the byte that makes
+    /// it too large, and else all. Gives how many bytes those are, and what is found with them.
     ///
-    /// Where memory runs out, the search is as it was. It takes room for the bytes that it holds, and
-    /// never for those behind the head.
-    pub fn feed(&mut self, piece: &[u8]) -> Result<(usize, Found), NoMemory>
-        requires { found_in self.old ≡ Found.NeedMore }
-        ensures within { IfOk result (λ r. r.0 ≤ length piece.now) }
-        ensures found { IfOk result (λ r. r.1 ≡ found_in (self.old ++ take r.0 piece.now)) }
-        ensures holds { IfOk result (λ r. self.new ≡ skip_pairs (self.old ++ take r.0 piece.now)) }
-        ensures all { IfOk result (λ r. r.1 ≡ Found.NeedMore → r.0 ≡ length piece.now) }
-        ensures at_once { IfOk result (λ r. (n : ℕ) → n < r.0
-            → found_in (self.old ++ take n piece.now) ≡ Found.NeedMore) }
-        ensures head { IfOk result (λ r. (len : ℕ) → r.1 ≡ Found.Head len → len ≡ length self.new) }
-        ensures stands { IfOk result (λ r. found_in self.new ≡ r.1) }
-        ensures left { OnErr result (self.new ≡ self.old) }
-        ensures cause { OnErr result (0 < length piece.now) }
-        ensures memory { length self.new ≤ head_limit }
+    /// It takes room for those bytes alone, and never for those behind the head. Where memory runs out for
+    /// one of them, the text is lost until the search begins anew.
+    pub fn feed(&mut self, piece: &[u8]) -> (usize, Found)
+        ensures within { result.0 ≤ length piece.now }
+        ensures fed { (bytes : List ℕ) → Stands self.old bytes → IsSearched bytes piece.now result self.new }
+        ensures kept { is_lost self.new ≡ true → (is_lost self.old ≡ true) ⊎ (0 < length piece.now) }
     {
-        let front = front_of(&self.text, piece);
-        let (len, found) = self.take(front.kept, &piece[front.passed..])?;
-        Ok((front.passed + len, found))
-    }
-
-    // Keeps so many of the held bytes, all or none, and takes as much of the rest as is the head's.
-    fn take(&mut self, kept: usize, rest: &[u8]) -> Result<(usize, Found), NoMemory>
-        requires goes_on { found_in self.old ≡ Found.NeedMore }
-        requires kept { (kept ≡ 0) ⊎ (kept ≡ length self.old) }
-        requires whole { skip_pairs (take kept self.old ++ rest.now) ≡ take kept self.old ++ rest.now }
-        ensures within { IfOk result (λ r. r.0 ≤ length rest.now) }
-        ensures holds { IfOk result (λ r. self.new ≡ take kept self.old ++ take r.0 rest.now) }
-        ensures found { IfOk result (λ r. r.1 ≡ found_in self.new) }
-        ensures all { IfOk result (λ r. r.1 ≡ Found.NeedMore → r.0 ≡ length rest.now) }
-        ensures head { IfOk result (λ r. (len : ℕ) → r.1 ≡ Found.Head len → len ≡ length self.new) }
-        ensures left { OnErr result (self.new ≡ self.old) }
-        ensures cause { OnErr result (0 < length rest.now) }
-        ensures memory { length self.new ≤ head_limit }
-    {
-        let matched = if kept == 0 { 0 } else { self.matched };
-        let room = rest.len().min(HEAD_LIMIT - kept);
-        let reach = scan(matched, &rest[..room]);
-        self.text.reserve(reach.passed)?;
-        self.text.truncate(kept);
-        self.text.extend_from_slice(&rest[..reach.passed])?;
-        self.matched = reach.matched;
-        Ok((reach.passed, found_at(self.text.len(), reach.matched)))
+        let step = advance(self.position, piece);
+        let bytes = &piece[step.start..step.end];
+        self.is_lost = hold(&mut self.text, self.is_lost, step.is_anew, bytes);
+        // Field by field, so that what lies between them isn't written.
+        self.position.len = step.position.len;
+        self.position.matched = step.position.matched;
+        (step.end, found_at(step.position))
     }
 }
 
-// What stays of held bytes, which begin with no pair of CR and LF, and of a piece behind them.
-fn front_of(held: &[u8], piece: &[u8]) -> Front
-    requires { skip_pairs held.now ≡ held.now }
-    ensures kept { (result.kept ≡ 0) ⊎ (result.kept ≡ length held.now) }
-    ensures within { result.passed ≤ length piece.now }
-    ensures rest { (n : ℕ) → skip_pairs (held.now ++ take (result.passed + n) piece.now)
-        ≡ take result.kept held.now ++ take n (drop result.passed piece.now) }
+/// A law: a search that stands has found nothing, and where a head was found, the text is that head alone.
+pub fn searches_find()
+    ensures goes_on { (search : HeadSearch) (bytes : List ℕ) → Stands search bytes → found_in bytes ≡ Found.NeedMore }
+    ensures head { (search : HeadSearch) (bytes : List ℕ) (len : ℕ) → Holds search bytes
+        → found_in bytes ≡ Found.Head len → len ≡ length (skip_pairs bytes) }
+{}
+
+// Holds these bytes too, after those that are held or anew. Answers whether the text is lost.
+fn hold(text: &mut Vec<u8>, was_lost: bool, is_anew: bool, bytes: &[u8]) -> bool
+    ensures text { (held : List ℕ) → text.old.items ≡ kept was_lost held
+        → text.new.items ≡ kept result (kept is_anew held ++ bytes.now) }
+    ensures lost { result ≡ true → (was_lost ≡ true) ⊎ (0 < length bytes.now) }
 {
-    if held.is_empty() {
+    if is_anew {
+        text.clear();
+    } else if was_lost {
+        return true;
+    }
+    if append(text, bytes) {
+        return false;
+    }
+    text.clear();
+    true
+}
+
+// Appends the bytes, if there is memory for them. One byte is pushed, which is quicker.
+fn append(text: &mut Vec<u8>, bytes: &[u8]) -> bool
+    ensures text { text.new.items ≡ (if result then text.old.items ++ bytes.now else text.old.items) }
+    ensures refused { result ≡ false → 0 < length bytes.now }
+{
+    match bytes {
+        [byte] => text.push(*byte).is_ok(),
+        _ => text.extend_from_slice(bytes).is_ok(),
+    }
+}
+
+// Whether a piece goes on with LF after a lone CR, so that they are a pair.
+fn ends_pair(position: Position, piece: &[u8]) -> bool
+    ensures { result ≡ (position.len == 1 && position.matched == 1 && starts_with nat_eq piece.now (line_feed ∷ [])) }
+{
+    position.len == 1 && position.matched == 1 && piece.starts_with(b"\n")
+}
+
+// What stays of the bytes before a piece, which begin with no pair of CR and LF, and of the piece.
+fn front_of(position: Position, piece: &[u8]) -> Front
+    ensures within { result.passed ≤ length piece.now }
+    ensures open { (text : List ℕ) → IsOpen text position → IsOpen (kept result.is_anew text) result.position }
+    ensures rest { (text : List ℕ) → IsOpen text position → (n : ℕ)
+        → skip_pairs (text ++ take (result.passed + n) piece.now) ≡ kept result.is_anew text ++ take n (drop result.passed piece.now) }
+{
+    if position.len == 0 {
         return Front {
-            kept: 0,
+            is_anew: true,
             passed: skipped(piece),
+            position: BEGINNING,
         };
     }
-    if held == b"\r".as_slice() && piece.starts_with(b"\n") {
+    if ends_pair(position, piece) {
         return Front {
-            kept: 0,
+            is_anew: true,
             passed: 1 + skipped(&piece[1..]),
+            position: BEGINNING,
         };
     }
     Front {
-        kept: held.len(),
+        is_anew: false,
         passed: 0,
+        position,
+    }
+}
+
+// How a piece goes on from a position.
+fn advance(position: Position, piece: &[u8]) -> Step
+    ensures ordered { result.start ≤ result.end }
+    ensures within { result.end ≤ length piece.now }
+    ensures steps { (text : List ℕ) → IsOpen text position → IsStep text piece.now result }
+{
+    let front = front_of(position, piece);
+    let rest = &piece[front.passed..];
+    let room = rest
+        .len()
+        .min(HEAD_LIMIT.saturating_sub(front.position.len));
+    let reach = scan(front.position.matched, &rest[..room]);
+    Step {
+        is_anew: front.is_anew,
+        start: front.passed,
+        end: front.passed + reach.passed,
+        position: Position {
+            len: front.position.len + reach.passed,
+            matched: reach.matched,
+        },
     }
 }
 
@@ -174,14 +230,14 @@ fn scan(matched: u8, bytes: &[u8]) -> Reach
     }
 }
 
-// What is found in so many bytes, which were scanned up to the end of a head or to their own.
-fn found_at(len: usize, matched: u8) -> Found
-    ensures { result ≡ found_by (if matched == 4 then Some len else None) len }
+// What is found at a position, up to which all was scanned.
+fn found_at(position: Position) -> Found
+    ensures { result ≡ found_by (if position.matched == 4 then Some position.len else None) position.len }
 {
-    if matched == HEAD_END {
-        return Found::Head { len };
+    if position.matched == HEAD_END {
+        return Found::Head { len: position.len };
     }
-    if len < HEAD_LIMIT {
+    if position.len < HEAD_LIMIT {
         Found::NeedMore
     } else {
         Found::TooLarge

@@ -54,10 +54,11 @@ fn add(bytes: &mut Vec<u8>, text: &[u8], letters: usize) -> Option<()> {
     bytes.resize(len, b'a').ok()
 }
 
-/// The bytes of the parts with these names; `None` says that there was no memory, or that one has no text.
-pub(crate) fn bytes_of(alloc: Global, names: &[&str]) -> Option<Vec<u8>> {
+/// The bytes of the parts with these names, with a comma between two; `None` says that there was no memory, or that one
+/// has no text.
+pub(crate) fn bytes_of(alloc: Global, names: &str) -> Option<Vec<u8>> {
     let mut bytes = Vec::new(alloc);
-    for name in names {
+    for name in names.split(',') {
         add(&mut bytes, text_of(name)?, letters_of(name))?;
     }
     Some(bytes)

@@ -1,7 +1,7 @@
 //! Bodies that are sent as they are: the worked examples, each whole and byte by byte. The hashes are those of
 //! Python's `hashlib`.
 use crate::feeding::Outcome::{Payload, Refused};
-use crate::feeding::{Outcome, outcome_of};
+use crate::feeding::{Outcome, is_whole, outcome_of};
 use s3_terms::Code;
 use std::alloc::Global;
 use std::process::Abort;
@@ -133,12 +133,25 @@ static HEADS: [Case; 11] = [
     ),
 ];
 
+// The lines of a head: its first ones, and these.
+fn head_lines(alloc: Global, lines: &[&[u8]]) -> Result<Vec<u8>, Code> {
+    let behind = lines.concat(alloc)?;
+    Ok([PUT, &behind].concat(alloc)?)
+}
+
 // Whether the body behind the head of these lines comes to this, in pieces of so many bytes.
 fn comes_to(alloc: Global, case: &Case, size: usize) -> Result<bool, Code> {
     let (lines, body, expected) = case;
-    let behind = lines.concat(alloc)?;
-    let lines = [PUT, &behind].concat(alloc)?;
+    let lines = head_lines(alloc, lines)?;
     Ok(outcome_of(alloc, &lines, 1024, body, size) == *expected)
+}
+
+// Whether the reader says of the body behind the head of these lines that it is whole where it comes to a payload.
+fn is_told_whole(alloc: Global, case: &Case) -> Result<bool, Code> {
+    let (lines, body, expected) = case;
+    let lines = head_lines(alloc, lines)?;
+    let whole = matches!(expected, Payload(_, _));
+    Ok(is_whole(alloc, &lines, 1024, body)? == whole)
 }
 
 fn expect_all(rt: &impl Abort, alloc: Global, cases: &[Case]) {
@@ -157,4 +170,11 @@ fn whole_bodies(rt: HostRuntime) {
 #[test]
 fn announced_bodies(rt: HostRuntime) {
     expect_all(&rt, rt.alloc(), &HEADS);
+}
+
+#[test]
+fn told_whole(rt: HostRuntime) {
+    for case in &BODIES {
+        assert!(rt; is_told_whole(rt.alloc(), case) == Ok(true));
+    }
 }

@@ -2,7 +2,7 @@
 //! payload in multiple chunks"), and what is wrong with it where it is changed. The entity tag is that of Python's
 //! `hashlib`.
 use crate::feeding::Outcome::{Payload, Refused};
-use crate::feeding::{Outcome, outcome_of};
+use crate::feeding::{Outcome, is_whole, outcome_of};
 use s3_terms::Code;
 use std::alloc::Global;
 use std::process::Abort;
@@ -115,11 +115,25 @@ fn comes_to(alloc: Global, case: &Case, size: usize) -> Result<bool, Code> {
     Ok(outcome_of(alloc, HEAD, 67_108_864, &body, size) == case.1)
 }
 
+// Whether the reader says of the body that it is whole where it comes to a payload.
+fn is_told_whole(alloc: Global, case: &Case) -> Result<bool, Code> {
+    let body = body(alloc, &case.0)?;
+    let whole = matches!(case.1, Payload(_, _));
+    Ok(is_whole(alloc, HEAD, 67_108_864, &body)? == whole)
+}
+
 #[test]
 fn published_chunked_put(rt: HostRuntime) {
     for case in &CASES {
         for size in [1usize, 1000, 100_000] {
             assert!(rt; comes_to(rt.alloc(), case, size) == Ok(true));
         }
+    }
+}
+
+#[test]
+fn told_whole(rt: HostRuntime) {
+    for case in &CASES {
+        assert!(rt; is_told_whole(rt.alloc(), case) == Ok(true));
     }
 }

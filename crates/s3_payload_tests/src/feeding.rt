@@ -51,3 +51,16 @@ pub(crate) fn outcome_of(
         Err(code) => Outcome::Refused(code, taken),
     }
 }
+
+/// Whether the reader says that the body behind the head of these lines is whole, once these bytes have come and
+/// before the input has ended.
+pub(crate) fn is_whole(
+    alloc: Global,
+    lines: &[u8],
+    limit: u64,
+    bytes: &[u8],
+) -> Result<bool, Code> {
+    let mut reader = reader(alloc, lines, limit)?;
+    let _fed = reader.feed(bytes);
+    Ok(reader.is_whole())
+}

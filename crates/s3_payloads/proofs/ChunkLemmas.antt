@@ -51,16 +51,19 @@ pub chunks_fed : ReadersCount → (old new : ChunkReader) (before after : List �
     → ((code : Code) → Failed old code → result ≡ Err code)
     → Grows before after
     → (result ≡ Err InternalError → Failed old InternalError ⊎ (0 < length piece))
+    → (result ≡ Err InternalError → length bytes < terms.encoded)
     → FedTo piece (part_of terms.encoded bytes piece) (Stands new terms (bytes ++ piece) false after) (Failed new) result
-chunks_fed counts old new before after terms bytes piece (Ok n) stood stands ok err count refuses grows memory =
+chunks_fed counts old new before after terms bytes piece (Ok n) stood stands ok err count refuses grows memory short =
     let stands_now : Stands new terms (bytes ++ piece) false after = rw grows (stands (λ is. cc)) in
     let was = counts old terms bytes false before stood (λ code failed. let is = refuses code failed in cc) in
     let is = counts new terms (bytes ++ piece) false after stands_now ok in
     (omega (arith, was, is, count, length-append bytes piece), stands_now, ok)
-chunks_fed counts old new before after terms bytes piece (Err code) stood stands ok err count refuses grows memory = elim (cases_Bool new.lost) [
+chunks_fed counts old new before after terms bytes piece (Err code) stood stands ok err count refuses grows memory short = elim (cases_Bool new.lost) [
   | inl lost ↦
       let same : code ≡ InternalError = lost_code new code lost err in
-      (err, inl (same, ⊎_elim (λ failed. absurd (kept_code old InternalError stood.kept failed refl)) (λ some. some) (memory (ap (λ (c : Code). Err c) same))))
+      let ran : Err code ≡ Err InternalError = ap (λ (c : Code). Err c) same in
+      let some : 0 < length piece = ⊎_elim (λ failed. absurd (kept_code old InternalError stood.kept failed refl)) (λ some. some) (memory ran) in
+      (err, inl (same, omega (arith, some, short ran)))
   | inr kept ↦
       let other = kept_code new code kept err in
       (err, inr (rw grows (stands (λ is. let same : code ≡ InternalError = cc in other same))))

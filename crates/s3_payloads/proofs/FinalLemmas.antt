@@ -59,7 +59,7 @@ end_form law (Chunks decoded) announced bytes verdict judged = law (terms_of ann
 -- ---- a body that is accepted is whole
 
 -- nothing is open once all bytes of Content-Length have come
-whole_open : (hash digest : Option (List ℕ)) (size : ℕ) (bytes held : List ℕ) → size ≤ length bytes → ¬ (Open held ≡ whole_verdict hash digest size false bytes)
+pub whole_open : (hash digest : Option (List ℕ)) (size : ℕ) (bytes held : List ℕ) → size ≤ length bytes → ¬ (Open held ≡ whole_verdict hash digest size false bytes)
 unfolding whole_verdict
 whole_open hash digest size bytes held come is =
     decided_never_open size (checked_data hash digest (take size bytes)) held (rw (nat_le-true size (length bytes) come) at is)

@@ -1,12 +1,12 @@
 -- What a reader says of its body is what the bytes so far say.
-use Rattle.std.proofs.Common.{◌≡◌, ℕ, Bool, true, false, min, if◌then◌else◌, List, length, refl, ap, ◌∙◌, arith, ◌≤◌, [], Option, None, Some, Ok, Err, inl, inr}
+use Rattle.std.proofs.Common.{◌≡◌, ℕ, Bool, true, false, min, if◌then◌else◌, List, length, refl, ap, ◌∙◌, arith, ◌≤◌, Option, Some, inl, inr}
 use Rattle.std.specs.Prelude.{option_map}
 use Rattle.std.proofs.lemmas.Bool.{cases_lt}
 use Rattle.std.proofs.lemmas.List.{length-take}
 use Rattle.s3_terms.specs.declared.code.Code.{Code}
 use Rattle.s3_terms.specs.declared.code.Code.TheVariants.{IncompleteBody}
-use Rattle.s3_aws_chunked.specs.Verdict.{Verdict, Accepted, Open, Refused}
-use Rattle.s3_aws_chunked.specs.Laws.{ReadersCount, ReadersJudge}
+use Rattle.s3_aws_chunked.specs.Verdict.{Accepted, Open, Refused}
+use Rattle.s3_aws_chunked.specs.Laws.{ReadersCount, ReadersJudge, ReadersStayWithin}
 use Rattle.s3_aws_chunked.specs.Decoder.{code_of, fault_at}
 use Rattle.s3_aws_chunked.specs.Reader as chunked
 use Rattle.s3_aws_chunked.specs.declared.phase.Phase.{Phase}
@@ -16,12 +16,9 @@ use Rattle.s3_payloads.specs.declared.form.Form.{Form}
 use Rattle.s3_payloads.specs.declared.form.Form.TheVariants as forms
 use Rattle.s3_payloads.specs.declared.reader.Mode.{Mode}
 use Rattle.s3_payloads.specs.declared.reader.Mode.TheVariants as modes
-use Rattle.s3_payloads.specs.declared.whole.Stage.{Stage}
-use Rattle.s3_payloads.specs.declared.whole.Stage.TheVariants as stages
 use Rattle.s3_payloads.specs.Form.{Announced}
-use Rattle.s3_payloads.specs.Reader.{ChunksFor, IsHandedOut, ModeFailed, ModePassed, ModeStands, WholeFor, mode_taken, mode_verdict}
-use Rattle.s3_payloads.specs.Verdict.{AnswersAtOnce, Judges, JudgesForm, terms_of, whole_verdict}
-use Rattle.s3_payloads.specs.Outcome.{finished, part_of}
+use Rattle.s3_payloads.specs.Reader.{ChunksFor, ModeFailed, ModePassed, ModeStands, WholeFor, mode_taken, mode_verdict}
+use Rattle.s3_payloads.specs.Verdict.{Judges, JudgesForm, terms_of, whole_verdict}
 use Rattle.s3_payloads.proofs.WholeLemmas.{nat_le-false}
 use Rattle.s3_payloads.specs.Whole.{WholeState, told}
 
@@ -64,6 +61,24 @@ pub count_mode : ReadersCount → (mode : Mode) (announced : Announced) (bytes :
 count_mode law (modes.Whole whole) announced bytes ended stands never = whole_counts announced.form whole announced bytes ended stands
 count_mode law (modes.Chunks chunks) announced bytes ended stands never = chunks_count law announced.form chunks announced bytes ended stands never
 
+-- ---- no more was taken than has come
+
+whole_within : (form : Form) (whole : WholeState) (announced : Announced) (bytes : List ℕ) (ended : Bool)
+    → WholeFor form whole announced bytes ended → length whole.bytes ≤ length bytes
+whole_within form whole announced bytes ended stands =
+    let many = whole_counts form whole announced bytes ended stands in omega (arith, many)
+
+chunks_within : ReadersStayWithin → (form : Form) (chunks : ChunksReader) (announced : Announced) (bytes : List ℕ) (ended : Bool)
+    → ChunksFor form chunks announced bytes ended → chunked.taken_of chunks.chunks ≤ length bytes
+chunks_within law (forms.Whole hash digest) chunks announced bytes ended stands = absurd stands
+chunks_within law (forms.Chunks decoded) chunks announced bytes ended stands =
+    law chunks.chunks (terms_of announced decoded) bytes ended chunks.payload stands
+
+pub within_mode : ReadersStayWithin → (mode : Mode) (announced : Announced) (bytes : List ℕ) (ended : Bool)
+    → ModeStands mode announced bytes ended → mode_taken mode ≤ length bytes
+within_mode law (modes.Whole whole) announced bytes ended stands = whole_within announced.form whole announced bytes ended stands
+within_mode law (modes.Chunks chunks) announced bytes ended stands = chunks_within law announced.form chunks announced bytes ended stands
+
 -- ---- a refusal
 
 phase_fails : (phase : Phase) (taken : ℕ) (held : List ℕ) (code : Code) → option_map code_of (fault_at phase) ≡ Some code
@@ -95,42 +110,7 @@ pass_mode (modes.Chunks chunks) is = (chunks.payload, rw (is.1) refl)
 
 -- ---- a body that is refused, accepted or open
 
-stage_refused : (stage : Stage) (bytes : List ℕ) (place : ℕ) (code : Code) → told bytes stage ≡ Refused place code → stage ≡ stages.Failed code
-stage_refused stages.Reading bytes place code is = absurd (cc)
-stage_refused stages.Passed bytes place code is = absurd (cc)
-stage_refused (stages.Failed other) bytes place code is = let same : other ≡ code = cc in ap stages.Failed same
-
-phase_refused : (phase : Phase) (taken : ℕ) (held : List ℕ) (place : ℕ) (code : Code) → chunked.verdict_at phase taken held ≡ Refused place code
-    → option_map code_of (fault_at phase) ≡ Some code
-phase_refused (phases.Refused fault) taken held place code is = let same : code_of fault ≡ code = cc in ap Some same
-phase_refused phases.Over taken held place code is = absurd (cc)
-phase_refused (phases.Size digits) taken held place code is = absurd (cc)
-phase_refused (phases.Line at size) taken held place code is = absurd (cc)
-phase_refused (phases.Data left last) taken held place code is = absurd (cc)
-phase_refused (phases.Ending last) taken held place code is = absurd (cc)
-
-chunks_refused : (form : Form) (chunks : ChunksReader) (announced : Announced) (bytes : List ℕ) (ended : Bool) (place : ℕ) (code : Code)
-    → ChunksFor form chunks announced bytes ended → chunked.verdict_of chunks.chunks chunks.payload ≡ Refused place code
-    → chunked.Failed chunks.chunks code
-chunks_refused (forms.Whole hash digest) chunks announced bytes ended place code stands is = absurd stands
-chunks_refused (forms.Chunks decoded) chunks announced bytes ended place code stands is =
-    rw (stands.kept) (phase_refused chunks.chunks.decoder.place.phase (chunked.taken_of chunks.chunks) chunks.payload place code is)
-
-refused_mode : (mode : Mode) (announced : Announced) (bytes : List ℕ) (ended : Bool) (place : ℕ) (code : Code)
-    → ModeStands mode announced bytes ended → mode_verdict mode ≡ Refused place code → ModeFailed mode code
-refused_mode (modes.Whole whole) announced bytes ended place code stands is = stage_refused whole.stage whole.bytes place code is
-refused_mode (modes.Chunks chunks) announced bytes ended place code stands is = chunks_refused announced.form chunks announced bytes ended place code stands is
-
--- where nothing is refused and nothing is handed out, the body is open
-pub open_mode : (mode : Mode) (announced : Announced) (bytes : List ℕ) (ended : Bool) (code : Code) (verdict : Verdict)
-    → ModeStands mode announced bytes ended → ((code : Code) → ¬ (ModeFailed mode code))
-    → mode_verdict mode ≡ verdict → finished verdict ≡ Err code → (held : List ℕ) × (mode_verdict mode ≡ Open held)
-open_mode mode announced bytes ended code (Open held) stands never is none = (held, is)
-open_mode mode announced bytes ended code (Accepted held) stands never is none = absurd (cc)
-open_mode mode announced bytes ended code (Refused place other) stands never is none =
-    absurd (never other (refused_mode mode announced bytes ended place other stands is))
-
--- ---- all bytes at once
+-- ---- bodies that are accepted
 
 undecided : (place : ℕ) (bytes held : List ℕ) (code : Code) (ended : Bool) → Accepted held ≡ (if ended then Refused place code else Open bytes) → ⊥
 undecided place bytes held code true is = cc
@@ -149,13 +129,3 @@ pub accepted_come : (form : Form) (announced : Announced) (bytes : List ℕ) (en
     → JudgesForm form announced bytes ended (Accepted held) → announced.length ≤ length bytes
 accepted_come (forms.Whole hash digest) announced bytes ended held is = whole_come hash digest announced.length ended bytes held is
 accepted_come (forms.Chunks decoded) announced bytes ended held is = is.1.come
-
--- what is answered where nothing is refused
-pub answers_ok : (announced : Announced) (bytes : List ℕ) (ended : Bool) (verdict : Verdict) (taken : ℕ) (result : Option (List ℕ × ℕ))
-    → Judges announced bytes ended verdict → taken ≡ part_of announced.length [] bytes → IsHandedOut verdict taken result
-    → AnswersAtOnce announced bytes ended (Ok result)
-answers_ok announced bytes ended verdict taken None judged part (held, is) = (held, rw is at judged)
-answers_ok announced bytes ended verdict taken (Some found) judged part (is, count) =
-    let accepted = rw is at judged in
-    let come = accepted_come announced.form announced bytes ended found.0 accepted in
-    (accepted, omega (arith, count, part, come), come)

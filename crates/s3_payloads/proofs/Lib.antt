@@ -6,3 +6,4 @@ pub mod ChunkLemmas
 pub mod ReaderLemmas
 pub mod JudgeLemmas
 pub mod FinalLemmas
+pub mod OpenLemmas

@@ -6,6 +6,7 @@ use Rattle.std.proofs.lemmas.List.{append-nil, take_all, length-append, length-t
 use Rattle.s3_terms.specs.declared.code.Code.{Code}
 use Rattle.s3_payloads.specs.declared.whole.Stage.{Stage}
 use Rattle.s3_payloads.specs.declared.whole.Stage.TheVariants as stages
+use Rattle.s3_aws_chunked.specs.Reader.{said_at_end}
 use Rattle.s3_aws_chunked.specs.Verdict.{Accepted, Open, Refused}
 use Rattle.s3_payloads.specs.Verdict.{checked_data, decided_at, whole_verdict}
 use Rattle.s3_payloads.specs.Whole.{FinishedAt, EndedAt, FedAt, IsOpen, IsRead, WholeEnded, WholeFed, WholeStands, WholeState, answered, at_stage, body_part, told, verdict_on}
@@ -150,7 +151,7 @@ pub whole_fed : (stage : Stage) (old new : WholeState) (hash digest : Option (Li
 whole_fed stages.Reading old new hash digest size bytes piece result is stands (inr read) =
     read_fed old new hash digest size bytes piece result stands read
 whole_fed stages.Reading old new hash digest size bytes piece result is stands (inl ran) =
-    rw (ran.answer) (rw (ran.failed) refl, inl (refl, omega (arith, ran.wanted)))
+    rw (ran.answer) (rw (ran.failed) refl, inl (refl, rw (← (part_same old hash digest size bytes piece stands)) (ran.wanted)))
 whole_fed stages.Passed old new hash digest size bytes piece result is stands read =
     read_fed old new hash digest size bytes piece result stands read
 whole_fed (stages.Failed code) old new hash digest size bytes piece result is stands (answer, same) =
@@ -206,7 +207,7 @@ finish_verdict s hash digest size bytes ended stands =
     rw (stands.hash_is, stands.digest_is, stands.size_is, stands.taken) (verdict_front hash digest size bytes)
 
 -- a body that is open is incomplete where it ends
-open_ends : (hash digest : Option (List ℕ)) (size : ℕ) (bytes held : List ℕ) (ended : Bool) → Open held ≡ whole_verdict hash digest size ended bytes
+pub open_ends : (hash digest : Option (List ℕ)) (size : ℕ) (bytes held : List ℕ) (ended : Bool) → Open held ≡ whole_verdict hash digest size ended bytes
     → whole_verdict hash digest size true bytes ≡ Refused (length bytes) IncompleteBody
 unfolding whole_verdict
 open_ends hash digest size bytes held ended is = elim (cases_lt (length bytes) size) [
@@ -226,6 +227,30 @@ accepted_ends hash digest size bytes held ended is = elim (cases_lt (length byte
   | inl part ↦ absurd (undecided (length bytes) bytes held IncompleteBody ended (rw (nat_le-false size (length bytes) part) at is))
   | inr whole ↦ sym (is ∙ rw (nat_le-true size (length bytes) whole) refl)
 ]
+
+stage_refused : (bytes : List ℕ) (place : ℕ) (code : Code) (stage : Stage) → told bytes stage ≡ Refused place code → stage ≡ stages.Failed code
+stage_refused bytes place code stages.Reading is = absurd (cc)
+stage_refused bytes place code stages.Passed is = absurd (cc)
+stage_refused bytes place code (stages.Failed other) is = let same : other ≡ code = cc in ap stages.Failed same
+
+stage_accepted : (bytes held : List ℕ) (stage : Stage) → told bytes stage ≡ Accepted held → stage ≡ stages.Passed
+stage_accepted bytes held stages.Reading is = absurd (cc)
+stage_accepted bytes held stages.Passed is = refl
+stage_accepted bytes held (stages.Failed other) is = absurd (cc)
+
+-- what the end of input is answered
+pub whole_said : (stage : Stage) (old new : WholeState) (hash digest : Option (List ℕ)) (size : ℕ) (bytes : List ℕ) (result : Result ⊤ Code)
+    → old.stage ≡ stage → WholeStands old hash digest size bytes false → EndedAt stage old result new
+    → result ≡ said_at_end (told old.bytes stage)
+whole_said stages.Reading old new hash digest size bytes result is stands (same, told_so, answer) =
+    let ends = open_ends hash digest size bytes old.bytes false (rw is at (stands.told)) in
+    let stage = stage_refused new.bytes (length bytes) IncompleteBody new.stage (told_so ∙ finish_verdict old hash digest size bytes false stands ∙ ends) in
+    rw stage at answer
+whole_said stages.Passed old new hash digest size bytes result is stands (same, told_so, answer) =
+    let ends = accepted_ends hash digest size bytes old.bytes false (rw is at (stands.told)) in
+    let stage = stage_accepted new.bytes old.bytes new.stage (told_so ∙ finish_verdict old hash digest size bytes false stands ∙ ends) in
+    rw stage at answer
+whole_said (stages.Failed code) old new hash digest size bytes result is stands (answer, same) = answer
 
 -- what is handed out
 pub whole_finished : (stage : Stage) (s : WholeState) (hash digest : Option (List ℕ)) (size : ℕ) (bytes : List ℕ) (ended : Bool) (result : Result (List ℕ) Code)

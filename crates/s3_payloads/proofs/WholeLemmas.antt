@@ -1,6 +1,6 @@
 -- What is known of the verdict on a body that is sent as it is.
-use Rattle.std.proofs.Common.{◌≡◌, ℕ, ◌-◌, ◌<◌, ◌≤◌, Bool, true, false, min, nat_le, List, ◌++◌, ◌+◌, length, take, refl, sym, ◌∙◌, arith, [], Option, Result, Ok, Err, inl, inr}
-use Rattle.std.specs.Prelude.{⊤, IfErr}
+use Rattle.std.proofs.Common.{◌≡◌, ℕ, ◌-◌, ◌<◌, ◌≤◌, Bool, true, false, min, nat_le, List, ◌++◌, ◌+◌, length, take, refl, sym, ap, ◌∙◌, arith, [], Option, Result, Ok, Err, inl, inr}
+use Rattle.std.specs.Prelude.{⊤, IfErr, IfOk}
 use Rattle.std.proofs.lemmas.Bool.Decides.{nat_tests}
 use Rattle.std.proofs.lemmas.List.{append-nil, take_all, length-append, length-take-le}
 use Rattle.std.proofs.lemmas.Bool.{cases_Bool, cases_lt}
@@ -142,3 +142,41 @@ pub ended_err : (stage : Stage) (old new : WholeState) (result : Result ⊤ Code
 ended_err stages.Reading old new result is (same, told_so, answer) = answered_err result tt new new.stage refl answer
 ended_err stages.Passed old new result is (same, told_so, answer) = answered_err result tt new new.stage refl answer
 ended_err (stages.Failed code) old new result is (answer, same) = rw (answer, same) is
+
+-- ---- what a piece adds to the count
+
+answered_count : (result : Result ℕ Code) (value old new : ℕ) (stage : Stage) → new ≡ old + value → result ≡ answered value stage
+    → IfOk result (λ n. new ≡ old + n)
+answered_count result value old new stages.Reading more answer = rw answer more
+answered_count result value old new stages.Passed more answer = rw answer more
+answered_count result value old new (stages.Failed code) more answer = rw answer tt
+
+read_count : (old new : WholeState) (piece : List ℕ) (result : Result ℕ Code) → IsRead old piece result new
+    → length new.bytes ≡ length old.bytes + body_part old piece
+read_count old new piece result read =
+    let long = length-append old.bytes (take (body_part old piece) piece) in
+    ap length read.taken ∙ long ∙ ap (λ (n : ℕ). length old.bytes + n) (length-take-le (body_part old piece) piece (omega arith))
+
+pub fed_count : (stage : Stage) (old new : WholeState) (piece : List ℕ) (result : Result ℕ Code) → FedAt stage old piece result new
+    → IfOk result (λ n. length new.bytes ≡ length old.bytes + n)
+fed_count stages.Reading old new piece result (inl ran) = rw (ran.answer) tt
+fed_count stages.Reading old new piece result (inr read) =
+    answered_count result (body_part old piece) (length old.bytes) (length new.bytes) new.stage (read_count old new piece result read) read.answer
+fed_count stages.Passed old new piece result read =
+    answered_count result (body_part old piece) (length old.bytes) (length new.bytes) new.stage (read_count old new piece result read) read.answer
+fed_count (stages.Failed code) old new piece result (answer, same) = rw answer tt
+
+pub fed_counts : (stage : Stage) (old new : WholeState) (piece : List ℕ) (result : Result ℕ Code) → FedAt stage old piece result new
+    → (length old.bytes ≤ length new.bytes) × (length new.bytes ≤ length old.bytes + length piece)
+fed_counts stages.Reading old new piece result (inl ran) = rw (ran.failed) (omega arith, omega arith)
+fed_counts stages.Reading old new piece result (inr read) =
+    let more = read_count old new piece result read in (omega (arith, more), omega (arith, more))
+fed_counts stages.Passed old new piece result read =
+    let more = read_count old new piece result read in (omega (arith, more), omega (arith, more))
+fed_counts (stages.Failed code) old new piece result (answer, same) = rw same (omega arith, omega arith)
+
+-- and the end of input adds none
+pub ended_bytes : (stage : Stage) (old new : WholeState) (result : Result ⊤ Code) → EndedAt stage old result new → new.bytes ≡ old.bytes
+ended_bytes stages.Reading old new result (same, told_so, answer) = ap (λ (s : WholeState). s.bytes) same
+ended_bytes stages.Passed old new result (same, told_so, answer) = ap (λ (s : WholeState). s.bytes) same
+ended_bytes (stages.Failed code) old new result (answer, same) = ap (λ (s : WholeState). s.bytes) same

@@ -9,10 +9,10 @@ abbrev pub part_of : ℕ → List ℕ → List ℕ → ℕ
 part_of size bytes piece = min (length piece) (size - length bytes)
 
 -- what a piece brings, of which so many bytes are the body's: they were taken, and the reader stands behind the
--- piece and has refused nothing; or it has refused, where memory ran out for some of its bytes, or standing there
+-- piece and has refused nothing; or it has refused, where memory ran out for some of them, or standing there
 abbrev pub FedTo : List ℕ → ℕ → Type 0 → (Code → Type 0) → Result ℕ Code → Type 0
 FedTo piece part stands failed (Ok taken) = (taken ≡ part) × stands × ((code : Code) → ¬ (failed code))
-FedTo piece part stands failed (Err code) = failed code × (((code ≡ InternalError) × (0 < length piece)) ⊎ stands)
+FedTo piece part stands failed (Err code) = failed code × (((code ≡ InternalError) × (0 < part)) ⊎ stands)
 
 -- what the end of input brings: the body is whole, or the reader has refused
 abbrev pub EndedTo : Type 0 → (Code → Type 0) → Type 0 → Result ⊤ Code → Type 0

@@ -1,10 +1,9 @@
 -- How a reader of a payload stands after all bytes so far.
 -- `Stands` is what the clauses of the reader carry along. What it comes to is a law, `payloads_are_judged`: the
 -- verdict on these bytes. So its inside need not be believed.
-use Rattle.std.specs.Prelude.{◌≡◌, ◌⊎◌, ℕ, ◌<◌, Bool, true, false, List, [], ◌++◌, length, Option, Some, None, Result, Ok, Err, ⊤}
+use Rattle.std.specs.Prelude.{◌≡◌, ℕ, Bool, true, false, List, [], ◌++◌, length, Result, Ok, Err, ⊤}
 use Rattle.s3_terms.specs.declared.code.Code.{Code}
-use Rattle.s3_terms.specs.declared.code.Code.TheVariants.{InternalError}
-use Rattle.s3_aws_chunked.specs.Verdict.{Verdict, Accepted, Open}
+use Rattle.s3_aws_chunked.specs.Verdict.{Verdict}
 use Rattle.s3_aws_chunked.specs.Reader as chunked
 use Rattle.s3_payloads.specs.declared.chunks.ChunksReader.{ChunksReader}
 use Rattle.s3_payloads.specs.declared.form.Form.{Form}
@@ -84,17 +83,3 @@ IsFed announced bytes piece result new =
 abbrev pub IsEnded : Announced → List ℕ → Result ⊤ Code → PayloadReader → Type 0
 IsEnded announced bytes result new =
     EndedTo (Stands new announced bytes true) (HasFailed new) (HasPassed new) result
-
--- what all bytes so far bring to a reader that has begun, with the end of input where it has ended
-abbrev pub IsSettled : Announced → List ℕ → Bool → Result ℕ Code → PayloadReader → Type 0
-IsSettled announced bytes ended (Ok taken) new =
-    (taken ≡ part_of announced.length [] bytes)
-    × Stands new announced bytes ended
-    × ((code : Code) → ¬ (HasFailed new code))
-IsSettled announced bytes ended (Err code) new =
-    ((code ≡ InternalError) × (0 < length bytes)) ⊎ (Stands new announced bytes ended × HasFailed new code)
-
--- what is handed out where nothing is refused: the data of a body that is accepted, with this count
-abbrev pub IsHandedOut : Verdict → ℕ → Option (List ℕ × ℕ) → Type 0
-IsHandedOut verdict taken None = (held : List ℕ) × (verdict ≡ Open held)
-IsHandedOut verdict taken (Some found) = (verdict ≡ Accepted found.0) × (found.1 ≡ taken)

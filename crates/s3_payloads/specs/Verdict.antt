@@ -1,6 +1,6 @@
 -- What is known of a body by the bytes that have come behind its head (Amazon S3 API Reference, "Error
 -- responses": IncompleteBody, XAmzContentSHA256Mismatch, BadDigest).
-use Rattle.std.specs.Prelude.{◌≡◌, ◌⊎◌, ℕ, ◌<◌, ◌≤◌, Bool, true, not, nat_le, if◌then◌else◌, List, take, length, Option, Some, None, Result, Ok, Err}
+use Rattle.std.specs.Prelude.{◌≡◌, ℕ, Bool, true, not, nat_le, if◌then◌else◌, List, take, length, Option, Some, None, Result, Ok, Err}
 use Rattle.std.specs.Str.{bytes_eq}
 use Rattle.hex.specs.Hex.{encode_lower}
 use Rattle.md5.specs.Md5.{md5}
@@ -13,7 +13,7 @@ use Rattle.s3_payloads.specs.Form.{Announced}
 use Rattle.s3_signing.specs.Chain.{seed_of}
 use Rattle.s3_terms.specs.Fault.{refuse, ◌>>◌}
 use Rattle.s3_terms.specs.declared.code.Code.{Code}
-use Rattle.s3_terms.specs.declared.code.Code.TheVariants.{InternalError, IncompleteBody, XAmzContentSHA256Mismatch, BadDigest}
+use Rattle.s3_terms.specs.declared.code.Code.TheVariants.{IncompleteBody, XAmzContentSHA256Mismatch, BadDigest}
 
 -- the bytes have this SHA-256, in lower-case hexadecimal digits, where one is told
 abbrev pub has_hash : Option (List ℕ) → List ℕ → Bool
@@ -59,16 +59,3 @@ JudgesForm (Chunks decoded) announced bytes ended verdict =
 -- the verdict on a body that was announced so, by the bytes behind its head; ended says that no more come
 abbrev pub Judges : Announced → List ℕ → Bool → Verdict → Type 0
 Judges announced bytes ended verdict = JudgesForm announced.form announced bytes ended verdict
-
--- what is answered where these bytes stand behind the head at once: nothing while the body is open; the data of
--- a body that is accepted, with its count of bytes; or the code of a refusal, for which memory ran out or which
--- is the verdict
-abbrev pub AnswersAtOnce : Announced → List ℕ → Bool → Result (Option (List ℕ × ℕ)) Code → Type 0
-AnswersAtOnce announced bytes ended (Ok None) = (held : List ℕ) × Judges announced bytes ended (Open held)
-AnswersAtOnce announced bytes ended (Ok (Some found)) =
-    Judges announced bytes ended (Accepted found.0)
-    × (found.1 ≡ announced.length)
-    × (announced.length ≤ length bytes)
-AnswersAtOnce announced bytes ended (Err code) =
-    ((code ≡ InternalError) × (0 < length bytes))
-    ⊎ ((place : ℕ) × Judges announced bytes ended (Refused place code))

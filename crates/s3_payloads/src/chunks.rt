@@ -1,9 +1,9 @@
 //! The reader of a body that is signed in chunks, which keeps its data.
 
-ghost use Rattle.std.specs.Prelude.{◌≡◌, ℕ, ◌+◌, true, false, List, [], ◌++◌, Err, IfErr};
+ghost use Rattle.std.specs.Prelude.{◌≡◌, ℕ, ◌+◌, ◌≤◌, true, false, List, [], ◌++◌, length, Err, IfErr, IfOk};
 ghost use Rattle.s3_signing.specs.Chain.{seed_of};
-ghost use Rattle.s3_aws_chunked.specs.Verdict.{Terms};
-ghost use Rattle.s3_aws_chunked.specs.Reader.{Failed, IsDone, Stands, taken_of, verdict_of};
+ghost use Rattle.s3_aws_chunked.specs.Verdict.{Terms, accepts};
+ghost use Rattle.s3_aws_chunked.specs.Reader.{Failed, IsDone, Stands, said_at_end, taken_of, verdict_of};
 ghost use Rattle.s3_payloads.specs.Outcome.{EndedTo, FedTo, finished, part_of};
 
 use s3_aws_chunked::{ChunkReader, readers_judge};
@@ -43,6 +43,9 @@ impl ChunksReader {
             → FedTo piece.now (part_of terms.encoded bytes piece.now)
             (Stands self.new.chunks terms (bytes ++ piece.now) false self.new.payload)
             (Failed self.new.chunks) result }
+        ensures count { IfOk result (λ n. taken_of self.new.chunks ≡ taken_of self.old.chunks + n) }
+        ensures counts { (taken_of self.old.chunks ≤ taken_of self.new.chunks)
+            × (taken_of self.new.chunks ≤ taken_of self.old.chunks + length piece.now) }
         ensures err { IfErr result (Failed self.new.chunks) }
         ensures refuses { (code : Code) → Failed self.old.chunks code
             → (result ≡ Err code) × (taken_of self.new.chunks ≡ taken_of self.old.chunks) }
@@ -58,11 +61,21 @@ impl ChunksReader {
             → EndedTo (Stands self.new.chunks terms bytes true self.new.payload)
             (Failed self.new.chunks) (IsDone self.new.chunks) result }
         ensures err { IfErr result (Failed self.new.chunks) }
+        ensures says { self.old.chunks.lost ≡ false
+            → result ≡ said_at_end (verdict_of self.old.chunks self.old.payload) }
+        ensures taken { taken_of self.new.chunks ≡ taken_of self.old.chunks }
         ensures payload { self.new.payload ≡ self.old.payload }
         ensures refuses { (code : Code) → Failed self.old.chunks code
             → (result ≡ Err code) × (taken_of self.new.chunks ≡ taken_of self.old.chunks) }
     {
         self.chunks.end()
+    }
+
+    // Whether the body is whole and right.
+    pub(crate) fn is_whole(&self) -> bool
+        ensures { result ≡ accepts (verdict_of self.now.chunks self.now.payload) }
+    {
+        self.chunks.is_whole()
     }
 
     // How many bytes of the body were taken.

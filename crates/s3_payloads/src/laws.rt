@@ -1,6 +1,6 @@
 //! Laws of the definitions: there is nothing to run.
 
-ghost use Rattle.s3_payloads.specs.Laws.{AcceptedAreWhole, DigestsAreEncoded, EndsDecide, PayloadsCount, PayloadsFail, PayloadsJudge, PayloadsPass, VerdictsAreOne, VerdictsExist, VerdictsStay, WholePayloadsAreBodies};
+ghost use Rattle.s3_payloads.specs.Laws.{AcceptedAreWhole, DigestsAreEncoded, EndsDecide, OpenBodiesAreShort, OpenBodiesEndIncomplete, PayloadsCount, PayloadsFail, PayloadsJudge, PayloadsPass, PayloadsStayOpen, PayloadsStayWithin, PayloadsStopThere, RefusalsComeBehind, RefusalsStand, VerdictsAreOne, VerdictsExist, VerdictsStay, WholePayloadsAreBodies};
 
 use s3_aws_chunked::readers_judge;
 
@@ -13,12 +13,14 @@ pub fn digests_are_encoded()
 /// A law: a reader that stands after some bytes of a body says of it what these bytes say, whichever way they
 /// were cut. Where it has refused, that is at the place of the verdict and with its code; where it has passed,
 /// the body is accepted with the data that it hands out; else it is open, with the data so far. Where it has
-/// refused nothing, it has taken the bytes up to Content-Length.
+/// refused nothing, it has taken the bytes up to Content-Length; and never more than have come.
 pub fn payloads_are_judged()
     ensures verdict { PayloadsJudge }
     ensures count { PayloadsCount }
+    ensures within { PayloadsStayWithin }
     ensures failed { PayloadsFail }
     ensures passed { PayloadsPass }
+    ensures undecided { PayloadsStayOpen }
 {
     readers_judge();
 }
@@ -32,6 +34,27 @@ pub fn verdicts_are_final()
     ensures exist { VerdictsExist }
     ensures end { EndsDecide }
 {
+    s3_aws_chunked::verdicts_are_final();
+}
+
+/// A law: a body that is open lacks bytes of Content-Length, and is incomplete where its input ends there.
+pub fn open_bodies_are_short()
+    ensures short { OpenBodiesAreShort }
+    ensures incomplete { OpenBodiesEndIncomplete }
+{
+    s3_aws_chunked::open_bodies_are_short();
+}
+
+/// A law: a refusal before the end of the input stands at its place: the bytes up to there have come, and they are
+/// refused for themselves, there and with the same code. Where the body was open, that is behind the bytes that had
+/// come, and the reader has taken the bytes up to there.
+pub fn refusals_stand()
+    ensures place { RefusalsStand }
+    ensures behind { RefusalsComeBehind }
+    ensures taken { PayloadsStopThere }
+{
+    readers_judge();
+    s3_aws_chunked::refusals_stand();
     s3_aws_chunked::verdicts_are_final();
 }
 

@@ -11,6 +11,7 @@ mod whole;
 
 pub use form::{Form, form_of};
 pub use laws::{
-    accepted_bodies_are_whole, digests_are_encoded, payloads_are_judged, verdicts_are_final,
+    accepted_bodies_are_whole, digests_are_encoded, open_bodies_are_short, payloads_are_judged,
+    refusals_stand, verdicts_are_final,
 };
 pub use reader::PayloadReader;

@@ -1,15 +1,15 @@
 //! The reader of a payload, whichever way it is sent.
 
-ghost use Rattle.std.specs.Prelude.{◌≡◌, ℕ, Bool, false, List, [], Err, IfErr, IsSome};
+ghost use Rattle.std.specs.Prelude.{◌≡◌, ◌≤◌, ◌+◌, ℕ, Bool, false, List, [], length, Err, IfErr, IfOk, IsSome};
+ghost use Rattle.s3_aws_chunked.specs.Reader.{said_at_end};
+ghost use Rattle.s3_aws_chunked.specs.Verdict.{accepts};
 ghost use Rattle.s3_http_heads.specs.BodyLength.{announced, length_lines};
 ghost use Rattle.s3_payloads.specs.Form.{Announced, announced_payload};
 ghost use Rattle.s3_payloads.specs.Outcome.{finished};
 ghost use Rattle.s3_payloads.specs.Reader.{ModeStands};
-ghost use Rattle.s3_payloads.specs.Verdict.{AnswersAtOnce};
 
 use crate::chunks::ChunksReader;
 use crate::form::{Form, form_of};
-use crate::laws::payloads_are_judged;
 use crate::whole::WholeReader;
 use s3_config::Config;
 use s3_http_heads::{Head, announced_length};
@@ -50,7 +50,7 @@ pub struct PayloadReader {
 }
 
 impl PayloadReader {
-    ghost use Rattle.s3_payloads.specs.Reader.{Begins, HasFailed, IsEnded, IsFed, IsHandedOut, IsSettled, Stands, taken_of, verdict_of};
+    ghost use Rattle.s3_payloads.specs.Reader.{Begins, HasFailed, IsEnded, IsFed, Stands, taken_of, verdict_of};
 
     /// The reader of the body behind this head, of which nothing has come. The framing of the head has to be
     /// sound (`s3_http_heads::framing`). Takes no memory.
@@ -75,6 +75,16 @@ impl PayloadReader {
         Ok(PayloadReader {
             mode: mode_of(alloc, form, length, &verified),
         })
+    }
+
+    /// Whether it has read a whole body, with nothing wrong.
+    pub fn is_whole(&self) -> bool
+        ensures { result ≡ accepts (verdict_of self.now) }
+    {
+        match &self.mode {
+            Mode::Whole(whole) => whole.is_whole(),
+            Mode::Chunks(chunks) => chunks.is_whole(),
+        }
     }
 
     /// How many bytes of the body were taken; after a refusal of the body, the place of that.
@@ -102,6 +112,11 @@ impl PayloadReader {
         ensures stands { (announced : Announced) (bytes : List ℕ)
             → Stands self.old announced bytes false → IsFed announced bytes piece.now result self.new }
 
+        // Whatever it answers, it takes bytes of the piece alone, and says how many they were.
+        ensures count { IfOk result (λ n. taken_of self.new ≡ taken_of self.old + n) }
+        ensures counts { (taken_of self.old ≤ taken_of self.new)
+            × (taken_of self.new ≤ taken_of self.old + length piece.now) }
+
         // What has refused refuses always, and takes nothing more.
         ensures err { IfErr result (HasFailed self.new) }
         ensures refuses { (code : Code) → HasFailed self.old code
@@ -121,7 +136,12 @@ impl PayloadReader {
     pub fn end(&mut self) -> Result<(), Code>
         ensures stands { (announced : Announced) (bytes : List ℕ)
             → Stands self.old announced bytes false → IsEnded announced bytes result self.new }
+
+        // It answers what it says of the body: where that is open, that it is incomplete.
+        ensures says { (announced : Announced) (bytes : List ℕ)
+            → Stands self.old announced bytes false → result ≡ said_at_end (verdict_of self.old) }
         ensures err { IfErr result (HasFailed self.new) }
+        ensures taken { taken_of self.new ≡ taken_of self.old }
         ensures refuses { (code : Code) → HasFailed self.old code
             → (result ≡ Err code) × (taken_of self.new ≡ taken_of self.old) }
     {
@@ -144,47 +164,6 @@ impl PayloadReader {
         match self.mode {
             Mode::Whole(whole) => whole.finish(),
             Mode::Chunks(chunks) => chunks.finish(),
-        }
-    }
-
-    // Feeds all bytes so far, and ends the input where it has ended.
-    fn settle(&mut self, bytes: &[u8], ended: bool) -> Result<usize, Code>
-        ensures { (announced : Announced) → Stands self.old announced [] false
-            → IsSettled announced bytes.now ended result self.new }
-    {
-        let fed = self.feed(bytes);
-        if ended {
-            self.end()?;
-        }
-        fed
-    }
-
-    // The payload with this number of bytes, where the body is whole.
-    fn hand_out(self, taken: usize) -> Option<(Payload, usize)>
-        ensures { (announced : Announced) (bytes : List ℕ) (ended : Bool) → Stands self announced bytes ended
-            → ((code : Code) → ¬ (HasFailed self code)) → IsHandedOut (verdict_of self) taken result }
-    {
-        match self.finish() {
-            Ok(payload) => Some((payload, taken)),
-            Err(_) => None,
-        }
-    }
-
-    /// Reads the body from the bytes behind its head, where all that have come are there at once; `ended` says
-    /// that no more come. `None` says that the body isn't whole yet; else the payload comes with the number of
-    /// the bytes that are the body's.
-    ///
-    /// # Errors
-    ///
-    /// Those of `feed` and of `end`.
-    pub fn read(mut self, bytes: &[u8], ended: bool) -> Result<Option<(Payload, usize)>, Code>
-        ensures { (announced : Announced) → Stands self announced [] false
-            → AnswersAtOnce announced bytes.now ended result }
-    {
-        payloads_are_judged();
-        match self.settle(bytes, ended) {
-            Ok(taken) => Ok(self.hand_out(taken)),
-            Err(code) => Err(code),
         }
     }
 }

@@ -1,6 +1,8 @@
 //! The reader of a body that is sent as it is.
 
 ghost use Rattle.std.specs.Prelude.{◌≡◌, ◌≤◌, ◌++◌, length, None, Some, Ok, Err, false, OnOk, OnErr, IfOk, IfErr, Bool, List, [], ℕ, ◌+◌, ◌<◌, take, Option};
+ghost use Rattle.s3_aws_chunked.specs.Reader.{said_at_end};
+ghost use Rattle.s3_aws_chunked.specs.Verdict.{accepts};
 ghost use Rattle.s3_payloads.specs.Outcome.{finished};
 ghost use Rattle.s3_payloads.specs.Verdict.{checked_data, has_digest, has_hash};
 ghost use Rattle.s3_payloads.specs.Whole.{WholeEnded, WholeFed, WholeStands, EndedAt, FedAt, FinishedAt, IsStage, answered, at_stage, body_part, told, verdict_on, with_bytes};
@@ -248,6 +250,16 @@ impl WholeReader {
         Ok(self.payload.finish())
     }
 
+    // Whether the body is whole and right.
+    pub(crate) fn is_whole(&self) -> bool
+        ensures { result ≡ accepts (told self.now.bytes self.now.stage) }
+    {
+        match self.stage {
+            Stage::Passed => true,
+            Stage::Reading | Stage::Failed(_) => false,
+        }
+    }
+
     // How many bytes of the body were taken.
     pub(crate) fn taken(&self) -> u64
         ensures { result ≡ length self.now.bytes }
@@ -261,6 +273,9 @@ impl WholeReader {
         ensures stands { (hash digest : Option (List ℕ)) (size : ℕ) (bytes : List ℕ)
             → WholeStands self.old hash digest size bytes false
             → WholeFed hash digest size bytes piece.now result self.new }
+        ensures count { IfOk result (λ n. length self.new.bytes ≡ length self.old.bytes + n) }
+        ensures counts { (length self.old.bytes ≤ length self.new.bytes)
+            × (length self.new.bytes ≤ length self.old.bytes + length piece.now) }
         ensures err { IfErr result (λ code. self.new.stage ≡ Stage.Failed code) }
         ensures refuses { (code : Code) → self.old.stage ≡ Stage.Failed code
             → (result ≡ Err code) × (self.new ≡ self.old) }
@@ -273,6 +288,10 @@ impl WholeReader {
         ensures stands { (hash digest : Option (List ℕ)) (size : ℕ) (bytes : List ℕ)
             → WholeStands self.old hash digest size bytes false
             → WholeEnded hash digest size bytes result self.new }
+        ensures says { (hash digest : Option (List ℕ)) (size : ℕ) (bytes : List ℕ)
+            → WholeStands self.old hash digest size bytes false
+            → result ≡ said_at_end (told self.old.bytes self.old.stage) }
+        ensures bytes { self.new.bytes ≡ self.old.bytes }
         ensures err { IfErr result (λ code. self.new.stage ≡ Stage.Failed code) }
         ensures refuses { (code : Code) → self.old.stage ≡ Stage.Failed code
             → (result ≡ Err code) × (self.new ≡ self.old) }

@@ -156,3 +156,8 @@ pub fn run_on_nothing(alloc: Global, words: &[&str], errors: &mut Device) -> u8 
     let mut output = Device::new(alloc, Manner::Able, b"");
     run(alloc, words, &mut input, &mut output, errors)
 }
+
+/// Whether two texts are the same.
+pub fn is_same(text: &[u8], other: &[u8]) -> bool {
+    text == other
+}

@@ -1,15 +1,8 @@
 //! Wrong words, wrong settings and keys, and devices that fail or are slow.
-use crate::devices::{Device, Manner, files, run_on_nothing};
+use crate::devices::{Device, Manner, files, is_same, run_on_nothing};
 use s3_tasks::run_words;
 use std::alloc::Global;
 use std::str;
-
-// A run on these words has status 2, and its text for the user has the part somewhere.
-fn is_usage(alloc: Global, words: &[&str], part: &str) -> bool {
-    let mut errors = Device::new(alloc, Manner::Able, b"");
-    let status = run_on_nothing(alloc, words, &mut errors);
-    status == 2 && holds(errors.taken.as_slice(), part)
-}
 
 // The text has the part somewhere.
 fn holds(text: &[u8], part: &str) -> bool {
@@ -17,60 +10,6 @@ fn holds(text: &[u8], part: &str) -> bool {
         Ok(text) => text.contains(part),
         Err(_) => false,
     }
-}
-
-static USAGES: [(&[&str], &str); 10] = [
-    (&[], "Usage: s3d <COMMAND>\n"),
-    (&["s3d"], "Usage: s3d <COMMAND>\n"),
-    (&["s3d", "--help"], "Usage: s3d <COMMAND>\n"),
-    (&["s3d", "replay"], "not provided:\n  --keys <FILE>\n"),
-    (
-        &["s3d", "replay", "--help"],
-        "Usage: s3d replay [OPTIONS] --keys <FILE>\n",
-    ),
-    (
-        &["s3d", "replay", "--keys", "keys", "--unknown"],
-        "error: unexpected argument '--unknown' found\n",
-    ),
-    (
-        &["s3d", "replay", "--keys", "keys", "a:b"],
-        "error: unexpected argument 'a:b' found\n",
-    ),
-    (&["s3d", "sign", "--help"], "--host <H> [NAME:VALUE]...\n"),
-    (
-        &[
-            "s3d", "sign", "--keys", "keys", "--id", "id", "--moment", "0", "--method", "GET",
-            "--target", "/",
-        ],
-        "not provided:\n  --host <H>\n",
-    ),
-    (
-        &["s3d", "serve"],
-        "error: unrecognized subcommand 'serve'\n",
-    ),
-];
-
-#[test]
-fn usage_faults(rt: HostRuntime) {
-    for (words, part) in &USAGES {
-        assert!(rt; is_usage(rt.alloc(), words, part), "at {part}");
-    }
-}
-
-// A run on these words, and on no input, has status 1 and tells this fault. One space stands between
-// two words.
-fn tells(alloc: Global, words: &str, fault: &str) -> bool {
-    match words.split(' ').collect::<Vec<&str>>(alloc) {
-        Ok(words) => fails_by(alloc, words.as_slice(), fault),
-        Err(_) => false,
-    }
-}
-
-// A run on these words, and on no input, has status 1 and tells this fault.
-fn fails_by(alloc: Global, words: &[&str], fault: &str) -> bool {
-    let mut errors = Device::new(alloc, Manner::Able, b"");
-    let status = run_on_nothing(alloc, words, &mut errors);
-    status == 1 && is_line(errors.taken.as_slice(), fault)
 }
 
 // The text is the line that tells this fault.
@@ -81,171 +20,117 @@ fn is_line(text: &[u8], fault: &str) -> bool {
     text.strip_suffix(b"\n".as_slice()) == Some(fault.as_bytes())
 }
 
+// The run has this status, and this of its text for the user: a part where it is 2, and else the fault in one line.
+fn is_said(status: u8, text: &[u8], wanted: u8, told: &str) -> bool {
+    match wanted {
+        2 => status == 2 && holds(text, told),
+        _ => status == wanted && is_line(text, told),
+    }
+}
+
+// A run on these words, and on no input, has this status and tells this.
+fn is_run(alloc: Global, words: &[&str], wanted: u8, told: &str) -> bool {
+    let mut errors = Device::new(alloc, Manner::Able, b"");
+    let status = run_on_nothing(alloc, words, &mut errors);
+    is_said(status, errors.taken.as_slice(), wanted, told)
+}
+
+// The same of words with one space between two; an empty text has none.
+fn is_run_of(alloc: Global, words: &str, wanted: u8, told: &str) -> bool {
+    if words.is_empty() {
+        return is_run(alloc, &[], wanted, told);
+    }
+    match words.split(' ').collect::<Vec<&str>>(alloc) {
+        Ok(words) => is_run(alloc, words.as_slice(), wanted, told),
+        Err(_) => false,
+    }
+}
+
+// The same of a row: the words, a bar, and what is told.
+fn is_row(alloc: Global, row: &str, wanted: u8) -> bool {
+    match row.split_once('|') {
+        Some((words, told)) => is_run_of(alloc, words, wanted, told),
+        None => false,
+    }
+}
+
+// Words, and a part of what is told then. A semicolon stands between two rows: one text costs less to prove than a
+// table.
+const USAGES: &str = "\
+    |Usage: s3d <COMMAND>\n;\
+    s3d|Usage: s3d <COMMAND>\n;\
+    s3d --help|Usage: s3d <COMMAND>\n;\
+    s3d replay|not provided:\n  --keys <FILE>\n;\
+    s3d replay --help|Usage: s3d replay [OPTIONS] --keys <FILE>\n;\
+    s3d replay --keys keys --unknown|error: unexpected argument '--unknown' found\n;\
+    s3d replay --keys keys a:b|error: unexpected argument 'a:b' found\n;\
+    s3d sign --help|--host <H> [NAME:VALUE]...\n;\
+    s3d sign --keys keys --id id --moment 0 --method GET --target /|not provided:\n  --host <H>\n;\
+    s3d serve|error: unrecognized subcommand 'serve'\n";
+
+#[test]
+fn usage_faults(rt: HostRuntime) {
+    for row in USAGES.split(';') {
+        assert!(rt; is_row(rt.alloc(), row, 2), "at {row}");
+    }
+}
+
 // Where two things are wrong the first in order is told.
-static FAULTS: [(&str, &str); 49] = [
-    ("bad setting", "s3d replay --keys keys"),
-    (
-        "cannot read shelf",
-        "s3d replay --keys shelf --moment 0 --region US",
-    ),
-    ("bad setting", "s3d replay --keys keys --moment 12x"),
-    ("bad setting", "s3d replay --keys keys --moment "),
-    ("bad setting", "s3d replay --keys keys --moment +12"),
-    (
-        "bad setting",
-        "s3d replay --keys keys --moment 0000000000000",
-    ),
-    (
-        "bad setting",
-        "s3d replay --keys keys --moment 253402300800",
-    ),
-    (
-        "bad setting",
-        "s3d replay --keys keys --moment 0 --bucket Pail",
-    ),
-    (
-        "bad setting",
-        "s3d replay --keys keys --moment 0 --region US",
-    ),
-    (
-        "bad setting",
-        "s3d replay --keys keys --moment 0 --min-part 1e3",
-    ),
-    (
-        "bad setting",
-        "s3d replay --keys keys --moment 0 --body-limit 67108865",
-    ),
-    ("bad setting", "s3d replay --keys none --moment 0"),
-    ("cannot read shelf", "s3d replay --keys shelf --moment 0"),
-    ("bad keys line 2", "s3d replay --keys no-space --moment 0"),
-    ("bad keys line 2", "s3d replay --keys no-id --moment 0"),
-    ("bad keys line 2", "s3d replay --keys no-secret --moment 0"),
-    (
-        "bad keys line 2",
-        "s3d replay --keys long-secret --moment 0",
-    ),
-    ("bad keys line 3", "s3d replay --keys two-spaces --moment 0"),
-    ("bad keys line 2", "s3d replay --keys twice --moment 0"),
-    ("bad keys line 2", "s3d replay --keys empty-line --moment 0"),
-    ("bad keys line 3", "s3d replay --keys comma --moment 0"),
-    (
-        "bad setting",
-        "s3d sign --keys keys --id id --moment 12x --method GET --target / --host h",
-    ),
-    (
-        "bad setting",
-        "s3d sign --keys keys --id id --moment 253402300800 --method GET --target / --host h",
-    ),
-    (
-        "bad setting",
-        "s3d sign --keys none --id id --moment 0 --method GET --target / --host h",
-    ),
-    (
-        "cannot read shelf",
-        "s3d sign --keys shelf --id id --moment 0 --method GET --target / --host h",
-    ),
-    (
-        "bad keys line 2",
-        "s3d sign --keys twice --id id --moment 0 --method GET --target / --host h",
-    ),
-    (
-        "bad setting",
-        "s3d sign --keys keys --id secret --moment 0 --method GET --target / --host h",
-    ),
-    (
-        "bad setting",
-        "s3d sign --keys keys --id id --moment 0 --method G/T --target / --host h",
-    ),
-    (
-        "bad setting",
-        "s3d sign --keys keys --id id --moment 0 --method GET --target k --host h",
-    ),
-    (
-        "bad setting",
-        "s3d sign --keys keys --id id --moment 0 --method GET --target /%4 --host h",
-    ),
-    (
-        "bad setting",
-        "s3d sign --keys keys --id id --moment 0 --method GET --target / --host a\nb",
-    ),
-    (
-        "bad setting",
-        "s3d sign --keys keys --id id --moment 0 --method GET --target / --host h range",
-    ),
-    (
-        "bad setting",
-        "s3d sign --keys keys --id id --moment 0 --method GET --target / --host h a/b:c",
-    ),
-    (
-        "bad setting",
-        "s3d sign --keys keys --id id --moment 0 --method GET --target / --host h Host:other",
-    ),
-    (
-        "bad setting",
-        "s3d sign --keys keys --id id --moment 0 --method GET --target / --host h X-Amz-Date:now",
-    ),
-    (
-        "cannot read body",
-        "s3d sign --keys keys --id id --moment 0 --method GET --target / --host h --body body",
-    ),
-    (
-        "cannot read body",
-        "s3d sign --keys keys --id id --moment 0 --method G/T --target / --host h --body body",
-    ),
-    (
-        "cannot read shelf",
-        "s3d sign --keys shelf --id id --moment 0 --method GET --target / --host h --region US",
-    ),
-    (
-        "cannot read shelf",
-        "s3d sign --keys shelf --id id --moment 0 --method GET --target / --host h --body-limit 67108865",
-    ),
-    (
-        "bad setting",
-        "s3d sign --keys shelf --id id --moment 0 --method GET --target / --host h range",
-    ),
-    (
-        "cannot read shelf",
-        "s3d sign --keys shelf --id secret --moment 0 --method GET --target / --host h",
-    ),
-    (
-        "bad setting",
-        "s3d sign --keys keys --id secret --moment 0 --method GET --target / --host h --body body",
-    ),
-    (
-        "bad setting",
-        "s3d sign --keys shelf --id id --moment 0 --method GET --target / --host h --chunk 0",
-    ),
-    (
-        "bad setting",
-        "s3d sign --keys shelf --id id --moment 0 --method GET --target / --host h --chunk 67108865",
-    ),
-    (
-        "bad setting",
-        "s3d sign --keys shelf --id id --moment 0 --method GET --target / --host h --chunk 0x10",
-    ),
-    (
-        "bad setting",
-        "s3d sign --keys shelf --id id --moment 0 --method GET --target / --host h --chunk 0000000000003",
-    ),
-    (
-        "cannot read shelf",
-        "s3d sign --keys shelf --id id --moment 0 --method GET --target / --host h --chunk 67108864",
-    ),
-    (
-        "bad setting",
-        "s3d sign --keys keys --id id --moment 0 --method GET --target / --host h --chunk 3 content-encoding:gzip",
-    ),
-    (
-        "cannot read body",
-        "s3d sign --keys keys --id id --moment 0 --method GET --target / --host h --chunk 3 --body body content-encoding:gzip",
-    ),
-];
+const FAULTS: &str = "\
+    s3d replay --keys keys|bad setting;\
+    s3d replay --keys shelf --moment 0 --region US|cannot read shelf;\
+    s3d replay --keys keys --moment 12x|bad setting;\
+    s3d replay --keys keys --moment |bad setting;\
+    s3d replay --keys keys --moment +12|bad setting;\
+    s3d replay --keys keys --moment 0000000000000|bad setting;\
+    s3d replay --keys keys --moment 253402300800|bad setting;\
+    s3d replay --keys keys --moment 0 --bucket Pail|bad setting;\
+    s3d replay --keys keys --moment 0 --region US|bad setting;\
+    s3d replay --keys keys --moment 0 --min-part 1e3|bad setting;\
+    s3d replay --keys keys --moment 0 --body-limit 67108865|bad setting;\
+    s3d replay --keys none --moment 0|bad setting;\
+    s3d replay --keys shelf --moment 0|cannot read shelf;\
+    s3d replay --keys no-space --moment 0|bad keys line 2;\
+    s3d replay --keys no-id --moment 0|bad keys line 2;\
+    s3d replay --keys no-secret --moment 0|bad keys line 2;\
+    s3d replay --keys long-secret --moment 0|bad keys line 2;\
+    s3d replay --keys two-spaces --moment 0|bad keys line 3;\
+    s3d replay --keys twice --moment 0|bad keys line 2;\
+    s3d replay --keys empty-line --moment 0|bad keys line 2;\
+    s3d replay --keys comma --moment 0|bad keys line 3;\
+    s3d sign --keys keys --id id --moment 12x --method GET --target / --host h|bad setting;\
+    s3d sign --keys keys --id id --moment 253402300800 --method GET --target / --host h|bad setting;\
+    s3d sign --keys none --id id --moment 0 --method GET --target / --host h|bad setting;\
+    s3d sign --keys shelf --id id --moment 0 --method GET --target / --host h|cannot read shelf;\
+    s3d sign --keys twice --id id --moment 0 --method GET --target / --host h|bad keys line 2;\
+    s3d sign --keys keys --id secret --moment 0 --method GET --target / --host h|bad setting;\
+    s3d sign --keys keys --id id --moment 0 --method G/T --target / --host h|bad setting;\
+    s3d sign --keys keys --id id --moment 0 --method GET --target k --host h|bad setting;\
+    s3d sign --keys keys --id id --moment 0 --method GET --target /%4 --host h|bad setting;\
+    s3d sign --keys keys --id id --moment 0 --method GET --target / --host a\nb|bad setting;\
+    s3d sign --keys keys --id id --moment 0 --method GET --target / --host h range|bad setting;\
+    s3d sign --keys keys --id id --moment 0 --method GET --target / --host h a/b:c|bad setting;\
+    s3d sign --keys keys --id id --moment 0 --method GET --target / --host h Host:other|bad setting;\
+    s3d sign --keys keys --id id --moment 0 --method GET --target / --host h X-Amz-Date:now|bad setting;\
+    s3d sign --keys keys --id id --moment 0 --method GET --target / --host h --body body|cannot read body;\
+    s3d sign --keys keys --id id --moment 0 --method G/T --target / --host h --body body|cannot read body;\
+    s3d sign --keys shelf --id id --moment 0 --method GET --target / --host h --region US|cannot read shelf;\
+    s3d sign --keys shelf --id id --moment 0 --method GET --target / --host h --body-limit 67108865|cannot read shelf;\
+    s3d sign --keys shelf --id id --moment 0 --method GET --target / --host h range|bad setting;\
+    s3d sign --keys shelf --id secret --moment 0 --method GET --target / --host h|cannot read shelf;\
+    s3d sign --keys keys --id secret --moment 0 --method GET --target / --host h --body body|bad setting;\
+    s3d sign --keys shelf --id id --moment 0 --method GET --target / --host h --chunk 0|bad setting;\
+    s3d sign --keys shelf --id id --moment 0 --method GET --target / --host h --chunk 67108865|bad setting;\
+    s3d sign --keys shelf --id id --moment 0 --method GET --target / --host h --chunk 0x10|bad setting;\
+    s3d sign --keys shelf --id id --moment 0 --method GET --target / --host h --chunk 0000000000003|bad setting;\
+    s3d sign --keys shelf --id id --moment 0 --method GET --target / --host h --chunk 67108864|cannot read shelf;\
+    s3d sign --keys keys --id id --moment 0 --method GET --target / --host h --chunk 3 content-encoding:gzip|bad setting;\
+    s3d sign --keys keys --id id --moment 0 --method GET --target / --host h --chunk 3 --body body content-encoding:gzip|cannot read body";
 
 #[test]
 fn one_line_faults(rt: HostRuntime) {
-    for (fault, words) in &FAULTS {
-        assert!(rt; tells(rt.alloc(), words, fault), "at {words}");
+    for row in FAULTS.split(';') {
+        assert!(rt; is_row(rt.alloc(), row, 1), "at {row}");
     }
 }
 
@@ -400,8 +285,9 @@ fn comes_to_that(alloc: Global, run: &Run) -> bool {
         &mut output,
         &mut errors,
     );
-    let is_written = output.taken.as_slice() == run.written;
-    status == run.status && is_written && errors.taken.as_slice() == run.said
+    status == run.status
+        && is_same(output.taken.as_slice(), run.written)
+        && is_same(errors.taken.as_slice(), run.said)
 }
 
 #[test]

@@ -1,5 +1,5 @@
 //! Signed requests: the published example, and what a replay answers to them.
-use crate::devices::{Device, Manner, run};
+use crate::devices::{Device, Manner, is_same, run};
 use std::alloc::{AllocError, Global};
 use std::str;
 
@@ -14,7 +14,7 @@ fn sign(alloc: Global, words: &[&str], output: &mut Device) -> u8 {
 fn is_signed(alloc: Global, words: &[&str], request: &[u8]) -> bool {
     let mut output = Device::new(alloc, Manner::Able, b"");
     let status = sign(alloc, words, &mut output);
-    status == 0 && output.taken.as_slice() == request
+    status == 0 && is_same(output.taken.as_slice(), request)
 }
 
 // The example of AWS's documentation.
@@ -174,7 +174,7 @@ fn is_replayed(alloc: Global, bytes: &[u8], wanted: &[u8]) -> bool {
 // A replay of these bytes over devices of this manner has status 0 and writes that.
 fn is_written(alloc: Global, manner: Manner, bytes: &[u8], wanted: &[u8]) -> bool {
     match answers(alloc, manner, bytes) {
-        Some(out) => out.as_slice() == wanted,
+        Some(out) => is_same(&out, wanted),
         None => false,
     }
 }
@@ -216,10 +216,13 @@ fn are_signed_and_answered(alloc: Global) -> bool {
     are_signed && is_replayed(alloc, bytes, PUT_AND_GOT)
 }
 
+fn is_put_signed_and_answered(alloc: Global) -> bool {
+    is_signed(alloc, &PUT, PUT_TEXT) && are_signed_and_answered(alloc)
+}
+
 #[test]
 fn signed_requests_are_answered(rt: HostRuntime) {
-    assert!(rt; is_signed(rt.alloc(), &PUT, PUT_TEXT));
-    assert!(rt; are_signed_and_answered(rt.alloc()));
+    assert!(rt; is_put_signed_and_answered(rt.alloc()));
 }
 
 #[test]

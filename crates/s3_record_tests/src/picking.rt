@@ -1,6 +1,6 @@
 //! Which version a request reads.
 
-use crate::steps::{Act, take};
+use crate::steps::{Act, takes};
 use s3_names::VersionId;
 use s3_terms::Code;
 use s3_versions::Versioning::{Enabled, Suspended};
@@ -44,9 +44,9 @@ fn reads(versions: &[Version], wanted: &[(Option<VersionId>, Outcome)]) -> bool 
 
 // A put, a put while versioning is suspended, and a delete.
 fn suspended_delete(alloc: Global, versions: &mut Versions) -> bool {
-    take(alloc, versions, (1, Enabled, Act::Put)).is_ok()
-        && take(alloc, versions, (3, Suspended, Act::Put)).is_ok()
-        && take(alloc, versions, (4, Suspended, Act::Delete)).is_ok()
+    takes(alloc, versions, &(1, Enabled, Act::Put), None)
+        && takes(alloc, versions, &(3, Suspended, Act::Put), None)
+        && takes(alloc, versions, &(4, Suspended, Act::Delete), Some(3))
 }
 
 fn is_read_after_suspended_delete(alloc: Global) -> bool {

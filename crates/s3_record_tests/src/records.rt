@@ -1,13 +1,13 @@
 //! What a keeper of records answers, step by step.
-ghost use Rattle.std.specs.Prelude.{◌≡◌, IsTrue};
+ghost use Rattle.std.specs.Prelude.{◌≡◌, IsTrue, false};
 ghost use Rattle.s3_versions.specs.Rules.{is_new_number};
 ghost use Rattle.s3_records.specs.Catalogue.{has_bucket, is_empty_bucket, versions_of};
 
 use crate::steps::{Known, are, is_new, moment, stored_by};
-use s3_config::{Config, Credential};
 use s3_names::{BucketName, Key, VersionId};
 use s3_records::{ListedBucket, MapRecords, Records};
 use s3_terms::Code;
+use s3_test_servers::config;
 use s3_versions::VersioningStatus::{self, Enabled, Suspended};
 use std::alloc::Global;
 
@@ -92,36 +92,11 @@ fn one_place(alloc: Global) -> Result<Place, Code> {
     Ok(Place { bucket, key })
 }
 
-/// Settings with these two buckets.
-fn settings(alloc: Global) -> Result<Option<Config>, Code> {
-    let region = Vec::from_slice(alloc, b"us-east-1")?;
-    let keys = keys(alloc)?;
-    let buckets = buckets(alloc)?;
-    Ok(Config::new(region, keys, 5, 1_000, buckets))
-}
-
-fn buckets(alloc: Global) -> Result<Vec<BucketName>, Code> {
-    let mut buckets = Vec::new(alloc);
-    buckets.push(BucketName::read(alloc, b"pail")?)?;
-    buckets.push(BucketName::read(alloc, b"crate")?)?;
-    Ok(buckets)
-}
-
-fn keys(alloc: Global) -> Result<Vec<Credential>, Code> {
-    let id = Vec::from_slice(alloc, b"id")?;
-    let secret = Vec::from_slice(alloc, b"secret")?;
-    let mut keys = Vec::new(alloc);
-    if let Some(key) = Credential::new(id, secret) {
-        keys.push(key)?;
-    }
-    Ok(keys)
-}
-
-/// Records of these settings, with nothing in them.
+/// Records of settings with these two buckets, with nothing else in them.
 fn opened(alloc: Global) -> Option<MapRecords> {
-    match settings(alloc) {
-        Ok(Some(config)) => MapRecords::open(alloc, &config).ok(),
-        _ => None,
+    match config(alloc, b"us-east-1", 5, 1_000, &[b"pail", b"crate"]) {
+        Some(config) => MapRecords::open(alloc, &config).ok(),
+        None => None,
     }
 }
 
@@ -254,30 +229,38 @@ fn is_empty<R: Records>(alloc: Global, records: &mut R, bucket: &BucketName) -> 
     }
 }
 
-/// The bucket is made, which was not there.
-fn make<R: Records>(alloc: Global, records: &mut R, name: BucketName) -> bool {
-    match records.bucket(alloc, &name) {
-        Ok(None) => records.add_bucket(alloc, name, moment()).is_ok(),
-        _ => false,
+/// Whether the bucket is not there.
+fn is_absent<R: Records>(alloc: Global, records: &mut R, name: &BucketName) -> bool
+    ensures same { R.catalogue records.new ≡ R.catalogue records.old }
+    ensures absent { IsTrue result → has_bucket (R.catalogue records.old) name.now ≡ false }
+{
+    match records.bucket(alloc, name) {
+        Ok(facts) => facts.is_none(),
+        Err(_) => false,
+    }
+}
+
+/// The bucket `vat` is made, which was not there.
+fn make<R: Records>(alloc: Global, records: &mut R) -> bool {
+    match BucketName::read(alloc, b"vat") {
+        Ok(name) => {
+            is_absent(alloc, records, &name) && records.add_bucket(alloc, name, moment()).is_ok()
+        }
+        Err(_) => false,
     }
 }
 
 /// The empty bucket is dropped, and is not there after.
 fn drop_empty<R: Records>(alloc: Global, records: &mut R, name: &BucketName) -> bool {
-    if !is_there(alloc, records, name) || !is_empty(alloc, records, name) {
-        return false;
-    }
-    let is_dropped = records.drop_bucket(alloc, name).is_ok();
-    match records.bucket(alloc, name) {
-        Ok(None) => is_dropped,
-        _ => false,
-    }
+    is_there(alloc, records, name)
+        && is_empty(alloc, records, name)
+        && records.drop_bucket(alloc, name).is_ok()
+        && is_absent(alloc, records, name)
 }
 
-/// The bucket `vat` is made, or else it is dropped.
-fn change_vat<R: Records>(alloc: Global, records: &mut R, makes: bool) -> bool {
+/// The bucket `vat` is dropped.
+fn drop_vat<R: Records>(alloc: Global, records: &mut R) -> bool {
     match BucketName::read(alloc, b"vat") {
-        Ok(name) if makes => make(alloc, records, name),
         Ok(name) => drop_empty(alloc, records, &name),
         Err(_) => false,
     }
@@ -304,24 +287,32 @@ fn are_listed<R: Records>(alloc: Global, records: &mut R, names: &[&[u8]]) -> bo
     }
 }
 
+/// Whether this is the answer where it is asked whether the bucket is empty.
+fn answers<R: Records>(alloc: Global, records: &mut R, bucket: &BucketName, answer: bool) -> bool {
+    match records.is_empty(alloc, bucket) {
+        Ok(is_empty) => is_empty == answer,
+        Err(_) => false,
+    }
+}
+
 /// Whether the change is made, and answered as it has to be.
 fn apply<R: Records>(
     alloc: Global,
     records: &mut R,
     place: &Place,
     number: u64,
-    change: Change,
+    change: &Change,
 ) -> bool {
     let bucket = &place.bucket;
     match change {
-        Change::Switch(status) => switch(alloc, records, bucket, status),
+        Change::Switch(status) => switch(alloc, records, bucket, *status),
         Change::Put(text) => put(alloc, records, bucket, text, number),
         Change::Delete => delete(alloc, records, place, number),
-        Change::DropVersion(id) => drop_version(alloc, records, bucket, &place.key, id),
-        Change::AskEmpty(answer) => records.is_empty(alloc, bucket) == Ok(answer),
-        Change::Make => change_vat(alloc, records, true),
+        Change::DropVersion(id) => drop_version(alloc, records, bucket, &place.key, *id),
+        Change::AskEmpty(answer) => answers(alloc, records, bucket, *answer),
+        Change::Make => make(alloc, records),
         Change::List(names) => are_listed(alloc, records, names),
-        Change::Drop => change_vat(alloc, records, false),
+        Change::Drop => drop_vat(alloc, records),
     }
 }
 
@@ -354,10 +345,9 @@ fn leaves<R: Records>(
     number: u64,
     row: &Row,
 ) -> bool {
-    let (change, left) = row;
-    apply(alloc, records, place, number, *change)
-        && has_current(alloc, records, place, !left.is_empty())
-        && has_versions(alloc, records, place, left)
+    apply(alloc, records, place, number, &row.0)
+        && has_current(alloc, records, place, !row.1.is_empty())
+        && has_versions(alloc, records, place, row.1)
 }
 
 fn all_leave<R: Records>(alloc: Global, records: &mut R, place: &Place, rows: &[Row]) -> bool {
@@ -386,12 +376,14 @@ fn is_so(alloc: Global, rows: &[Row]) -> bool {
     }
 }
 
+fn are_all_so(alloc: Global) -> bool {
+    is_so(alloc, &SUSPENDED_DELETE)
+        && is_so(alloc, &UNVERSIONED)
+        && is_so(alloc, &MADE_AND_DROPPED)
+        && is_so(alloc, &FILLED_BY_A_MARKER)
+}
+
 #[test]
 fn scenarios(rt: HostRuntime) {
-    assert!(rt;
-        is_so(rt.alloc(), &SUSPENDED_DELETE)
-            && is_so(rt.alloc(), &UNVERSIONED)
-            && is_so(rt.alloc(), &MADE_AND_DROPPED)
-            && is_so(rt.alloc(), &FILLED_BY_A_MARKER)
-    );
+    assert!(rt; are_all_so(rt.alloc()));
 }

@@ -1,5 +1,5 @@
 //! Steps that puts and deletes of one key take, for tests.
-ghost use Rattle.std.specs.Prelude.{◌≡◌};
+ghost use Rattle.std.specs.Prelude.{◌≡◌, IsTrue};
 ghost use Rattle.s3_versions.specs.Rules.{is_new_number};
 
 use s3_calendar::Moment;
@@ -55,28 +55,63 @@ pub(crate) fn is_new(number: u64, versions: &[Version]) -> bool
     versions.iter().all(|version| version.number < number)
 }
 
-/// Takes a step, and answers the number of the entry that made the version that goes.
-pub(crate) fn take(
-    alloc: Global,
-    versions: &mut Versions,
-    entry: Entry,
-) -> Result<Option<u64>, NoMemory> {
-    let (number, versioning, act) = entry;
-    if !is_new(number, versions.as_slice()) {
-        return Ok(None);
+// Whether the version that goes is the one that this entry made, or none goes.
+fn is_gone(version: &Option<Version>, number: Option<u64>) -> bool {
+    match (version, number) {
+        (Some(version), Some(number)) => version.number == number,
+        (None, None) => true,
+        _ => false,
     }
-    let gone = match act {
-        Act::Put => versions.put(versioning, number, moment(), stored_by(alloc, number)?)?,
-        Act::Delete => versions.delete(versioning, number, moment())?,
-        Act::DropVersion(id) => versions.delete_version(id),
-    };
-    Ok(number_of(&gone))
 }
 
-fn number_of(version: &Option<Version>) -> Option<u64> {
-    match version {
-        Some(version) => Some(version.number),
-        None => None,
+// Whether the step is taken, and that version goes.
+fn is_taken(taken: &Result<Option<Version>, NoMemory>, number: Option<u64>) -> bool {
+    match taken {
+        Ok(version) => is_gone(version, number),
+        Err(_) => false,
+    }
+}
+
+fn puts(
+    alloc: Global,
+    versions: &mut Versions,
+    versioning: Versioning,
+    number: u64,
+    gone: Option<u64>,
+) -> bool
+    requires { IsTrue (is_new_number number versions.old) }
+{
+    match stored_by(alloc, number) {
+        Ok(stored) => is_taken(&versions.put(versioning, number, moment(), stored), gone),
+        Err(_) => false,
+    }
+}
+
+fn deletes(versions: &mut Versions, versioning: Versioning, number: u64, gone: Option<u64>) -> bool
+    requires { IsTrue (is_new_number number versions.old) }
+{
+    is_taken(&versions.delete(versioning, number, moment()), gone)
+}
+
+fn drops(versions: &mut Versions, id: VersionId, gone: Option<u64>) -> bool {
+    is_gone(&versions.delete_version(id), gone)
+}
+
+/// Takes a step with a new number, and answers whether the version goes that this entry made, or none.
+pub(crate) fn takes(
+    alloc: Global,
+    versions: &mut Versions,
+    entry: &Entry,
+    gone: Option<u64>,
+) -> bool {
+    let (number, versioning, act) = *entry;
+    if !is_new(number, versions.as_slice()) {
+        return false;
+    }
+    match act {
+        Act::Put => puts(alloc, versions, versioning, number, gone),
+        Act::Delete => deletes(versions, versioning, number, gone),
+        Act::DropVersion(id) => drops(versions, id, gone),
     }
 }
 

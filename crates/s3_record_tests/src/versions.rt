@@ -1,6 +1,6 @@
 //! The lists of versions that puts and deletes leave.
 
-use crate::steps::{Act, Entry, Known, are, take};
+use crate::steps::{Act, Entry, Known, are, takes};
 use s3_names::VersionId;
 use s3_versions::Versioning::{Enabled, Suspended, Unversioned};
 use s3_versions::Versions;
@@ -69,8 +69,7 @@ static ONE_VERSION_DROPPED: [Row; 5] = [
 ];
 
 fn leaves(alloc: Global, versions: &mut Versions, row: &Row) -> bool {
-    let (entry, gone, left) = row;
-    take(alloc, versions, *entry) == Ok(*gone) && are(versions.as_slice(), left)
+    takes(alloc, versions, &row.0, row.1) && are(versions.as_slice(), row.2)
 }
 
 fn all_leave(alloc: Global, rows: &[Row]) -> bool {
@@ -83,16 +82,16 @@ fn all_leave(alloc: Global, rows: &[Row]) -> bool {
     true
 }
 
+fn all_tables_leave(alloc: Global) -> bool {
+    all_leave(alloc, &SUSPENDED_DELETE)
+        && all_leave(alloc, &MARKER_REMOVED)
+        && all_leave(alloc, &MARKER_OF_NO_KEY)
+        && all_leave(alloc, &MARKERS_AND_NULL)
+        && all_leave(alloc, &UNVERSIONED)
+        && all_leave(alloc, &ONE_VERSION_DROPPED)
+}
+
 #[test]
 fn scenarios(rt: HostRuntime) {
-    assert!(rt;
-        all_leave(rt.alloc(), &SUSPENDED_DELETE)
-            && all_leave(rt.alloc(), &MARKER_REMOVED)
-            && all_leave(rt.alloc(), &MARKER_OF_NO_KEY)
-    );
-    assert!(rt;
-        all_leave(rt.alloc(), &MARKERS_AND_NULL)
-            && all_leave(rt.alloc(), &UNVERSIONED)
-            && all_leave(rt.alloc(), &ONE_VERSION_DROPPED)
-    );
+    assert!(rt; all_tables_leave(rt.alloc()));
 }

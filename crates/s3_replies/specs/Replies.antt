@@ -3,6 +3,7 @@
 use Rattle.std.specs.Prelude.{◌≡◌, ℕ, Bool, true, false, if◌then◌else◌, List, [], ◌∷◌, ◌++◌, length, codes, Some}
 use Rattle.s3_terms.specs.Code.{status_of}
 use Rattle.s3_terms.specs.declared.code.Code.{Code}
+use Rattle.s3_text.specs.Characters.{crlf}
 use Rattle.s3_text.specs.Digits.{number_digits}
 use Rattle.s3_store.specs.declared.object.Object.{Object}
 use Rattle.s3_store.specs.declared.answer.Answer.{Answer}
@@ -100,3 +101,8 @@ internal_error =
     ∷ (codes "Content-Length", codes "0")
     ∷ (codes "x-amz-request-id", number_digits 0)
     ∷ [])
+
+-- what is written before the body of a message is read, where the client waits for it (RFC 9110, sections
+-- 10.1.1 and 15.2.1)
+abbrev pub continue_line : List ℕ
+continue_line = codes "HTTP/1.1 100 Continue" ++ crlf ++ crlf

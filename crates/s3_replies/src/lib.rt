@@ -12,4 +12,6 @@ mod replies;
 
 pub use context::Context;
 pub use laws::{refusals_are_unique, replies_are_unique, replies_show_what_came};
-pub use replies::{INTERNAL_ERROR, head_of, internal_error_reply, refusal};
+pub use replies::{
+    CONTINUE, INTERNAL_ERROR, continue_reply, head_of, internal_error_reply, refusal,
+};

@@ -2,7 +2,7 @@
 
 ghost use Rattle.std.specs.Prelude.{◌≡◌, ◌+◌, ◌≤◌, ◌++◌, length};
 ghost use Rattle.arrayvec.specs.ArrayVec.{array_vec_len};
-ghost use Rattle.s3_replies.specs.Replies.{Prints, PrintsRefusal, put_fields, got_fields, error_fields, sized, print_reply, internal_error, body_of, sent_body};
+ghost use Rattle.s3_replies.specs.Replies.{Prints, PrintsRefusal, put_fields, got_fields, error_fields, sized, print_reply, internal_error, continue_line, body_of, sent_body};
 ghost use Rattle.s3_replies.specs.Document.{error_document};
 ghost use Rattle.s3_replies.specs.Head.{print_head};
 
@@ -120,7 +120,19 @@ pub const INTERNAL_ERROR: &[u8] = b"HTTP/1.1 500 Internal Server Error\r\n\
 
 /// `INTERNAL_ERROR`, with a clause that says what it is.
 pub fn internal_error_reply() -> &'static [u8]
-    ensures { result.now ≡ internal_error }
+    ensures value { result.now ≡ internal_error }
+    ensures fits { length result.now ≤ 4096 }
 {
     INTERNAL_ERROR
+}
+
+/// What tells a client that waits for it to send the body.
+pub const CONTINUE: &[u8] = b"HTTP/1.1 100 Continue\r\n\r\n";
+
+/// `CONTINUE`, with a clause that says what it is.
+pub fn continue_reply() -> &'static [u8]
+    ensures value { result.now ≡ continue_line }
+    ensures fits { length result.now ≤ 4096 }
+{
+    CONTINUE
 }

@@ -1,7 +1,4 @@
 //! Heads that arrive in pieces, cut everywhere.
-ghost use Rattle.std.specs.Prelude.{◌≡◌};
-ghost use Rattle.s3_http_heads.specs.Find.{found_in};
-
 use crate::texts::repeated;
 use s3_http_heads::{Found, HeadSearch};
 use s3_terms::Code;
@@ -12,44 +9,31 @@ type Taken<'a> = (usize, Found, &'a [u8]);
 
 // Feeds a first piece of `at` bytes and then pieces of that size, while nothing is found: how many bytes are
 // taken, and what is found with them.
-fn feed_pieces(
-    search: &mut HeadSearch,
-    bytes: &[u8],
-    at: usize,
-    size: usize,
-) -> Result<(usize, Found), Code>
-    requires { found_in search.old ≡ Found.NeedMore }
-{
+fn feed_pieces(search: &mut HeadSearch, bytes: &[u8], at: usize, size: usize) -> (usize, Found) {
     let (front, rest) = bytes.split_at(at.min(bytes.len()));
-    let (mut count, mut found) = search.feed(front)?;
+    let (mut count, mut found) = search.feed(front);
     for piece in rest.chunks(size.max(1)) {
         if let Found::NeedMore = found {
-            let (len, now) = search.feed(piece)?;
+            let (len, now) = search.feed(piece);
             count = count.saturating_add(len);
             found = now;
         }
     }
-    Ok((count, found))
+    (count, found)
 }
 
 // Whether this is taken of bytes that come so.
-fn is_taken(
-    alloc: Global,
-    bytes: &[u8],
-    taken: &Taken,
-    at: usize,
-    size: usize,
-) -> Result<bool, Code> {
+fn is_taken(alloc: Global, bytes: &[u8], taken: &Taken, at: usize, size: usize) -> bool {
     let mut search = HeadSearch::new(alloc);
-    let (count, found) = feed_pieces(&mut search, bytes, at, size)?;
-    Ok(count == taken.0 && found == taken.1 && search.text() == taken.2)
+    let (count, found) = feed_pieces(&mut search, bytes, at, size);
+    count == taken.0 && found == taken.1 && search.text() == Some(taken.2)
 }
 
 // Whether it is taken of them wherever they are cut in two, and byte by byte.
-fn is_taken_in_pieces(alloc: Global, bytes: &[u8], taken: &Taken) -> Result<bool, Code> {
+fn is_taken_in_pieces(alloc: Global, bytes: &[u8], taken: &Taken) -> bool {
     for at in 0..bytes.len() {
-        if !is_taken(alloc, bytes, taken, at, bytes.len())? {
-            return Ok(false);
+        if !is_taken(alloc, bytes, taken, at, bytes.len()) {
+            return false;
         }
     }
     is_taken(alloc, bytes, taken, 0, 1)
@@ -94,7 +78,7 @@ static ARRIVALS: [(&[u8], Taken); 12] = [
 #[test]
 fn heads_cut_everywhere(rt: HostRuntime) {
     for (bytes, taken) in &ARRIVALS {
-        assert!(rt; is_taken_in_pieces(rt.alloc(), bytes, taken) == Ok(true));
+        assert!(rt; is_taken_in_pieces(rt.alloc(), bytes, taken));
     }
 }
 
@@ -106,7 +90,7 @@ fn is_large(alloc: Global, case: &Large, size: usize) -> Result<bool, Code> {
     let (count, end, taken, found) = *case;
     let bytes = repeated(alloc, b"\r\n", b"A", count, end)?;
     match bytes.get(2..taken) {
-        Some(held) => is_taken(alloc, &bytes, &(taken, found, held), 1, size),
+        Some(held) => Ok(is_taken(alloc, &bytes, &(taken, found, held), 1, size)),
         None => Ok(false),
     }
 }
@@ -125,4 +109,44 @@ fn large_heads_in_pieces(rt: HostRuntime) {
         assert!(rt; is_large(rt.alloc(), case, 1) == Ok(true));
         assert!(rt; is_large(rt.alloc(), case, 30_000) == Ok(true));
     }
+}
+
+// Bytes with a head text of several lines, and with none that is whole.
+static ARRIVING: [&[u8]; 3] = [
+    b"PUT /bucket/key HTTP/1.1\r\nHost: example.com\r\nContent-Length: 4\r\n\r\nbody",
+    b"\r\n\r\nGET / HTTP/1.1\r\nHost: example.com\r\n\r\nGET / HTTP/1.1\r\n\r\n",
+    b"\r\nGET / HTTP/1.1\r\nHost: example.com\r\n",
+];
+
+// Whether what is taken of these bytes is what is taken of them in pieces.
+fn is_taken_alike(alloc: Global, bytes: &[u8]) -> bool {
+    let mut search = HeadSearch::new(alloc);
+    let (count, found) = search.feed(bytes);
+    match search.text() {
+        Some(text) => is_taken_in_pieces(alloc, bytes, &(count, found, text)),
+        None => false,
+    }
+}
+
+#[test]
+fn cuts_change_nothing(rt: HostRuntime) {
+    for bytes in &ARRIVING {
+        assert!(rt; is_taken_alike(rt.alloc(), bytes));
+    }
+}
+
+#[test]
+fn next_head_after_clear(rt: HostRuntime) {
+    let mut search = HeadSearch::new(rt.alloc());
+    assert_eq!(rt;
+        search.feed(b"GET /a HTTP/1.1\r\n\r\n\r\nGET"),
+        (19, Found::Head { len: 19 })
+    );
+    search.clear();
+    assert!(rt; search.text() == Some(b"".as_slice()));
+    assert_eq!(rt;
+        search.feed(b"\r\nGET /bc HTTP/1.1\r\n\r\n"),
+        (22, Found::Head { len: 20 })
+    );
+    assert!(rt; search.text() == Some(b"GET /bc HTTP/1.1\r\n\r\n".as_slice()));
 }

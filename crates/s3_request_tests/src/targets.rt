@@ -1,14 +1,13 @@
 //! What targets say, with their escapes read once.
-use crate::texts::{head_of, repeated};
+use crate::asked::{Asked, Long, is_long_so, is_same, is_so_at};
 use s3_http_heads::{Head, Target};
-use s3_terms::Code;
 use std::alloc::Global;
 
-// A name and a value of a query.
-type Pair = (&'static [u8], &'static [u8]);
+/// A name and a value of a query.
+pub(crate) type Pair = (&'static [u8], &'static [u8]);
 
-// A target, its path, its bucket, its key, whether it has a query, and its parameters.
-type Case = (
+/// A target, its path, its bucket, its key, whether it has a query, and its parameters.
+pub(crate) type Case = (
     &'static [u8],
     &'static [u8],
     &'static [u8],
@@ -59,13 +58,18 @@ static TARGETS: [Case; 11] = [
     ),
 ];
 
+// Whether this is a parameter.
+fn is_pair(parameter: (&[u8], &[u8]), pair: &Pair) -> bool {
+    is_same(parameter.0, pair.0) && is_same(parameter.1, pair.1)
+}
+
 // Whether these are the parameters of a target.
 fn has_parameters(target: &Target, pairs: &[Pair]) -> bool {
     if target.parameter_count() != pairs.len() {
         return false;
     }
     for index in 0..pairs.len() {
-        if target.parameter(index) != pairs[index] {
+        if !is_pair(target.parameter(index), &pairs[index]) {
             return false;
         }
     }
@@ -74,55 +78,37 @@ fn has_parameters(target: &Target, pairs: &[Pair]) -> bool {
 
 // Whether a target says what is expected.
 fn says(target: &Target, case: &Case) -> bool {
-    let (_, path, bucket, key, has_query, pairs) = case;
-    target.path() == *path
-        && target.bucket() == *bucket
-        && target.key() == *key
-        && target.has_query() == *has_query
-        && has_parameters(target, pairs)
+    is_same(target.path(), case.1)
+        && is_same(target.bucket(), case.2)
+        && is_same(target.key(), case.3)
+        && target.has_query() == case.4
+        && has_parameters(target, case.5)
 }
 
-// Whether the target of a head says what is expected.
-fn is_read_of(head: &Head, case: &Case) -> bool {
+/// Whether the target of a head says what is expected.
+pub(crate) fn is_read_of(head: &Head, case: &Case) -> bool {
     match head.decoded_target() {
         Ok(target) => says(target, case),
         Err(_) => false,
     }
 }
 
-// Whether the target of a request says what is expected.
-fn is_read(alloc: Global, case: &Case) -> bool {
-    match head_of(alloc, case.0) {
-        Ok(head) => is_read_of(&head, case),
-        Err(_) => false,
-    }
-}
-
-// Whether so many parameters are read of a target with that many, and none is called `b`.
-fn has_as_many(alloc: Global, count: usize) -> bool {
-    match repeated(alloc, b"/?", b"a&", count, b"") {
-        Ok(target) => are_read(head_of(alloc, &target), count),
-        Err(_) => false,
-    }
-}
-
-fn are_read(head: Result<Head, Code>, count: usize) -> bool {
-    match head {
-        Ok(head) => has_count(&head, count),
-        Err(_) => false,
-    }
-}
-
-fn has_count(head: &Head, count: usize) -> bool {
+/// Whether so many parameters are read of a head's target, and none is called `b`.
+pub(crate) fn has_count(head: &Head, count: usize) -> bool {
     match head.decoded_target() {
         Ok(target) => target.parameter_count() == count && !target.has_parameter(b"b"),
         Err(_) => false,
     }
 }
 
+// Whether the target of a case says what is expected.
+fn is_read(alloc: Global, case: &'static Case) -> bool {
+    is_so_at(alloc, b"GET", case.0, &Asked::Says(case))
+}
+
 // Whether the targets of all cases say what is expected.
-fn are_read_so(alloc: Global, cases: &[Case]) -> bool {
-    for case in cases {
+fn are_read(alloc: Global) -> bool {
+    for case in &TARGETS {
         if !is_read(alloc, case) {
             return false;
         }
@@ -131,7 +117,15 @@ fn are_read_so(alloc: Global, cases: &[Case]) -> bool {
 }
 
 // A head may have 8,180 parameters.
+const MOST: Long = (
+    b"GET /?",
+    b"a&",
+    8_180,
+    b" HTTP/1.1\r\n\r\n",
+    Asked::Parameters(8_180),
+);
+
 #[test]
 fn targets(rt: HostRuntime) {
-    assert!(rt; are_read_so(rt.alloc(), &TARGETS) && has_as_many(rt.alloc(), 8_180));
+    assert!(rt; are_read(rt.alloc()) && is_long_so(rt.alloc(), &MOST));
 }

@@ -1,6 +1,4 @@
-//! Texts of a given size, and heads with a given target.
-use s3_http_heads::Head;
-use s3_terms::Code;
+//! Texts of a given size.
 use std::alloc::{AllocError, Global};
 
 /// The front, that many copies of the piece, and the end.
@@ -13,10 +11,4 @@ pub(crate) fn repeated(
 ) -> Result<Vec<u8>, AllocError> {
     let pieces = piece.repeat(alloc, count)?;
     [front, &pieces, end].concat(alloc)
-}
-
-/// The head of a GET of this target.
-pub(crate) fn head_of(alloc: Global, target: &[u8]) -> Result<Head, Code> {
-    let text = [b"GET ", target, b" HTTP/1.1\r\n\r\n"].concat(alloc)?;
-    Head::read(alloc, &text)
 }

@@ -1,5 +1,5 @@
--- Where memory may run out: at a head, where something is decided.
-use Rattle.std.proofs.Common.{ℕ, Bool, true, List, Result, Ok, Err, ap, inl, inr}
+-- Where a whole head text stands: at a sound message, and, once no more bytes come, only where something is decided.
+use Rattle.std.proofs.Common.{◌≡◌, ℕ, Bool, true, List, Result, Ok, Err, refl, ap, subst, inl, inr}
 use Rattle.s3_config.specs.Settings.{Settings}
 use Rattle.s3_terms.specs.declared.code.Code.{Code}
 use Rattle.s3_http_heads.specs.Find.{found_in}
@@ -8,13 +8,14 @@ use Rattle.s3_http_heads.specs.declared.find.Found.TheVariants as found
 use Rattle.s3_http_heads.specs.Head.{HeadParts}
 use Rattle.s3_requests.specs.declared.commands.Command.{Command}
 use Rattle.s3_replies.specs.declared.context.Context.{Context}
-use Rattle.s3_session.specs.declared.verdict.Verdict.TheVariants as verdicts
+use Rattle.s3_session.specs.Verdict as verdicts
 use Rattle.s3_aws_chunked.specs.Verdict as bodies
 use Rattle.s3_payloads.specs.Laws.{EndsDecide}
 use Rattle.s3_session.specs.Admission.{Asked, admission_of}
-use Rattle.s3_session.specs.Decision.{Decision, Judges, AskedJudged, FoundJudged, FoundHead, HoldsHead, open_yet, behind_text}
+use Rattle.s3_session.specs.Decision.{Decision, Judges, AskedJudged, TextJudged, FoundJudged, text_at, behind_text, open_yet}
+use Rattle.s3_session.specs.Output.{HasText}
 
--- where a head stands and no more bytes come, something is decided
+-- where a head text stands and no more bytes come, something is decided
 module _ (decide : EndsDecide) (settings : Settings) (moment : ℕ) (bytes : List ℕ) where
   asked_decided : (head : HeadParts) (behind : List ℕ) (rule : Result Asked Code) → ¬ (AskedJudged head moment true behind rule open_yet)
   asked_decided head behind (Err code) is = let same = ap (λ (d : Decision). d.0) is in absurd (cc)
@@ -22,24 +23,22 @@ module _ (decide : EndsDecide) (settings : Settings) (moment : ℕ) (bytes : Lis
   asked_decided head behind (Ok asked) (bodies.Accepted payload, judged, is) = let same = ap (λ (d : Decision). d.0) is in absurd (cc)
   asked_decided head behind (Ok asked) (bodies.Refused place code, judged, is) = let same = ap (λ (d : Decision). d.0) is in absurd (cc)
 
-  found_decided : (f : Found) → FoundHead bytes f → ¬ (FoundJudged settings moment true bytes f open_yet)
-  found_decided found.NeedMore holds is = holds
-  found_decided found.TooLarge holds is = holds
-  found_decided (found.Head n) holds (inl unreadable) = holds unreadable.0
-  found_decided (found.Head n) holds (inr said) = asked_decided said.0 (behind_text n bytes) (admission_of settings said.0 moment) said.2
+  text_decided : (text behind : List ℕ) → ¬ (TextJudged settings moment true text behind open_yet)
+  text_decided text behind (inl unreadable) = let same = ap (λ (d : Decision). d.0) unreadable.1 in absurd (cc)
+  text_decided text behind (inr said) = asked_decided said.0 behind (admission_of settings said.0 moment) said.2
 
-  pub head_decided : HoldsHead bytes → ¬ (Judges settings moment true bytes open_yet)
-  unfolding Judges HoldsHead
-  head_decided holds is = found_decided (found_in bytes) holds is
+  pub head_decided : (n : ℕ) → found_in bytes ≡ found.Head n → ¬ (Judges settings moment true bytes open_yet)
+  unfolding Judges
+  head_decided n at is =
+      text_decided (text_at n bytes) (behind_text n bytes) (subst (λ (f : Found). FoundJudged settings moment true bytes f open_yet) at is)
 
 module _ (settings : Settings) (moment : ℕ) (ended : Bool) (bytes : List ℕ) (context : Context) (command : Command) (rest : List ℕ) where
-  found_head : (f : Found) → FoundJudged settings moment ended bytes f (verdicts.Sound context command, rest) → FoundHead bytes f
-  found_head found.NeedMore is = let same = ap (λ (d : Decision). d.0) is in absurd (cc)
-  found_head found.TooLarge is = let same = ap (λ (d : Decision). d.0) is in absurd (cc)
-  found_head (found.Head n) (inl unreadable) = let same = ap (λ (d : Decision). d.0) unreadable.1 in absurd (cc)
-  found_head (found.Head n) (inr said) = λ none. none said.1.0 said.1.1
+  found_text : (f : Found) → found_in bytes ≡ f → FoundJudged settings moment ended bytes f (verdicts.Sound context command, rest) → HasText bytes
+  found_text found.NeedMore at is = let same = ap (λ (d : Decision). d.0) is in absurd (cc)
+  found_text found.TooLarge at is = let same = ap (λ (d : Decision). d.0) is in absurd (cc)
+  found_text (found.Head n) at is = record { size = n; found = at }
 
-  -- a sound message has a head
-  pub sound_holds : Judges settings moment ended bytes (verdicts.Sound context command, rest) → HoldsHead bytes
-  unfolding Judges HoldsHead
-  sound_holds judges = found_head (found_in bytes) judges
+  -- a sound message has a head text
+  pub sound_text : Judges settings moment ended bytes (verdicts.Sound context command, rest) → HasText bytes
+  unfolding Judges
+  sound_text judges = found_text (found_in bytes) refl judges

@@ -1,9 +1,11 @@
--- The bytes fix what a replay writes, where memory does not run out.
-use Rattle.std.proofs.Common.{◌≡◌, ℕ, suc, Bool, true, List, [], ◌∷◌, ◌++◌, map, MatchBool, Option, Some, None, refl, sym, ap, subst, ◌∙◌, append_assoc, inl, inr}
-use Rattle.std.specs.List.{AllByRecursion}
+-- What went into a connection fixes what it writes.
+use Rattle.std.proofs.Common.{◌≡◌, ℕ, suc, Bool, true, List, [], ◌∷◌, ◌++◌, map, MatchBool, Option, Some, None, refl, sym, ap, subst, ◌∙◌, append-nil, inl, inr}
+use Rattle.std.specs.List.{AllByRecursion, flat_map}
 use Rattle.std.proofs.lemmas.Bool.{cases_Bool, MatchBool-at_true, MatchBool-at_false}
 use Rattle.s3_config.specs.Settings.{Settings}
-use Rattle.s3_terms.specs.declared.code.Code.{Code}
+use Rattle.s3_http_heads.specs.Find.{found_in}
+use Rattle.s3_http_heads.specs.declared.find.Found.{Found}
+use Rattle.s3_http_heads.specs.declared.find.Found.TheVariants as found
 use Rattle.s3_store.specs.Store.{State, opening, step}
 use Rattle.s3_store.specs.History.{Entry, Legal, IsAnswer, after_entry}
 use Rattle.s3_store.specs.declared.answer.Answer.{Answer}
@@ -11,12 +13,139 @@ use Rattle.s3_replies.specs.declared.context.Context.{Context}
 use Rattle.s3_replies.specs.Replies.{Prints, PrintsRefusal}
 use Rattle.s3_replies.specs.Laws.{RepliesAreUnique, RefusalsAreUnique}
 use Rattle.s3_requests.specs.declared.commands.Command.{Command}
-use Rattle.s3_session.specs.declared.verdict.Verdict.TheVariants as verdicts
-use Rattle.s3_session.specs.Decision.{Decision, Judges}
+use Rattle.s3_session.specs.declared.turn.Turn.{Turn}
+use Rattle.s3_session.specs.Verdict.{Verdict}
+use Rattle.s3_session.specs.Verdict as verdicts
+use Rattle.s3_session.specs.Decision.{Decision, Judges, FoundJudged, open_yet}
+use Rattle.s3_session.specs.Invitation.{Invites, FoundInvites}
 use Rattle.s3_session.specs.Walk.{Walks}
-use Rattle.s3_session.specs.Output.{Exchange, message_of, IsAnswered, IsRefused, Ends}
-use Rattle.s3_session.specs.Replay.{entries_of, replies_of}
-use Rattle.s3_session.specs.Laws.{OneVerdict, OneOutput}
+use Rattle.s3_session.specs.Output.{Exchange, message_of, turn_of, written_for, IsReplied, Past, Standing, Reading, Waiting, Over, Dead, asked_of_clock, IsOpen, IsWaiting, IsRefused, Behind, Writes}
+use Rattle.s3_session.specs.Replay.{IsThrough}
+use Rattle.s3_session.specs.Laws.{OneVerdict, OneInvitation, IsLive, OneWriting, OneOutput}
+use Rattle.s3_session.proofs.ServesLemmas.{entry_of, entries_from, moments_of}
+use Rattle.s3_session.proofs.ReplayLemmas.{replayed_moments, replayed_legal, replayed_walk, replayed_behind}
+
+-- ---- what stands behind the messages that were answered, by the verdict there
+
+abbrev standing_of : Verdict → Standing
+standing_of verdicts.Open = Reading
+standing_of (verdicts.Refused code head_only) = Over
+standing_of (verdicts.Sound context command) = Waiting
+
+abbrev waiting_at : Verdict → List Turn
+waiting_at verdicts.Open = []
+waiting_at (verdicts.Refused code head_only) = []
+waiting_at (verdicts.Sound context command) = record { command = command; moment = context.moment } ∷ []
+
+-- what is written last: only a refusal has a text
+abbrev Concludes : ℕ → Verdict → List ℕ → Type 0
+Concludes moment verdicts.Open text = text ≡ []
+Concludes moment (verdicts.Refused code head_only) text = PrintsRefusal code moment head_only text
+Concludes moment (verdicts.Sound context command) text = text ≡ []
+
+-- at this moment a verdict tells how the connection stands, which turn waits, and what is written
+record Told (standing : Standing) (settings : Settings) (ended : Bool) (rest : List ℕ) (moment : ℕ) (waiting : List Turn) (last : List ℕ) : Type 0 where
+  decision : Decision
+  before : List ℕ
+  text : List ℕ
+  judged : Judges settings moment ended rest decision
+  invites : Invites settings moment rest before
+  stands : standing ≡ standing_of decision.0
+  waits : waiting ≡ waiting_at decision.0
+  concludes : Concludes moment decision.0 text
+  joined : last ≡ before ++ text
+
+-- the moment that the clock gave, if it was asked, was this one
+abbrev Agrees : ℕ → List ℕ → Type 0
+Agrees moment [] = Unit {0}
+Agrees moment (m ∷ later) = m ≡ moment
+
+-- what doesn't depend on the moment before a head has come holds at this moment
+by_clock : (P : ℕ → Type 0) (f : Found) (moment m : ℕ) (late : List ℕ) → late ≡ asked_of_clock f m → Agrees moment late
+    → (f ≡ found.NeedMore → P m → P moment) → P m → P moment
+by_clock P found.NeedMore moment m late asked agrees any p = any refl p
+by_clock P found.TooLarge moment m late asked agrees any p = subst P (subst (Agrees moment) asked agrees) p
+by_clock P (found.Head n) moment m late asked agrees any p = subst P (subst (Agrees moment) asked agrees) p
+
+judges_any : (settings : Settings) (ended : Bool) (rest : List ℕ) (moment m : ℕ) (d : Decision) → found_in rest ≡ found.NeedMore
+    → Judges settings m ended rest d → Judges settings moment ended rest d
+unfolding Judges
+judges_any settings ended rest moment m d at judged =
+    subst (λ (f : Found). FoundJudged settings moment ended rest f d) (sym at) (subst (λ (f : Found). FoundJudged settings m ended rest f d) at judged)
+
+invites_any : (settings : Settings) (rest : List ℕ) (moment m : ℕ) (text : List ℕ) → found_in rest ≡ found.NeedMore
+    → Invites settings m rest text → Invites settings moment rest text
+unfolding Invites
+invites_any settings rest moment m text at invites =
+    subst (λ (f : Found). FoundInvites settings moment rest f text) (sym at) (subst (λ (f : Found). FoundInvites settings m rest f text) at invites)
+
+module _ (settings : Settings) (ended : Bool) (rest late : List ℕ) (moment : ℕ) (waiting : List Turn) (last : List ℕ) where
+  told_open : IsOpen settings ended rest late waiting last → Agrees moment late → Told Reading settings ended rest moment waiting last
+  told_open x agrees = record {
+    decision = open_yet;
+    before = last;
+    text = [];
+    judged = by_clock (λ m. Judges settings m ended rest open_yet) (found_in rest) moment x.moment late x.asked agrees
+        (judges_any settings ended rest moment x.moment open_yet) x.judged;
+    invites = by_clock (λ m. Invites settings m rest last) (found_in rest) moment x.moment late x.asked agrees
+        (invites_any settings rest moment x.moment last) x.invites;
+    stands = refl;
+    waits = x.none;
+    concludes = refl;
+    joined = sym (append-nil last);
+  }
+
+  told_waiting : IsWaiting settings ended rest late waiting last → Agrees moment late → Told Waiting settings ended rest moment waiting last
+  told_waiting x agrees =
+      let same : x.context.moment ≡ moment = subst (Agrees moment) x.asked agrees in
+      record {
+        decision = (verdicts.Sound x.context x.command, x.after);
+        before = last;
+        text = [];
+        judged = subst (λ m. Judges settings m ended rest (verdicts.Sound x.context x.command, x.after)) same x.judged;
+        invites = subst (λ m. Invites settings m rest last) same x.invites;
+        stands = refl;
+        waits = x.one;
+        concludes = refl;
+        joined = sym (append-nil last);
+      }
+
+  told_refused : IsRefused settings ended rest late waiting last → Agrees moment late → Told Over settings ended rest moment waiting last
+  told_refused x agrees =
+      let same : x.moment ≡ moment = subst (Agrees moment) x.asked agrees in
+      record {
+        decision = (verdicts.Refused x.code x.head_only, []);
+        before = x.before;
+        text = x.text;
+        judged = subst (λ m. Judges settings m ended rest (verdicts.Refused x.code x.head_only, [])) same x.judged;
+        invites = subst (λ m. Invites settings m rest x.before) same x.invites;
+        stands = refl;
+        waits = x.none;
+        concludes = subst (λ m. PrintsRefusal x.code m x.head_only x.text) same x.printed;
+        joined = x.joined;
+      }
+
+  told : (p : Standing) → IsLive p → Behind p settings ended (Some rest) late waiting last → Agrees moment late
+      → Told p settings ended rest moment waiting last
+  told Reading live x agrees = told_open x agrees
+  told Waiting live x agrees = told_waiting x agrees
+  told Over live x agrees = told_refused x agrees
+  told Dead live x agrees = absurd live
+
+  -- where a reply closed the connection, there is nothing to tell
+  closed : (p : Standing) → IsLive p → Behind p settings ended None late waiting last → (p ≡ Over) × (waiting ≡ []) × (last ≡ [])
+  closed Reading live x = absurd x
+  closed Waiting live x = absurd x
+  closed Over live x = (refl, x.1, x.2)
+  closed Dead live x = absurd live
+
+through_is_live : (p : Standing) → IsThrough p → IsLive p
+through_is_live Reading through = tt
+through_is_live Over through = tt
+through_is_live Waiting through = absurd through
+through_is_live Dead through = absurd through
+
+-- ---- what is known of two pasts
 
 -- a command at a moment has one answer from a state under a number
 answers_once : (least : ℕ) (s : State) (n : ℕ) (e f : Entry) → IsAnswer least s n e → IsAnswer least s n f → f.moment ≡ e.moment → f.command ≡ e.command
@@ -29,71 +158,204 @@ answers_once least s n e f x y moments commands =
 leaves_once : (least : ℕ) (s : State) (e f : Entry) → f.answer ≡ e.answer → f.moment ≡ e.moment → f.command ≡ e.command → after_entry least s f ≡ after_entry least s e
 leaves_once least s e f answers moments commands = cc
 
-no_replies : (exchanges : List Exchange) → map message_of exchanges ≡ [] → replies_of exchanges ≡ []
-no_replies [] none = refl
-no_replies (x ∷ exchanges) none = absurd (cc)
+-- where there are no messages, there are no exchanges
+no_exchanges : (xs ys : List Exchange) → map message_of xs ≡ [] → map message_of ys ≡ [] → xs ≡ ys
+no_exchanges [] [] none also = refl
+no_exchanges [] (y ∷ ys) none also = absurd (cc)
+no_exchanges (x ∷ xs) ys none also = absurd (cc)
 
-module _ (one : OneVerdict) (replies : RepliesAreUnique) (refusals : RefusalsAreUnique) (settings : Settings) (moment : ℕ) where
-  refused_once : (bytes a b : List ℕ) → IsRefused settings moment true bytes a → IsRefused settings moment true bytes b → a ≡ b
-  refused_once bytes a b x y =
-      let same = ap (λ (d : Decision). d.0) (one settings moment true bytes _ _ y.judged x.judged) in
-      let codes : y.code ≡ x.code = cc in
-      let heads : y.head_only ≡ x.head_only = cc in
-      refusals x.code moment x.head_only a b x.printed
-      (subst (λ (c : Code). PrintsRefusal c moment x.head_only b) codes (subst (λ (h : Bool). PrintsRefusal y.code moment h b) heads y.printed))
+same_exchange : (x y : Exchange) → x.context ≡ y.context → x.command ≡ y.command → x.invitation ≡ y.invitation → x.answer ≡ y.answer → x.reply ≡ y.reply → x ≡ y
+same_exchange x y contexts commands invitations answers replies = rw (contexts, commands, invitations, answers, replies) refl
 
-  ends_once : (left : Option (List ℕ)) (a b : List ℕ) → Ends settings moment true left a → Ends settings moment true left b → a ≡ b
-  ends_once None a b x y = x ∙ sym y
-  ends_once (Some bytes) a b (inl x) (inl y) = x.1 ∙ sym y.1
-  ends_once (Some bytes) a b (inl x) (inr y) = let same = ap (λ (d : Decision). d.0) (one settings moment true bytes _ _ x.0 y.judged) in absurd (cc)
-  ends_once (Some bytes) a b (inr x) (inl y) = let same = ap (λ (d : Decision). d.0) (one settings moment true bytes _ _ y.0 x.judged) in absurd (cc)
-  ends_once (Some bytes) a b (inr x) (inr y) = refused_once bytes a b x y
+-- the answers of exchanges
+abbrev answers_of : List Exchange → List Answer
+answers_of xs = map (λ (x : Exchange). x.answer) xs
 
-  -- no sound message stands where no more commands come
-  none_sound : (bytes rest a : List ℕ) (context : Context) (command : Command) (P : Type 0)
-      → Ends settings moment true (Some bytes) a → Judges settings moment true bytes (verdicts.Sound context command, rest) → P
-  none_sound bytes rest a context command P (inl x) y = let same = ap (λ (d : Decision). d.0) (one settings moment true bytes _ _ x.0 y) in absurd (cc)
-  none_sound bytes rest a context command P (inr x) y = let same = ap (λ (d : Decision). d.0) (one settings moment true bytes _ _ x.judged y) in absurd (cc)
+module _ (one : OneVerdict) (invited : OneInvitation) (replies : RepliesAreUnique) (refusals : RefusalsAreUnique) (settings : Settings) (ended : Bool) where
+  concludes_once : (moment : ℕ) (verdict : Verdict) (a b : List ℕ) → Concludes moment verdict a → Concludes moment verdict b → a ≡ b
+  concludes_once moment verdicts.Open a b x y = x ∙ sym y
+  concludes_once moment (verdicts.Refused code head_only) a b x y = refusals code moment head_only a b x y
+  concludes_once moment (verdicts.Sound context command) a b x y = x ∙ sym y
 
-  -- whatever is answered to the same bytes from the same state, the output is one
-  exchanges_once : (xs ys : List Exchange) (s : State) (n k : ℕ) (bytes : List ℕ) (left other : Option (List ℕ)) (a b : List ℕ)
-      → Walks settings (λ k. moment) true k bytes (map message_of xs) left → Walks settings (λ k. moment) true k bytes (map message_of ys) other
-      → Legal settings.min_part s n (entries_of xs) → Legal settings.min_part s n (entries_of ys)
-      → AllByRecursion IsAnswered xs → AllByRecursion IsAnswered ys
-      → Ends settings moment true left a → Ends settings moment true other b
-      → replies_of xs ++ a ≡ replies_of ys ++ b
-  exchanges_once [] [] s n k bytes left other a b v w l m p q x_ends y_ends =
-      ends_once left a b x_ends (subst (λ o. Ends settings moment true o b) (w ∙ sym v) y_ends)
-  exchanges_once [] (y ∷ ys) s n k bytes left other a b v w l m p q x_ends y_ends = none_sound bytes w.0 a y.context y.entry.command _ (subst (λ o. Ends settings moment true o a) v x_ends) w.1
-  exchanges_once (x ∷ xs) [] s n k bytes left other a b v w l m p q x_ends y_ends = none_sound bytes v.0 b x.context x.entry.command _ (subst (λ o. Ends settings moment true o b) w y_ends) v.1
-  exchanges_once (x ∷ xs) (y ∷ ys) s n k bytes left other a b v w l m p q x_ends y_ends =
-      let both = one settings moment true bytes _ _ w.1 v.1 in
+  told_once : (p q : Standing) (rest : List ℕ) (moment : ℕ) (waiting other : List Turn) (last end : List ℕ)
+      → Told p settings ended rest moment waiting last → Told q settings ended rest moment other end
+      → (last ≡ end) × (waiting ≡ other) × (p ≡ q)
+  told_once p q rest moment waiting other last end x y =
+      let same = one settings moment ended rest x.decision y.decision x.judged y.judged in
+      let befores : x.before ≡ y.before = invited settings moment rest x.before y.before x.invites y.invites in
+      let texts : x.text ≡ y.text = concludes_once moment y.decision.0 x.text y.text
+      (subst (λ (d : Decision). Concludes moment d.0 x.text) same x.concludes) y.concludes in (
+        x.joined ∙ ap (λ t. x.before ++ t) texts ∙ ap (λ b. b ++ y.text) befores ∙ sym y.joined,
+        x.waits ∙ ap (λ (d : Decision). waiting_at d.0) same ∙ sym y.waits,
+        x.stands ∙ ap (λ (d : Decision). standing_of d.0) same ∙ sym y.stands,
+      )
+
+  behind_once : (left : Option (List ℕ)) (p q : Standing) (moment : ℕ) (late later : List ℕ) (waiting other : List Turn) (last end : List ℕ)
+      → IsLive p → IsLive q → Behind p settings ended left late waiting last → Behind q settings ended left later other end
+      → Agrees moment late → Agrees moment later → (last ≡ end) × (waiting ≡ other) × (p ≡ q)
+  behind_once (Some rest) p q moment late later waiting other last end live also x y agrees here =
+      told_once p q rest moment waiting other last end (told settings ended rest late moment waiting last p live x agrees)
+      (told settings ended rest later moment other end q also y here)
+  behind_once None p q moment late later waiting other last end live also x y agrees here =
+      let mine = closed settings ended [] late moment waiting last p live x in
+      let its = closed settings ended [] later moment other end q also y in
+      (mine.2 ∙ sym its.2, mine.1 ∙ sym its.1, mine.0 ∙ sym its.0)
+
+  -- the exchanges of the same bytes with the same moments and answers are the same, and leave the same
+  exchanges_once : (xs ys : List Exchange) (bytes : List ℕ) (left other : Option (List ℕ))
+      → Walks settings ended bytes (map message_of xs) left → Walks settings ended bytes (map message_of ys) other
+      → moments_of xs ≡ moments_of ys → answers_of xs ≡ answers_of ys
+      → AllByRecursion IsReplied xs → AllByRecursion IsReplied ys
+      → (xs ≡ ys) × (left ≡ other)
+  exchanges_once [] [] bytes left other v w moments answers p q = (refl, v ∙ sym w)
+  exchanges_once [] (y ∷ ys) bytes left other v w moments answers p q = absurd (cc)
+  exchanges_once (x ∷ xs) [] bytes left other v w moments answers p q = absurd (cc)
+  exchanges_once (x ∷ xs) (y ∷ ys) bytes left other v w moments answers p q =
+      let at : y.context.moment ≡ x.context.moment = cc in
+      let judged = subst (λ m. Judges settings m ended bytes (verdicts.Sound y.context y.command, w.0)) at w.1 in
+      let both = one settings x.context.moment ended bytes (verdicts.Sound x.context x.command, v.0) (verdicts.Sound y.context y.command, w.0) v.1 judged in
       let same = ap (λ (d : Decision). d.0) both in
-      let contexts : y.context ≡ x.context = cc in
-      let commands : y.entry.command ≡ x.entry.command = cc in
-      let rests : w.0 ≡ v.0 = ap (λ (d : Decision). d.1) both in
-      let moments : y.entry.moment ≡ x.entry.moment = q.0.moment ∙ ap (λ (c : Context). c.moment) contexts ∙ sym p.0.moment in
-      let answers = answers_once settings.min_part s n x.entry y.entry l.0 m.0 moments commands in
-      let states = leaves_once settings.min_part s x.entry y.entry answers moments commands in
-      let texts : x.reply ≡ y.reply = replies x.entry.answer x.context x.reply y.reply p.0.printed
-      (subst (λ (g : Answer). Prints g x.context y.reply) answers (subst (λ (c : Context). Prints y.entry.answer c y.reply) contexts q.0.printed)) in
-      let behind = subst (λ (c : Context). MatchBool c.closes ((map message_of ys ≡ []) × (other ≡ None)) (Walks settings (λ k. moment) true (suc k) w.0 (map message_of ys) other)) contexts w.2 in
-      let more : replies_of xs ++ a ≡ replies_of ys ++ b = elim (cases_Bool x.context.closes) [
+      let contexts : x.context ≡ y.context = cc in
+      let commands : x.command ≡ y.command = cc in
+      let rests : w.0 ≡ v.0 = sym (ap (λ (d : Decision). d.1) both) in
+      let invitations : x.invitation ≡ y.invitation = invited settings x.context.moment bytes x.invitation y.invitation v.2
+      (subst (λ m. Invites settings m bytes y.invitation) at w.2) in
+      let heads : x.answer ≡ y.answer = cc in
+      let texts : x.reply ≡ y.reply = replies x.answer x.context x.reply y.reply p.0
+      (subst (λ (a : Answer). Prints a x.context y.reply) (sym heads) (subst (λ (c : Context). Prints y.answer c y.reply) (sym contexts) q.0)) in
+      let here : x ≡ y = same_exchange x y contexts commands invitations heads texts in
+      let behind = subst (λ (c : Context). MatchBool c.closes ((map message_of ys ≡ []) × (other ≡ None)) (Walks settings ended w.0 (map message_of ys) other)) (sym contexts) w.3 in
+      let more : (xs ≡ ys) × (left ≡ other) = elim (cases_Bool x.context.closes) [
         | inl closing ↦
-            let mine = MatchBool-at_true _ _ closing v.2 in
+            let mine = MatchBool-at_true _ _ closing v.3 in
             let its = MatchBool-at_true _ _ closing behind in
-            let nothing : a ≡ b = ends_once left a b x_ends (subst (λ o. Ends settings moment true o b) (its.1 ∙ sym mine.1) y_ends) in
-            ap (λ r. r ++ a) (no_replies xs mine.0 ∙ sym (no_replies ys its.0)) ∙ ap (λ r. replies_of ys ++ r) nothing
-        | inr open_still ↦ exchanges_once xs ys (after_entry settings.min_part s x.entry) (suc n) (suc k) v.0 left other a b
-            (MatchBool-at_false _ _ open_still v.2)
-            (subst (λ r. Walks settings (λ k. moment) true (suc k) r (map message_of ys) other) rests (MatchBool-at_false _ _ open_still behind))
-            l.1 (subst (λ (t : State). Legal settings.min_part t (suc n) (entries_of ys)) states m.1) p.1 q.1 x_ends y_ends
+            (no_exchanges xs ys mine.0 its.0, mine.1 ∙ sym its.1)
+        | inr open_still ↦ exchanges_once xs ys v.0 left other
+            (MatchBool-at_false _ _ open_still v.3)
+            (subst (λ r. Walks settings ended r (map message_of ys) other) rests (MatchBool-at_false _ _ open_still behind))
+            (cc) (cc) p.1 q.1
       ] in
-      append_assoc x.reply (replies_of xs) a ∙ ap (λ r. x.reply ++ r) more ∙ ap (λ r. r ++ (replies_of ys ++ b)) texts ∙ sym (append_assoc y.reply (replies_of ys) b)
+      (ap (λ (e : Exchange). e ∷ xs) here ∙ ap (λ (es : List Exchange). y ∷ es) more.0, more.1)
 
-pub one_output : OneVerdict → RepliesAreUnique → RefusalsAreUnique → OneOutput
-one_output one replies refusals settings moment bytes a b x y =
-    x.joined
-    ∙ exchanges_once one replies refusals settings moment x.exchanges y.exchanges (opening settings.buckets) 0 0 bytes x.left y.left x.last y.last
-    x.walk y.walk x.legal y.legal x.answered y.answered x.finished y.finished
-    ∙ sym y.joined
+  -- what is written, by the exchanges and by what stands behind them
+  written_once : (p q : Standing) (a b : Past) (x y : List ℕ) (moment : ℕ) → IsLive p → IsLive q → (v : Writes p settings a x) → (w : Writes q settings b y)
+      → a.ended ≡ ended → b.ended ≡ ended → a.bytes ≡ b.bytes
+      → moments_of v.serves.exchanges ≡ moments_of w.serves.exchanges → answers_of v.serves.exchanges ≡ answers_of w.serves.exchanges
+      → Agrees moment v.late → Agrees moment w.late → (x ≡ y) × (a.turns ≡ b.turns) × (p ≡ q)
+  written_once p q a b x y moment live also v w ends ends_too bytes moments answers agrees here =
+      let xs = v.serves.exchanges in
+      let ys = w.serves.exchanges in
+      let mine = subst (λ bs. Walks settings ended bs (map message_of xs) v.left) bytes
+      (subst (λ e. Walks settings e a.bytes (map message_of xs) v.left) ends v.serves.walk) in
+      let its = subst (λ e. Walks settings e b.bytes (map message_of ys) w.left) ends_too w.serves.walk in
+      let same = exchanges_once xs ys b.bytes v.left w.left mine its moments answers v.serves.replied w.serves.replied in
+      let behind = subst (λ (left : Option (List ℕ)). Behind p settings ended left v.late v.waiting v.last) same.1
+      (subst (λ e. Behind p settings e v.left v.late v.waiting v.last) ends v.behind) in
+      let rest = behind_once w.left p q moment v.late w.late v.waiting w.waiting v.last w.last live also behind
+      (subst (λ e. Behind q settings e w.left w.late w.waiting w.last) ends_too w.behind) agrees here in (
+        v.serves.joined ∙ ap (λ (es : List Exchange). flat_map written_for es ++ v.last) same.0
+            ∙ ap (λ (t : List ℕ). flat_map written_for ys ++ t) rest.0 ∙ sym w.serves.joined,
+        v.serves.turns ∙ ap (λ (es : List Exchange). map turn_of es ++ v.waiting) same.0
+            ∙ ap (λ (t : List Turn). map turn_of ys ++ t) rest.1 ∙ sym w.serves.turns,
+        rest.2,
+      )
+
+  -- no sound message stands at the front of what is left
+  abbrev NoneSound : ℕ → Option (List ℕ) → Type 0
+  NoneSound moment left =
+      (bytes rest : List ℕ) (context : Context) (command : Command) → left ≡ Some bytes
+      → ¬ (Judges settings moment ended bytes (verdicts.Sound context command, rest))
+
+  none_sound : (p : Standing) (left : Option (List ℕ)) (late : List ℕ) (moment : ℕ) (waiting : List Turn) (last : List ℕ)
+      → IsThrough p → Behind p settings ended left late waiting last → Agrees moment late → NoneSound moment left
+  none_sound p left late moment waiting last through behind agrees bytes rest context command is judged =
+      let here = subst (λ (l : Option (List ℕ)). Behind p settings ended l late waiting last) is behind in
+      let t = told settings ended bytes late moment waiting last p (through_is_live p through) here agrees in
+      let same = one settings moment ended bytes t.decision (verdicts.Sound context command, rest) t.judged judged in
+      subst IsThrough (t.stands ∙ ap (λ (d : Decision). standing_of d.0) same) through
+
+  -- at one moment, histories of the store that are legal answer the same to the same bytes
+  answered_once : (xs ys : List Exchange) (s : State) (n moment : ℕ) (bytes : List ℕ) (left other : Option (List ℕ))
+      → Walks settings ended bytes (map message_of xs) left → Walks settings ended bytes (map message_of ys) other
+      → AllByRecursion (λ (m : ℕ). m ≡ moment) (moments_of xs) → AllByRecursion (λ (m : ℕ). m ≡ moment) (moments_of ys)
+      → Legal settings.min_part s n (entries_from xs) → Legal settings.min_part s n (entries_from ys)
+      → NoneSound moment left → NoneSound moment other
+      → (moments_of xs ≡ moments_of ys) × (answers_of xs ≡ answers_of ys)
+  answered_once [] [] s n moment bytes left other v w mine its l m none no_other = (refl, refl)
+  answered_once [] (y ∷ ys) s n moment bytes left other v w mine its l m none no_other =
+      absurd (none bytes w.0 y.context y.command v (subst (λ t. Judges settings t ended bytes (verdicts.Sound y.context y.command, w.0)) its.0 w.1))
+  answered_once (x ∷ xs) [] s n moment bytes left other v w mine its l m none no_other =
+      absurd (no_other bytes v.0 x.context x.command w (subst (λ t. Judges settings t ended bytes (verdicts.Sound x.context x.command, v.0)) mine.0 v.1))
+  answered_once (x ∷ xs) (y ∷ ys) s n moment bytes left other v w mine its l m none no_other =
+      let both = one settings moment ended bytes (verdicts.Sound x.context x.command, v.0) (verdicts.Sound y.context y.command, w.0)
+      (subst (λ t. Judges settings t ended bytes (verdicts.Sound x.context x.command, v.0)) mine.0 v.1)
+      (subst (λ t. Judges settings t ended bytes (verdicts.Sound y.context y.command, w.0)) its.0 w.1) in
+      let same = ap (λ (d : Decision). d.0) both in
+      let contexts : x.context ≡ y.context = cc in
+      let commands : y.command ≡ x.command = cc in
+      let moments : y.context.moment ≡ x.context.moment = its.0 ∙ sym mine.0 in
+      let rests : w.0 ≡ v.0 = sym (ap (λ (d : Decision). d.1) both) in
+      let answers : y.answer ≡ x.answer = answers_once settings.min_part s n (entry_of x) (entry_of y) l.0 m.0 moments commands in
+      let states = leaves_once settings.min_part s (entry_of x) (entry_of y) answers moments commands in
+      let behind = subst (λ (c : Context). MatchBool c.closes ((map message_of ys ≡ []) × (other ≡ None)) (Walks settings ended w.0 (map message_of ys) other)) (sym contexts) w.3 in
+      let more : (moments_of xs ≡ moments_of ys) × (answers_of xs ≡ answers_of ys) = elim (cases_Bool x.context.closes) [
+        | inl closing ↦
+            let none_left = no_exchanges xs ys (MatchBool-at_true _ _ closing v.3).0 (MatchBool-at_true _ _ closing behind).0 in
+            (ap moments_of none_left, ap answers_of none_left)
+        | inr open_still ↦ answered_once xs ys (after_entry settings.min_part s (entry_of x)) (suc n) moment v.0 left other
+            (MatchBool-at_false _ _ open_still v.3)
+            (subst (λ r. Walks settings ended r (map message_of ys) other) rests (MatchBool-at_false _ _ open_still behind))
+            mine.1 its.1 l.1 (subst (λ (t : State). Legal settings.min_part t (suc n) (entries_from ys)) states m.1) none no_other
+      ] in (
+        ap (λ (t : ℕ). t ∷ moments_of xs) (sym moments) ∙ ap (λ (ts : List ℕ). y.context.moment ∷ ts) more.0,
+        ap (λ (a : Answer). a ∷ answers_of xs) (sym answers) ∙ ap (λ (rest : List Answer). y.answer ∷ rest) more.1,
+      )
+
+-- ---- the laws
+
+abbrev first_moment : List ℕ → ℕ
+first_moment [] = 0
+first_moment (m ∷ later) = m
+
+agrees_first : (late : List ℕ) → Agrees (first_moment late) late
+agrees_first [] = tt
+agrees_first (m ∷ later) = refl
+
+agrees_all : (moment : ℕ) (late : List ℕ) → AllByRecursion (λ (m : ℕ). m ≡ moment) late → Agrees moment late
+agrees_all moment [] all = tt
+agrees_all moment (m ∷ later) all = all.0
+
+-- as many exchanges take as many moments
+moments_apart : (xs ys : List Exchange) (late later : List ℕ) → answers_of xs ≡ answers_of ys → moments_of xs ++ late ≡ moments_of ys ++ later
+    → (moments_of xs ≡ moments_of ys) × (late ≡ later)
+moments_apart [] [] late later answers moments = (refl, moments)
+moments_apart [] (y ∷ ys) late later answers moments = absurd (cc)
+moments_apart (x ∷ xs) [] late later answers moments = absurd (cc)
+moments_apart (x ∷ xs) (y ∷ ys) late later answers moments =
+    let first : x.context.moment ≡ y.context.moment = cc in
+    let more = moments_apart xs ys late later (cc) (cc) in
+    (ap (λ (t : ℕ). t ∷ moments_of xs) first ∙ ap (λ (ts : List ℕ). y.context.moment ∷ ts) more.0, more.1)
+
+pub one_writing : OneVerdict → OneInvitation → RepliesAreUnique → RefusalsAreUnique → OneWriting
+one_writing one invited replies refusals settings p q a b x y live also bytes ends moments answers v w =
+    let answered = sym v.serves.answers ∙ answers ∙ w.serves.answers in
+    let parts = moments_apart v.serves.exchanges w.serves.exchanges v.late w.late answered (sym v.serves.moments ∙ moments ∙ w.serves.moments) in
+    written_once one invited replies refusals settings a.ended p q a b x y (first_moment v.late) live also v w refl (sym ends) bytes parts.0 answered
+    (agrees_first v.late) (subst (Agrees (first_moment v.late)) parts.1 (agrees_first v.late))
+
+pub one_output : OneVerdict → OneInvitation → RepliesAreUnique → RefusalsAreUnique → OneOutput
+one_output one invited replies refusals settings moment bytes a b (p, through, r) (q, also, s) =
+    let mine = replayed_moments p settings moment bytes a r in
+    let its = replayed_moments q settings moment bytes b s in
+    let agrees = agrees_all moment r.writes.late mine.1 in
+    let here = agrees_all moment s.writes.late its.1 in
+    let same = answered_once one invited replies refusals settings true r.writes.serves.exchanges s.writes.serves.exchanges
+    (opening settings.buckets) 0 moment bytes r.writes.left s.writes.left
+    (replayed_walk p settings moment bytes a r) (replayed_walk q settings moment bytes b s) mine.0 its.0
+    (replayed_legal p settings moment bytes a r) (replayed_legal q settings moment bytes b s)
+    (none_sound one invited replies refusals settings true p r.writes.left r.writes.late moment r.writes.waiting r.writes.last through
+    (replayed_behind p settings moment bytes a r) agrees)
+    (none_sound one invited replies refusals settings true q s.writes.left s.writes.late moment s.writes.waiting s.writes.last also
+    (replayed_behind q settings moment bytes b s) here) in
+    (written_once one invited replies refusals settings true p q r.past s.past a b moment (through_is_live p through) (through_is_live q also)
+    r.writes s.writes r.ended s.ended (r.came ∙ sym s.came) same.0 same.1 agrees here).0

@@ -10,16 +10,12 @@ use Rattle.s3_store.specs.Store.{Address, brings, is_refused, given}
 use Rattle.s3_store.specs.History.{Entry, Legal, IsAnswer, after_entry}
 use Rattle.s3_store.specs.Kept.{LeavesKey, Brought, PutsAreKept, OnlyPutsAreGiven, ReadsGiveOrRefuse}
 use Rattle.s3_replies.specs.Laws.{tells_success, SuccessIsShown, ObjectsAreCarried, TagsAreUnbroken}
-use Rattle.s3_session.specs.Output.{Exchange, IsAnswered}
-use Rattle.s3_session.specs.Replay.{entries_of}
+use Rattle.s3_session.specs.Output.{Exchange, IsReplied}
 use Rattle.s3_payloads.specs.Laws.{WholePayloadsAreBodies}
+use Rattle.s3_session.proofs.ReplayLemmas.{replayed_legal}
+use Rattle.s3_session.proofs.ServesLemmas.{entry_of, entries_from, all_of_two}
 use Rattle.s3_session.proofs.SoundLemmas.{admitted_length, one_count}
 use Rattle.s3_session.specs.ReadBack.{LeavesAlone, LastWrote, PutsAreReadBack, OnlyPutsAreReadBack, PayloadsAreBrought}
-
--- what holds of all of two lists holds of all of each
-all_of_two : {X : Type 0} (P : X → Type 0) (xs ys : List X) → AllByRecursion P (xs ++ ys) → AllByRecursion P xs × AllByRecursion P ys
-all_of_two P [] ys all = (tt, all)
-all_of_two P (x ∷ xs) ys all = let rest = all_of_two P xs ys all.1 in ((all.0, rest.0), rest.1)
 
 -- ---- what a reply shows of its entry
 
@@ -32,15 +28,15 @@ not_false true is = refl
 not_false false is = absurd (cc)
 
 module _ (success : SuccessIsShown) (address : Address) where
-  shows : (x : Exchange) → IsAnswered x → tells_success x.reply ≡ not (is_refused x.entry.answer.outcome)
-  shows x answered = success x.entry.answer x.context x.reply answered.printed
+  shows : (x : Exchange) → IsReplied x → tells_success x.reply ≡ not (is_refused x.answer.outcome)
+  shows x answered = success x.answer x.context x.reply answered
 
-  leaves_key : (xs : List Exchange) → AllByRecursion IsAnswered xs → AllByRecursion (LeavesAlone address) xs → LeavesKey address (entries_of xs)
+  leaves_key : (xs : List Exchange) → AllByRecursion IsReplied xs → AllByRecursion (LeavesAlone address) xs → LeavesKey address (entries_from xs)
   leaves_key [] answered alone = tt
   leaves_key (x ∷ xs) answered alone =
       ((λ is. not_false _ (sym (shows x answered.0) ∙ alone.0 is)), leaves_key xs answered.1 alone.1)
 
-  leaves_alone : (xs : List Exchange) → AllByRecursion IsAnswered xs → LeavesKey address (entries_of xs) → AllByRecursion (LeavesAlone address) xs
+  leaves_alone : (xs : List Exchange) → AllByRecursion IsReplied xs → LeavesKey address (entries_from xs) → AllByRecursion (LeavesAlone address) xs
   leaves_alone [] answered leaves = tt
   leaves_alone (x ∷ xs) answered leaves =
       ((λ is. shows x answered.0 ∙ ap not (leaves.0 is)), leaves_alone xs answered.1 leaves.1)
@@ -53,46 +49,46 @@ record Split (xs : List Exchange) (before : List Entry) (write : Entry) (between
   at : Exchange
   back : List Exchange
   parts : xs ≡ front ++ at ∷ back
-  here : at.entry ≡ write
-  behind : entries_of back ≡ between
+  here : entry_of at ≡ write
+  behind : entries_from back ≡ between
 
 one_more : (x : Exchange) (xs ys : List Exchange) → xs ≡ ys → x ∷ xs ≡ x ∷ ys
 one_more x xs ys same = ap (λ l. x ∷ l) same
 
-split_at : (xs : List Exchange) (before : List Entry) (write : Entry) (between : List Entry) → entries_of xs ≡ before ++ write ∷ between → Split xs before write between
+split_at : (xs : List Exchange) (before : List Entry) (write : Entry) (between : List Entry) → entries_from xs ≡ before ++ write ∷ between → Split xs before write between
 split_at [] [] write between is = absurd (cc)
 split_at [] (e ∷ before) write between is = absurd (cc)
 split_at (x ∷ xs) [] write between is = record { front = []; at = x; back = xs; parts = refl; here = cc; behind = cc }
 split_at (x ∷ xs) (e ∷ before) write between is =
-    let more : entries_of xs ≡ before ++ write ∷ between = cc in
+    let more : entries_from xs ≡ before ++ write ∷ between = cc in
     let s = split_at xs before write between more in
     record { front = x ∷ s.front; at = s.at; back = s.back; parts = one_more x xs (s.front ++ s.at ∷ s.back) s.parts; here = s.here; behind = s.behind }
 
-entries_at : (earlier : List Exchange) (x : Exchange) (later : List Exchange) → entries_of (earlier ++ x ∷ later) ≡ entries_of earlier ++ x.entry ∷ entries_of later
-entries_at earlier x later = map-append (λ (y : Exchange). y.entry) earlier (x ∷ later)
+entries_at : (earlier : List Exchange) (x : Exchange) (later : List Exchange) → entries_from (earlier ++ x ∷ later) ≡ entries_from earlier ++ entry_of x ∷ entries_from later
+entries_at earlier x later = map-append entry_of earlier (x ∷ later)
 
 -- ---- the theorem, and its converse
 
 pub puts_are_read_back : PutsAreKept → SuccessIsShown → ObjectsAreCarried → TagsAreUnbroken → PutsAreReadBack
-puts_are_read_back kept success carried tags dead settings moment bytes out replay earlier later get address body at asks last =
+puts_are_read_back kept success carried tags standing settings moment bytes out replay earlier later get address body at asks last =
     let put = last.write in
-    let answered = all_of_two IsAnswered earlier (get ∷ later) (subst (AllByRecursion IsAnswered) at replay.answered) in
-    let first = all_of_two IsAnswered last.before (put ∷ last.between) (subst (AllByRecursion IsAnswered) last.parts answered.0) in
-    let entries : entries_of replay.exchanges ≡ (entries_of last.before ++ put.entry ∷ entries_of last.between) ++ get.entry ∷ entries_of later =
-    ap entries_of at ∙ entries_at earlier get later
-    ∙ ap (λ es. es ++ get.entry ∷ entries_of later) (ap entries_of last.parts ∙ entries_at last.before put last.between) in
-    let object = put_object put.entry.moment body in
-    let brought : Brought address object put.entry = record {
+    let answered = all_of_two IsReplied earlier (get ∷ later) (subst (AllByRecursion IsReplied) at replay.writes.serves.replied) in
+    let first = all_of_two IsReplied last.before (put ∷ last.between) (subst (AllByRecursion IsReplied) last.parts answered.0) in
+    let entries : entries_from replay.writes.serves.exchanges ≡ (entries_from last.before ++ entry_of put ∷ entries_from last.between) ++ entry_of get ∷ entries_from later =
+    ap entries_from at ∙ entries_at earlier get later
+    ∙ ap (λ es. es ++ entry_of get ∷ entries_from later) (ap entries_from last.parts ∙ entries_at last.before put last.between) in
+    let object = put_object put.context.moment body in
+    let brought : Brought address object (entry_of put) = record {
       body = body;
       written = last.wrote.written;
       accepted = not_true _ (sym (shows success address put first.1.0) ∙ last.wrote.answered);
       brought = last.wrote.brought;
       made = refl;
     } in
-    let gives = kept settings.min_part (opening settings.buckets) 0 (entries_of last.before) (entries_of last.between) (entries_of later) put.entry get.entry address object
-    (subst (Legal settings.min_part (opening settings.buckets) 0) entries replay.legal)
+    let gives = kept settings.min_part (opening settings.buckets) 0 (entries_from last.before) (entries_from last.between) (entries_from later) (entry_of put) (entry_of get) address object
+    (subst (Legal settings.min_part (opening settings.buckets) 0) entries (replayed_legal standing settings moment bytes out replay))
     brought (leaves_key success address last.between first.1.1 last.alone) asks.read in
-    carried get.entry.answer get.context get.reply object answered.1.0.printed gives (tags body) asks.whole
+    carried get.answer get.context get.reply object answered.1.0 gives (tags body) asks.whole
 
 -- an object that a read hands out
 found_object : (found : Option Object) → is_some found ≡ true → (object : Object) × (found ≡ Some object)
@@ -107,11 +103,11 @@ answered_right least s n (x ∷ es) e later legal = answered_right least (after_
 
 -- the last entry that wrote is that of the last exchange that did
 last_wrote : SuccessIsShown → (address : Address) (object : Object) (earlier : List Exchange) (before between : List Entry) (write : Entry)
-    → AllByRecursion IsAnswered earlier → Split earlier before write between → Brought address object write → LeavesKey address between
+    → AllByRecursion IsReplied earlier → Split earlier before write between → Brought address object write → LeavesKey address between
     → (body : List ℕ) × LastWrote address body earlier
 last_wrote success address object earlier before between write answered s brought leaves =
-    let first = all_of_two IsAnswered s.front (s.at ∷ s.back) (subst (AllByRecursion IsAnswered) s.parts answered) in
-    let here : Brought address object s.at.entry = subst (Brought address object) (sym s.here) brought in (
+    let first = all_of_two IsReplied s.front (s.at ∷ s.back) (subst (AllByRecursion IsReplied) s.parts answered) in
+    let here : Brought address object (entry_of s.at) = subst (Brought address object) (sym s.here) brought in (
       here.body,
       record {
         before = s.front;
@@ -128,14 +124,14 @@ last_wrote success address object earlier before between write answered s brough
     )
 
 pub only_puts_are_read_back : OnlyPutsAreGiven → ReadsGiveOrRefuse → SuccessIsShown → OnlyPutsAreReadBack
-only_puts_are_read_back only or_refused success dead settings moment bytes out replay earlier later get address at asks told =
-    let answered = all_of_two IsAnswered earlier (get ∷ later) (subst (AllByRecursion IsAnswered) at replay.answered) in
-    let entries : entries_of replay.exchanges ≡ entries_of earlier ++ get.entry ∷ entries_of later = ap entries_of at ∙ entries_at earlier get later in
-    let legal = subst (Legal settings.min_part (opening settings.buckets) 0) entries replay.legal in
-    let right = answered_right settings.min_part (opening settings.buckets) 0 (entries_of earlier) get.entry (entries_of later) legal in
-    let found = found_object (given get.entry.answer.outcome)
-    (or_refused settings.min_part right.0 right.1 get.entry address right.2 asks.read ∙ sym (shows success address get answered.1.0) ∙ told) in
-    let last = only settings.min_part settings.buckets 0 (entries_of earlier) (entries_of later) get.entry address found.0 legal asks.read found.1 in
+only_puts_are_read_back only or_refused success standing settings moment bytes out replay earlier later get address at asks told =
+    let answered = all_of_two IsReplied earlier (get ∷ later) (subst (AllByRecursion IsReplied) at replay.writes.serves.replied) in
+    let entries : entries_from replay.writes.serves.exchanges ≡ entries_from earlier ++ entry_of get ∷ entries_from later = ap entries_from at ∙ entries_at earlier get later in
+    let legal = subst (Legal settings.min_part (opening settings.buckets) 0) entries (replayed_legal standing settings moment bytes out replay) in
+    let right = answered_right settings.min_part (opening settings.buckets) 0 (entries_from earlier) (entry_of get) (entries_from later) legal in
+    let found = found_object (given get.answer.outcome)
+    (or_refused settings.min_part right.0 right.1 (entry_of get) address right.2 asks.read ∙ sym (shows success address get answered.1.0) ∙ told) in
+    let last = only settings.min_part settings.buckets 0 (entries_from earlier) (entries_from later) (entry_of get) address found.0 legal asks.read found.1 in
     last_wrote success address found.0 earlier last.before last.between last.write answered.0
     (split_at earlier last.before last.write last.between last.parts) last.brought last.leaves
 

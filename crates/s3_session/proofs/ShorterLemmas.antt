@@ -7,7 +7,7 @@ use Rattle.s3_config.specs.Settings.{Settings}
 use Rattle.s3_http_heads.specs.Find.{skip_pairs, head_end}
 use Rattle.s3_requests.specs.declared.commands.Command.{Command}
 use Rattle.s3_replies.specs.declared.context.Context.{Context}
-use Rattle.s3_session.specs.declared.verdict.Verdict.TheVariants as verdicts
+use Rattle.s3_session.specs.Verdict as verdicts
 use Rattle.s3_session.specs.Decision.{Judges}
 use Rattle.s3_session.proofs.StayLemmas.{IsExact}
 use Rattle.s3_session.specs.Laws.{SoundMessages}

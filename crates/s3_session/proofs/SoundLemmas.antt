@@ -16,7 +16,7 @@ use Rattle.s3_signing.specs.Verdict.{Proved, head_verdict}
 use Rattle.s3_requests.specs.declared.commands.Command.{Command}
 use Rattle.s3_requests.specs.Routing.{command_of, route_of}
 use Rattle.s3_replies.specs.declared.context.Context.{Context}
-use Rattle.s3_session.specs.declared.verdict.Verdict.TheVariants as verdicts
+use Rattle.s3_session.specs.Verdict as verdicts
 use Rattle.s3_aws_chunked.specs.Verdict as bodies
 use Rattle.s3_payloads.specs.Form.{Announced, announced_payload, form_of}
 use Rattle.s3_payloads.specs.Verdict as payloads

@@ -8,7 +8,7 @@ use Rattle.s3_http_heads.specs.Find.{found_in, skip_pairs, IsHeadText}
 use Rattle.s3_http_heads.specs.declared.find.Found.{Found}
 use Rattle.s3_http_heads.specs.declared.find.Found.TheVariants as found
 use Rattle.s3_http_heads.specs.Head.{HeadParts, asks_head_only}
-use Rattle.s3_session.specs.declared.verdict.Verdict.TheVariants as verdicts
+use Rattle.s3_session.specs.Verdict as verdicts
 use Rattle.s3_aws_chunked.specs.Verdict as bodies
 use Rattle.s3_aws_chunked.specs.Finality.{IsDecided}
 use Rattle.s3_payloads.specs.Verdict as payloads
@@ -72,6 +72,11 @@ PairsStay = (bytes more : List ℕ) (n : ℕ) → found_in bytes ≡ found.Head 
 abbrev pub IsExact : Type 0
 IsExact = (bytes : List ℕ) (n : ℕ) → (found_in bytes ≡ found.Head n) ↔ IsHeadText bytes n
 
+-- the head text is the same where more bytes follow
+pub same_text : PairsStay → IsExact → (bytes more : List ℕ) (n : ℕ) → found_in bytes ≡ found.Head n → text_at n (bytes ++ more) ≡ text_at n bytes
+same_text pairs exact bytes more n at =
+    ap (take n) (pairs bytes more n at) ∙ take-append-le n (skip_pairs bytes) more ((exact bytes n).0 at).within
+
 found_stays : HeadsStay → LargeStays → PairsStay → IsExact → BodiesStay → AcceptedAreWhole
     → (settings : Settings) (moment : ℕ) (ended : Bool) (bytes more : List ℕ) (d : Decision) (f : Found)
     → found_in bytes ≡ f → FoundJudged settings moment false bytes f d → d.0 ≢ verdicts.Open
@@ -84,7 +89,7 @@ found_stays heads large pairs exact stay whole settings moment ended bytes more 
 found_stays heads large pairs exact stay whole settings moment ended bytes more d (found.Head n) at judges decided =
     let within = ((exact bytes n).0 at).within in
     let appends = pairs bytes more n at in
-    let front : text_at n (bytes ++ more) ≡ text_at n bytes = ap (take n) appends ∙ take-append-le n (skip_pairs bytes) more within in
+    let front = same_text pairs exact bytes more n at in
     let back : behind_text n (bytes ++ more) ≡ behind_text n bytes ++ more = ap (drop n) appends ∙ drop-append-le n (skip_pairs bytes) more within in
     let stays = text_stays stay whole settings moment ended (text_at n bytes) (behind_text n bytes) more d judges decided in
     subst (λ (f : Found). FoundJudged settings moment ended (bytes ++ more) f (with_more more d)) (sym (heads bytes more n at))

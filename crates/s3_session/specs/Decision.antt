@@ -12,8 +12,8 @@ use Rattle.s3_aws_chunked.specs.Verdict as bodies
 use Rattle.s3_payloads.specs.Verdict as payloads
 use Rattle.s3_requests.specs.Routing.{command_of}
 use Rattle.s3_replies.specs.declared.context.Context.{Context}
-use Rattle.s3_session.specs.declared.verdict.Verdict.{Verdict}
-use Rattle.s3_session.specs.declared.verdict.Verdict.TheVariants as verdicts
+use Rattle.s3_session.specs.Verdict.{Verdict}
+use Rattle.s3_session.specs.Verdict as verdicts
 use Rattle.s3_session.specs.Admission.{Asked, admission_of}
 
 -- what a reply takes from its message
@@ -74,19 +74,3 @@ FoundJudged settings moment ended bytes (found.Head n) decision =
 unfoldable pub Judges : Settings → ℕ → Bool → List ℕ → Decision → Type 0
 Judges settings moment ended bytes decision =
     FoundJudged settings moment ended bytes (found_in bytes) decision
-
--- only a sound message has something after it
-abbrev pub EndsOrGoesOn : Verdict → List ℕ → Type 0
-EndsOrGoesOn verdicts.Open rest = rest ≡ []
-EndsOrGoesOn (verdicts.Refused code head_only) rest = rest ≡ []
-EndsOrGoesOn (verdicts.Sound context command) rest = Unit {0}
-
--- what was found is a whole text that says a head
-abbrev pub FoundHead : List ℕ → Found → Type 0
-FoundHead bytes found.NeedMore = ⊥
-FoundHead bytes found.TooLarge = ⊥
-FoundHead bytes (found.Head n) = ¬ (HasNoHead (text_at n bytes))
-
--- at the front of the bytes stands a whole text that says a head: only there may memory run out
-unfoldable pub HoldsHead : List ℕ → Type 0
-HoldsHead bytes = FoundHead bytes (found_in bytes)

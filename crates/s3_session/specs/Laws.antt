@@ -2,6 +2,8 @@
 -- bytes fix what is written.
 use Rattle.std.specs.Prelude.{◌≡◌, ◌≢◌, ℕ, Bool, false, List, ◌++◌, Ok}
 use Rattle.s3_config.specs.Settings.{Settings}
+use Rattle.s3_http_heads.specs.Find.{found_in}
+use Rattle.s3_http_heads.specs.declared.find.Found.TheVariants as found
 use Rattle.s3_http_heads.specs.Head.{HeadParts}
 use Rattle.s3_http_heads.specs.Message.{IsMessage}
 use Rattle.s3_aws_chunked.specs.Verdict.{Accepted}
@@ -9,11 +11,14 @@ use Rattle.s3_payloads.specs.Verdict as payloads
 use Rattle.s3_requests.specs.declared.commands.Command.{Command}
 use Rattle.s3_requests.specs.Routing.{command_of}
 use Rattle.s3_replies.specs.declared.context.Context.{Context}
-use Rattle.s3_session.specs.declared.verdict.Verdict.{Verdict}
-use Rattle.s3_session.specs.declared.verdict.Verdict.TheVariants as verdicts
+use Rattle.s3_session.specs.Verdict.{Verdict}
+use Rattle.s3_session.specs.Verdict as verdicts
 use Rattle.s3_session.specs.Admission.{Asked, admission_of}
 use Rattle.s3_session.specs.Decision.{Decision, Judges, context_of}
+use Rattle.s3_session.specs.Invitation.{Invites}
+use Rattle.s3_session.specs.Output.{Past, Standing, Reading, Waiting, Over, Dead, Writes}
 use Rattle.s3_session.specs.Replay.{LiveReplays}
+use Rattle.s3_session.specs.Session.{Connection, Stands, standing_of, unsent_of}
 
 -- settings, moment, bytes and whether they end leave at most one verdict, with one rest
 abbrev pub OneVerdict : Type 0
@@ -43,6 +48,19 @@ VerdictsStay =
     → Judges settings moment false bytes (verdict, rest) → verdict ≢ verdicts.Open
     → Judges settings moment ended (bytes ++ more) (verdict, rest_with verdict rest more)
 
+-- settings, moment and bytes leave one text that is written before the body of the message at their front is read
+abbrev pub OneInvitation : Type 0
+OneInvitation =
+    (settings : Settings) (moment : ℕ) (bytes a b : List ℕ)
+    → Invites settings moment bytes a → Invites settings moment bytes b → a ≡ b
+
+-- it is the same where more bytes follow, once there is a head text or too many bytes without one
+abbrev pub InvitationsStay : Type 0
+InvitationsStay =
+    (settings : Settings) (moment : ℕ) (bytes more text : List ℕ)
+    → found_in bytes ≢ found.NeedMore
+    → Invites settings moment bytes text → Invites settings moment (bytes ++ more) text
+
 -- at the front of the bytes stands a whole message, and then the rest: its head asks for this, its body is accepted
 -- with this payload, and the context and the command are what they ask for
 pub record IsSound (settings : Settings) (moment : ℕ) (bytes : List ℕ) (context : Context) (command : Command) (rest : List ℕ) : Type 0 where
@@ -70,9 +88,33 @@ SoundIsJudged =
     → IsSound settings moment bytes context command rest
     → Judges settings moment ended bytes (verdicts.Sound context command, rest)
 
+-- memory did not run out
+abbrev pub IsLive : Standing → Type 0
+IsLive Reading = Unit {0}
+IsLive Waiting = Unit {0}
+IsLive Over = Unit {0}
+IsLive Dead = ⊥
+
+-- Two connections under the same settings, whose bytes are the same, of which both or neither have ended, to which
+-- the same moments and the same answers were given, and in which memory did not run out, have written the same, wait
+-- for the same turns and stand alike: however their bytes were cut into pieces.
+abbrev pub OneWriting : Type 0
+OneWriting =
+    (settings : Settings) (p q : Standing) (a b : Past) (x y : List ℕ)
+    → IsLive p → IsLive q
+    → a.bytes ≡ b.bytes → a.ended ≡ b.ended → a.moments ≡ b.moments → a.answers ≡ b.answers
+    → Writes p settings a x → Writes q settings b y
+    → (x ≡ y) × (a.turns ≡ b.turns) × (p ≡ q)
+
 -- two replays of the same bytes under the same settings at the same moment, in which memory does not
 -- run out, write the same
 abbrev pub OneOutput : Type 0
 OneOutput =
     (settings : Settings) (moment : ℕ) (bytes a b : List ℕ)
     → LiveReplays settings moment bytes a → LiveReplays settings moment bytes b → a ≡ b
+
+-- a session that stands after all this has written the output of the connection, sent or not
+abbrev pub SessionsWrite : Type 0
+SessionsWrite =
+    (session : Connection) (settings : Settings) (past : Past) (sent : List ℕ)
+    → Stands session settings past sent → Writes (standing_of session) settings past (sent ++ unsent_of session)

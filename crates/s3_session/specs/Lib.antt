@@ -1,15 +1,18 @@
 pub mod Admission
 pub mod Decision
+pub mod Incoming
+pub mod Invitation
 pub mod Laws
 pub mod Output
 pub mod ReadBack
 pub mod Replay
-pub mod Turn
+pub mod Session
+pub mod Verdict
 pub mod Walk
 pub use Rattle.s3_http_heads.specs.Find
 pub use Rattle.s3_http_heads.specs.Head
 pub use Rattle.s3_http_heads.specs.BodyLength
-pub use Rattle.s3_signing.specs.Verdict
+pub use Rattle.s3_signing.specs.Verdict as Signing
 pub use Rattle.s3_payloads.specs.Form
 pub use Rattle.s3_payloads.specs.Verdict as Payloads
 pub use Rattle.s3_requests.specs.Routing

@@ -1,6 +1,6 @@
 -- What a client reads back over one connection, in the bytes of its replies: what it wrote, and nothing
 -- else (Amazon S3 User Guide, "Amazon S3 data consistency model").
-use Rattle.std.specs.Prelude.{◌≡◌, ℕ, Bool, true, false, List, ◌∷◌, ◌++◌, Some}
+use Rattle.std.specs.Prelude.{◌≡◌, ℕ, true, false, List, ◌∷◌, ◌++◌, Some}
 use Rattle.std.specs.List.{AllByRecursion}
 use Rattle.s3_config.specs.Settings.{Settings}
 use Rattle.s3_payloads.specs.Form.{IsSentAsItIs}
@@ -8,19 +8,19 @@ use Rattle.s3_requests.specs.declared.commands.Command.{Command}
 use Rattle.s3_store.specs.Store.{Address, writes, brings, reads}
 use Rattle.s3_replies.specs.declared.context.Context.{Context}
 use Rattle.s3_replies.specs.Laws.{Carries, tells_success}
-use Rattle.s3_session.specs.Output.{Exchange}
+use Rattle.s3_session.specs.Output.{Exchange, Standing}
 use Rattle.s3_session.specs.Replay.{ReplaysAs}
 use Rattle.s3_session.specs.Laws.{IsSound}
 
 -- the message puts these bytes under the address, and its reply tells of success
 pub record Wrote (address : Address) (body : List ℕ) (x : Exchange) : Type 0 where
-  pub written : writes x.entry.command ≡ Some address
-  pub brought : brings x.entry.command ≡ Some body
+  pub written : writes x.command ≡ Some address
+  pub brought : brings x.command ≡ Some body
   pub answered : tells_success x.reply ≡ true
 
 -- the message doesn't write under the address, or its reply doesn't tell of success
 abbrev pub LeavesAlone : Address → Exchange → Type 0
-LeavesAlone address x = writes x.entry.command ≡ Some address → tells_success x.reply ≡ false
+LeavesAlone address x = writes x.command ≡ Some address → tells_success x.reply ≡ false
 
 -- of these messages, the last one that wrote under the address with success put these bytes there
 pub record LastWrote (address : Address) (body : List ℕ) (exchanges : List Exchange) : Type 0 where
@@ -33,16 +33,16 @@ pub record LastWrote (address : Address) (body : List ℕ) (exchanges : List Exc
 
 -- the message asks for the bytes under the address, and not for a head alone
 pub record AsksFor (address : Address) (x : Exchange) : Type 0 where
-  pub read : reads x.entry.command ≡ Some address
+  pub read : reads x.command ≡ Some address
   pub whole : x.context.head_only ≡ false
 
 -- in the output of a connection, the reply to each get carries exactly the bytes that the last put under
 -- its address, among the messages before it, brought, if a put there told of success
 abbrev pub PutsAreReadBack : Type 0
 PutsAreReadBack =
-    (dead : Bool) (settings : Settings) (moment : ℕ) (bytes out : List ℕ) (replay : ReplaysAs dead settings moment bytes out)
+    (standing : Standing) (settings : Settings) (moment : ℕ) (bytes out : List ℕ) (replay : ReplaysAs standing settings moment bytes out)
     (earlier later : List Exchange) (get : Exchange) (address : Address) (body : List ℕ)
-    → replay.exchanges ≡ earlier ++ get ∷ later
+    → replay.writes.serves.exchanges ≡ earlier ++ get ∷ later
     → AsksFor address get
     → LastWrote address body earlier
     → Carries body get.reply
@@ -50,9 +50,9 @@ PutsAreReadBack =
 -- and where the reply to a get tells of success, there is such a put
 abbrev pub OnlyPutsAreReadBack : Type 0
 OnlyPutsAreReadBack =
-    (dead : Bool) (settings : Settings) (moment : ℕ) (bytes out : List ℕ) (replay : ReplaysAs dead settings moment bytes out)
+    (standing : Standing) (settings : Settings) (moment : ℕ) (bytes out : List ℕ) (replay : ReplaysAs standing settings moment bytes out)
     (earlier later : List Exchange) (get : Exchange) (address : Address)
-    → replay.exchanges ≡ earlier ++ get ∷ later
+    → replay.writes.serves.exchanges ≡ earlier ++ get ∷ later
     → AsksFor address get
     → tells_success get.reply ≡ true
     → (body : List ℕ) × LastWrote address body earlier

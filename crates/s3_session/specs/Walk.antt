@@ -1,25 +1,28 @@
 -- The messages of a connection, one after another.
-use Rattle.std.specs.Prelude.{◌≡◌, ℕ, suc, Bool, MatchBool, List, [], ◌∷◌, Option, Some, None}
+use Rattle.std.specs.Prelude.{◌≡◌, ℕ, Bool, MatchBool, List, [], ◌∷◌, Option, Some, None}
 use Rattle.s3_config.specs.Settings.{Settings}
 use Rattle.s3_requests.specs.declared.commands.Command.{Command}
 use Rattle.s3_replies.specs.declared.context.Context.{Context}
-use Rattle.s3_session.specs.declared.verdict.Verdict.TheVariants as verdicts
+use Rattle.s3_session.specs.Verdict as verdicts
 use Rattle.s3_session.specs.Decision.{Judges}
+use Rattle.s3_session.specs.Invitation.{Invites}
 
--- a sound message: what its reply takes from it, and what it asks for
+-- a sound message: what its reply takes from it, what it asks for, and what is written before its body is read
 pub record Message : Type 0 where
   pub context : Context
   pub command : Command
+  pub invitation : List ℕ
 
--- the message at place k has the moment `moments k`; ended says that no more bytes come
-module _ (settings : Settings) (moments : ℕ → ℕ) (ended : Bool) where
-  -- the sound messages from place k on stand at the front of the bytes, and behind them this is left:
-  -- some bytes, or nothing that is read, where the reply to the last of them closes the connection
-  abbrev pub Walks : ℕ → List ℕ → List Message → Option (List ℕ) → Type 0
-  Walks k bytes [] left = left ≡ Some bytes
-  Walks k bytes (message ∷ messages) left =
+-- ended says that no more bytes come
+module _ (settings : Settings) (ended : Bool) where
+  -- the sound messages, each at its moment, stand at the front of the bytes, and behind them this is left: some bytes,
+  -- or nothing that is read, where the reply to the last of them closes the connection
+  abbrev pub Walks : List ℕ → List Message → Option (List ℕ) → Type 0
+  Walks bytes [] left = left ≡ Some bytes
+  Walks bytes (message ∷ messages) left =
       (rest : List ℕ)
-      × Judges settings (moments k) ended bytes (verdicts.Sound message.context message.command, rest)
+      × Judges settings message.context.moment ended bytes (verdicts.Sound message.context message.command, rest)
+      × Invites settings message.context.moment bytes message.invitation
       × MatchBool message.context.closes
       ((messages ≡ []) × (left ≡ None))
-      (Walks (suc k) rest messages left)
+      (Walks rest messages left)

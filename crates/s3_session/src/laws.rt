@@ -1,10 +1,10 @@
 //! What is known of all connections: laws, with nothing to run.
 
 ghost use Rattle.s3_session.specs.ReadBack.{PutsAreReadBack, OnlyPutsAreReadBack, PayloadsAreBrought};
-ghost use Rattle.s3_session.specs.Laws.{OneOutput, OneVerdict, VerdictsExist, VerdictsStay, SoundMessages, SoundIsJudged};
+ghost use Rattle.s3_session.specs.Laws.{InvitationsStay, OneInvitation, OneOutput, OneVerdict, OneWriting, VerdictsExist, VerdictsStay, SessionsWrite, SoundMessages, SoundIsJudged};
 
 use s3_http_heads::{texts_say_one_thing, verdict_is_exact};
-use s3_payloads::{accepted_bodies_are_whole, verdicts_are_final};
+use s3_payloads::{accepted_bodies_are_whole, payloads_are_judged, verdicts_are_final};
 use s3_replies::{refusals_are_unique, replies_are_unique, replies_show_what_came};
 use s3_store::{only_puts_are_given, puts_are_kept};
 
@@ -48,14 +48,47 @@ pub fn sound_verdicts_are_exact()
     accepted_bodies_are_whole();
 }
 
+/// A law: settings, moment and bytes leave one text that is written before the body of the message at their
+/// front is read, and once there is a head text, whatever follows changes nothing of it. There is nothing to run.
+pub fn invitations_are_final()
+    ensures one { OneInvitation }
+    ensures stay { InvitationsStay }
+{
+    texts_say_one_thing();
+    s3_http_heads::verdicts_stay();
+    verdict_is_exact();
+}
+
+/// A law: settings, the bytes of a connection, the moments that its clock gave and the answers to its commands
+/// fix what it writes, the turns that its commands wait for, and how it stands, as long as memory does not run
+/// out: so how the bytes are cut into pieces decides nothing. There is nothing to run.
+pub fn inputs_fix_outputs()
+    ensures { OneWriting }
+{
+    verdicts_are_one();
+    invitations_are_final();
+    replies_are_unique();
+    refusals_are_unique();
+}
+
 /// A law: settings, moment and the bytes of a connection fix what a replay writes, as long as memory
 /// does not run out. There is nothing to run.
 pub fn outputs_are_one()
     ensures { OneOutput }
 {
     verdicts_are_one();
+    invitations_are_final();
     replies_are_unique();
     refusals_are_unique();
+}
+
+/// A law: a session that stands after some bytes, moments, turns and answers has written the output of the connection
+/// that they make, sent or not. There is nothing to run.
+pub fn sessions_write()
+    ensures { SessionsWrite }
+{
+    verdicts_stay();
+    payloads_are_judged();
 }
 
 /// A law: in the output of a connection, the reply to a get carries the bytes that the last put to its

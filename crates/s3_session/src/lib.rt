@@ -2,17 +2,20 @@
 #![tactic(auto)]
 
 mod admission;
-mod decision;
+mod clock;
+mod incoming;
 mod laws;
+mod opening;
 mod replay;
+mod session;
 mod turn;
-mod verdict;
 
 pub use admission::{Admission, admit};
-pub use decision::decide;
+pub use clock::{Clock, Still};
 pub use laws::{
-    outputs_are_one, puts_are_read_back, sound_verdicts_are_exact, verdicts_are_one,
-    verdicts_exist, verdicts_stay,
+    inputs_fix_outputs, invitations_are_final, outputs_are_one, puts_are_read_back, sessions_write,
+    sound_verdicts_are_exact, verdicts_are_one, verdicts_exist, verdicts_stay,
 };
 pub use replay::replay_one;
-pub use verdict::Verdict;
+pub use session::{Need, Session};
+pub use turn::Turn;

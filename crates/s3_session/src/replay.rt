@@ -1,15 +1,20 @@
-//! A whole connection, whose messages are answered in their order.
+//! A whole connection over a store of its own, whose commands have their turns at once.
 
-ghost use Rattle.std.specs.Prelude.{◌≡◌, ◌≢◌, ◌⊎◌, true, [], IfOk, OnOk, OnErr};
+ghost use Rattle.std.specs.Prelude.{◌≡◌, ◌≢◌, ◌⊎◌, true, [], IfOk, OnErr};
 ghost use Rattle.s3_store.specs.Store.{opening};
 ghost use Rattle.s3_session.specs.Decision.{Judges, open_yet};
 ghost use Rattle.s3_session.specs.Replay.{Replays};
+ghost use Rattle.s3_session.specs.Session.{unsent_of};
 
-use crate::laws::{sound_verdicts_are_exact, verdicts_are_one};
-use crate::turn::{Turn, take_turn};
+use crate::clock::Still;
+use crate::laws::{
+    invitations_are_final, sound_verdicts_are_exact, verdicts_are_one, verdicts_stay,
+};
+use crate::session::{Need, Session};
 use s3_calendar::Moment;
 use s3_config::Config;
 use s3_http_heads::verdict_is_exact;
+use s3_payloads::{payloads_are_judged, verdicts_are_final};
 use s3_store::{Store, one_more_entry};
 use s3_terms::NoMemory;
 use std::alloc::Global;
@@ -31,52 +36,57 @@ pub fn replay_one(
     ensures memory { OnErr result ((config.now.buckets ≢ [])
         ⊎ ¬ (Judges config.now moment true bytes.now open_yet)) }
 {
+    verdicts_are_one();
+    verdicts_are_final();
     if bytes.is_empty() {
         return Ok(Vec::new(alloc));
     }
     let mut store = Store::open(alloc, config.buckets())?;
-    let mut out = Vec::new(alloc);
-    take_turns(alloc, config, &mut store, bytes, moment, &mut out)?;
-    Ok(out)
+    take_turns(alloc, config, &mut store, bytes, moment).all(alloc)
 }
 
-// Takes turns until the bytes bring no more commands, a reply closes, or memory runs out. Each message
-// takes a byte at least.
+// The connection after its bytes and their end, whose commands had their turns at the store. Each message takes a
+// byte at least.
 fn take_turns(
     alloc: Global,
     config: &Config,
     store: &mut Store,
     bytes: &[u8],
     moment: Moment,
-    out: &mut Vec<u8>,
-) -> Result<(), NoMemory>
+) -> Session
     requires opening { store.old ≡ opening config.now.buckets }
-    requires nothing { out.old.items ≡ [] }
-    ensures output { OnOk result (Replays config.now moment bytes.now out.new.items) }
-    ensures memory { OnErr result (¬ (Judges config.now moment true bytes.now open_yet)) }
+    ensures { Replays config.now moment bytes.now (unsent_of result) }
 {
     one_more_entry();
-    verdict_is_exact();
+    payloads_are_judged();
+    verdicts_stay();
+    invitations_are_final();
     sound_verdicts_are_exact();
-    verdicts_are_one();
-    let mut rest = bytes;
+    verdict_is_exact();
+    s3_http_heads::verdicts_stay();
+    let mut clock = Still { moment };
+    let mut session = Session::new(alloc);
+    let mut taken = 0;
     for number in 0..bytes.len() as u64 {
-        let Ok(turn) = take_turn(alloc, config, store, number, rest, moment, out) else {
-            return Err(NoMemory);
-        };
-        match turn {
-            Turn::Ended => return Ok(()),
-            Turn::Died => return Ok(()),
-            Turn::Answered {
-                context,
-                rest: after,
-            } => {
-                if context.closes {
-                    return Ok(());
+        let (len, need) = session.feed(alloc, config, &mut clock, &bytes[taken..]);
+        taken += len;
+        match need {
+            Need::Turn(turn) => {
+                match store.apply(alloc, config.min_part(), turn.command, turn.moment, number) {
+                    Ok(answer) => session.answer(Ok(answer)),
+                    Err(e) => {
+                        session.answer(Err(e));
+                        return session;
+                    }
                 }
-                rest = after;
             }
+            Need::More => {
+                session.end();
+                return session;
+            }
+            Need::Close => return session,
         }
     }
-    Ok(())
+    session.end();
+    session
 }

@@ -5,7 +5,9 @@
 #[cfg(test)]
 mod chunked;
 #[cfg(test)]
-mod server;
+mod heads;
+#[cfg(test)]
+mod outcomes;
 #[cfg(test)]
 mod signer;
 #[cfg(test)]

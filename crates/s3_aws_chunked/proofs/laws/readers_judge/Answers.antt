@@ -4,6 +4,7 @@ use Rattle.s3_aws_chunked.specs.Decoder.{fault_at, progress_of}
 use Rattle.s3_aws_chunked.specs.Reader.{verdict_at}
 use Rattle.s3_aws_chunked.specs.declared.place.Place.{Place}
 use Rattle.s3_aws_chunked.proofs.JudgeLemmas.{progress_judges, progress_counts}
+use Rattle.s3_aws_chunked.proofs.OpenLemmas.{progress_come}
 use Rattle.s3_aws_chunked.proofs.ReaderLemmas.{unfailed}
 use Rattle.s3_aws_chunked.proofs.laws.readers_judge.Goals as goal
 
@@ -19,3 +20,7 @@ returns-clause-count c = λ reader terms bytes ended held stands unfailed'.
     ∙ progress_counts terms bytes ended
     (ap (λ (place : Place). fault_at place.phase) (sym stands.shows.place)
     ∙ unfailed reader.lost reader.decoder.place.phase stands.kept unfailed')
+
+pub returns-clause-within : goal.returns-clause-within
+returns-clause-within c = λ reader terms bytes ended held stands.
+    rw (stands.shows.place) (progress_come terms bytes ended)

@@ -1,34 +1,25 @@
-use Rattle.std.proofs.Common.{[], ◌∷◌, ◌-◌, ◌<◌, length, drop, sym, ◌∙◌, arith}
+use Rattle.std.proofs.Common.{◌-◌, length, drop, refl, sym, ◌∙◌, arith}
 use Rattle.std.proofs.lemmas.List.{take_rest, length-take}
-use Rattle.std.proofs.lemmas.Bool.{false≢true}
-use Rattle.std.proofs.lemmas.Bool.Decides.{Decides-eqb}
-use Rattle.std.proofs.lemmas.Slice.Eq.{slice_eq-Decides, starts_is}
-use Rattle.s3_http_heads.proofs.SearchLemmas.{front_empty, front_begun, front_all}
+use Rattle.s3_http_heads.proofs.SearchLemmas.{open_none, front_empty, front_begun, front_all, pair_held, pair_apart}
 use Rattle.s3_http_heads.proofs.search.front_of.Goals as goal
-use Rattle.s3_http_heads.proofs.search.front_of.Goals.{else-eq-via-then-eq+else-starts_with, else-eq-via-else-eq}
 
-pub returns-then-is_empty-clause-rest : goal.returns-then-is_empty-clause-rest
-returns-then-is_empty-clause-rest c = λ n.
-    front_empty c.args.held.now c.args.piece.now c.skipped.result n (grind (arith, c.is_empty.ensures, c.if-is_empty.true)) c.skipped.ensures.pairs c.skipped.ensures.within
+pub returns-then-position-eq0-clause-rest : goal.returns-then-position-eq0-clause-rest
+returns-then-position-eq0-clause-rest c = λ text o n.
+    front_empty text c.args.piece.now c.skipped.result n (omega (arith, c.if-position-eq0.true, o.count)) c.skipped.ensures.pairs c.skipped.ensures.within
 
-pub returns-then-starts_with-clause-rest : goal.returns-then-starts_with-clause-rest
-returns-then-starts_with-clause-rest c = λ n.
+pub returns-then-ends_pair-clause-rest : goal.returns-then-ends_pair-clause-rest
+returns-then-ends_pair-clause-rest c = λ text o n.
     let piece = c.args.piece.now in
-    let pairs = c.skipped-then-starts_with.ensures.pairs in
-    let cr = (slice_eq-Decides Decides-eqb c.args.held.now _ _ c.eq.ensures).0 c.if-eq.true ∙ c.as_slice.ensures in
-    let lf = (starts_is Decides-eqb piece (10 ∷ []) _ c.starts_with.ensures.value).0 c.if-starts_with.true in
-    front_begun c.args.held.now piece (drop 1 piece) c.skipped-then-starts_with.result n cr lf
+    let pairs = c.skipped-then-ends_pair.ensures.pairs in
+    let pair = pair_held text piece c.args.position o (sym c.ends_pair.ensures ∙ c.if-ends_pair.true) in
+    front_begun text piece (drop 1 piece) c.skipped-then-ends_pair.result n pair.0 pair.1
     (rw take_rest at pairs)
-    (omega (arith, c.skipped-then-starts_with.ensures.within, length-take (length piece - 1) (drop 1 piece)))
+    (omega (arith, c.skipped-then-ends_pair.ensures.within, length-take (length piece - 1) (drop 1 piece)))
 
 pub returns-clause-rest : goal.returns-clause-rest
-returns-clause-rest c = λ n.
-    let held = c.args.held.now in
-    let piece = c.args.piece.now in
-    let some : 0 < length held = grind (arith, c.is_empty.ensures, c.if-is_empty.false) in
-    front_all held piece n c.requires some (λ cr lf. elim c.else-eq.branch [
-      | else-eq-via-then-eq+else-starts_with w ↦
-          false≢true (sym w.if-starts_with.false ∙ (starts_is Decides-eqb piece (10 ∷ []) _ w.starts_with.ensures.value).1 (drop 1 piece) lf)
-      | else-eq-via-else-eq w ↦
-          false≢true (sym w.if-eq.false ∙ (slice_eq-Decides Decides-eqb held _ _ c.eq.ensures).1 (cr ∙ sym c.as_slice.ensures))
-    ])
+returns-clause-rest c = λ text o n.
+    front_all text c.args.piece.now n o.whole (omega (arith, c.if-position-eq0.false, o.count))
+    (pair_apart text c.args.piece.now c.args.position o (sym c.ends_pair.ensures ∙ c.if-ends_pair.false))
+
+pub returns-then-ends_pair-clause-open : goal.returns-then-ends_pair-clause-open
+returns-then-ends_pair-clause-open c = λ text o. open_none _ refl refl

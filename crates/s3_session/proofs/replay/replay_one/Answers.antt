@@ -1,7 +1,7 @@
-use Rattle.std.proofs.Common.{◌≡◌, [], length, arith, sym, subst}
-use Rattle.s3_store.specs.Store.{opening}
+use Rattle.std.proofs.Common.{◌≡◌, length, arith, sym, subst}
 use Rattle.s3_session.specs.Replay.{Replays}
-use Rattle.s3_session.proofs.ReplayLemmas.{stands_at_first, replays_through}
+use Rattle.s3_session.proofs.ReplayLemmas.{written_decided}
+use Rattle.s3_session.proofs.TurnsLemmas.{nothing_came}
 use Rattle.s3_session.proofs.replay.replay_one.Goals as goal
 
 pub returns-then-is_empty-clause-output : goal.returns-then-is_empty-clause-output
@@ -9,5 +9,8 @@ returns-then-is_empty-clause-output c =
     let settings = c.args.config.now in
     let bytes = c.args.bytes.now in
     let none : length bytes ≡ 0 = grind (arith, c.is_empty.ensures, c.if-is_empty.true) in
-    subst (Replays settings c.args.moment bytes) (sym c.new.ensures.items)
-    (replays_through settings c.args.moment bytes bytes [] (opening settings.buckets) 0 (stands_at_first settings c.args.moment bytes) none)
+    subst (Replays settings c.args.moment bytes) (sym c.new.ensures.items) (nothing_came settings c.args.moment bytes none)
+
+pub returns-clause-memory : goal.returns-clause-memory
+returns-clause-memory c =
+    written_decided c.verdicts_are_one.ensures c.verdicts_are_final.ensures.end c.args.config.now c.args.moment c.args.bytes.now _ c.take_turns.ensures c.all-2.result c.all-2.ensures.memory

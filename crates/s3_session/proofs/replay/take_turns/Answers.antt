@@ -1,47 +1,43 @@
-use Rattle.std.proofs.Common.{arith}
-use Rattle.s3_session.proofs.ReplayLemmas.{asked_at_first, stands_at_first, by_ended, by_died, by_closed, by_answered, fewer_left, replays_through}
+use Rattle.std.proofs.Common.{[], arith}
+use Rattle.s3_session.proofs.TurnsLemmas.{by_answer, by_close, by_death, by_last, by_more, reading_idle, turns_first}
 use Rattle.s3_session.proofs.replay.take_turns.Goals as goal
-
-pub returns-in_default-clause-memory : goal.returns-in_default-clause-memory
-returns-in_default-clause-memory c =
-    asked_at_first c.verdicts_are_one.ensures c.args.config.now c.args.moment c.args.bytes.now c.loop-number.rest.now _ c.loop-number.invariant.0.walk
-    c.in_default.ensures.memory
 
 pub loop-number-init : goal.loop-number-init
 loop-number-init c =
-    (rw (c.requires.opening, c.requires.nothing) (stands_at_first c.args.config.now c.args.moment c.args.bytes.now), omega arith)
+    rw c.requires.opening (turns_first c.args.config.now c.args.moment c.args.bytes.now c.new-session.result (c.new-session.ensures.begins c.args.config.now)
+    (reading_idle c.new-session.result c.new-session.ensures.standing) c.new-session.ensures.goes_on)
 
-pub returns-in-Ended-clause-output : goal.returns-in-Ended-clause-output
-returns-in-Ended-clause-output c =
-    by_ended c.args.config.now c.args.moment c.args.bytes.now c.loop-number.rest.now c.loop-number.out.items c.loop-number.store c.loop-number.number
-    c.take_turn.new.store c.in-Ok.turn c.take_turn.new.out.items
-    c.loop-number.invariant.0 c.in-Ended.is c.in-Ok.ensures.longer c.in-Ok.ensures.turned
+pub returns-in-Close : goal.returns-in-Close
+returns-in-Close c =
+    by_close c.args.config.now c.args.moment c.args.bytes.now c.loop-number.session c.feed-len.new.self c.loop-number.clock c.feed-len.new.clock c.loop-number.store c.loop-number.taken c.loop-number.number
+    c.feed-len.result.0 c.feed-len.result.1 c.loop-number.invariant c.feed-len.ensures.clock (c.feed-len.ensures.stands c.loop-number.invariant.past [] c.loop-number.invariant.stands) c.feed-len.ensures.within
+    c.verdicts_stay.ensures c.invitations_are_final.ensures.stay c.verdicts_stay-2.ensures.head c.payloads_are_judged.ensures.verdict c.in-Close.is c.feed-len.ensures.needs
 
-pub returns-in-Died-clause-output : goal.returns-in-Died-clause-output
-returns-in-Died-clause-output c =
-    by_died c.args.config.now c.args.moment c.args.bytes.now c.loop-number.rest.now c.loop-number.out.items c.loop-number.store c.loop-number.number
-    c.take_turn.new.store c.in-Ok.turn c.take_turn.new.out.items
-    c.loop-number.invariant.0 c.in-Died.is c.in-Ok.ensures.longer c.in-Ok.ensures.turned
+pub returns-in-More : goal.returns-in-More
+returns-in-More c =
+    by_more c.args.config.now c.args.moment c.args.bytes.now c.loop-number.session c.feed-len.new.self c.loop-number.clock c.feed-len.new.clock c.loop-number.store c.loop-number.taken c.loop-number.number
+    c.feed-len.result.0 c.feed-len.result.1 c.loop-number.invariant c.feed-len.ensures.clock (c.feed-len.ensures.stands c.loop-number.invariant.past [] c.loop-number.invariant.stands) c.feed-len.ensures.within
+    c.payloads_are_judged.ensures.verdict c.end.new.self c.in-More.is (c.feed-len.ensures.all c.loop-number.invariant.past [] c.loop-number.invariant.stands c.in-More.is)
+    (λ past h. c.end.ensures.stands c.args.config.now past [] h) c.end.ensures.waits c.feed-len.ensures.needs
 
-pub returns-then-context-clause-output : goal.returns-then-context-clause-output
-returns-then-context-clause-output c =
-    by_closed c.args.config.now c.args.moment c.args.bytes.now c.loop-number.rest.now c.loop-number.out.items c.loop-number.store c.loop-number.number
-    c.take_turn.new.store c.in-Ok.turn c.take_turn.new.out.items c.in-Answered.context c.in-Answered.after
-    c.sound_verdicts_are_exact.ensures.message c.one_more_entry.ensures.legal c.one_more_entry.ensures.leaves
-    c.loop-number.invariant.0 c.in-Answered.is c.in-Ok.ensures.longer c.in-Ok.ensures.turned c.if-context.true
+pub returns-in-Err : goal.returns-in-Err
+returns-in-Err c =
+    by_death c.args.config.now c.args.moment c.args.bytes.now c.loop-number.session c.feed-len.new.self c.loop-number.clock c.feed-len.new.clock c.loop-number.store c.loop-number.taken c.loop-number.number
+    c.feed-len.result.0 c.feed-len.result.1 c.loop-number.invariant c.feed-len.ensures.clock (c.feed-len.ensures.stands c.loop-number.invariant.past [] c.loop-number.invariant.stands) c.feed-len.ensures.within
+    c.in-Turn.turn c.in-Turn.is c.answer-in-Err.new.self
+    c.verdicts_stay.ensures c.invitations_are_final.ensures.stay c.verdicts_stay-2.ensures.head c.payloads_are_judged.ensures.verdict c.in-Err.e
+    (λ past h. c.answer-in-Err.ensures.stands c.args.config.now past [] h) c.answer-in-Err.ensures.standing
 
 pub loop-number-preserved : goal.loop-number-preserved
-loop-number-preserved c = (
-  by_answered c.args.config.now c.args.moment c.args.bytes.now c.loop-number.rest.now c.loop-number.out.items c.loop-number.store c.loop-number.number
-      c.take_turn.new.store c.in-Ok.turn c.take_turn.new.out.items c.in-Answered.context c.in-Answered.after
-      c.sound_verdicts_are_exact.ensures.message c.one_more_entry.ensures.legal c.one_more_entry.ensures.leaves
-      c.loop-number.invariant.0 c.in-Answered.is c.in-Ok.ensures.longer c.in-Ok.ensures.turned c.if-context.false,
-  fewer_left c.args.config.now c.args.moment c.args.bytes.now c.loop-number.rest.now c.loop-number.out.items c.loop-number.store c.loop-number.number
-      c.take_turn.new.store c.in-Ok.turn c.take_turn.new.out.items c.in-Answered.context c.in-Answered.after
-      c.verdict_is_exact.ensures.head c.sound_verdicts_are_exact.ensures.message c.loop-number.invariant.1 c.in-Answered.is c.in-Ok.ensures.turned,
-)
+loop-number-preserved c =
+    by_answer c.args.config.now c.args.moment c.args.bytes.now c.loop-number.session c.feed-len.new.self c.loop-number.clock c.feed-len.new.clock c.loop-number.store c.loop-number.taken c.loop-number.number
+    c.feed-len.result.0 c.feed-len.result.1 c.loop-number.invariant c.feed-len.ensures.clock (c.feed-len.ensures.stands c.loop-number.invariant.past [] c.loop-number.invariant.stands) c.feed-len.ensures.within
+    c.in-Turn.turn c.in-Turn.is c.answer.new.self
+    c.one_more_entry.ensures.legal c.one_more_entry.ensures.leaves c.min_part.result c.min_part.ensures.value c.in-Ok.answer c.apply.new.self c.in-Ok.ensures.state c.in-Ok.ensures.answer
+    (λ past h. c.answer.ensures.stands c.args.config.now past [] h) c.answer.ensures.standing (rw c.answer.ensures.end c.feed-len.ensures.goes_on)
 
-pub returns-clause-output : goal.returns-clause-output
-returns-clause-output c =
-    replays_through c.args.config.now c.args.moment c.args.bytes.now c.loop-number.rest.now c.loop-number.out.items c.loop-number.store c.loop-number.number c.loop-number.invariant.0
-    (omega (arith, c.loop-number-test.false, c.loop-number.invariant.1))
+pub returns : goal.returns
+returns c =
+    by_last c.verdict_is_exact.ensures.head c.sound_verdicts_are_exact.ensures.message c.payloads_are_judged.ensures.verdict
+    c.args.config.now c.args.moment c.args.bytes.now c.loop-number.session c.end-2.new.self c.loop-number.clock c.loop-number.store c.loop-number.taken c.loop-number.number c.loop-number.invariant
+    (omega (arith, c.loop-number-test.false)) (λ past h. c.end-2.ensures.stands c.args.config.now past [] h) c.end-2.ensures.waits

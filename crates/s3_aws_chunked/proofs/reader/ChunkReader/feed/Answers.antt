@@ -3,6 +3,7 @@ use Rattle.std.proofs.lemmas.List.{append-nil}
 use Rattle.s3_aws_chunked.specs.Decoder.{Progress, Shows, run, started}
 use Rattle.s3_aws_chunked.specs.Reader.{refusal_of}
 use Rattle.s3_aws_chunked.proofs.ReaderLemmas.{fed_shows, fed_held, fed_done, shows_afresh, no_fault, failed_closed, still_shows}
+use Rattle.s3_aws_chunked.proofs.OpenLemmas.{room_short}
 use Rattle.s3_aws_chunked.proofs.RunLemmas.{afresh}
 use Rattle.s3_aws_chunked.proofs.SinkLemmas.{got_by}
 use Rattle.s3_aws_chunked.proofs.reader.ChunkReader.feed.Goals as goal
@@ -49,3 +50,10 @@ returns-in-None-clause-all g c = λ terms bytes held stands.
           (no_fault c.args.self.now.lost c.advance.new.self.place.phase stands.kept (sym c.refusal-2.ensures ∙ c.in-None.is)),
     ))
     c.in-Ok.ensures.all
+
+pub returns-in_default-advance-clause-short : goal.returns-in_default-advance-clause-short
+returns-in_default-advance-clause-short g c = λ is terms bytes held stands.
+    let reader = c.args.self.now in
+    room_short terms bytes reader.decoder stands.shows
+    (no_fault reader.lost reader.decoder.place.phase stands.kept (sym c.refusal.ensures ∙ c.in_default.is))
+    c.in_default-advance.ensures.room

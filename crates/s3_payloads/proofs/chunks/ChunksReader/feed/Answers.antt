@@ -13,3 +13,4 @@ returns-clause-stands c = λ terms bytes stands.
     (λ code failed. (c.feed.ensures.refuses code failed).0)
     c.feed.ensures.grows
     (λ is. ⊎_elim (λ failed. inl failed) (λ some. inr (some.0)) (c.feed.ensures.memory is))
+    (λ is. c.feed.ensures.short is terms bytes c.args.self.now.payload stands)

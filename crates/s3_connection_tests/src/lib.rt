@@ -1,0 +1,30 @@
+//! Tests of connections as a machine, at the level of `s3_session::Session`: how they are fed, what they ask for, and
+//! what they write. What is sent is signed outside of this program; what is written is as `docs/PROTOCOL.md` says.
+#![tactic(auto)]
+
+#[cfg(test)]
+mod bodies;
+#[cfg(test)]
+mod clock;
+#[cfg(test)]
+mod cuts;
+#[cfg(test)]
+mod ends;
+#[cfg(test)]
+mod invitations;
+#[cfg(test)]
+mod line;
+#[cfg(test)]
+mod moments;
+#[cfg(test)]
+mod parts;
+#[cfg(test)]
+mod refused;
+#[cfg(test)]
+mod replies;
+#[cfg(test)]
+mod requests;
+#[cfg(test)]
+mod server;
+#[cfg(test)]
+mod steps;

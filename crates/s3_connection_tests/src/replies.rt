@@ -1,0 +1,275 @@
+//! What connections write, as `docs/PROTOCOL.md` prints it. The entity tags are those of Python's `hashlib`.
+use crate::parts::Part;
+
+// Answers at 2013-05-24T00:00:00Z.
+static ANSWERS: [Part; 11] = [
+    // What tells a client to send the body (RFC 9110, section 10.1.1).
+    (
+        "continue",
+        b"HTTP/1.1 100 Continue\r\n\
+        \r\n",
+    ),
+    // The answers to puts of `hello`: one that is the first command, the same where it closes the connection, and the second.
+    (
+        "stored",
+        b"HTTP/1.1 200 OK\r\n\
+        Date: Fri, 24 May 2013 00:00:00 GMT\r\n\
+        x-amz-request-id: 0000000000000000\r\n\
+        ETag: \"5d41402abc4b2a76b9719d911017c592\"\r\n\
+        Content-Length: 0\r\n\
+        \r\n",
+    ),
+    (
+        "stored and closed",
+        b"HTTP/1.1 200 OK\r\n\
+        Date: Fri, 24 May 2013 00:00:00 GMT\r\n\
+        Connection: close\r\n\
+        x-amz-request-id: 0000000000000000\r\n\
+        ETag: \"5d41402abc4b2a76b9719d911017c592\"\r\n\
+        Content-Length: 0\r\n\
+        \r\n",
+    ),
+    (
+        "stored again",
+        b"HTTP/1.1 200 OK\r\n\
+        Date: Fri, 24 May 2013 00:00:00 GMT\r\n\
+        x-amz-request-id: 0000000000000001\r\n\
+        ETag: \"5d41402abc4b2a76b9719d911017c592\"\r\n\
+        Content-Length: 0\r\n\
+        \r\n",
+    ),
+    // The answer to a get of it that is the second command, and the same a second later.
+    (
+        "shown",
+        b"HTTP/1.1 200 OK\r\n\
+        Date: Fri, 24 May 2013 00:00:00 GMT\r\n\
+        x-amz-request-id: 0000000000000001\r\n\
+        ETag: \"5d41402abc4b2a76b9719d911017c592\"\r\n\
+        Last-Modified: Fri, 24 May 2013 00:00:00 GMT\r\n\
+        Accept-Ranges: bytes\r\n\
+        Content-Type: binary/octet-stream\r\n\
+        Content-Length: 5\r\n\
+        \r\n\
+        hello",
+    ),
+    (
+        "shown at 1",
+        b"HTTP/1.1 200 OK\r\n\
+        Date: Fri, 24 May 2013 00:00:01 GMT\r\n\
+        x-amz-request-id: 0000000000000001\r\n\
+        ETag: \"5d41402abc4b2a76b9719d911017c592\"\r\n\
+        Last-Modified: Fri, 24 May 2013 00:00:00 GMT\r\n\
+        Accept-Ranges: bytes\r\n\
+        Content-Type: binary/octet-stream\r\n\
+        Content-Length: 5\r\n\
+        \r\n\
+        hello",
+    ),
+    (
+        "shown and closed",
+        b"HTTP/1.1 200 OK\r\n\
+        Date: Fri, 24 May 2013 00:00:00 GMT\r\n\
+        Connection: close\r\n\
+        x-amz-request-id: 0000000000000001\r\n\
+        ETag: \"5d41402abc4b2a76b9719d911017c592\"\r\n\
+        Last-Modified: Fri, 24 May 2013 00:00:00 GMT\r\n\
+        Accept-Ranges: bytes\r\n\
+        Content-Type: binary/octet-stream\r\n\
+        Content-Length: 5\r\n\
+        \r\n\
+        hello",
+    ),
+    // The answer to a put of nothing.
+    (
+        "stored nothing",
+        b"HTTP/1.1 200 OK\r\n\
+        Date: Fri, 24 May 2013 00:00:00 GMT\r\n\
+        x-amz-request-id: 0000000000000000\r\n\
+        ETag: \"d41d8cd98f00b204e9800998ecf8427e\"\r\n\
+        Content-Length: 0\r\n\
+        \r\n",
+    ),
+    // The answers to the put of AWS's example, and to a get of it without its letters.
+    (
+        "stored letters",
+        b"HTTP/1.1 200 OK\r\n\
+        Date: Fri, 24 May 2013 00:00:00 GMT\r\n\
+        x-amz-request-id: 0000000000000000\r\n\
+        ETag: \"da0d2e17cd5a8f14633c6b4aebad7e02\"\r\n\
+        Content-Length: 0\r\n\
+        \r\n",
+    ),
+    (
+        "shown letters",
+        b"HTTP/1.1 200 OK\r\n\
+        Date: Fri, 24 May 2013 00:00:00 GMT\r\n\
+        x-amz-request-id: 0000000000000001\r\n\
+        ETag: \"da0d2e17cd5a8f14633c6b4aebad7e02\"\r\n\
+        Last-Modified: Fri, 24 May 2013 00:00:00 GMT\r\n\
+        Accept-Ranges: bytes\r\n\
+        Content-Type: binary/octet-stream\r\n\
+        Content-Length: 66560\r\n\
+        \r\n",
+    ),
+    // What stands for an answer that there was no memory for.
+    (
+        "no memory",
+        b"HTTP/1.1 500 Internal Server Error\r\n\
+        Connection: close\r\n\
+        Content-Length: 0\r\n\
+        x-amz-request-id: 0000000000000000\r\n\
+        \r\n",
+    ),
+];
+
+pub(crate) fn answers() -> &'static [Part] {
+    &ANSWERS
+}
+
+// Refusals at 2013-05-24T00:00:00Z, each of which ends its connection.
+static REFUSALS: [Part; 8] = [
+    (
+        "AccessDenied",
+        b"HTTP/1.1 403 Forbidden\r\n\
+        Date: Fri, 24 May 2013 00:00:00 GMT\r\n\
+        Connection: close\r\n\
+        x-amz-request-id: 0000000000000000\r\n\
+        Content-Type: application/json\r\n\
+        Content-Length: 53\r\n\
+        \r\n\
+        {\"Code\":\"AccessDenied\",\"Message\":\"Access is denied.\"}",
+    ),
+    (
+        "SignatureDoesNotMatch",
+        b"HTTP/1.1 403 Forbidden\r\n\
+        Date: Fri, 24 May 2013 00:00:00 GMT\r\n\
+        Connection: close\r\n\
+        x-amz-request-id: 0000000000000000\r\n\
+        Content-Type: application/json\r\n\
+        Content-Length: 74\r\n\
+        \r\n\
+        {\"Code\":\"SignatureDoesNotMatch\",\"Message\":\"The signature does not match.\"}",
+    ),
+    (
+        "MissingContentLength",
+        b"HTTP/1.1 411 Length Required\r\n\
+        Date: Fri, 24 May 2013 00:00:00 GMT\r\n\
+        Connection: close\r\n\
+        x-amz-request-id: 0000000000000000\r\n\
+        Content-Type: application/json\r\n\
+        Content-Length: 71\r\n\
+        \r\n\
+        {\"Code\":\"MissingContentLength\",\"Message\":\"Content-Length is required.\"}",
+    ),
+    (
+        "MalformedHead",
+        b"HTTP/1.1 400 Bad Request\r\n\
+        Date: Fri, 24 May 2013 00:00:00 GMT\r\n\
+        Connection: close\r\n\
+        x-amz-request-id: 0000000000000000\r\n\
+        Content-Type: application/json\r\n\
+        Content-Length: 59\r\n\
+        \r\n\
+        {\"Code\":\"MalformedHead\",\"Message\":\"The head is malformed.\"}",
+    ),
+    (
+        "HeadTooLarge",
+        b"HTTP/1.1 400 Bad Request\r\n\
+        Date: Fri, 24 May 2013 00:00:00 GMT\r\n\
+        Connection: close\r\n\
+        x-amz-request-id: 0000000000000000\r\n\
+        Content-Type: application/json\r\n\
+        Content-Length: 58\r\n\
+        \r\n\
+        {\"Code\":\"HeadTooLarge\",\"Message\":\"The head is too large.\"}",
+    ),
+    (
+        "IncompleteBody",
+        b"HTTP/1.1 400 Bad Request\r\n\
+        Date: Fri, 24 May 2013 00:00:00 GMT\r\n\
+        Connection: close\r\n\
+        x-amz-request-id: 0000000000000000\r\n\
+        Content-Type: application/json\r\n\
+        Content-Length: 61\r\n\
+        \r\n\
+        {\"Code\":\"IncompleteBody\",\"Message\":\"The body is incomplete.\"}",
+    ),
+    (
+        "XAmzContentSHA256Mismatch",
+        b"HTTP/1.1 400 Bad Request\r\n\
+        Date: Fri, 24 May 2013 00:00:00 GMT\r\n\
+        Connection: close\r\n\
+        x-amz-request-id: 0000000000000000\r\n\
+        Content-Type: application/json\r\n\
+        Content-Length: 78\r\n\
+        \r\n\
+        {\"Code\":\"XAmzContentSHA256Mismatch\",\"Message\":\"The body hash does not match.\"}",
+    ),
+    // The refusal of a request for a head alone, without its document.
+    (
+        "NotImplemented to HEAD",
+        b"HTTP/1.1 501 Not Implemented\r\n\
+        Date: Fri, 24 May 2013 00:00:00 GMT\r\n\
+        Connection: close\r\n\
+        x-amz-request-id: 0000000000000000\r\n\
+        Content-Type: application/json\r\n\
+        Content-Length: 62\r\n\
+        \r\n",
+    ),
+];
+
+pub(crate) fn refusals() -> &'static [Part] {
+    &REFUSALS
+}
+
+// The same some seconds later.
+static LATER: [Part; 4] = [
+    (
+        "MalformedHead at 2",
+        b"HTTP/1.1 400 Bad Request\r\n\
+        Date: Fri, 24 May 2013 00:00:02 GMT\r\n\
+        Connection: close\r\n\
+        x-amz-request-id: 0000000000000000\r\n\
+        Content-Type: application/json\r\n\
+        Content-Length: 59\r\n\
+        \r\n\
+        {\"Code\":\"MalformedHead\",\"Message\":\"The head is malformed.\"}",
+    ),
+    (
+        "HeadTooLarge at 1",
+        b"HTTP/1.1 400 Bad Request\r\n\
+        Date: Fri, 24 May 2013 00:00:01 GMT\r\n\
+        Connection: close\r\n\
+        x-amz-request-id: 0000000000000000\r\n\
+        Content-Type: application/json\r\n\
+        Content-Length: 58\r\n\
+        \r\n\
+        {\"Code\":\"HeadTooLarge\",\"Message\":\"The head is too large.\"}",
+    ),
+    (
+        "SignatureDoesNotMatch at 1",
+        b"HTTP/1.1 403 Forbidden\r\n\
+        Date: Fri, 24 May 2013 00:00:01 GMT\r\n\
+        Connection: close\r\n\
+        x-amz-request-id: 0000000000000000\r\n\
+        Content-Type: application/json\r\n\
+        Content-Length: 74\r\n\
+        \r\n\
+        {\"Code\":\"SignatureDoesNotMatch\",\"Message\":\"The signature does not match.\"}",
+    ),
+    (
+        "IncompleteBody at 1",
+        b"HTTP/1.1 400 Bad Request\r\n\
+        Date: Fri, 24 May 2013 00:00:01 GMT\r\n\
+        Connection: close\r\n\
+        x-amz-request-id: 0000000000000000\r\n\
+        Content-Type: application/json\r\n\
+        Content-Length: 61\r\n\
+        \r\n\
+        {\"Code\":\"IncompleteBody\",\"Message\":\"The body is incomplete.\"}",
+    ),
+];
+
+pub(crate) fn later() -> &'static [Part] {
+    &LATER
+}

@@ -1,0 +1,146 @@
+-- What a piece of a body makes of its message.
+use Rattle.std.proofs.Common.{◌≡◌, ℕ, ◌+◌, ◌-◌, ◌≤◌, true, false, List, [], ◌++◌, take, drop, length, min, refl, sym, ap, subst, ◌∙◌, arith, inl, inr, length-append, Ok, Err}
+use Rattle.std.proofs.lemmas.List.{take_all, take_min, drop_all, length-take}
+use Rattle.s3_config.specs.Settings.{Settings}
+use Rattle.s3_terms.specs.declared.code.Code.{Code}
+use Rattle.s3_aws_chunked.specs.Verdict as bodies
+use Rattle.s3_payloads.specs.Laws.{AcceptedAreWhole, OpenBodiesAreShort, PayloadsFail, PayloadsJudge, PayloadsStayOpen, RefusalsStand}
+use Rattle.s3_payloads.specs.Outcome.{part_of}
+use Rattle.s3_payloads.specs.Reader.{IsFed, Stands, taken_of, verdict_of}
+use Rattle.s3_payloads.specs.Verdict as payloads
+use Rattle.s3_requests.specs.Routing.{command_of}
+use Rattle.s3_replies.specs.declared.context.Context.{Context}
+use Rattle.s3_session.specs.Verdict as verdicts
+use Rattle.s3_session.specs.Decision.{Decision, Judges, concluded, context_of}
+use Rattle.s3_session.specs.declared.incoming.Incoming.{Incoming}
+use Rattle.s3_session.specs.declared.incoming.Progress.{Progress}
+use Rattle.s3_session.specs.Incoming.{IsIncoming, IsInBody, IsRefusedBy, Progresses, Settles, is_open}
+use Rattle.s3_session.proofs.StayLemmas.{HeadsStay, PairsStay}
+use Rattle.s3_session.proofs.FrontLemmas.{IsFront, front_more, body_judged, take_beyond}
+
+-- as much of a piece as is left
+pub part_taken : {X : Type 0} (bytes piece : List X) (size : ℕ) → length bytes ≤ size
+    → take size (bytes ++ piece) ≡ bytes ++ take (min (length piece) (size - length bytes)) piece
+part_taken bytes piece size le =
+    let turned : min (size - length bytes) (length piece) ≡ min (length piece) (size - length bytes) = omega arith in
+    take_beyond bytes piece size le
+    ∙ ap (λ t. bytes ++ t) (sym (take_min (size - length bytes) piece) ∙ ap (λ n. take n piece) turned)
+
+module _ (heads : HeadsStay) (pairs : PairsStay) (settings : Settings) (old new : Incoming) (rest piece : List ℕ)
+    (h : IsIncoming settings old rest) (kept : new.context ≡ old.context) (planned : new.admission.plan ≡ old.admission.plan) where
+  -- more of the bytes stand at the same head
+  front_with : (n : ℕ) → IsFront (rest ++ take n piece) h.text (h.behind ++ take n piece)
+  front_with n = front_more heads pairs rest h.text h.behind (take n piece) (record { found = h.found; joined = h.joined })
+
+  still_incoming : (n : ℕ) → Stands new.admission.reader h.asked.announced (h.behind ++ take n piece) false
+      → taken_of new.admission.reader ≡ length (h.behind ++ take n piece) → length (h.behind ++ take n piece) ≤ h.asked.announced.length
+      → IsIncoming settings new (rest ++ take n piece)
+  still_incoming n stands taken within =
+      let front = front_with n in
+      record {
+        head = h.head;
+        asked = h.asked;
+        text = h.text;
+        behind = h.behind ++ take n piece;
+        found = front.found;
+        joined = front.joined;
+        says = h.says;
+        admitted = rw kept h.admitted;
+        context = kept ∙ h.context ∙ ap (λ (c : Context). context_of h.head c.moment) (sym kept);
+        plan = planned ∙ h.plan;
+        stands = stands;
+        taken = taken;
+        within = within;
+      }
+
+  -- what is known of the body is known of the message
+  body_known : (n : ℕ) (verdict : bodies.Verdict) → payloads.Judges h.asked.announced (h.behind ++ take n piece) false verdict
+      → Judges settings old.context.moment false (rest ++ take n piece) (concluded h.head old.context.moment h.asked (h.behind ++ take n piece) verdict)
+  body_known n verdict judged =
+      body_judged settings old.context.moment false (rest ++ take n piece) h.text (h.behind ++ take n piece) h.head (front_with n) h.says h.asked h.admitted verdict judged
+
+  -- the body is whole and right with the bytes that were taken
+  whole_known : AcceptedAreWhole → (n : ℕ) (payload : List ℕ) → n ≡ part_of h.asked.announced.length h.behind piece
+      → payloads.Judges h.asked.announced (h.behind ++ piece) false (bodies.Accepted payload)
+      → Judges settings old.context.moment false (rest ++ take n piece) (verdicts.Sound old.context (command_of new.admission.plan payload), [])
+  whole_known whole n payload is judged =
+      let size = h.asked.announced.length in
+      let front = whole h.asked.announced (h.behind ++ piece) false payload judged in
+      let taken : take size (h.behind ++ piece) ≡ h.behind ++ take n piece = part_taken h.behind piece size h.within ∙ ap (λ k. h.behind ++ take k piece) (sym is) in
+      let accepted = subst (λ (b : List ℕ). payloads.Judges h.asked.announced b false (bodies.Accepted payload)) taken front.1 in
+      let shorter : length (h.behind ++ take n piece) ≤ size = rw (← taken) (omega (arith, length-take size (h.behind ++ piece))) in
+      let none : drop size (h.behind ++ take n piece) ≡ [] = drop_all size (h.behind ++ take n piece) shorter in
+      let is_so : concluded h.head old.context.moment h.asked (h.behind ++ take n piece) (bodies.Accepted payload)
+      ≡ (verdicts.Sound old.context (command_of new.admission.plan payload), []) = rw (none, planned, h.plan, ← h.context) refl in
+      subst (λ (d : Decision). Judges settings old.context.moment false (rest ++ take n piece) d) is_so (body_known n (bodies.Accepted payload) accepted)
+
+  module _ (judge : PayloadsJudge) (undecided : PayloadsStayOpen) (short : OpenBodiesAreShort) (whole : AcceptedAreWhole) (n : ℕ)
+      (fed : IsFed h.asked.announced h.behind piece (Ok n) new.admission.reader)
+      (count : taken_of new.admission.reader ≡ taken_of old.admission.reader + n) where
+    by_verdict : (verdict : bodies.Verdict) → verdict_of new.admission.reader ≡ verdict → (p : Progress) → Settles new verdict p
+        → Progresses settings old.context (rest ++ take n piece) p
+    by_verdict (bodies.Open held) at p settles =
+        let size = h.asked.announced.length in
+        let judged = subst (λ (v : bodies.Verdict). payloads.Judges h.asked.announced (h.behind ++ piece) false v) at (judge new.admission.reader h.asked.announced (h.behind ++ piece) false fed.1) in
+        let lacks = short h.asked.announced (h.behind ++ piece) held judged in
+        let joined = length-append h.behind piece in
+        let all : n ≡ length piece = fed.0 ∙ omega (arith, lacks, joined) in
+        let same : take n piece ≡ piece = take_all n piece (omega (arith, all)) in
+        let body : IsInBody settings new (rest ++ take n piece) = record {
+          begun = still_incoming n (rw same fed.1) (count ∙ ap (λ k. k + n) h.taken ∙ rw same (omega (arith, all, joined))) (rw same (omega (arith, lacks)));
+          held = held;
+          undecided = at;
+        } in
+        subst (λ (q : Progress). Progresses settings old.context (rest ++ take n piece) q) (sym settles) (kept, body)
+    by_verdict (bodies.Accepted payload) at p settles =
+        let judged = subst (λ (v : bodies.Verdict). payloads.Judges h.asked.announced (h.behind ++ piece) false v) at (judge new.admission.reader h.asked.announced (h.behind ++ piece) false fed.1) in
+        subst (λ (q : Progress). Progresses settings old.context (rest ++ take n piece) q) (sym settles) (whole_known whole n payload fed.0 judged)
+    by_verdict (bodies.Refused place code) at p settles =
+        let still = undecided new.admission.reader fed.2 (rw at refl) in
+        let never : bodies.Refused place code ≡ bodies.Open still.0 = sym at ∙ still.1 in
+        absurd (cc)
+
+  -- the reader refuses, or memory ran out
+  pub progress_err : PayloadsJudge → PayloadsFail → RefusalsStand → (code : Code) → IsFed h.asked.announced h.behind piece (Err code) new.admission.reader
+      → taken_of old.admission.reader ≤ taken_of new.admission.reader → (n : ℕ) → n ≡ taken_of new.admission.reader - taken_of old.admission.reader
+      → (p : Progress) → IsRefusedBy code p → Progresses settings old.context (rest ++ take n piece) p
+  progress_err judge fail stand code fed counts n is p (inl lost) =
+      subst (λ (q : Progress). Progresses settings old.context (rest ++ take n piece) q) (sym lost.1) tt
+  progress_err judge fail stand code (failed, inl ran_out) counts n is p (inr refused) = absurd (refused.0 ran_out.0)
+  progress_err judge fail stand code (failed, inr stands) counts n is p (inr refused) =
+      let bytes = h.behind ++ piece in
+      let place = taken_of new.admission.reader in
+      let judged = subst (λ (v : bodies.Verdict). payloads.Judges h.asked.announced bytes false v) (fail new.admission.reader h.asked.announced bytes false code stands failed) (judge new.admission.reader h.asked.announced bytes false stands) in
+      let there = stand h.asked.announced bytes place code judged in
+      let front : take place bytes ≡ h.behind ++ take n piece = take_beyond h.behind piece place (omega (arith, counts, h.taken)) ∙ ap (λ k. h.behind ++ take k piece) (omega (arith, is, h.taken)) in
+      let known = body_known n (bodies.Refused place code) (subst (λ (b : List ℕ). payloads.Judges h.asked.announced b false (bodies.Refused place code)) front there.1) in
+      let is_so : concluded h.head old.context.moment h.asked (h.behind ++ take n piece) (bodies.Refused place code) ≡ (verdicts.Refused code old.context.head_only, []) = rw (h.context) refl in
+      subst (λ (q : Progress). Progresses settings old.context (rest ++ take n piece) q) (sym refused.1)
+      (subst (λ (d : Decision). Judges settings old.context.moment false (rest ++ take n piece) d) is_so known)
+
+-- where bytes are still to come, all that came were taken
+module _ (judge : PayloadsJudge) (undecided : PayloadsStayOpen) (short : OpenBodiesAreShort) (settings : Settings) (old new : Incoming) (rest piece : List ℕ)
+    (h : IsIncoming settings old rest) (n : ℕ) (fed : IsFed h.asked.announced h.behind piece (Ok n) new.admission.reader) (p : Progress) where
+  taken_by : (verdict : bodies.Verdict) → verdict_of new.admission.reader ≡ verdict → Settles new verdict p → is_open p ≡ true → n ≡ length piece
+  taken_by (bodies.Open held) at settles still =
+      let judged = subst (λ (v : bodies.Verdict). payloads.Judges h.asked.announced (h.behind ++ piece) false v) at (judge new.admission.reader h.asked.announced (h.behind ++ piece) false fed.1) in
+      fed.0 ∙ omega (arith, short h.asked.announced (h.behind ++ piece) held judged, length-append h.behind piece)
+  taken_by (bodies.Accepted payload) at settles still = let same = ap is_open settles in absurd (cc)
+  taken_by (bodies.Refused place code) at settles still =
+      let open_still = undecided new.admission.reader fed.2 (rw at refl) in
+      let never : bodies.Refused place code ≡ bodies.Open open_still.0 = sym at ∙ open_still.1 in
+      absurd (cc)
+
+  pub all_taken : Settles new (verdict_of new.admission.reader) p → is_open p ≡ true → n ≡ length piece
+  all_taken settles still = taken_by (verdict_of new.admission.reader) refl settles still
+
+-- the reader takes the bytes, and refuses nothing
+pub progress_ok : HeadsStay → PairsStay → PayloadsJudge → PayloadsStayOpen → OpenBodiesAreShort → AcceptedAreWhole
+    → (settings : Settings) (old new : Incoming) (rest piece : List ℕ) (h : IsIncoming settings old rest)
+    → new.context ≡ old.context → new.admission.plan ≡ old.admission.plan
+    → (n : ℕ) → IsFed h.asked.announced h.behind piece (Ok n) new.admission.reader
+    → taken_of new.admission.reader ≡ taken_of old.admission.reader + n
+    → (p : Progress) → Settles new (verdict_of new.admission.reader) p
+    → Progresses settings old.context (rest ++ take n piece) p
+progress_ok heads pairs judge undecided short whole settings old new rest piece h kept planned n fed count p settles =
+    by_verdict heads pairs settings old new rest piece h kept planned judge undecided short whole n fed count (verdict_of new.admission.reader) refl p settles

@@ -1,0 +1,18 @@
+use Rattle.std.proofs.Common.{refl, subst, sym}
+use Rattle.s3_http_heads.specs.Search.{Holds}
+use Rattle.s3_session.specs.Session.{Connection}
+use Rattle.s3_session.proofs.ReceivingLemmas.{begins_admitted, begins_refused}
+use Rattle.s3_session.proofs.session.Session.begin.Goals as goal
+
+pub returns-in-Ok-clause-fed : goal.returns-in-Ok-clause-fed
+returns-in-Ok-clause-fed c rest held whole =
+    begins_admitted c.args.config.now c.args.moment rest c.args.piece.now c.args.self.now _ held whole c.searches_find.ensures.head
+    c.payloads_are_judged.ensures.within c.in-Admitted.incoming c.in-Admitted.invited _ c.read_body.result.0 c.read_body.result.1
+    c.in-Ok.ensures.written c.read_body.ensures.longer (λ last h invites. c.read_body.ensures.fed c.args.config.now rest last h invites)
+    c.text.result (c.text.ensures.text rest (subst (λ (s : Connection). Holds s.search rest) (sym c.self.view_is) held)) c.in-Admitted.ensures
+
+pub returns-in-Refused-clause-fed : goal.returns-in-Refused-clause-fed
+returns-in-Refused-clause-fed c rest held whole =
+    begins_refused c.args.config.now c.args.moment rest c.args.piece.now c.args.self.now _ held whole c.searches_find.ensures.head
+    c.text.result (c.text.ensures.text rest (subst (λ (s : Connection). Holds s.search rest) (sym c.self.view_is) held)) c.in-Refused.code c.in-Refused.head_only c.in-Refused.ensures
+    c.refuse.ensures.stage c.refuse.ensures.printed _ refl

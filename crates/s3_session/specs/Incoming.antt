@@ -1,0 +1,101 @@
+-- How a message stands whose head has come, and what its body brings.
+-- Only clauses of private functions and `Stands` cite these, and nobody has to believe them.
+use Rattle.std.specs.Prelude.{◌≡◌, ◌≢◌, ◌⊎◌, ℕ, ◌≤◌, Bool, true, false, List, [], ◌++◌, length, Option, Some, None, Result, Ok, Err, ⊤}
+use Rattle.s3_config.specs.Settings.{Settings}
+use Rattle.s3_terms.specs.declared.code.Code.{Code}
+use Rattle.s3_terms.specs.declared.code.Code.TheVariants.{MalformedHead, InternalError}
+use Rattle.s3_http_heads.specs.Find.{found_in, skip_pairs}
+use Rattle.s3_http_heads.specs.declared.find.Found.TheVariants as found
+use Rattle.s3_http_heads.specs.Head.{HeadParts, Says, HasNoHead, asks_head_only}
+use Rattle.s3_aws_chunked.specs.Verdict as bodies
+use Rattle.s3_payloads.specs.Reader as payloads
+use Rattle.s3_requests.specs.Routing.{command_of}
+use Rattle.s3_replies.specs.declared.context.Context.{Context}
+use Rattle.s3_session.specs.Verdict as verdicts
+use Rattle.s3_session.specs.Admission.{Asked, IsRuled, admission_of}
+use Rattle.s3_session.specs.Decision.{Judges, context_of}
+use Rattle.s3_session.specs.Invitation.{may_be_invited}
+use Rattle.s3_session.specs.declared.incoming.Incoming.{Incoming}
+use Rattle.s3_session.specs.declared.incoming.Progress.{Progress}
+use Rattle.s3_session.specs.declared.incoming.Progress.TheVariants as progress
+use Rattle.s3_session.specs.declared.opening.Opening.{Opening}
+use Rattle.s3_session.specs.declared.opening.Opening.TheVariants as opening
+
+-- what came of a head: it is admitted, and its client may be told to go on; it is refused; or memory ran out
+abbrev pub HeadOpens : HeadParts → ℕ → Result Asked Code → Opening → Type 0
+HeadOpens head moment rule (opening.Admitted incoming invited) =
+    IsRuled rule incoming.admission
+    × (incoming.context ≡ context_of head moment)
+    × (invited ≡ may_be_invited head)
+HeadOpens head moment rule (opening.Refused code head_only) = (rule ≡ Err code) × (head_only ≡ asks_head_only head)
+HeadOpens head moment rule opening.Died = Unit {0}
+
+-- what came of a head text
+abbrev pub TextOpens : Settings → ℕ → List ℕ → Opening → Type 0
+TextOpens settings moment text opened =
+    (opened ≡ opening.Died)
+    ⊎ (HasNoHead text × (opened ≡ opening.Refused MalformedHead false))
+    ⊎ ((head : HeadParts) × Says text head × HeadOpens head moment (admission_of settings head moment) opened)
+
+-- the same, where the text may have been lost
+abbrev pub Opens : Settings → ℕ → Option (List ℕ) → Opening → Type 0
+Opens settings moment None opened = opened ≡ opening.Died
+Opens settings moment (Some text) opened = TextOpens settings moment text opened
+
+-- the head at the front of these bytes was admitted, and the reader of its body stands behind all of them
+pub record IsIncoming (settings : Settings) (incoming : Incoming) (rest : List ℕ) : Type 0 where
+  pub head : HeadParts
+  pub asked : Asked
+  pub text : List ℕ
+  pub behind : List ℕ
+  pub found : found_in rest ≡ found.Head (length text)
+  pub joined : skip_pairs rest ≡ text ++ behind
+  pub says : Says text head
+  pub admitted : admission_of settings head incoming.context.moment ≡ Ok asked
+  pub context : incoming.context ≡ context_of head incoming.context.moment
+  pub plan : incoming.admission.plan ≡ asked.plan
+  pub stands : payloads.Stands incoming.admission.reader asked.announced behind false
+  pub taken : payloads.taken_of incoming.admission.reader ≡ length behind
+  pub within : length behind ≤ asked.announced.length
+
+-- and nothing is decided about it yet
+pub record IsInBody (settings : Settings) (incoming : Incoming) (rest : List ℕ) : Type 0 where
+  pub begun : IsIncoming settings incoming rest
+  pub held : List ℕ
+  pub undecided : payloads.verdict_of incoming.admission.reader ≡ bodies.Open held
+
+-- what became of it with these bytes, where its reply takes this from it
+abbrev pub Progresses : Settings → Context → List ℕ → Progress → Type 0
+Progresses settings context rest (progress.Open incoming) = (incoming.context ≡ context) × IsInBody settings incoming rest
+Progresses settings context rest (progress.Whole command) = Judges settings context.moment false rest (verdicts.Sound context command, [])
+Progresses settings context rest (progress.Refused code) = Judges settings context.moment false rest (verdicts.Refused code context.head_only, [])
+Progresses settings context rest progress.Died = Unit {0}
+
+-- the end of input refuses it
+abbrev pub IsCut : Settings → Context → List ℕ → Result ⊤ Code → Type 0
+IsCut settings context rest (Ok done) = ⊥
+IsCut settings context rest (Err code) = Judges settings context.moment true rest (verdicts.Refused code context.head_only, [])
+
+-- bytes of the body are still to come
+abbrev pub is_open : Progress → Bool
+is_open (progress.Open incoming) = true
+is_open (progress.Whole command) = false
+is_open (progress.Refused code) = false
+is_open progress.Died = false
+
+-- what becomes of a message by what its reader says
+abbrev pub Settles : Incoming → bodies.Verdict → Progress → Type 0
+Settles incoming (bodies.Open held) settled = settled ≡ progress.Open incoming
+Settles incoming (bodies.Accepted payload) settled = settled ≡ progress.Whole (command_of incoming.admission.plan payload)
+Settles incoming (bodies.Refused place code) settled = Unit {0}
+
+-- a refusal by the reader: want of memory is none of the message
+abbrev pub IsRefusedBy : Code → Progress → Type 0
+IsRefusedBy code settled = ((code ≡ InternalError) × (settled ≡ progress.Died)) ⊎ ((code ≢ InternalError) × (settled ≡ progress.Refused code))
+
+-- what its reply takes from it, where it has one still
+abbrev pub context_in : Context → Progress → Context
+context_in context (progress.Open incoming) = incoming.context
+context_in context (progress.Whole command) = context
+context_in context (progress.Refused code) = context
+context_in context progress.Died = context

@@ -1,0 +1,39 @@
+-- What is written before the body of a message is read (RFC 9110, section 10.1.1).
+use Rattle.std.specs.Prelude.{◌≡◌, ◌⊎◌, ℕ, Bool, false, ◌&&◌, nat_lt, if◌then◌else◌, List, [], unwrap_or, Result, Ok, Err}
+use Rattle.s3_config.specs.Settings.{Settings}
+use Rattle.s3_terms.specs.declared.code.Code.{Code}
+use Rattle.s3_http_heads.specs.Find.{found_in}
+use Rattle.s3_http_heads.specs.declared.find.Found.{Found}
+use Rattle.s3_http_heads.specs.declared.find.Found.TheVariants as found
+use Rattle.s3_http_heads.specs.Head.{HeadParts, Says, HasNoHead, expects_continue}
+use Rattle.s3_http_heads.specs.BodyLength.{announced, length_lines}
+use Rattle.s3_replies.specs.Replies.{continue_line}
+use Rattle.s3_session.specs.Admission.{Asked, admission_of}
+use Rattle.s3_session.specs.Decision.{text_at}
+
+-- a body follows the head (RFC 9112, section 6.2)
+abbrev pub has_body : HeadParts → Bool
+has_body head = nat_lt 0 (unwrap_or (announced (length_lines head)) 0)
+
+-- the client waits to be told to go on, with a body that isn't empty
+abbrev pub may_be_invited : HeadParts → Bool
+may_be_invited head = expects_continue head && has_body head
+
+-- it is told so where nothing refuses the head
+abbrev pub is_invited : HeadParts → Result Asked Code → Bool
+is_invited head (Err code) = false
+is_invited head (Ok asked) = may_be_invited head
+
+abbrev pub invitation : HeadParts → Result Asked Code → List ℕ
+invitation head rule = if is_invited head rule then continue_line else []
+
+abbrev pub FoundInvites : Settings → ℕ → List ℕ → Found → List ℕ → Type 0
+FoundInvites settings moment bytes found.NeedMore text = text ≡ []
+FoundInvites settings moment bytes found.TooLarge text = text ≡ []
+FoundInvites settings moment bytes (found.Head n) text =
+    (HasNoHead (text_at n bytes) × (text ≡ []))
+    ⊎ ((head : HeadParts) × Says (text_at n bytes) head × (text ≡ invitation head (admission_of settings head moment)))
+
+-- this is written before the body of the message at the front of the bytes is read: a line, or nothing
+unfoldable pub Invites : Settings → ℕ → List ℕ → List ℕ → Type 0
+Invites settings moment bytes text = FoundInvites settings moment bytes (found_in bytes) text

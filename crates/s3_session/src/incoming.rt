@@ -1,0 +1,98 @@
+//! The body of a message whose head was admitted, as it comes.
+
+ghost use Rattle.std.specs.Prelude.{◌≡◌, ◌≤◌, ℕ, Bool, true, List, ◌++◌, length, take};
+ghost use Rattle.s3_config.specs.Settings.{Settings};
+ghost use Rattle.s3_payloads.specs.Form.{Announced};
+ghost use Rattle.s3_payloads.specs.Reader.{Stands, verdict_of};
+ghost use Rattle.s3_session.specs.Incoming as rules;
+
+use crate::admission::Admission;
+use s3_payloads::{
+    accepted_bodies_are_whole, open_bodies_are_short, payloads_are_judged, refusals_stand,
+};
+use s3_replies::Context;
+use s3_requests::{Command, command};
+use s3_terms::Code;
+
+// A message whose head was admitted: what it asks for, with the reader of its body, and what its reply takes from it.
+#[derive(Drop)]
+pub(crate) struct Incoming {
+    pub(crate) admission: Admission,
+    pub(crate) context: Context,
+}
+
+// What became of it.
+#[derive(Drop)]
+pub(crate) enum Progress {
+    // Bytes of the body are still to come.
+    Open(Incoming),
+    // It is sound, and this is its command.
+    Whole(Command),
+    // It is refused.
+    Refused(Code),
+    // Memory ran out.
+    Died,
+}
+
+impl Incoming {
+    // Takes as much of the piece as is the body's: how many bytes those are, up to the one at which the body is refused,
+    // and what became of the message with them.
+    pub(crate) fn read(mut self, piece: &[u8]) -> (usize, Progress)
+        ensures within { result.0 ≤ length piece.now }
+        ensures read { (settings : Settings) (rest : List ℕ) → rules.IsIncoming settings self rest
+            → rules.Progresses settings self.context (rest ++ take result.0 piece.now) result.1 }
+        ensures all { (settings : Settings) (rest : List ℕ) → rules.IsIncoming settings self rest
+            → rules.is_open result.1 ≡ true → result.0 ≡ length piece.now }
+        ensures kept { rules.context_in self.context result.1 ≡ self.context }
+    {
+        payloads_are_judged();
+        open_bodies_are_short();
+        refusals_stand();
+        accepted_bodies_are_whole();
+        s3_http_heads::verdicts_stay();
+        let before = self.admission.reader.taken();
+        match self.admission.reader.feed(piece) {
+            Ok(len) => (len, self.settled()),
+            Err(code) => (
+                (self.admission.reader.taken() - before) as usize,
+                refused(code),
+            ),
+        }
+    }
+
+    // Says that no more bytes of it come: with what code it is refused.
+    pub(crate) fn end(mut self) -> Result<(), Code>
+        ensures { (settings : Settings) (rest : List ℕ) → rules.IsInBody settings self rest → rules.IsCut settings self.context rest result }
+    {
+        payloads_are_judged();
+        open_bodies_are_short();
+        self.admission.reader.end()
+    }
+
+    // What became of it with the bytes so far, where nothing refuses them.
+    fn settled(self) -> Progress
+        ensures settles { (announced : Announced) (bytes : List ℕ) (ended : Bool)
+            → Stands self.admission.reader announced bytes ended
+            → rules.Settles self (verdict_of self.admission.reader) result }
+        ensures kept { rules.context_in self.context result ≡ self.context }
+    {
+        if !self.admission.reader.is_whole() {
+            return Progress::Open(self);
+        }
+        let Admission { reader, plan } = self.admission;
+        match reader.finish() {
+            Ok(payload) => Progress::Whole(command(plan, payload)),
+            Err(code) => Progress::Refused(code),
+        }
+    }
+}
+
+// What becomes of a message that its reader refuses.
+fn refused(code: Code) -> Progress
+    ensures { rules.IsRefusedBy code result }
+{
+    match code {
+        Code::InternalError => Progress::Died,
+        code => Progress::Refused(code),
+    }
+}

@@ -1,0 +1,87 @@
+//! What comes of a whole head.
+
+ghost use Rattle.std.specs.Prelude.{◌≡◌, option_copied};
+ghost use Rattle.s3_session.specs.Admission.{admission_of};
+ghost use Rattle.s3_session.specs.Decision.{context_of};
+ghost use Rattle.s3_session.specs.Incoming as rules;
+ghost use Rattle.s3_session.specs.Invitation.{may_be_invited};
+
+use crate::admission::admit;
+use crate::incoming::Incoming;
+use s3_calendar::Moment;
+use s3_config::Config;
+use s3_http_heads::{Head, announced_length};
+use s3_replies::Context;
+use s3_terms::Code;
+use std::alloc::Global;
+
+// What comes of a whole head.
+#[derive(Drop)]
+pub(crate) enum Opening {
+    // It is admitted; whether its client is told to go on.
+    Admitted(Incoming, bool),
+    // It is refused.
+    Refused { code: Code, head_only: bool },
+    // Memory ran out.
+    Died,
+}
+
+// What comes of this head text; there is none where memory ran out for it.
+pub(crate) fn open_text(
+    alloc: Global,
+    config: &Config,
+    text: Option<&[u8]>,
+    moment: Moment,
+) -> Opening
+    ensures { rules.Opens config.now moment (option_copied text.entry) result }
+{
+    let Some(text) = text else {
+        return Opening::Died;
+    };
+    match Head::read(alloc, text) {
+        Ok(head) => open_head(alloc, config, &head, moment),
+        Err(Code::MalformedHead) => Opening::Refused {
+            code: Code::MalformedHead,
+            head_only: false,
+        },
+        Err(_) => Opening::Died,
+    }
+}
+
+// What comes of this head.
+fn open_head(alloc: Global, config: &Config, head: &Head, moment: Moment) -> Opening
+    ensures { rules.HeadOpens head.now moment (admission_of config.now head.now moment) result }
+{
+    match admit(alloc, config, head, moment) {
+        Ok(admission) => Opening::Admitted(
+            Incoming {
+                admission,
+                context: context_of(head, moment),
+            },
+            may_be_invited(head),
+        ),
+        Err(Code::InternalError) => Opening::Died,
+        Err(code) => Opening::Refused {
+            code,
+            head_only: head.asks_head_only(),
+        },
+    }
+}
+
+// Whether the client waits to be told to send a body.
+fn may_be_invited(head: &Head) -> bool
+    ensures { result ≡ may_be_invited head.now }
+{
+    head.expects_continue() && announced_length(head).unwrap_or(0) > 0
+}
+
+// What a reply takes from a message with this head.
+fn context_of(head: &Head, moment: Moment) -> Context
+    ensures { result ≡ context_of head.now moment }
+{
+    Context {
+        moment,
+        head_only: head.asks_head_only(),
+        closes: head.closes(),
+    }
+}

@@ -1,0 +1,462 @@
+//! A connection as a machine: it is fed with bytes as they come, asks for a turn where a command waits, is given
+//! the answer, and hands out what it writes.
+
+ghost use Rattle.std.specs.Prelude.{◌≡◌, ◌<◌, ◌≤◌, ℕ, Bool, true, false, List, [], ◌∷◌, ◌++◌, length, take, drop, if◌then◌else◌, IfOk, OnOk, OnErr};
+ghost use Rattle.s3_config.specs.Settings.{Settings};
+ghost use Rattle.s3_http_heads.specs.Search.{Stands, Holds};
+ghost use Rattle.s3_outbox.specs.Pending.{bytes_of};
+ghost use Rattle.s3_replies.specs.Replies.{Prints, PrintsRefusal, body_of, continue_line, internal_error};
+ghost use Rattle.s3_session.specs.Incoming.{IsIncoming, IsInBody};
+ghost use Rattle.s3_session.specs.Invitation.{Invites};
+ghost use Rattle.s3_session.specs.Output.{HasText, Past, Reading, nothing_yet};
+
+use crate::clock::Clock;
+use crate::incoming::{Incoming, Progress};
+use crate::laws::{invitations_are_final, verdicts_stay};
+use crate::opening::{Opening, open_text};
+use crate::turn::Turn;
+use s3_calendar::Moment;
+use s3_config::Config;
+use s3_http_heads::{Found, HeadSearch, searches_find};
+use s3_outbox::Outbox;
+use s3_payloads::payloads_are_judged;
+use s3_replies::{Context, continue_reply, head_of, internal_error_reply, refusal};
+use s3_requests::Command;
+use s3_segments::Body;
+use s3_store::{Answer, Outcome};
+use s3_terms::{Code, NoMemory};
+use std::alloc::Global;
+use std::marker::Model;
+use std::mem;
+
+/// What a connection needs next.
+#[derive(Drop)]
+pub enum Need {
+    /// More bytes, or the end of the input.
+    More,
+    /// The answer to this command.
+    Turn(Turn),
+    /// That what it has still to send is sent, and nothing else: the connection ends with it.
+    Close,
+}
+
+// Why no more is read.
+#[derive(Clone, Copy, Drop)]
+pub(crate) enum Closing {
+    // A reply closed the connection.
+    Replied,
+    // A message of this moment was refused.
+    Refused(Moment),
+    // Memory ran out for a message of this moment.
+    Died(Moment),
+}
+
+// Where a connection stands.
+#[derive(Drop)]
+pub(crate) enum Stage {
+    // The head of the next message has not come, or not its last byte.
+    Reading,
+    // The head of a message was admitted, and of its body something is still to come.
+    Body(Incoming),
+    // The command of a sound message waits for its answer.
+    Waiting(Context),
+    // No more is read.
+    Closed(Closing),
+}
+
+/// A connection, which is fed with bytes in any pieces and writes the same for every cut.
+///
+/// It makes no call of the system: the caller moves the bytes. `docs/ARCHITECTURE.md` has a table of its states.
+#[derive(Drop)]
+pub struct Session {
+    search: HeadSearch,
+    stage: Stage,
+    outbox: Outbox,
+    is_ended: bool,
+}
+
+impl Model for Session {
+    ghost use Rattle.s3_session.specs.Session.{Connection, IsFit};
+
+    ghost Value = { Connection };
+
+    ghost view = { λ s. record { search = s.search; stage = s.stage; outbox = s.outbox; is_ended = s.is_ended } };
+
+    ghost invariant = { λ s. IsFit s.stage s.outbox };
+}
+
+impl Session {
+    ghost use Rattle.s3_session.specs.Session as rules;
+
+    /// A connection of which nothing has come. It takes no memory.
+    pub fn new(alloc: Global) -> Session
+        ensures begins { (settings : Settings) → rules.Stands result settings nothing_yet [] }
+        ensures standing { rules.standing_of result ≡ Reading }
+        ensures goes_on { result.is_ended ≡ false }
+        ensures nothing { rules.unsent_of result ≡ [] }
+    {
+        Session {
+            search: HeadSearch::new(alloc),
+            stage: Stage::Reading,
+            outbox: Outbox::new(alloc),
+            is_ended: false,
+        }
+    }
+
+    /// Takes a piece of what the peer sent, up to the end of the message at hand, and answers how many of its bytes
+    /// it took, with what it needs next. `Turn` comes where the message is whole and sound, `Close` where the output
+    /// has ended: at the byte that refuses a message, or behind a reply that closes. What it did not take belongs
+    /// behind this message, and the caller offers it again after the answer. The clock is asked once for each
+    /// message, when its whole head has come, or more than a head may have.
+    ///
+    /// Takes time by the length of what it takes, and for each head that of `s3_signing::verify_head`; memory for the
+    /// bytes of a head, and once that is verified for the data of the body that came. Where memory runs out, the
+    /// connection ends with the reply that says so.
+    pub fn feed<C: Clock>(
+        &mut self,
+        alloc: Global,
+        config: &Config,
+        clock: &mut C,
+        piece: &[u8],
+    ) -> (usize, Need)
+        requires answered { rules.is_waiting (rules.standing_of self.old) ≡ false }
+        requires goes_on { self.old.is_ended ≡ false }
+        ensures within { result.0 ≤ length piece.now }
+        ensures stands { (past : Past) (sent : List ℕ) → rules.Stands self.old config.now past sent
+            → rules.Stands self.new config.now
+            (rules.fed past (take result.0 piece.now) (rules.gave_between self.old self.new) (rules.turns_of result.1)) sent }
+        ensures clock { rules.IsAsked C.gives clock.old clock.new (rules.gave_between self.old self.new) }
+        ensures needs { rules.Needs result.1 self.new.stage }
+        ensures all { (past : Past) (sent : List ℕ) → rules.Stands self.old config.now past sent
+            → result.1 ≡ Need.More → result.0 ≡ length piece.now }
+        ensures longer { rules.IsLonger (rules.unsent_of self.old) (rules.unsent_of self.new) }
+        ensures goes_on { self.new.is_ended ≡ false }
+    {
+        verdicts_stay();
+        invitations_are_final();
+        match &self.stage {
+            Stage::Reading => self.read_head(alloc, config, clock, piece),
+            Stage::Body(_) => {
+                let Stage::Body(incoming) = mem::replace(&mut self.stage, Stage::Reading) else {
+                    unreachable!()
+                };
+                self.read_body(incoming, piece)
+            }
+            Stage::Waiting(_) | Stage::Closed(_) => (0, Need::Close),
+        }
+    }
+
+    // Takes as much of the piece as is the next message's, of whose head some bytes may have come.
+    fn read_head<C: Clock>(
+        &mut self,
+        alloc: Global,
+        config: &Config,
+        clock: &mut C,
+        piece: &[u8],
+    ) -> (usize, Need)
+        requires stage { self.old.stage ≡ Stage.Reading }
+        requires goes_on { self.old.is_ended ≡ false }
+        ensures within { result.0 ≤ length piece.now }
+        ensures fed { (rest : List ℕ) → Stands self.old.search rest
+            → rules.IsFed config.now self.old self.new rest [] piece.now result.0 result.1 }
+        ensures clock { rules.IsAsked C.gives clock.old clock.new (rules.moment_at self.new.stage) }
+        ensures needs { rules.Needs result.1 self.new.stage }
+        ensures longer { rules.IsLonger (rules.unsent_of self.old) (rules.unsent_of self.new) }
+        ensures end { self.new.is_ended ≡ false }
+    {
+        let (len, found) = self.search.feed(piece);
+        match found {
+            Found::NeedMore => (len, Need::More),
+            Found::TooLarge => {
+                self.refuse(Code::HeadTooLarge, clock.now(), false);
+                (len, Need::Close)
+            }
+            Found::Head { .. } => {
+                let (behind, need) = self.begin(alloc, config, clock.now(), &piece[len..]);
+                (len + behind, need)
+            }
+        }
+    }
+
+    // Judges the head that has come whole, and takes as much of the piece behind it as is its body's.
+    fn begin(
+        &mut self,
+        alloc: Global,
+        config: &Config,
+        moment: Moment,
+        piece: &[u8],
+    ) -> (usize, Need)
+        requires stage { self.old.stage ≡ Stage.Reading }
+        ensures within { result.0 ≤ length piece.now }
+        ensures fed { (rest : List ℕ) → Holds self.old.search rest → HasText rest
+            → rules.IsFed config.now self.old self.new rest [] piece.now result.0 result.1 }
+        ensures moment { rules.moment_at self.new.stage ≡ moment ∷ [] }
+        ensures needs { rules.Needs result.1 self.new.stage }
+        ensures longer { rules.IsLonger (rules.unsent_of self.old) (rules.unsent_of self.new) }
+        ensures end { self.new.is_ended ≡ self.old.is_ended }
+    {
+        searches_find();
+        payloads_are_judged();
+        match open_text(alloc, config, self.search.text(), moment) {
+            Opening::Admitted(incoming, invited) => match self.invite(invited) {
+                Ok(()) => self.read_body(incoming, piece),
+                Err(NoMemory) => {
+                    self.die(moment);
+                    (0, Need::Close)
+                }
+            },
+            Opening::Refused { code, head_only } => {
+                self.refuse(code, moment, head_only);
+                (0, Need::Close)
+            }
+            Opening::Died => {
+                self.die(moment);
+                (0, Need::Close)
+            }
+        }
+    }
+
+    // Tells the client to send the body, if it is invited.
+    fn invite(&mut self, invited: bool) -> Result<(), NoMemory>
+        requires stage { self.old.stage ≡ Stage.Reading }
+        ensures unended { self.new.outbox.is_ended ≡ false }
+        ensures written { OnOk result (rules.unsent_of self.new ≡ rules.unsent_of self.old ++ (if invited then continue_line else [])) }
+        ensures same { OnErr result (rules.unsent_of self.new ≡ rules.unsent_of self.old) }
+        ensures end { self.new.is_ended ≡ self.old.is_ended }
+    {
+        if invited {
+            self.outbox.make_room()?;
+            self.outbox.push(continue_reply(), None);
+        }
+        Ok(())
+    }
+
+    // Takes as much of the piece as is the body's.
+    fn read_body(&mut self, incoming: Incoming, piece: &[u8]) -> (usize, Need)
+        requires unended { self.old.outbox.is_ended ≡ false }
+        ensures within { result.0 ≤ length piece.now }
+        ensures fed { (settings : Settings) (rest last : List ℕ) → IsIncoming settings incoming rest
+            → Invites settings incoming.context.moment rest last
+            → rules.IsFed settings self.old self.new rest last piece.now result.0 result.1 }
+        ensures moment { rules.moment_at self.new.stage ≡ incoming.context.moment ∷ [] }
+        ensures needs { rules.Needs result.1 self.new.stage }
+        ensures longer { rules.IsLonger (rules.unsent_of self.old) (rules.unsent_of self.new) }
+        ensures end { self.new.is_ended ≡ self.old.is_ended }
+    {
+        invitations_are_final();
+        s3_http_heads::verdicts_stay();
+        let context = incoming.context;
+        let (len, progress) = incoming.read(piece);
+        (len, self.go_on(context, progress))
+    }
+
+    // Goes on with what became of a message.
+    fn go_on(&mut self, context: Context, progress: Progress) -> Need
+        requires unended { self.old.outbox.is_ended ≡ false }
+        ensures goes_on { rules.GoesOn context progress self.old self.new result }
+        ensures needs { rules.Needs result self.new.stage }
+        ensures longer { rules.IsLonger (rules.unsent_of self.old) (rules.unsent_of self.new) }
+        ensures end { self.new.is_ended ≡ self.old.is_ended }
+    {
+        match progress {
+            Progress::Open(incoming) => {
+                self.stage = Stage::Body(incoming);
+                Need::More
+            }
+            Progress::Whole(command) => self.ask(context, command),
+            Progress::Refused(code) => {
+                self.refuse(code, context.moment, context.head_only);
+                Need::Close
+            }
+            Progress::Died => {
+                self.die(context.moment);
+                Need::Close
+            }
+        }
+    }
+
+    // Asks for the turn of a command, once there is room for its reply.
+    fn ask(&mut self, context: Context, command: Command) -> Need
+        requires unended { self.old.outbox.is_ended ≡ false }
+        ensures asks { rules.Asks context command self.old self.new result }
+        ensures needs { rules.Needs result self.new.stage }
+        ensures longer { rules.IsLonger (rules.unsent_of self.old) (rules.unsent_of self.new) }
+        ensures end { self.new.is_ended ≡ self.old.is_ended }
+    {
+        let moment = context.moment;
+        match self.outbox.make_room() {
+            Ok(()) => {
+                self.stage = Stage::Waiting(context);
+                Need::Turn(Turn { command, moment })
+            }
+            Err(NoMemory) => {
+                self.die(moment);
+                Need::Close
+            }
+        }
+    }
+
+    // Writes the refusal of a message of this moment, and ends.
+    fn refuse(&mut self, code: Code, moment: Moment, head_only: bool)
+        requires { self.old.outbox.is_ended ≡ false }
+        ensures stage { self.new.stage ≡ Stage.Closed (Closing.Refused moment) }
+        ensures longer { rules.IsLonger (rules.unsent_of self.old) (rules.unsent_of self.new) }
+        ensures printed { PrintsRefusal code moment head_only (rules.added (rules.unsent_of self.old) (rules.unsent_of self.new)) }
+        ensures end { self.new.is_ended ≡ self.old.is_ended }
+    {
+        self.outbox
+            .end_with(refusal(code, moment, head_only).as_slice());
+        self.stage = Stage::Closed(Closing::Refused(moment));
+    }
+
+    // Writes what stands for a reply to a message of this moment, for which memory ran out, and ends.
+    fn die(&mut self, moment: Moment)
+        requires { self.old.outbox.is_ended ≡ false }
+        ensures stage { self.new.stage ≡ Stage.Closed (Closing.Died moment) }
+        ensures written { rules.unsent_of self.new ≡ rules.unsent_of self.old ++ internal_error }
+        ensures end { self.new.is_ended ≡ self.old.is_ended }
+    {
+        self.outbox.end_with(internal_error_reply());
+        self.stage = Stage::Closed(Closing::Died(moment));
+    }
+
+    /// Answers the turn that was asked for: the reply is written, or, where memory ran out at the turn, what stands
+    /// for one. It takes no memory: the room was made before the turn was asked for.
+    pub fn answer(&mut self, answered: Result<Answer, NoMemory>)
+        requires waits { rules.is_waiting (rules.standing_of self.old) ≡ true }
+        ensures stands { (settings : Settings) (past : Past) (sent : List ℕ) → rules.Stands self.old settings past sent
+            → rules.Stands self.new settings (rules.answered past answered) sent }
+        ensures standing { rules.IsAnsweredTo answered (rules.standing_of self.new) }
+        ensures longer { rules.IsLonger (rules.unsent_of self.old) (rules.unsent_of self.new) }
+        ensures end { self.new.is_ended ≡ self.old.is_ended }
+    {
+        if let Stage::Waiting(context) = self.stage {
+            match answered {
+                Ok(answer) => {
+                    self.make_ready(context.closes);
+                    self.reply(answer, &context);
+                }
+                Err(NoMemory) => self.die(context.moment),
+            }
+        }
+    }
+
+    // Makes ready for the next message, or closes.
+    fn make_ready(&mut self, closes: bool)
+        requires unended { self.old.outbox.is_ended ≡ false }
+        ensures ready { rules.IsReady closes self.new }
+        ensures outbox { self.new.outbox ≡ self.old.outbox }
+        ensures end { self.new.is_ended ≡ self.old.is_ended }
+    {
+        if closes {
+            self.stage = Stage::Closed(Closing::Replied);
+        } else {
+            self.search.clear();
+            self.stage = Stage::Reading;
+        }
+    }
+
+    // Writes the reply to an answer.
+    fn reply(&mut self, answer: Answer, context: &Context)
+        requires ready { rules.IsReady context.now.closes self.old }
+        requires room { self.old.outbox.has_room ≡ true }
+        requires unended { self.old.outbox.is_ended ≡ false }
+        ensures ready { rules.IsReady context.now.closes self.new }
+        ensures printed { Prints answer context.now (rules.added (rules.unsent_of self.old) (rules.unsent_of self.new)) }
+        ensures longer { rules.IsLonger (rules.unsent_of self.old) (rules.unsent_of self.new) }
+        ensures end { self.new.is_ended ≡ self.old.is_ended }
+    {
+        let head = head_of(&answer, context);
+        self.outbox.push(head.as_slice(), body_of(answer, context));
+    }
+
+    /// Says that no more bytes come. A message whose body isn't whole is refused with `IncompleteBody`; of a message
+    /// whose head isn't whole nothing is said. A command that waits goes on waiting.
+    pub fn end(&mut self)
+        ensures stands { (settings : Settings) (past : Past) (sent : List ℕ) → rules.Stands self.old settings past sent
+            → rules.Stands self.new settings (record past { ended = true }) sent }
+        ensures waits { rules.is_waiting (rules.standing_of self.new) ≡ rules.is_waiting (rules.standing_of self.old) }
+        ensures longer { rules.IsLonger (rules.unsent_of self.old) (rules.unsent_of self.new) }
+        ensures end { self.new.is_ended ≡ true }
+    {
+        if self.is_ended {
+            return;
+        }
+        verdicts_stay();
+        invitations_are_final();
+        s3_http_heads::verdicts_stay();
+        self.is_ended = true;
+        if self.in_body() {
+            self.cut();
+        }
+    }
+
+    // Refuses the message whose body is cut short.
+    fn cut(&mut self)
+        requires body { rules.is_in_body self.old.stage ≡ true }
+        ensures cut { (incoming : Incoming) → self.old.stage ≡ Stage.Body incoming → (settings : Settings) (rest : List ℕ)
+            → IsInBody settings incoming rest → rules.IsCutTo settings incoming.context rest self.old self.new }
+        ensures waits { rules.is_waiting (rules.standing_of self.new) ≡ false }
+        ensures longer { rules.IsLonger (rules.unsent_of self.old) (rules.unsent_of self.new) }
+        ensures end { self.new.is_ended ≡ self.old.is_ended }
+    {
+        let Stage::Body(incoming) = mem::replace(&mut self.stage, Stage::Reading) else {
+            unreachable!()
+        };
+        let context = incoming.context;
+        if let Err(code) = incoming.end() {
+            self.refuse(code, context.moment, context.head_only);
+        }
+    }
+
+    /// Whether the head of a message was admitted, and of its body, which isn't empty, nothing is decided yet.
+    pub fn in_body(&self) -> bool
+        ensures { result ≡ rules.is_in_body self.now.stage }
+    {
+        matches!(self.stage, Stage::Body(_))
+    }
+
+    /// A beginning of what it has written and not sent, as long as it stands together; it is empty only where all is
+    /// sent.
+    pub fn out(&self) -> &[u8]
+        ensures beginning { take (length result.now) (rules.unsent_of self.now) ≡ result.now }
+        ensures within { length result.now ≤ length (rules.unsent_of self.now) }
+        ensures empty { result.now ≡ [] → rules.unsent_of self.now ≡ [] }
+    {
+        self.outbox.out()
+    }
+
+    /// Says that so many bytes in front were sent. They are dropped, and a body goes with its last byte.
+    pub fn sent(&mut self, count: usize)
+        requires within { count ≤ length (rules.unsent_of self.old) }
+        ensures stands { (settings : Settings) (past : Past) (sent : List ℕ) → rules.Stands self.old settings past sent
+            → rules.Stands self.new settings past (sent ++ take count (rules.unsent_of self.old)) }
+        ensures left { rules.unsent_of self.new ≡ drop count (rules.unsent_of self.old) }
+        ensures standing { rules.standing_of self.new ≡ rules.standing_of self.old }
+        ensures end { self.new.is_ended ≡ self.old.is_ended }
+    {
+        self.outbox.sent(count);
+    }
+
+    /// A copy of all that it has written and not sent.
+    ///
+    /// # Errors
+    ///
+    /// `NoMemory` where something is unsent and memory runs out.
+    pub fn all(&self, alloc: Global) -> Result<Vec<u8>, NoMemory>
+        ensures all { IfOk result (λ all. all.items ≡ rules.unsent_of self.now) }
+        ensures memory { OnErr result (0 < length (rules.unsent_of self.now)) }
+    {
+        self.outbox.all(alloc)
+    }
+}
+
+// The bytes of a reply that its head does not hold.
+fn body_of(answer: Answer, context: &Context) -> Option<Body>
+    ensures { bytes_of result ≡ body_of answer context.now }
+{
+    match answer.outcome {
+        Outcome::Got { object } if !context.head_only => Some(object.body),
+        _ => None,
+    }
+}
