@@ -96,6 +96,8 @@ impl HeadSearch {
     /// Takes as much of the piece as is the head's: up to the head's last byte, or to the byte that makes
     /// it too large, and else all. Gives how many bytes those are, and what is found with them.
     ///
+    /// Once something was found, `clear` comes before the next piece.
+    ///
     /// It takes room for those bytes alone, and never for those behind the head. Where memory runs out for
     /// one of them, the text is lost until the search begins anew.
     pub fn feed(&mut self, piece: &[u8]) -> (usize, Found)

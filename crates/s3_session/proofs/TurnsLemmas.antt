@@ -17,10 +17,7 @@ use Rattle.s3_session.specs.declared.clock.Still.{Still}
 use Rattle.s3_session.specs.declared.turn.Turn.{Turn}
 use Rattle.s3_session.specs.declared.session.Need.{Need}
 use Rattle.s3_session.specs.declared.session.Need.TheVariants as needs
-use Rattle.s3_session.specs.declared.session.Stage.{Stage}
-use Rattle.s3_session.specs.declared.session.Stage.TheVariants as stages
-use Rattle.s3_session.specs.declared.session.Closing.TheVariants as closings
-use Rattle.s3_session.specs.Session.{Connection, IsAnsweredTo, IsAsked, Needs, Stands, answered, fed, gave_between, is_waiting, standing_at, standing_of, turns_of, unsent_of}
+use Rattle.s3_session.specs.Session.{Connection, IsAnsweredTo, IsClockAsked, Needs, Stands, answered, fed, gave_between, is_waiting, standing_of, turns_of, unsent_of}
 use Rattle.s3_session.proofs.StayLemmas.{HeadsStay, IsExact}
 use Rattle.s3_session.proofs.ShorterLemmas.{sound_shorter}
 use Rattle.s3_session.proofs.ReceivingLemmas.{take_on}
@@ -69,7 +66,7 @@ all_on P (x ∷ xs) ys left right = (left.0, all_on P xs ys left.1 right)
 
 -- a clock that stands still gives its moment
 still_gives : (moment : ℕ) (old new : Still) (gave : List ℕ) → old.moment ≡ moment
-    → IsAsked (λ (o : Still) (n : Still) (m : ℕ). (m ≡ o.moment) × (n ≡ o)) old new gave
+    → IsClockAsked (λ (o : Still) (n : Still) (m : ℕ). (m ≡ o.moment) × (n ≡ o)) old new gave
     → (new.moment ≡ moment) × AllByRecursion (λ (m : ℕ). m ≡ moment) gave
 still_gives moment old new [] at asked = (ap (λ (s : Still). s.moment) asked ∙ at, tt)
 still_gives moment old new (m ∷ []) at asked = (ap (λ (s : Still). s.moment) asked.1 ∙ at, (asked.0 ∙ at, tt))
@@ -219,19 +216,17 @@ reading_idle session is = ap is_waiting is
 
 -- ---- a turn
 
-closed_stage : (stage : Stage) → Needs needs.Close stage → (is_waiting (standing_at stage) ≡ false) × (standing_at stage ≢ Reading)
-closed_stage stages.Reading needed = absurd needed
-closed_stage (stages.Body incoming) needed = absurd needed
-closed_stage (stages.Waiting context) needed = absurd needed
-closed_stage (stages.Closed closings.Replied) needed = (refl, λ is. absurd (cc))
-closed_stage (stages.Closed (closings.Refused moment)) needed = (refl, λ is. absurd (cc))
-closed_stage (stages.Closed (closings.Died moment)) needed = (refl, λ is. absurd (cc))
+closed_standing : (standing : Standing) → Needs needs.Close standing → (is_waiting standing ≡ false) × (standing ≢ Reading)
+closed_standing Reading needed = absurd needed
+closed_standing Waiting needed = absurd needed
+closed_standing Over needed = (refl, λ is. absurd (cc))
+closed_standing Dead needed = (refl, λ is. absurd (cc))
 
-more_stage : (stage : Stage) → Needs needs.More stage → is_waiting (standing_at stage) ≡ false
-more_stage stages.Reading needed = refl
-more_stage (stages.Body incoming) needed = refl
-more_stage (stages.Waiting context) needed = absurd needed
-more_stage (stages.Closed closing) needed = absurd needed
+more_standing : (standing : Standing) → Needs needs.More standing → is_waiting standing ≡ false
+more_standing Reading needed = refl
+more_standing Waiting needed = absurd needed
+more_standing Over needed = absurd needed
+more_standing Dead needed = absurd needed
 
 ready_stage : (answer : Answer) (standing : Standing) → IsAnsweredTo (Ok answer) standing → is_waiting standing ≡ false
 ready_stage answer Reading ready = refl
@@ -247,7 +242,7 @@ dead_stage e Dead dead = (refl, λ is. absurd (cc))
 
 module _ (settings : Settings) (moment : ℕ) (bytes : List ℕ) (session mid : Connection) (clock later : Still) (store : State) (taken number n : ℕ) (need : Need)
     (t : TakesTurns settings moment bytes session clock store taken number)
-    (asked : IsAsked (λ (o : Still) (c : Still) (m : ℕ). (m ≡ o.moment) × (c ≡ o)) clock later (gave_between session mid))
+    (asked : IsClockAsked (λ (o : Still) (c : Still) (m : ℕ). (m ≡ o.moment) × (c ≡ o)) clock later (gave_between session mid))
     (stands : Stands mid settings (fed t.past (take n (take (length bytes - taken) (drop taken bytes))) (gave_between session mid) (turns_of need)) [])
     (within : n ≤ length (take (length bytes - taken) (drop taken bytes))) where
   rest : List ℕ
@@ -275,27 +270,27 @@ module _ (settings : Settings) (moment : ℕ) (bytes : List ℕ) (session mid : 
   counts = t.turns ∙ sym t.answers
 
   -- no turn is asked for, and no more is read
-  pub by_close : VerdictsStay → InvitationsStay → HeadsStay → PayloadsJudge → need ≡ needs.Close → Needs need mid.stage → Replays settings moment bytes (unsent_of mid)
+  pub by_close : VerdictsStay → InvitationsStay → HeadsStay → PayloadsJudge → need ≡ needs.Close → Needs need (standing_of mid) → Replays settings moment bytes (unsent_of mid)
   unfolding counts came_then moments_then
   by_close stay invited heads judge closes needed =
       let none : turns_of need ≡ [] = ap turns_of closes in
       let legal : Legal settings.min_part (opening settings.buckets) 0 (entries_of (t.past.turns ++ turns_of need) t.past.answers) =
       subst (λ (ts : List Turn). Legal settings.min_part (opening settings.buckets) 0 (entries_of ts t.past.answers)) (sym (ap (λ (ts : List Turn). t.past.turns ++ ts) none ∙ append-nil t.past.turns)) t.legal in
-      let shut = closed_stage mid.stage (subst (λ (m : Need). Needs m mid.stage) closes needed) in
+      let shut = closed_standing (standing_of mid) (subst (λ (m : Need). Needs m (standing_of mid)) closes needed) in
       replays_closed stay invited heads judge settings moment bytes (taken + n) mid (fed t.past (take n (take (length bytes - taken) (drop taken bytes))) (gave_between session mid) (turns_of need))
       stands came_then t.unended moments_then.1 legal shut.0 shut.1
 
   -- more bytes are needed, and there are none
   pub by_more : PayloadsJudge → (last : Connection) → need ≡ needs.More → n ≡ length (take (length bytes - taken) (drop taken bytes))
       → ((past : Past) → Stands mid settings past [] → Stands last settings (record past { ended = true }) [])
-      → is_waiting (standing_of last) ≡ is_waiting (standing_of mid) → Needs need mid.stage → Replays settings moment bytes (unsent_of last)
+      → is_waiting (standing_of last) ≡ is_waiting (standing_of mid) → Needs need (standing_of mid) → Replays settings moment bytes (unsent_of last)
   unfolding counts came_then moments_then rest_is
   by_more judge last more all ends same needed =
       let none : turns_of need ≡ [] = ap turns_of more in
       let legal : Legal settings.min_part (opening settings.buckets) 0 (entries_of (t.past.turns ++ turns_of need) t.past.answers) =
       subst (λ (ts : List Turn). Legal settings.min_part (opening settings.buckets) 0 (entries_of ts t.past.answers)) (sym (ap (λ (ts : List Turn). t.past.turns ++ ts) none ∙ append-nil t.past.turns)) t.legal in
       let whole : taken + n ≡ length bytes = omega (arith, all, ap length rest_is, length-drop taken bytes, t.within) in
-      let idle = more_stage mid.stage (subst (λ (m : Need). Needs m mid.stage) more needed) in
+      let idle = more_standing (standing_of mid) (subst (λ (m : Need). Needs m (standing_of mid)) more needed) in
       replays_ended judge settings moment bytes last (fed t.past (take n (take (length bytes - taken) (drop taken bytes))) (gave_between session mid) (turns_of need))
       (ends _ stands) (came_then ∙ take_all (taken + n) bytes (omega (arith, whole))) moments_then.1 legal (same ∙ idle)
 

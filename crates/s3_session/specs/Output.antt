@@ -130,6 +130,7 @@ pub record IsDead (settings : Settings) (ended : Bool) (rest late : List ℕ) (w
 abbrev pub IsClosed : List ℕ → List Turn → List ℕ → Type 0
 IsClosed late waiting last = (late ≡ []) × (waiting ≡ []) × (last ≡ [])
 
+-- what stands behind the answered messages, by how the connection stands
 abbrev pub Behind : Standing → Settings → Bool → Option (List ℕ) → List ℕ → List Turn → List ℕ → Type 0
 Behind Reading settings ended (Some rest) late waiting last = IsOpen settings ended rest late waiting last
 Behind Waiting settings ended (Some rest) late waiting last = IsWaiting settings ended rest late waiting last

@@ -1,6 +1,7 @@
 -- A connection, and how it stands after all that went through it.
 -- `Stands` is what the clauses of the session carry along. What it comes to is a law, `sessions_write`: the output of the
--- connection. So its inside need not be believed.
+-- connection. So its inside need not be believed. A reader believes the words up to `Needs`; those from `IsReading` on serve
+-- `Stands` and the clauses of private functions alone.
 use Rattle.std.specs.Prelude.{◌≡◌, ◌⊎◌, ℕ, take, Bool, true, false, List, [], ◌∷◌, ◌++◌, drop, length, Option, Some, None, Result, Ok, Err}
 use Rattle.s3_config.specs.Settings.{Settings}
 use Rattle.s3_terms.specs.declared.code.Code.{Code}
@@ -63,6 +64,20 @@ is_waiting standings.Waiting = true
 is_waiting standings.Over = false
 is_waiting standings.Dead = false
 
+-- no more is read
+abbrev pub is_closed : Standing → Bool
+is_closed standings.Reading = false
+is_closed standings.Waiting = false
+is_closed standings.Over = true
+is_closed standings.Dead = true
+
+-- memory ran out
+abbrev pub is_dead : Standing → Bool
+is_dead standings.Reading = false
+is_dead standings.Waiting = false
+is_dead standings.Over = false
+is_dead standings.Dead = true
+
 -- the head of a message was admitted, and its body is still open
 abbrev pub is_in_body : Stage → Bool
 is_in_body stages.Reading = false
@@ -87,6 +102,7 @@ moment_at (stages.Closed (closings.Died moment)) = moment ∷ []
 abbrev pub added : {A : Type 0} → List A → List A → List A
 added old new = drop (length old) new
 
+-- the second begins with the first
 abbrev pub IsLonger : List ℕ → List ℕ → Type 0
 IsLonger old new = new ≡ old ++ added old new
 
@@ -95,10 +111,10 @@ abbrev pub gave_between : Connection → Connection → List ℕ
 gave_between old new = added (moment_at old.stage) (moment_at new.stage)
 
 -- a clock was asked for these moments, for one at most
-abbrev pub IsAsked : {C : Type 0} → (C → C → ℕ → Type 0) → C → C → List ℕ → Type 0
-IsAsked gives old new [] = new ≡ old
-IsAsked gives old new (moment ∷ []) = gives old new moment
-IsAsked gives old new (moment ∷ another ∷ more) = ⊥
+abbrev pub IsClockAsked : {C : Type 0} → (C → C → ℕ → Type 0) → C → C → List ℕ → Type 0
+IsClockAsked gives old new [] = new ≡ old
+IsClockAsked gives old new (moment ∷ []) = gives old new moment
+IsClockAsked gives old new (moment ∷ another ∷ more) = ⊥
 
 -- the turn that is asked for
 abbrev pub turns_of : Need → List Turn
@@ -124,12 +140,12 @@ IsAnsweredTo (Err e) standings.Dead = Unit {0}
 IsAnsweredTo answered standing = ⊥
 
 -- what it needs next
-abbrev pub Needs : Need → Stage → Type 0
-Needs needs.More stages.Reading = Unit {0}
-Needs needs.More (stages.Body incoming) = Unit {0}
-Needs (needs.Turn turn) (stages.Waiting context) = Unit {0}
-Needs needs.Close (stages.Closed closing) = Unit {0}
-Needs need stage = ⊥
+abbrev pub Needs : Need → Standing → Type 0
+Needs needs.More standings.Reading = Unit {0}
+Needs (needs.Turn turn) standings.Waiting = Unit {0}
+Needs needs.Close standings.Over = Unit {0}
+Needs needs.Close standings.Dead = Unit {0}
+Needs need standing = ⊥
 
 -- no head has come behind the answered messages
 pub record IsReading (session : Connection) (ended : Bool) (rest : List ℕ) (waiting : List Turn) (last : List ℕ) : Type 0 where

@@ -4,9 +4,9 @@ ghost use Rattle.std.specs.Prelude.{◌≡◌, ℕ};
 
 use s3_calendar::Moment;
 
-/// A clock, which a connection asks once for each message.
+/// A clock, which a connection asks once for each message: when its head has come whole, or is too large.
 pub trait Clock {
-    /// What it was before and is after it gave this moment.
+    /// How it was before it gave this moment, and how it is then.
     ghost gives: { Self → Self → ℕ → Type 0 };
 
     /// The moment at which it is asked.

@@ -20,8 +20,8 @@ pub fn verdicts_stay()
     accepted_bodies_are_whole();
 }
 
-/// A law: settings, moment, bytes and whether they end leave at most one verdict, with one rest, so that
-/// what `decide` gives is fixed by what it is given, unless memory runs out. There is nothing to run.
+/// A law: settings, moment, bytes and whether they end leave at most one verdict, with one rest.
+/// There is nothing to run.
 pub fn verdicts_are_one()
     ensures { OneVerdict }
 {
@@ -30,7 +30,7 @@ pub fn verdicts_are_one()
 }
 
 /// A law: settings, moment, bytes and whether they end can't be without a verdict, so that `Judges` is
-/// empty nowhere, not even where `decide` runs out of memory. There is nothing to run.
+/// empty nowhere. There is nothing to run.
 pub fn verdicts_exist()
     ensures { VerdictsExist }
 {
@@ -59,8 +59,8 @@ pub fn invitations_are_final()
     verdict_is_exact();
 }
 
-/// A law: settings, the bytes of a connection, the moments that its clock gave and the answers to its commands
-/// fix what it writes, the turns that its commands wait for, and how it stands, as long as memory does not run
+/// A law: settings, the bytes of a connection, whether they have ended, the moments that its clock gave and the answers
+/// to its commands fix what it writes, the turns that its commands wait for, and how it stands, as long as memory does not run
 /// out: so how the bytes are cut into pieces decides nothing. There is nothing to run.
 pub fn inputs_fix_outputs()
     ensures { OneWriting }

@@ -1,4 +1,5 @@
-//! A connection: what its bytes ask for, and what it writes.
+//! A connection as a machine (`Session`): what its bytes ask for, and what it writes. `replay_one` runs one over a
+//! store of its own; the laws say what all connections have in common.
 #![tactic(auto)]
 
 mod admission;

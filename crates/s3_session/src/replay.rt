@@ -23,6 +23,10 @@ use std::alloc::Global;
 /// buckets: every message has this moment, and every command its turn at once. The result is all that
 /// the connection writes.
 ///
+/// The cost is that of `Session::feed` over all bytes, and a copy of the output.
+///
+/// # Errors
+///
 /// `NoMemory` says that there was no memory for the opening buckets or for the output: it comes only where
 /// there are bytes, and either a bucket to be opened or something to be written.
 pub fn replay_one(

@@ -1,7 +1,7 @@
 //! A connection as a machine: it is fed with bytes as they come, asks for a turn where a command waits, is given
 //! the answer, and hands out what it writes.
 
-ghost use Rattle.std.specs.Prelude.{◌≡◌, ◌<◌, ◌≤◌, ℕ, Bool, true, false, List, [], ◌∷◌, ◌++◌, length, take, drop, if◌then◌else◌, IfOk, OnOk, OnErr};
+ghost use Rattle.std.specs.Prelude.{◌≡◌, ◌+◌, ◌<◌, ◌≤◌, ℕ, Bool, true, false, List, [], ◌∷◌, ◌++◌, length, take, drop, if◌then◌else◌, IfOk, OnOk, OnErr};
 ghost use Rattle.s3_config.specs.Settings.{Settings};
 ghost use Rattle.s3_http_heads.specs.Search.{Stands, Holds};
 ghost use Rattle.s3_outbox.specs.Pending.{bytes_of};
@@ -64,7 +64,8 @@ pub(crate) enum Stage {
     Closed(Closing),
 }
 
-/// A connection, which is fed with bytes in any pieces and writes the same for every cut.
+/// A connection, which is fed with bytes in any pieces and writes the same for every cut, as long as memory does not
+/// run out.
 ///
 /// It makes no call of the system: the caller moves the bytes. `docs/ARCHITECTURE.md` has a table of its states.
 #[derive(Drop)]
@@ -109,9 +110,12 @@ impl Session {
     /// behind this message, and the caller offers it again after the answer. The clock is asked once for each
     /// message, when its whole head has come, or more than a head may have.
     ///
+    /// The settings have to be the same at every call for a connection: its promises are about one.
+    ///
     /// Takes time by the length of what it takes, and for each head that of `s3_signing::verify_head`; memory for the
-    /// bytes of a head, and once that is verified for the data of the body that came. Where memory runs out, the
-    /// connection ends with the reply that says so.
+    /// bytes of a head, once that is verified for the data of the body that came, and for the Continue line and the
+    /// reply. Where memory runs out, the connection ends with the reply that says so; in the middle of a head it does
+    /// once that is whole (a head that is too large is refused all the same).
     pub fn feed<C: Clock>(
         &mut self,
         alloc: Global,
@@ -125,8 +129,9 @@ impl Session {
         ensures stands { (past : Past) (sent : List ℕ) → rules.Stands self.old config.now past sent
             → rules.Stands self.new config.now
             (rules.fed past (take result.0 piece.now) (rules.gave_between self.old self.new) (rules.turns_of result.1)) sent }
-        ensures clock { rules.IsAsked C.gives clock.old clock.new (rules.gave_between self.old self.new) }
-        ensures needs { rules.Needs result.1 self.new.stage }
+        ensures clock { rules.IsClockAsked C.gives clock.old clock.new (rules.gave_between self.old self.new) }
+        ensures needs { rules.Needs result.1 (rules.standing_of self.new) }
+        ensures closed { rules.is_closed (rules.standing_of self.old) ≡ true → result.0 ≡ 0 }
         ensures all { (past : Past) (sent : List ℕ) → rules.Stands self.old config.now past sent
             → result.1 ≡ Need.More → result.0 ≡ length piece.now }
         ensures longer { rules.IsLonger (rules.unsent_of self.old) (rules.unsent_of self.new) }
@@ -159,8 +164,8 @@ impl Session {
         ensures within { result.0 ≤ length piece.now }
         ensures fed { (rest : List ℕ) → Stands self.old.search rest
             → rules.IsFed config.now self.old self.new rest [] piece.now result.0 result.1 }
-        ensures clock { rules.IsAsked C.gives clock.old clock.new (rules.moment_at self.new.stage) }
-        ensures needs { rules.Needs result.1 self.new.stage }
+        ensures clock { rules.IsClockAsked C.gives clock.old clock.new (rules.moment_at self.new.stage) }
+        ensures needs { rules.Needs result.1 (rules.standing_of self.new) }
         ensures longer { rules.IsLonger (rules.unsent_of self.old) (rules.unsent_of self.new) }
         ensures end { self.new.is_ended ≡ false }
     {
@@ -191,7 +196,7 @@ impl Session {
         ensures fed { (rest : List ℕ) → Holds self.old.search rest → HasText rest
             → rules.IsFed config.now self.old self.new rest [] piece.now result.0 result.1 }
         ensures moment { rules.moment_at self.new.stage ≡ moment ∷ [] }
-        ensures needs { rules.Needs result.1 self.new.stage }
+        ensures needs { rules.Needs result.1 (rules.standing_of self.new) }
         ensures longer { rules.IsLonger (rules.unsent_of self.old) (rules.unsent_of self.new) }
         ensures end { self.new.is_ended ≡ self.old.is_ended }
     {
@@ -239,7 +244,7 @@ impl Session {
             → Invites settings incoming.context.moment rest last
             → rules.IsFed settings self.old self.new rest last piece.now result.0 result.1 }
         ensures moment { rules.moment_at self.new.stage ≡ incoming.context.moment ∷ [] }
-        ensures needs { rules.Needs result.1 self.new.stage }
+        ensures needs { rules.Needs result.1 (rules.standing_of self.new) }
         ensures longer { rules.IsLonger (rules.unsent_of self.old) (rules.unsent_of self.new) }
         ensures end { self.new.is_ended ≡ self.old.is_ended }
     {
@@ -254,7 +259,7 @@ impl Session {
     fn go_on(&mut self, context: Context, progress: Progress) -> Need
         requires unended { self.old.outbox.is_ended ≡ false }
         ensures goes_on { rules.GoesOn context progress self.old self.new result }
-        ensures needs { rules.Needs result self.new.stage }
+        ensures needs { rules.Needs result (rules.standing_of self.new) }
         ensures longer { rules.IsLonger (rules.unsent_of self.old) (rules.unsent_of self.new) }
         ensures end { self.new.is_ended ≡ self.old.is_ended }
     {
@@ -279,7 +284,7 @@ impl Session {
     fn ask(&mut self, context: Context, command: Command) -> Need
         requires unended { self.old.outbox.is_ended ≡ false }
         ensures asks { rules.Asks context command self.old self.new result }
-        ensures needs { rules.Needs result self.new.stage }
+        ensures needs { rules.Needs result (rules.standing_of self.new) }
         ensures longer { rules.IsLonger (rules.unsent_of self.old) (rules.unsent_of self.new) }
         ensures end { self.new.is_ended ≡ self.old.is_ended }
     {
@@ -370,12 +375,13 @@ impl Session {
         self.outbox.push(head.as_slice(), body_of(answer, context));
     }
 
-    /// Says that no more bytes come. A message whose body isn't whole is refused with `IncompleteBody`; of a message
-    /// whose head isn't whole nothing is said. A command that waits goes on waiting.
+    /// Says that no more bytes come; what `feed` did not take has to be offered before. A message whose body isn't whole is refused with `IncompleteBody`; of a message
+    /// whose head isn't whole nothing is said. A command that waits goes on waiting. It takes no memory.
     pub fn end(&mut self)
         ensures stands { (settings : Settings) (past : Past) (sent : List ℕ) → rules.Stands self.old settings past sent
             → rules.Stands self.new settings (record past { ended = true }) sent }
         ensures waits { rules.is_waiting (rules.standing_of self.new) ≡ rules.is_waiting (rules.standing_of self.old) }
+        ensures lives { rules.is_dead (rules.standing_of self.new) ≡ rules.is_dead (rules.standing_of self.old) }
         ensures longer { rules.IsLonger (rules.unsent_of self.old) (rules.unsent_of self.new) }
         ensures end { self.new.is_ended ≡ true }
     {
@@ -397,6 +403,7 @@ impl Session {
         ensures cut { (incoming : Incoming) → self.old.stage ≡ Stage.Body incoming → (settings : Settings) (rest : List ℕ)
             → IsInBody settings incoming rest → rules.IsCutTo settings incoming.context rest self.old self.new }
         ensures waits { rules.is_waiting (rules.standing_of self.new) ≡ false }
+        ensures lives { rules.is_dead (rules.standing_of self.new) ≡ false }
         ensures longer { rules.IsLonger (rules.unsent_of self.old) (rules.unsent_of self.new) }
         ensures end { self.new.is_ended ≡ self.old.is_ended }
     {
@@ -410,14 +417,18 @@ impl Session {
     }
 
     /// Whether the head of a message was admitted, and of its body, which isn't empty, nothing is decided yet.
+    /// It takes no memory.
     pub fn in_body(&self) -> bool
-        ensures { result ≡ rules.is_in_body self.now.stage }
+        ensures value { result ≡ rules.is_in_body self.now.stage }
+        ensures began { (settings : Settings) (past : Past) (sent : List ℕ) → rules.Stands self.now settings past sent
+            → result ≡ true → length past.moments ≡ length past.answers + 1 }
+        ensures reads { result ≡ true → rules.standing_of self.now ≡ Reading }
     {
         matches!(self.stage, Stage::Body(_))
     }
 
     /// A beginning of what it has written and not sent, as long as it stands together; it is empty only where all is
-    /// sent.
+    /// sent. It takes no memory.
     pub fn out(&self) -> &[u8]
         ensures beginning { take (length result.now) (rules.unsent_of self.now) ≡ result.now }
         ensures within { length result.now ≤ length (rules.unsent_of self.now) }
@@ -426,7 +437,8 @@ impl Session {
         self.outbox.out()
     }
 
-    /// Says that so many bytes in front were sent. They are dropped, and a body goes with its last byte.
+    /// Says that so many bytes in front were sent. They are dropped, and a body goes with its last byte. It takes no
+    /// memory.
     pub fn sent(&mut self, count: usize)
         requires within { count ≤ length (rules.unsent_of self.old) }
         ensures stands { (settings : Settings) (past : Past) (sent : List ℕ) → rules.Stands self.old settings past sent
