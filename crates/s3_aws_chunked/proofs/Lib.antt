@@ -17,5 +17,4 @@ pub mod JudgeLemmas
 pub mod FinalLemmas
 pub mod OpenLemmas
 pub mod WritingLemmas
-pub mod StayLemmas
 pub mod AcceptLemmas

@@ -102,10 +102,6 @@ pub byte_held : (p : Progress) (byte : ℕ) → (byte_read p byte).held ≡ p.he
 unfolding byte_read
 byte_held p byte = refl
 
-pub keeps_byte : (old : List ℕ) (p q : Progress) (byte : ℕ) → q ≡ byte_read p byte → Keeps old old p q
-keeps_byte old p q byte is front had =
-    had ∙ ap (λ x. front ++ x) (sym (byte_held p byte)) ∙ ap (λ (x : Progress). front ++ x.held) (sym is)
-
 -- the first byte of some
 pub first_byte : (place : Place) (p : Progress) (bytes : List ℕ) (byte : ℕ) → place ≡ p.place → is_closed place ≡ false → is_data place.phase ≡ false → take 1 bytes ≡ byte ∷ [] → run p (take 1 bytes) ≡ byte_read p byte
 first_byte place p bytes byte there open' other is =

@@ -1,6 +1,6 @@
 -- What a sink got, after some calls.
-use Rattle.std.proofs.Common.{◌≡◌, ℕ, List, [], ◌++◌, length, drop, refl, sym, ap, ◌∙◌, append_assoc}
-use Rattle.std.proofs.lemmas.List.{append-nil, drop_at}
+use Rattle.std.proofs.Common.{◌≡◌, ℕ, List, ◌++◌, length, drop, refl, sym, ap, ◌∙◌, append_assoc}
+use Rattle.std.proofs.lemmas.List.{drop_at}
 use Rattle.s3_aws_chunked.specs.Sinks.{Grows, got}
 
 -- what was added
@@ -9,9 +9,6 @@ got_by old new more is = ap (drop (length old)) is ∙ drop_at old more (length 
 
 pub grows_by : (old new more : List ℕ) → new ≡ old ++ more → Grows old new
 grows_by old new more is = is ∙ ap (λ x. old ++ x) (sym (got_by old new more is))
-
-pub grows_none : (old : List ℕ) → Grows old old
-grows_none old = grows_by old old [] (sym (append-nil old))
 
 pub grows_more : (old mid new : List ℕ) → Grows old mid → Grows mid new → Grows old new
 grows_more old mid new first second =

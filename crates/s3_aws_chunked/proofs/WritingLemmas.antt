@@ -1,7 +1,7 @@
 -- Sizes as they are written, and the bodies that are.
 use Rattle.std.proofs.Common.{◌≡◌, ℕ, suc, zero, ◌+◌, ◌-◌, ◌*◌, ◌/◌, ◌%◌, ◌<◌, ◌≤◌, ⊎_elim, if◌then◌else◌, length-append, Bool, true, false, ◌&&◌, ◌==◌, nat_le, List, [], ◌∷◌, ◌++◌, length, map, take, drop, min, get_or, refl, sym, ap, subst, ◌∙◌, arith, append_assoc, ne_eqb, le-leb, codes}
 use Rattle.std.proofs.lemmas.Bool.{and_from, cases_lt, false≢true}
-use Rattle.std.proofs.lemmas.List.{append-nil, map_push, length-map, length-take, length-drop, take-append-drop}
+use Rattle.std.proofs.lemmas.List.{map_push, length-map, length-take, length-drop, take-append-drop}
 use Rattle.std.proofs.Math.Nat.{zero-div, zero-mod, div-eq_of_lt, mod-eq_of_lt, add-div_right, add-mod_right}
 use Rattle.std.proofs.lemmas.Int.Digits.{digits_of_step, length-digits_of_step, length-digits_of-le, all_below_base_digits_of, digits_value_is, number_digits_of}
 use Rattle.std.specs.List.{list_all, AllByRecursion}
@@ -72,52 +72,33 @@ size_more size above =
     ∙ sym (step size (omega (arith, above)))
 
 -- each digit is one, and has its value
-hex_digit : (d : ℕ) → d < 16 → is_hex (digit_char d) ≡ true
-hex_digit zero below = refl
-hex_digit (suc zero) below = refl
-hex_digit (suc (suc zero)) below = refl
-hex_digit (suc (suc (suc zero))) below = refl
-hex_digit (suc (suc (suc (suc zero)))) below = refl
-hex_digit (suc (suc (suc (suc (suc zero))))) below = refl
-hex_digit (suc (suc (suc (suc (suc (suc zero)))))) below = refl
-hex_digit (suc (suc (suc (suc (suc (suc (suc zero))))))) below = refl
-hex_digit (suc (suc (suc (suc (suc (suc (suc (suc zero)))))))) below = refl
-hex_digit (suc (suc (suc (suc (suc (suc (suc (suc (suc zero))))))))) below = refl
-hex_digit (suc (suc (suc (suc (suc (suc (suc (suc (suc (suc zero)))))))))) below = refl
-hex_digit (suc (suc (suc (suc (suc (suc (suc (suc (suc (suc (suc zero))))))))))) below = refl
-hex_digit (suc (suc (suc (suc (suc (suc (suc (suc (suc (suc (suc (suc zero)))))))))))) below = refl
-hex_digit (suc (suc (suc (suc (suc (suc (suc (suc (suc (suc (suc (suc (suc zero))))))))))))) below = refl
-hex_digit (suc (suc (suc (suc (suc (suc (suc (suc (suc (suc (suc (suc (suc (suc zero)))))))))))))) below = refl
-hex_digit (suc (suc (suc (suc (suc (suc (suc (suc (suc (suc (suc (suc (suc (suc (suc zero))))))))))))))) below = refl
-hex_digit (suc (suc (suc (suc (suc (suc (suc (suc (suc (suc (suc (suc (suc (suc (suc (suc n)))))))))))))))) below = absurd (omega (arith, below))
-
-digit_back : (d : ℕ) → d < 16 → digit_value (digit_char d) ≡ d
-digit_back zero below = refl
-digit_back (suc zero) below = refl
-digit_back (suc (suc zero)) below = refl
-digit_back (suc (suc (suc zero))) below = refl
-digit_back (suc (suc (suc (suc zero)))) below = refl
-digit_back (suc (suc (suc (suc (suc zero))))) below = refl
-digit_back (suc (suc (suc (suc (suc (suc zero)))))) below = refl
-digit_back (suc (suc (suc (suc (suc (suc (suc zero))))))) below = refl
-digit_back (suc (suc (suc (suc (suc (suc (suc (suc zero)))))))) below = refl
-digit_back (suc (suc (suc (suc (suc (suc (suc (suc (suc zero))))))))) below = refl
-digit_back (suc (suc (suc (suc (suc (suc (suc (suc (suc (suc zero)))))))))) below = refl
-digit_back (suc (suc (suc (suc (suc (suc (suc (suc (suc (suc (suc zero))))))))))) below = refl
-digit_back (suc (suc (suc (suc (suc (suc (suc (suc (suc (suc (suc (suc zero)))))))))))) below = refl
-digit_back (suc (suc (suc (suc (suc (suc (suc (suc (suc (suc (suc (suc (suc zero))))))))))))) below = refl
-digit_back (suc (suc (suc (suc (suc (suc (suc (suc (suc (suc (suc (suc (suc (suc zero)))))))))))))) below = refl
-digit_back (suc (suc (suc (suc (suc (suc (suc (suc (suc (suc (suc (suc (suc (suc (suc zero))))))))))))))) below = refl
-digit_back (suc (suc (suc (suc (suc (suc (suc (suc (suc (suc (suc (suc (suc (suc (suc (suc n)))))))))))))))) below = absurd (omega (arith, below))
+digit_known : (d : ℕ) → d < 16 → (is_hex (digit_char d) ≡ true) × (digit_value (digit_char d) ≡ d)
+digit_known zero below = (refl, refl)
+digit_known (suc zero) below = (refl, refl)
+digit_known (suc (suc zero)) below = (refl, refl)
+digit_known (suc (suc (suc zero))) below = (refl, refl)
+digit_known (suc (suc (suc (suc zero)))) below = (refl, refl)
+digit_known (suc (suc (suc (suc (suc zero))))) below = (refl, refl)
+digit_known (suc (suc (suc (suc (suc (suc zero)))))) below = (refl, refl)
+digit_known (suc (suc (suc (suc (suc (suc (suc zero))))))) below = (refl, refl)
+digit_known (suc (suc (suc (suc (suc (suc (suc (suc zero)))))))) below = (refl, refl)
+digit_known (suc (suc (suc (suc (suc (suc (suc (suc (suc zero))))))))) below = (refl, refl)
+digit_known (suc (suc (suc (suc (suc (suc (suc (suc (suc (suc zero)))))))))) below = (refl, refl)
+digit_known (suc (suc (suc (suc (suc (suc (suc (suc (suc (suc (suc zero))))))))))) below = (refl, refl)
+digit_known (suc (suc (suc (suc (suc (suc (suc (suc (suc (suc (suc (suc zero)))))))))))) below = (refl, refl)
+digit_known (suc (suc (suc (suc (suc (suc (suc (suc (suc (suc (suc (suc (suc zero))))))))))))) below = (refl, refl)
+digit_known (suc (suc (suc (suc (suc (suc (suc (suc (suc (suc (suc (suc (suc (suc zero)))))))))))))) below = (refl, refl)
+digit_known (suc (suc (suc (suc (suc (suc (suc (suc (suc (suc (suc (suc (suc (suc (suc zero))))))))))))))) below = (refl, refl)
+digit_known (suc (suc (suc (suc (suc (suc (suc (suc (suc (suc (suc (suc (suc (suc (suc (suc n)))))))))))))))) below = absurd (omega (arith, below))
 
 all_hex : (ds : List ℕ) → AllBelowBase 16 ds → list_all is_hex (map digit_char ds) ≡ true
 all_hex [] below = refl
-all_hex (d ∷ ds) below = and_from (is_hex (digit_char d)) (list_all is_hex (map digit_char ds)) (hex_digit d below.0) (all_hex ds below.1)
+all_hex (d ∷ ds) below = and_from (is_hex (digit_char d)) (list_all is_hex (map digit_char ds)) (digit_known d below.0).0 (all_hex ds below.1)
 
 values_back : (ds : List ℕ) → AllBelowBase 16 ds → map digit_value (map digit_char ds) ≡ ds
 values_back [] below = refl
 values_back (d ∷ ds) below =
-    ap (λ v. v ∷ map digit_value (map digit_char ds)) (digit_back d below.0) ∙ ap (λ vs. d ∷ vs) (values_back ds below.1)
+    ap (λ v. v ∷ map digit_value (map digit_char ds)) (digit_known d below.0).1 ∙ ap (λ vs. d ∷ vs) (values_back ds below.1)
 
 -- a written size is a size, and says the number
 pub written_form : (size : ℕ) → size ≤ 67108864 → is_size (written_size size) ≡ true
@@ -166,18 +147,6 @@ adds_more seed after bytes size old mid new link some positive most digits first
       cut = (some, refl, a.cut);
       plain = (refl, a.plain);
     }
-
-pub adds_none : (seed : Link) (bytes : List ℕ) (size : ℕ) (old : List ℕ) → bytes ≡ [] → Adds seed bytes size old old seed
-adds_none seed bytes size old none = record {
-  chunks = [];
-  written = sym (append-nil old);
-  goes = refl;
-  each = tt;
-  signed = tt;
-  whole = sym none;
-  cut = none;
-  plain = tt;
-}
 
 -- how long a chunk is
 long_one : (c : Chunk) → IsChunk c → IsPlain c → length (chunk_text c) ≡ chunk_length (length c.bytes)

@@ -1,8 +1,8 @@
 -- What the clauses of the reader come to: laws about every reader, and every body.
-use Rattle.std.specs.Prelude.{◌≡◌, ℕ, ◌≤◌, Bool, false, List, ◌++◌, length, min}
+use Rattle.std.specs.Prelude.{◌≡◌, ℕ, ◌≤◌, Bool, List, length, min}
 use Rattle.s3_terms.specs.declared.code.Code.{Code}
 use Rattle.s3_signing.specs.Chain.{Link}
-use Rattle.s3_aws_chunked.specs.Verdict.{Terms, Verdict, Refused, Accepted, Open, IsAccepted, Judges}
+use Rattle.s3_aws_chunked.specs.Verdict.{Terms, Accepted, IsAccepted, Judges}
 use Rattle.s3_aws_chunked.specs.Write.{Writes}
 use Rattle.s3_aws_chunked.specs.Reader.{Stands, Failed, taken_of, verdict_of}
 use Rattle.s3_aws_chunked.specs.declared.reader.ChunkReader.{ChunkReader}
@@ -25,22 +25,6 @@ abbrev pub ReadersStayWithin : Type 0
 ReadersStayWithin =
     (reader : ChunkReader) (terms : Terms) (bytes : List ℕ) (ended : Bool) (held : List ℕ)
     → Stands reader terms bytes ended held → taken_of reader ≤ length bytes
-
--- the verdict is reached
-abbrev pub IsFinal : Verdict → Type 0
-IsFinal (Refused place code) = Unit {0}
-IsFinal (Accepted held) = Unit {0}
-IsFinal (Open held) = ⊥
-
--- a verdict that is reached on some bytes is the verdict on them and whatever follows
-abbrev pub VerdictsStay : Type 0
-VerdictsStay =
-    (terms : Terms) (bytes more : List ℕ) (ended : Bool) (verdict : Verdict)
-    → IsFinal verdict → Judges terms bytes false verdict → Judges terms (bytes ++ more) ended verdict
-
--- no bytes are without a verdict
-abbrev pub VerdictsExist : Type 0
-VerdictsExist = (terms : Terms) (bytes : List ℕ) (ended : Bool) → (verdict : Verdict) × Judges terms bytes ended verdict
 
 -- a body of the form, with the chain's signatures and the decoded length, is refused at no place: it is accepted
 abbrev pub BodiesAreAccepted : Type 0

@@ -1,6 +1,6 @@
-//! What the clauses of the reader come to, and what is known of verdicts.
+//! What the clauses of the reader and of the writer come to: laws, with nothing to run.
 
-ghost use Rattle.s3_aws_chunked.specs.Laws.{BodiesAreAccepted, ReadersCount, ReadersJudge, ReadersStayWithin, VerdictsExist, VerdictsStay, WritingsAreAccepted, WritingsAreOne};
+ghost use Rattle.s3_aws_chunked.specs.Laws.{BodiesAreAccepted, ReadersCount, ReadersJudge, ReadersStayWithin, WritingsAreAccepted, WritingsAreOne};
 
 /// A law: a reader that stands after some bytes of a body says of it what these bytes say. Where it has
 /// refused, that is at the place and with the code of the first line of the table that applies; where it is
@@ -11,17 +11,6 @@ pub fn readers_judge()
     ensures verdict { ReadersJudge }
     ensures count { ReadersCount }
     ensures within { ReadersStayWithin }
-{}
-
-/// A law: a body that is refused or accepted is so whatever follows, so that how it is cut into pieces
-/// decides nothing. There is nothing to run.
-pub fn verdicts_stay()
-    ensures { VerdictsStay }
-{}
-
-/// A law: all bytes have a verdict, whatever the head says of its body. There is nothing to run.
-pub fn verdicts_exist()
-    ensures { VerdictsExist }
 {}
 
 /// A law: a body of the form whose signatures are the chain, and whose data has the decoded length, is accepted

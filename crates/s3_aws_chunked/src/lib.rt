@@ -13,7 +13,7 @@ mod span;
 mod write;
 
 pub use finality::{open_bodies_are_short, refusals_stand, verdicts_are_final};
-pub use laws::{readers_judge, verdicts_exist, verdicts_stay, writings_are_accepted};
+pub use laws::{readers_judge, writings_are_accepted};
 pub use reader::ChunkReader;
 pub use s3_segments::Sink;
 pub use write::{CHUNK_MAX, write_chunks, written_length};

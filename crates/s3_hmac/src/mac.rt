@@ -65,6 +65,17 @@ impl Mac {
         }
     }
 
+    /// A copy, which stands where this one stands. It hashes nothing, so that who has many messages for one
+    /// key keeps a MAC of which nothing was fed, and begins each of them with a copy.
+    pub fn copy(&self) -> Mac
+        ensures { result ≡ self.now }
+    {
+        Mac {
+            inner: self.inner.clone().unwrap(),
+            outer: self.outer.clone().unwrap(),
+        }
+    }
+
     /// Adds `data` to the end of the message, and hashes each block that it fills.
     pub fn update(&mut self, data: &[u8])
         ensures { (key m : List ℕ) → Runs self.old key m → Runs self.new key (m ++ «data».now) }

@@ -5,3 +5,4 @@ pub mod SearchLemmas
 pub mod HeadLemmas
 pub mod TargetLemmas
 pub mod ParameterLemmas
+pub mod WholeLemmas

@@ -1,14 +1,15 @@
 -- The parts of a path, decoded one by one; places in a text that grows; and the test of the escapes.
-use Rattle.std.proofs.Common.{◌≡◌, slice_get, Some, ℕ, suc, ◌+◌, ◌*◌, ◌<◌, ◌⊎◌, inl, inr, Bool, true, false, not, ◌&&◌, ◌||◌, ◌==◌, nat_eq, List, [], ◌∷◌, ◌++◌, length, take, drop, get_or, refl, sym, ap, ◌∙◌, arith, cond, append-nil, take-append-drop}
+use Rattle.std.proofs.Common.{◌≡◌, slice_get, Option, Some, None, option_map, ℕ, suc, ◌+◌, ◌*◌, ◌≤◌, ◌<◌, ◌⊎◌, inl, inr, Bool, true, false, not, ◌&&◌, ◌||◌, ◌==◌, nat_eq, List, [], ◌∷◌, ◌++◌, length, take, drop, get_or, refl, sym, ap, ◌∙◌, arith, cond, append-nil, take-append-drop}
 use Rattle.std.specs.List.{starts_with, before_first, after_first, position_or_len}
 use Rattle.std.specs.Char.{digit_value}
 use Rattle.std.proofs.lemmas.Bool.{cases_Bool, false≢true}
 use Rattle.std.proofs.lemmas.Bool.Decides.{nat_tests}
-use Rattle.std.specs.List.{list_any}
+use Rattle.std.specs.List.{find, list_any}
 use Rattle.std.specs.Str.{bytes_eq}
 use Rattle.std.proofs.lemmas.Option.{get_or_from_slice_get, slice_get_within}
 use Rattle.std.proofs.lemmas.List.Folds.{length-prefix_len, list_any_at, list_any_more}
-use Rattle.std.proofs.lemmas.List.{at_drop_more, drop-drop}
+use Rattle.std.proofs.lemmas.List.{at_drop_more, drop-drop, drop_all}
+use Rattle.s3_text.proofs.ListLemmas.{elements_from}
 use Rattle.percent_encoding.specs.Percent.{is_escape, percent_decode}
 use Rattle.percent_encoding.proofs.PercentLemmas.{percent_decode-nil, percent_decode_not_percent, KeepsFirst_from_no_escape}
 use Rattle.s3_http_heads.specs.Target.{begins_with_digits, has_bad_escape}
@@ -126,3 +127,16 @@ pub called_not_yet : (name : List ℕ) (all : List (List ℕ × List ℕ)) (i : 
 called_not_yet name all i sent value is other before =
     let here = ap (is_called name) (get_or_from_slice_get all i (sent, value) (sent, value) is) ∙ other in
     list_any_more (is_called name) all i (sent, value) (slice_get_within all i (sent, value) is) ∙ rw (before, here) refl
+
+-- the first parameter of the name, of those from a place on
+abbrev pub first_from : List ℕ → List (List ℕ × List ℕ) → ℕ → Option (List ℕ)
+first_from name all i = option_map (λ (parameter : List ℕ × List ℕ). parameter.1) (find (is_called name) (drop i all))
+
+pub first_at : (name : List ℕ) (all : List (List ℕ × List ℕ)) (i : ℕ) (sent value : List ℕ) → slice_get all i ≡ Some (sent, value) → bytes_eq sent name ≡ true → first_from name all i ≡ Some value
+first_at name all i sent value is same = rw (elements_from all i (sent, value) is, same) refl
+
+pub first_past : (name : List ℕ) (all : List (List ℕ × List ℕ)) (i : ℕ) (sent value : List ℕ) → slice_get all i ≡ Some (sent, value) → bytes_eq sent name ≡ false → first_from name all i ≡ first_from name all (i + 1)
+first_past name all i sent value is other = rw (elements_from all i (sent, value) is, other) refl
+
+pub first_none : (name : List ℕ) (all : List (List ℕ × List ℕ)) (i : ℕ) → length all ≤ i → first_from name all i ≡ None
+first_none name all i past = rw (drop_all i all past) refl

@@ -1,5 +1,5 @@
 -- How long the body of a message is (RFC 9112, section 6), and the faults that are judged first.
-use Rattle.std.specs.Prelude.{ℕ, Bool, ◌&&◌, ◌==◌, not, nat_lt, List, [], ◌∷◌, length, codes, Option, Some, None, ok_or, Result, Ok}
+use Rattle.std.specs.Prelude.{ℕ, Bool, ◌&&◌, ◌==◌, not, nat_lt, List, [], ◌∷◌, length, codes, Option, Some, None, option_and_then, ok_or, Result, Ok}
 use Rattle.std.specs.List.{after_first}
 use Rattle.std.specs.Str.{bytes_eq}
 use Rattle.s3_text.specs.Characters.{slash}
@@ -7,7 +7,7 @@ use Rattle.s3_text.specs.Digits.{decimal_number}
 use Rattle.s3_terms.specs.Fault.{refuse, ◌>>◌, ◌>>=◌}
 use Rattle.s3_terms.specs.declared.code.Code.{Code}
 use Rattle.s3_terms.specs.declared.code.Code.TheVariants.{NotImplemented, InvalidRequest, MissingContentLength, EntityTooLarge}
-use Rattle.s3_http_heads.specs.Head.{HeadParts, values_of, is_sent}
+use Rattle.s3_http_heads.specs.Head.{HeadParts, values_of, only, is_sent}
 use Rattle.s3_http_heads.specs.Target.{address_of}
 
 -- what the lines of Content-Length announce: no bytes where there is no line, and nothing where they are no
@@ -20,6 +20,11 @@ announced (value ∷ other ∷ others) = None
 -- the lines of Content-Length
 abbrev pub length_lines : HeadParts → List (List ℕ)
 length_lines parts = values_of (codes "content-length") parts
+
+-- how many bytes of data a body in signed chunks has, where one line says it in 1 to 18 decimal digits
+abbrev pub decoded_length : HeadParts → Option ℕ
+decoded_length parts =
+    option_and_then (decimal_number 18) (only (values_of (codes "x-amz-decoded-content-length") parts))
 
 -- a byte follows the second slash of the path
 abbrev pub names_key : List ℕ → Bool

@@ -1,10 +1,10 @@
 -- What a head says (RFC 9112, sections 3 and 5), by the grammar of the kit's `httparse`.
-use Rattle.std.specs.Prelude.{◌≡◌, ℕ, ◌≤◌, Bool, false, ◌&&◌, ◌||◌, ◌==◌, List, [], map, filter, length, codes, Option, None, Some}
-use Rattle.std.specs.List.{list_any, flat_map, slice_get}
+use Rattle.std.specs.Prelude.{◌≡◌, ℕ, ◌≤◌, Bool, true, false, not, ◌&&◌, ◌||◌, ◌==◌, List, [], ◌∷◌, map, filter, length, codes, Option, None, Some}
+use Rattle.std.specs.List.{list_all, list_any, flat_map, slice_get}
 use Rattle.std.specs.Str.{bytes_eq, str_to_ascii_lowercase}
 use Rattle.httparse.specs.Grammar.{RequestHead, ReadsRequest, trim_ows}
 use Rattle.httparse.specs.Spans.{name_and_value}
-use Rattle.s3_text.specs.Characters.{comma}
+use Rattle.s3_text.specs.Characters.{carriage_return, comma}
 use Rattle.s3_text.specs.Cut.{parts_at}
 
 -- the greatest number of header lines
@@ -35,6 +35,18 @@ HasNoHead text = (h : RequestHead) → ¬ (IsHead text h)
 abbrev pub Says : List ℕ → HeadParts → Type 0
 Says text parts = (h : RequestHead) × IsHead text h × (parts ≡ parts_of h)
 
+-- no carriage return is in the text, so that no line ends in it
+abbrev pub is_unbroken : List ℕ → Bool
+is_unbroken text = list_all (λ b. not (b == carriage_return)) text
+
+-- none is in the name and the value of a line
+abbrev pub is_whole_line : List ℕ × List ℕ → Bool
+is_whole_line header = is_unbroken header.0 && is_unbroken header.1
+
+-- none is in any line of a head
+abbrev pub LinesAreWhole : Type 0
+LinesAreWhole = (text : List ℕ) (parts : HeadParts) → Says text parts → list_all is_whole_line parts.headers ≡ true
+
 -- a header line has this name, which is given in lower case
 abbrev pub is_named : List ℕ → List ℕ × List ℕ → Bool
 is_named name header = bytes_eq (str_to_ascii_lowercase header.0) name
@@ -42,6 +54,11 @@ is_named name header = bytes_eq (str_to_ascii_lowercase header.0) name
 -- the values of the header lines of a name, in their order
 unfoldable pub values_of : List ℕ → HeadParts → List (List ℕ)
 values_of name parts = map (λ (header : List ℕ × List ℕ). header.1) (filter (is_named name) parts.headers)
+
+-- the one value of a header that was sent once
+abbrev pub only : List (List ℕ) → Option (List ℕ)
+only (value ∷ []) = Some value
+only other = None
 
 -- a header line of that name was sent
 abbrev pub is_sent : List ℕ → HeadParts → Bool

@@ -1,8 +1,8 @@
 -- What a request target says (RFC 9112, section 3.2.1; Amazon S3 User Guide, "Path-style requests"). Its
 -- escapes are read once (RFC 3986, section 2.1) and nothing is normalised; a `+` stands for itself; empty
 -- pieces of the query are dropped, and a piece without `=` has the empty value.
-use Rattle.std.specs.Prelude.{ℕ, Bool, false, not, ◌&&◌, ◌||◌, ◌==◌, nat_eq, nat_lt, List, [], ◌∷◌, map, filter, length, Result, Ok}
-use Rattle.std.specs.List.{list_any, before_first, after_first, starts_with}
+use Rattle.std.specs.Prelude.{ℕ, Bool, false, not, ◌&&◌, ◌||◌, ◌==◌, nat_eq, nat_lt, List, [], ◌∷◌, map, filter, length, Option, option_map, Result, Ok}
+use Rattle.std.specs.List.{find, list_any, before_first, after_first, starts_with}
 use Rattle.std.specs.Char.{is_ascii_hexdigit}
 use Rattle.std.specs.Str.{bytes_eq}
 use Rattle.percent_encoding.specs.Percent.{percent_sign, percent_decode}
@@ -75,3 +75,9 @@ target_of target = do
 -- a parameter has this name
 abbrev pub has_parameter : List ℕ → TargetParts → Bool
 has_parameter name target = list_any (λ parameter. bytes_eq parameter.0 name) target.parameters
+
+-- the value of the first parameter of this name
+abbrev pub first_parameter : List ℕ → TargetParts → Option (List ℕ)
+first_parameter name target =
+    option_map (λ (parameter : List ℕ × List ℕ). parameter.1)
+    (find (λ (parameter : List ℕ × List ℕ). bytes_eq parameter.0 name) target.parameters)

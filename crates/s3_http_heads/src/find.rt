@@ -78,11 +78,10 @@ fn head_length(text: &[u8]) -> Option<usize>
 pub(crate) fn matched_after(matched: u8, byte: u8) -> u8
     ensures { result ≡ after_byte matched byte }
 {
-    match (matched, byte) {
-        (1, b'\n') => 2,
-        (2, b'\r') => 3,
-        (3, b'\n') => 4,
-        (_, b'\r') => 1,
+    match byte {
+        b'\r' if matched == 2 => 3,
+        b'\r' => 1,
+        b'\n' if matched == 1 || matched == 3 => matched + 1,
         _ => 0,
     }
 }

@@ -2,7 +2,7 @@
 ghost use Rattle.std.specs.Prelude.{◌≡◌, ◌≤◌, ◌<◌, ◌⊎◌, ◌↔◌, ℕ, List, length, map, All, IfOk, IfErr, MatchResult, Ok, Err, Some, slice_get};
 ghost use Rattle.httparse.specs.Grammar.{RequestHead};
 ghost use Rattle.httparse.specs.Spans.{IsWithin, IsHeaderWithin, header_bytes, span_bytes};
-ghost use Rattle.s3_http_heads.specs.Head.{HeadParts, IsHead, HasNoHead, Says, parts_of, values_of, first_value, is_sent, closes, asks_head_only, expects_continue};
+ghost use Rattle.s3_http_heads.specs.Head.{HeadParts, LinesAreWhole, IsHead, HasNoHead, Says, parts_of, values_of, first_value, is_sent, closes, asks_head_only, expects_continue};
 ghost use Rattle.s3_http_heads.specs.Target.{path_of, target_of, target_parts};
 ghost use Rattle.std.specs.Option.{option_copied};
 
@@ -34,7 +34,7 @@ pub struct Head {
 }
 
 impl Model for Head {
-    ghost use Rattle.std.specs.Prelude.{◌≡◌, length, map, ok_or, All};
+    ghost use Rattle.std.specs.Prelude.{◌≡◌, ◌≤◌, length, map, ok_or, All};
     ghost use Rattle.httparse.specs.Spans.{IsWithin, IsHeaderWithin, header_bytes, span_bytes};
     ghost use Rattle.s3_terms.specs.declared.code.Code.TheVariants.{InvalidURI};
     ghost use Rattle.s3_http_heads.specs.Head.{HeadParts};
@@ -52,6 +52,7 @@ impl Model for Head {
     ghost invariant = { λ h. IsWithin (length h.text.items) h.method
         × IsWithin (length h.text.items) h.target
         × All (IsHeaderWithin (length h.text.items)) h.headers.items
+        × (length h.headers.items ≤ 64)
         × (ok_or h.said InvalidURI ≡ target_of (span_bytes h.text.items h.target)) };
 }
 
@@ -90,6 +91,7 @@ impl Head {
         requires method_within { IsWithin (length text.now) spans.method }
         requires target_within { IsWithin (length text.now) spans.path }
         requires headers_within { All (IsHeaderWithin (length text.now)) headers.now }
+        requires few_headers { length headers.now ≤ 64 }
         ensures method { IfOk result (λ head. head.method ≡ span_bytes text.now spans.method) }
         ensures target { IfOk result (λ head. head.target ≡ span_bytes text.now spans.path) }
         ensures minor { IfOk result (λ head. head.minor ≡ spans.version) }
@@ -134,6 +136,13 @@ impl Head {
         ensures { result ≡ length self.now.headers }
     {
         self.headers.len()
+    }
+
+    /// A law: there are no more than `LINE_LIMIT` header lines.
+    pub fn has_few_lines(&self)
+        ensures { length self.now.headers ≤ 64 }
+    {
+        let _count = self.headers.len();
     }
 
     /// The name, as it was sent, and the value of the header line at `index`, from 0.
@@ -244,4 +253,9 @@ impl Head {
 /// A law: a text says one thing, so that what `Head::read` gives is fixed by the text.
 pub fn texts_say_one_thing()
     ensures { (text : List ℕ) (a b : HeadParts) → Says text a → Says text b → a ≡ b }
+{}
+
+/// A law: no carriage return is in a header line of a head, so that a reply may tell its value in a line.
+pub fn lines_are_whole()
+    ensures { LinesAreWhole }
 {}

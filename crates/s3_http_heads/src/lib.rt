@@ -13,7 +13,7 @@ pub use body_length::{announced_length, framing, messages_are_cut_once};
 pub use find::{
     Found, HEAD_LIMIT, find_head, pairs_may_be_dropped, skipped, verdict_is_exact, verdicts_stay,
 };
-pub use head::{Head, LINE_LIMIT, texts_say_one_thing};
+pub use head::{Head, LINE_LIMIT, lines_are_whole, texts_say_one_thing};
 pub use search::{HeadSearch, searches_find};
 pub use target::Target;
 pub use text::{is_named, trimmed};

@@ -1,6 +1,7 @@
 //! What a request target says: its path, the bucket and the key in it, and whether it has a query.
 ghost use Rattle.std.specs.Prelude.{◌≡◌, ◌≤◌, ◌<◌, ◌==◌, ◌++◌, ◌∷◌, [], not, true, nat_eq, nat_lt, length, take, drop, ok_or, Some, IfOk, slice_get};
 ghost use Rattle.std.specs.List.{starts_with, before_first, after_first};
+ghost use Rattle.std.specs.Option.{option_copied};
 ghost use Rattle.percent_encoding.specs.Percent.{percent_decode};
 ghost use Rattle.s3_text.specs.Characters.{slash};
 ghost use Rattle.s3_http_heads.specs.Target as rules;
@@ -112,6 +113,19 @@ impl Target {
         ensures { slice_get self.now.parameters index ≡ Some (result.0.now, result.1.now) }
     {
         self.parameters.at(index)
+    }
+
+    /// The value of the first parameter of this name. The cost is linear in the parameters.
+    pub fn first(&self, name: &[u8]) -> Option<&[u8]>
+        ensures { option_copied result ≡ rules.first_parameter name.now self.now }
+    {
+        for index in 0..self.parameter_count() {
+            let (sent, value) = self.parameter(index);
+            if sent == name {
+                return Some(value);
+            }
+        }
+        None
     }
 
     /// Whether a parameter has this name. The cost is linear in the parameters.

@@ -20,12 +20,3 @@ sent_waits w last sent count =
 
 pub sent_fits : (w last : List ℕ) (sent count : ℕ) → sent ≤ length last → count ≤ length (w ++ drop sent last) → sent + (count - length w) ≤ length last
 sent_fits w last sent count h l = omega (arith, h, l, length-append w (drop sent last), length-drop sent last)
-
--- a step of a count that falls
-pub step_sent : (n r : ℕ) (w v all : List ℕ) → r ≤ n → v ≡ drop r w → drop n w ≡ all → drop (n - r) v ≡ all
-step_sent n r w v all h e f =
-    let sum : r + (n - r) ≡ n = omega (arith, h) in
-    rw (e, drop-drop (n - r) r w, sum) f
-
-pub step_left : (n r m : ℕ) (w v : List ℕ) → r ≤ n → r ≤ length w → v ≡ drop r w → n - length w ≡ m → (n - r) - length v ≡ m
-step_left n r m w v h l e f = omega (arith, h, l, f, ap (λ (xs : List ℕ). length xs) e, length-drop r w)

@@ -1,11 +1,11 @@
 -- What a reader says of its body is what the bytes so far say.
-use Rattle.std.proofs.Common.{◌≡◌, ℕ, Bool, true, false, min, if◌then◌else◌, List, length, refl, ap, ◌∙◌, arith, ◌≤◌, Option, Some, inl, inr}
+use Rattle.std.proofs.Common.{◌≡◌, ℕ, Bool, min, List, length, refl, ap, ◌∙◌, arith, ◌≤◌, Option, Some, inl, inr}
 use Rattle.std.specs.Prelude.{option_map}
 use Rattle.std.proofs.lemmas.Bool.{cases_lt}
 use Rattle.std.proofs.lemmas.List.{length-take}
 use Rattle.s3_terms.specs.declared.code.Code.{Code}
 use Rattle.s3_terms.specs.declared.code.Code.TheVariants.{IncompleteBody}
-use Rattle.s3_aws_chunked.specs.Verdict.{Accepted, Open, Refused}
+use Rattle.s3_aws_chunked.specs.Verdict.{Accepted, Refused}
 use Rattle.s3_aws_chunked.specs.Laws.{ReadersCount, ReadersJudge, ReadersStayWithin}
 use Rattle.s3_aws_chunked.specs.Decoder.{code_of, fault_at}
 use Rattle.s3_aws_chunked.specs.Reader as chunked
@@ -19,7 +19,7 @@ use Rattle.s3_payloads.specs.declared.reader.Mode.TheVariants as modes
 use Rattle.s3_payloads.specs.Form.{Announced}
 use Rattle.s3_payloads.specs.Reader.{ChunksFor, ModeFailed, ModePassed, ModeStands, WholeFor, mode_taken, mode_verdict}
 use Rattle.s3_payloads.specs.Verdict.{Judges, JudgesForm, terms_of, whole_verdict}
-use Rattle.s3_payloads.proofs.WholeLemmas.{nat_le-false}
+use Rattle.s3_payloads.proofs.WholeLemmas.{nat_le-false, undecided}
 use Rattle.s3_payloads.specs.Whole.{WholeState, told}
 
 -- ---- the verdict
@@ -108,13 +108,7 @@ pub pass_mode : (mode : Mode) → ModePassed mode → (payload : List ℕ) × (m
 pass_mode (modes.Whole whole) is = (whole.bytes, rw is refl)
 pass_mode (modes.Chunks chunks) is = (chunks.payload, rw (is.1) refl)
 
--- ---- a body that is refused, accepted or open
-
 -- ---- bodies that are accepted
-
-undecided : (place : ℕ) (bytes held : List ℕ) (code : Code) (ended : Bool) → Accepted held ≡ (if ended then Refused place code else Open bytes) → ⊥
-undecided place bytes held code true is = cc
-undecided place bytes held code false is = cc
 
 pub whole_come : (hash digest : Option (List ℕ)) (size : ℕ) (ended : Bool) (bytes held : List ℕ) → Accepted held ≡ whole_verdict hash digest size ended bytes
     → size ≤ length bytes

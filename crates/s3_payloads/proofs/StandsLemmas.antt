@@ -1,5 +1,5 @@
 -- How a reader of a whole body stands after a piece more, and at the end of input.
-use Rattle.std.proofs.Common.{◌≡◌, ℕ, ◌-◌, ◌≤◌, Bool, true, false, min, if◌then◌else◌, List, [], ◌++◌, length, take, refl, sym, ap, ◌∙◌, arith, Option, Result, Ok, Err, inl, inr}
+use Rattle.std.proofs.Common.{◌≡◌, ℕ, ◌-◌, ◌≤◌, Bool, true, false, min, List, [], ◌++◌, length, take, refl, sym, ap, ◌∙◌, arith, Option, Result, Ok, Err, inl, inr}
 use Rattle.std.specs.Prelude.{⊤}
 use Rattle.std.proofs.lemmas.Bool.{cases_lt}
 use Rattle.std.proofs.lemmas.List.{append-nil, take_all, length-append, length-take, length-take-le, take-append-le}
@@ -12,7 +12,7 @@ use Rattle.s3_payloads.specs.Verdict.{checked_data, decided_at, whole_verdict}
 use Rattle.s3_payloads.specs.Whole.{FinishedAt, EndedAt, FedAt, IsOpen, IsRead, WholeEnded, WholeFed, WholeStands, WholeState, answered, at_stage, body_part, told, verdict_on}
 use Rattle.s3_payloads.specs.Outcome.{finished, part_of}
 use Rattle.s3_terms.specs.declared.code.Code.TheVariants.{IncompleteBody}
-use Rattle.s3_payloads.proofs.WholeLemmas.{cut_at, nat_le-false, nat_le-true, never_open, decided_never_open}
+use Rattle.s3_payloads.proofs.WholeLemmas.{cut_at, nat_le-false, nat_le-true, never_open, decided_never_open, undecided}
 
 -- ---- what comes behind Content-Length
 
@@ -214,10 +214,6 @@ open_ends hash digest size bytes held ended is = elim (cases_lt (length bytes) s
   | inl part ↦ rw (nat_le-false size (length bytes) part) refl
   | inr whole ↦ absurd (decided_never_open size (checked_data hash digest (take size bytes)) held (rw (nat_le-true size (length bytes) whole) at is))
 ]
-
-undecided : (place : ℕ) (bytes held : List ℕ) (code : Code) (ended : Bool) → Accepted held ≡ (if ended then Refused place code else Open bytes) → ⊥
-undecided place bytes held code true is = cc
-undecided place bytes held code false is = cc
 
 -- a body that is accepted stays so where it ends
 accepted_ends : (hash digest : Option (List ℕ)) (size : ℕ) (bytes held : List ℕ) (ended : Bool) → Accepted held ≡ whole_verdict hash digest size ended bytes

@@ -1,5 +1,5 @@
 -- What is known of the verdict on a body that is sent as it is.
-use Rattle.std.proofs.Common.{◌≡◌, ℕ, ◌-◌, ◌<◌, ◌≤◌, Bool, true, false, min, nat_le, List, ◌++◌, ◌+◌, length, take, refl, sym, ap, ◌∙◌, arith, [], Option, Result, Ok, Err, inl, inr}
+use Rattle.std.proofs.Common.{◌≡◌, ℕ, ◌-◌, ◌<◌, ◌≤◌, Bool, true, false, min, nat_le, if◌then◌else◌, List, ◌++◌, ◌+◌, length, take, refl, sym, ap, ◌∙◌, arith, [], Option, Result, Ok, Err, inl, inr}
 use Rattle.std.specs.Prelude.{⊤, IfErr, IfOk}
 use Rattle.std.proofs.lemmas.Bool.Decides.{nat_tests}
 use Rattle.std.proofs.lemmas.List.{append-nil, take_all, length-append, length-take-le}
@@ -9,7 +9,7 @@ use Rattle.s3_terms.specs.declared.code.Code.{Code}
 use Rattle.s3_payloads.specs.declared.whole.Stage.{Stage}
 use Rattle.s3_payloads.specs.declared.whole.Stage.TheVariants as stages
 use Rattle.s3_payloads.specs.Whole.{EndedAt, FedAt, FinishedAt, WholeState, IsRead, IsStage, answered, at_stage, body_part, told, verdict_on, with_bytes}
-use Rattle.s3_aws_chunked.specs.Verdict.{Accepted, Open}
+use Rattle.s3_aws_chunked.specs.Verdict.{Accepted, Open, Refused}
 use Rattle.s3_payloads.specs.Verdict.{checked_data, decided_at, whole_verdict}
 
 pub nat_le-true : (m n : ℕ) → m ≤ n → nat_le m n ≡ true
@@ -17,6 +17,11 @@ nat_le-true m n le = grind (arith, nat_tests)
 
 pub nat_le-false : (m n : ℕ) → n < m → nat_le m n ≡ false
 nat_le-false m n lt = grind (arith, nat_tests)
+
+-- a body of which bytes are to come is not accepted
+pub undecided : (place : ℕ) (bytes held : List ℕ) (code : Code) (ended : Bool) → Accepted held ≡ (if ended then Refused place code else Open bytes) → ⊥
+undecided place bytes held code true is = cc
+undecided place bytes held code false is = cc
 
 -- once it is whole, it is judged
 pub whole_bytes : (hash digest : Option (List ℕ)) (size : ℕ) (ended : Bool) (bytes : List ℕ) → length bytes ≡ size

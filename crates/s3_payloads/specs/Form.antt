@@ -5,14 +5,13 @@ use Rattle.std.specs.Prelude.{ℕ, ◌==◌, nat_lt, if◌then◌else◌, List, 
 use Rattle.std.specs.Str.{bytes_eq}
 use Rattle.base64.specs.Engines.{standard}
 use Rattle.base64.specs.GeneralPurpose.{decoded_of}
-use Rattle.s3_text.specs.Digits.{decimal_number}
 use Rattle.s3_terms.specs.Fault.{refuse, ◌>>◌, ◌>>=◌}
 use Rattle.s3_terms.specs.declared.code.Code.{Code}
 use Rattle.s3_terms.specs.declared.code.Code.TheVariants.{InvalidRequest, EntityTooLarge, InvalidDigest}
 use Rattle.s3_config.specs.Settings.{Settings}
 use Rattle.s3_http_heads.specs.Head.{HeadParts, values_of}
-use Rattle.s3_http_heads.specs.BodyLength.{announced, length_lines}
-use Rattle.s3_signing.specs.Verdict.{Proved, only}
+use Rattle.s3_http_heads.specs.BodyLength.{announced, decoded_length, length_lines}
+use Rattle.s3_signing.specs.Verdict.{Proved}
 use Rattle.s3_signing.specs.Word.{signed_chunks, unsigned_payload}
 use Rattle.s3_payloads.specs.declared.form.Form.{Form}
 use Rattle.s3_payloads.specs.declared.form.Form.TheVariants.{Whole, Chunks}
@@ -35,11 +34,6 @@ digest_said (value ∷ other ∷ others) = Err InvalidDigest
 unfoldable pub content_digest : HeadParts → Result (Option (List ℕ)) Code
 content_digest head = digest_said (values_of (codes "content-md5") head)
 
--- how many bytes of data the chunks hold together, where one line says it in 1 to 18 decimal digits
-abbrev pub decoded_said : HeadParts → Option ℕ
-decoded_said head =
-    option_and_then (decimal_number 18) (only (values_of (codes "x-amz-decoded-content-length") head))
-
 -- the hash that the word is, where it is one
 abbrev pub hash_in : List ℕ → Option (List ℕ)
 hash_in word = if bytes_eq word unsigned_payload then None else Some word
@@ -47,7 +41,7 @@ hash_in word = if bytes_eq word unsigned_payload then None else Some word
 -- a body of chunks, past what is wrong with its decoded length
 unfoldable pub chunks_form : Settings → HeadParts → Result Form Code
 chunks_form settings head = do
-  decoded ← ok_or (decoded_said head) InvalidRequest
+  decoded ← ok_or (decoded_length head) InvalidRequest
   refuse (nat_lt settings.body_limit decoded) EntityTooLarge
   Ok (Chunks decoded)
 

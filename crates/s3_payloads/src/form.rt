@@ -2,6 +2,7 @@
 
 ghost use Rattle.std.specs.Prelude.{◌≡◌, ◌≤◌, take};
 ghost use Rattle.s3_config.specs.Settings.{Settings};
+ghost use Rattle.s3_http_heads.specs.BodyLength.{decoded_length};
 ghost use Rattle.s3_signing.specs.Word.{unsigned_payload, word_text};
 ghost use Rattle.s3_payloads.specs.Form as rules;
 
@@ -80,8 +81,8 @@ fn content_digest(head: &Head) -> Result<Option<[u8; 16]>, Code>
 }
 
 // The number of bytes that the chunks hold together, where one line says it in decimal digits.
-fn decoded_said(head: &Head) -> Option<u64>
-    ensures { result ≡ rules.decoded_said head.now }
+fn decoded_length(head: &Head) -> Option<u64>
+    ensures { result ≡ decoded_length head.now }
 {
     if head.count(b"x-amz-decoded-content-length") != 1 {
         return None;
@@ -97,7 +98,7 @@ fn decoded_said(head: &Head) -> Option<u64>
 fn chunks_form(config: &Config, head: &Head) -> Result<Form, Code>
     ensures { result ≡ rules.chunks_form config.now head.now }
 {
-    let decoded = decoded_said(head).ok_or(Code::InvalidRequest)?;
+    let decoded = decoded_length(head).ok_or(Code::InvalidRequest)?;
     if config.body_limit() < decoded {
         return Err(Code::EntityTooLarge);
     }

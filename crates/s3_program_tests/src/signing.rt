@@ -192,6 +192,7 @@ const PUT_AND_GOT: &[u8] = b"HTTP/1.1 200 OK\r\n\
     Last-Modified: Fri, 24 May 2013 00:00:00 GMT\r\n\
     Accept-Ranges: bytes\r\n\
     Content-Type: binary/octet-stream\r\n\
+    x-amz-meta-a: 1  2:3\r\n\
     Content-Length: 5\r\n\
     \r\n\
     hello";

@@ -10,17 +10,17 @@ use Rattle.s3_records.proofs.KeyLemmas.{written}
 use Rattle.s3_text.proofs.MapLemmas.{value_at, put-put}
 
 -- a bucket that is there is found
-pub not_absent : (c : Catalogue) (name : List ℕ) → map.get c name ≡ None → IsTrue (has_bucket c name) → ⊥
+pub not_absent : {B : Type 0} (c : Catalogue B) (name : List ℕ) → map.get c name ≡ None → IsTrue (has_bucket c name) → ⊥
 not_absent c name absent there = false≢true (sym (ap is_some absent) ∙ there)
 
 -- a tree in which one bucket was changed
-pub bucket_written : (before after : BTreeMap (List ℕ) Bucket) (c : Catalogue) (name : List ℕ) (old new : Bucket) (change : Bucket → Bucket) → map.from_entries before.entries ≡ c → Some old ≡ value_at before.entries name → map.get c name ≡ Some old
+pub bucket_written : {B : Type 0} (before after : BTreeMap (List ℕ) (Bucket B)) (c : Catalogue B) (name : List ℕ) (old new : Bucket B) (change : Bucket B → Bucket B) → map.from_entries before.entries ≡ c → Some old ≡ value_at before.entries name → map.get c name ≡ Some old
     → WritesThrough byte_order (byte_order name) before new after → new ≡ change old → map.from_entries after.entries ≡ in_bucket c name change
 bucket_written before after c name old new change view found there writes is =
     written before after c name old new (change old) view found writes is ∙ sym (ap (changed c name change) there)
 
 -- one more bucket to open with
-pub opening-push : (names : List (List ℕ)) (name : List ℕ) → opening (names ++ name ∷ []) ≡ map.insert (opening names) name (new_bucket 0)
+pub opening-push : {B : Type 0} (names : List (List ℕ)) (name : List ℕ) → opening {B = B} (names ++ name ∷ []) ≡ map.insert (opening names) name (new_bucket 0)
 opening-push [] name = refl
 opening-push (first ∷ names) name =
     ap (λ c. map.insert c first (new_bucket 0)) (opening-push names name) ∙ put-put (opening names) name first (new_bucket 0)

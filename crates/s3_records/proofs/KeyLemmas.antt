@@ -27,7 +27,7 @@ on_err (Ok x) p = tt
 on_err (Err e) p = p
 
 -- where something is added, a key has versions
-pub with_versions-added : (keys : Keys) (key : List ℕ) (b : Versioning) (n t : ℕ) (content : Content) (vs : List Version) → map.insert keys key (after_adding b n t content vs) ≡ with_versions keys key (after_adding b n t content vs)
+pub with_versions-added : {B : Type 0} (keys : Keys B) (key : List ℕ) (b : Versioning) (n t : ℕ) (content : Content B) (vs : List (Version B)) → map.insert keys key (after_adding b n t content vs) ≡ with_versions keys key (after_adding b n t content vs)
 with_versions-added keys key Unversioned n t content vs = refl
 with_versions-added keys key Enabled n t content vs = refl
 with_versions-added keys key Suspended n t content vs = refl
@@ -40,16 +40,16 @@ pub left : {X : Type 0} (before after : BTreeMap (List ℕ) X) (m : map.FinMap b
 left before after m k old new view found there writes is = written before after m k old new old view found writes is ∙ put_again m k old there
 
 -- of no versions, none goes
-pub replaced-none : (b : Versioning) → replaced b [] ≡ None
+pub replaced-none : {B : Type 0} (b : Versioning) → replaced {B = B} b [] ≡ None
 replaced-none Unversioned = refl
 replaced-none Enabled = refl
 replaced-none Suspended = refl
 
 -- where versions are left the key stays, and where none are it goes
-pub with_versions-some : (keys : Keys) (key : List ℕ) (vs : List Version) → (vs ≡ [] → ⊥) → map.insert keys key vs ≡ with_versions keys key vs
+pub with_versions-some : {B : Type 0} (keys : Keys B) (key : List ℕ) (vs : List (Version B)) → (vs ≡ [] → ⊥) → map.insert keys key vs ≡ with_versions keys key vs
 with_versions-some keys key [] some = absurd (some refl)
 with_versions-some keys key (v ∷ vs) some = refl
 
-pub without-none : (id : VersionId) → without id [] ≡ []
+pub without-none : {B : Type 0} (id : VersionId) → without {B = B} id [] ≡ []
 unfolding without
 without-none id = refl

@@ -1,4 +1,5 @@
 pub mod CatalogueLemmas
+pub mod FillingLemmas
 pub mod KeyLemmas
 pub mod LawLemmas
 pub mod MapLemmas

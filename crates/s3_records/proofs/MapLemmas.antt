@@ -58,12 +58,7 @@ over : {X : Type 0} (b : Bool) (v w : Option X) (other : Option X) → cond b v 
 over true v w other = refl
 over false v w other = refl
 
--- the last write at a key counts
-pub put-over : {X : Type 0} (m : FinMap byte_order X) (k : List ℕ) (v w : X) → insert (insert m k w) k v ≡ insert m k v
-put-over m k v w = same_by_get _ _ (λ q.
-    get-put (insert m k w) k v q ∙ ap (cond (eq_by_cmp byte_order q k) (Some v)) (get-put m k w q)
-    ∙ over (eq_by_cmp byte_order q k) (Some v) (Some w) (get m q) ∙ sym (get-put m k v q))
-
+-- what was put goes with what is taken out
 pub remove-over : {X : Type 0} (m : FinMap byte_order X) (k : List ℕ) (w : X) → remove (insert m k w) k ≡ remove m k
 remove-over m k w = same_by_get _ _ (λ q.
     get-remove nat_list_cmp_total (insert m k w) k q ∙ ap (cond (eq_by_cmp byte_order q k) None) (get-put m k w q)

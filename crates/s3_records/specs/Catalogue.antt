@@ -1,5 +1,6 @@
--- The catalogue: which buckets there are and what is under their keys, in rows that name bytes by a number
--- (Amazon S3 User Guide, "Buckets overview" and "Using versioning in S3 buckets").
+-- The catalogue: which buckets there are and what is under their keys (Amazon S3 User Guide, "Buckets overview"
+-- and "Using versioning in S3 buckets"). What stands for the bytes is left open: in the rows of a keeper it is a
+-- number, in the state of a server the bytes themselves.
 use Rattle.std.specs.Prelude.{ℕ, ◌==◌, Bool, true, List, [], ◌∷◌, map as each, Option, Some, None, is_some, option_map}
 use Rattle.std.specs.FinMap as map
 use Rattle.s3_text.specs.Order.{byte_order}
@@ -10,79 +11,79 @@ use Rattle.s3_records.specs.declared.records.BucketFacts.{BucketFacts}
 use Rattle.s3_records.specs.declared.records.ListedBucket.{ListedBucket}
 
 -- the versions, newest first, under each key that has some
-abbrev pub Keys : Type 0
-Keys = map.FinMap byte_order (List Version)
+abbrev pub Keys : Type 0 → Type 0
+Keys B = map.FinMap byte_order (List (Version B))
 
 -- a bucket: when it was made, its versioning, and its keys
-pub record Bucket : Type 0 where
+pub record Bucket (B : Type 0) : Type 0 where
   pub made : ℕ
   pub versioning : Versioning
-  pub keys : Keys
+  pub keys : Keys B
 
 -- the buckets, by their names
-abbrev pub Catalogue : Type 0
-Catalogue = map.FinMap byte_order Bucket
+abbrev pub Catalogue : Type 0 → Type 0
+Catalogue B = map.FinMap byte_order (Bucket B)
 
 -- a bucket that is made at moment t: unversioned, with nothing in it
-abbrev pub new_bucket : ℕ → Bucket
+abbrev pub new_bucket : {B : Type 0} → ℕ → Bucket B
 new_bucket t = record { made = t; versioning = Unversioned; keys = map.empty }
 
 -- the opening catalogue: the named buckets, made at moment 0
-abbrev pub opening : List (List ℕ) → Catalogue
+abbrev pub opening : {B : Type 0} → List (List ℕ) → Catalogue B
 opening [] = map.empty
 opening (name ∷ names) = map.insert (opening names) name (new_bucket 0)
 
 -- there is a bucket of this name
-abbrev pub has_bucket : Catalogue → List ℕ → Bool
+abbrev pub has_bucket : {B : Type 0} → Catalogue B → List ℕ → Bool
 has_bucket c name = is_some (map.get c name)
 
 -- what is told of a bucket
-abbrev pub facts_of : Bucket → BucketFacts
+abbrev pub facts_of : {B : Type 0} → Bucket B → BucketFacts
 facts_of b = record { made = b.made; versioning = b.versioning }
 
-abbrev pub facts_in : Catalogue → List ℕ → Option BucketFacts
+abbrev pub facts_in : {B : Type 0} → Catalogue B → List ℕ → Option BucketFacts
 facts_in c name = option_map facts_of (map.get c name)
 
 -- all buckets, by name in the order of bytes
-abbrev pub listed_bucket : List ℕ × Bucket → ListedBucket
+abbrev pub listed_bucket : {B : Type 0} → List ℕ × Bucket B → ListedBucket
 listed_bucket e = record { name = e.0; made = e.1.made }
 
-abbrev pub listed_buckets : Catalogue → List ListedBucket
+abbrev pub listed_buckets : {B : Type 0} → Catalogue B → List ListedBucket
 listed_buckets c = each listed_bucket (map.entries c)
 
 -- the versions that were found under a key: a key that is not there has none
-abbrev pub found_versions : Option (List Version) → List Version
+abbrev pub found_versions : {B : Type 0} → Option (List (Version B)) → List (Version B)
 found_versions None = []
 found_versions (Some vs) = vs
 
 -- the versions under a key
-abbrev pub versions_at : Keys → List ℕ → List Version
+abbrev pub versions_at : {B : Type 0} → Keys B → List ℕ → List (Version B)
 versions_at keys key = found_versions (map.get keys key)
 
 -- the same, in a bucket that is there or not
-abbrev pub versions_in : Option Bucket → List ℕ → List Version
+abbrev pub versions_in : {B : Type 0} → Option (Bucket B) → List ℕ → List (Version B)
 versions_in None key = []
 versions_in (Some b) key = versions_at b.keys key
 
-abbrev pub versions_of : Catalogue → List ℕ → List ℕ → List Version
+abbrev pub versions_of : {B : Type 0} → Catalogue B → List ℕ → List ℕ → List (Version B)
 versions_of c name key = versions_in (map.get c name) key
 
 -- a bucket's versioning
-abbrev pub versioning_in : Option Bucket → Versioning
+abbrev pub versioning_in : {B : Type 0} → Option (Bucket B) → Versioning
 versioning_in None = Unversioned
 versioning_in (Some b) = b.versioning
 
-abbrev pub versioning_of : Catalogue → List ℕ → Versioning
+abbrev pub versioning_of : {B : Type 0} → Catalogue B → List ℕ → Versioning
 versioning_of c name = versioning_in (map.get c name)
 
 -- no key has a version
-abbrev pub has_no_keys : Keys → Bool
+abbrev pub has_no_keys : {B : Type 0} → Keys B → Bool
 has_no_keys keys = map.len keys == 0
 
 -- nothing is in the bucket
-abbrev pub is_empty_in : Option Bucket → Bool
+abbrev pub is_empty_in : {B : Type 0} → Option (Bucket B) → Bool
 is_empty_in None = true
 is_empty_in (Some b) = has_no_keys b.keys
 
-abbrev pub is_empty_bucket : Catalogue → List ℕ → Bool
+abbrev pub is_empty_bucket : {B : Type 0} → Catalogue B → List ℕ → Bool
 is_empty_bucket c name = is_empty_in (map.get c name)

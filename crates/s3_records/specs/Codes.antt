@@ -8,17 +8,17 @@ use Rattle.s3_versions.specs.declared.version.Versioning.{Versioning}
 use Rattle.s3_records.specs.Catalogue.{Keys, Bucket, Catalogue}
 
 -- the keys of a bucket, as their entries
-abbrev pub coded_keys : Coded Keys
-coded_keys = map.code coded_bytes (coded_list coded_version)
+abbrev pub coded_keys : {B : Type 0} → Coded B → Coded (Keys B)
+coded_keys body = map.code coded_bytes (coded_list (coded_version body))
 
 -- a bucket, as when it was made, its versioning and its keys
-abbrev pub coded_bucket : Coded Bucket
-coded_bucket =
-    code_by (ℕ × (Versioning × Keys)) (coded× coded_ℕ (coded× coded_versioning coded_keys))
+abbrev pub coded_bucket : {B : Type 0} → Coded B → Coded (Bucket B)
+coded_bucket {B} body =
+    code_by (ℕ × (Versioning × Keys B)) (coded× coded_ℕ (coded× coded_versioning (coded_keys body)))
     (λ b. (b.made, (b.versioning, b.keys)))
     (λ p. record { made = p.0; versioning = p.1.0; keys = p.1.1 })
     (λ _. refl)
 
 -- the buckets, as their entries
-abbrev pub coded_catalogue : Coded Catalogue
-coded_catalogue = map.code coded_bytes coded_bucket
+abbrev pub coded_catalogue : {B : Type 0} → Coded B → Coded (Catalogue B)
+coded_catalogue body = map.code coded_bytes (coded_bucket body)

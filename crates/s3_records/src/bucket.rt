@@ -22,12 +22,14 @@ pub(crate) struct StoredBucket {
 }
 
 impl Model for StoredBucket {
+    ghost use Rattle.std.specs.Prelude.{ℕ};
+    ghost use Rattle.std.specs.Coded.{coded_ℕ};
     ghost use Rattle.s3_records.specs.Catalogue.{Bucket};
     ghost use Rattle.s3_records.specs.Codes.{coded_bucket};
 
-    ghost Value = { Bucket };
+    ghost Value = { Bucket ℕ };
 
-    ghost coded = { coded_bucket };
+    ghost coded = { coded_bucket coded_ℕ };
 
     ghost view = { λ b. record { made = b.made; versioning = b.versioning; keys = b.keys } };
 }
@@ -65,7 +67,7 @@ impl StoredBucket {
     }
 
     /// The versions under the key; `None` where there are none.
-    pub(crate) fn versions(&self, key: &Key) -> Option<&Versions>
+    pub(crate) fn versions(&self, key: &Key) -> Option<&Versions<u64>>
         ensures { option_copied result ≡ map.get self.now.keys key.now }
     {
         self.keys.get(key)
@@ -86,8 +88,8 @@ impl StoredBucket {
         key: Key,
         number: u64,
         moment: Moment,
-        stored: Data,
-    ) -> Result<Option<Version>, NoMemory>
+        stored: Data<u64>,
+    ) -> Result<Option<Version<u64>>, NoMemory>
         requires { IsTrue (is_new_number number (versions_at self.old.keys key)) }
         ensures ok { OnOk result (self.new ≡ put_in key number moment stored self.old) }
         ensures gone { IfOk result (λ gone. gone ≡ replaced self.old.versioning (versions_at self.old.keys key)) }
@@ -108,7 +110,7 @@ impl StoredBucket {
         key: Key,
         number: u64,
         moment: Moment,
-    ) -> Result<Option<Version>, NoMemory>
+    ) -> Result<Option<Version<u64>>, NoMemory>
         requires { IsTrue (is_new_number number (versions_at self.old.keys key)) }
         ensures ok { OnOk result (self.new ≡ delete_in key number moment self.old) }
         ensures gone { IfOk result (λ gone. gone ≡ replaced self.old.versioning (versions_at self.old.keys key)) }
@@ -127,7 +129,7 @@ impl StoredBucket {
     }
 
     /// Drops the version of this id under the key, and answers it. Takes no memory.
-    pub(crate) fn drop_version(&mut self, key: &Key, id: VersionId) -> Option<Version>
+    pub(crate) fn drop_version(&mut self, key: &Key, id: VersionId) -> Option<Version<u64>>
         ensures value { self.new ≡ drop_in key.now id self.old }
         ensures gone { result ≡ find (is_under id) (versions_at self.old.keys key.now) }
     {

@@ -16,17 +16,19 @@ use std::marker::Model;
 /// versions.
 #[derive(Drop)]
 pub(crate) struct KeyMap {
-    by_key: BTreeMap<Key, Versions>,
+    by_key: BTreeMap<Key, Versions<u64>>,
 }
 
 impl Model for KeyMap {
+    ghost use Rattle.std.specs.Prelude.{ℕ};
+    ghost use Rattle.std.specs.Coded.{coded_ℕ};
     ghost use Rattle.std.specs.FinMap as map;
     ghost use Rattle.s3_records.specs.Catalogue.{Keys};
     ghost use Rattle.s3_records.specs.Codes.{coded_keys};
 
-    ghost Value = { Keys };
+    ghost Value = { Keys ℕ };
 
-    ghost coded = { coded_keys };
+    ghost coded = { coded_keys coded_ℕ };
 
     ghost view = { λ keys. map.from_entries keys.by_key.entries };
 }
@@ -52,7 +54,7 @@ impl KeyMap {
     }
 
     /// The versions under the key; `None` where there are none.
-    pub(crate) fn get(&self, key: &Key) -> Option<&Versions>
+    pub(crate) fn get(&self, key: &Key) -> Option<&Versions<u64>>
         ensures { option_copied result ≡ map.get self.now key.now }
     {
         self.by_key.get(key)
@@ -67,8 +69,8 @@ impl KeyMap {
         versioning: Versioning,
         number: u64,
         moment: Moment,
-        content: Content,
-    ) -> Result<Option<Version>, NoMemory>
+        content: Content<u64>,
+    ) -> Result<Option<Version<u64>>, NoMemory>
         requires { IsTrue (is_new_number number (versions_at self.old key)) }
         ensures ok { OnOk result (self.new
             ≡ with_versions self.old key (after_adding versioning number moment content (versions_at self.old key))) }
@@ -87,7 +89,7 @@ impl KeyMap {
     }
 
     /// Takes the version of this id from those under the key, and answers it. Takes no memory.
-    pub(crate) fn drop_version(&mut self, key: &Key, id: VersionId) -> Option<Version>
+    pub(crate) fn drop_version(&mut self, key: &Key, id: VersionId) -> Option<Version<u64>>
         ensures value { self.new
             ≡ with_versions self.old key.now (after_delete_version id (versions_at self.old key.now)) }
         ensures gone { result ≡ find (is_under id) (versions_at self.old key.now) }
@@ -109,8 +111,8 @@ fn first_version(
     versioning: Versioning,
     number: u64,
     moment: Moment,
-    content: Content,
-) -> Result<Versions, NoMemory>
+    content: Content<u64>,
+) -> Result<Versions<u64>, NoMemory>
     ensures { IfOk result (λ versions. versions ≡ after_adding versioning number moment content []) }
 {
     let mut versions = Versions::new(alloc);

@@ -27,13 +27,15 @@ pub struct MapRecords {
 }
 
 impl Model for MapRecords {
+    ghost use Rattle.std.specs.Prelude.{ℕ};
+    ghost use Rattle.std.specs.Coded.{coded_ℕ};
     ghost use Rattle.std.specs.FinMap as map;
     ghost use Rattle.s3_records.specs.Catalogue.{Catalogue};
     ghost use Rattle.s3_records.specs.Codes.{coded_catalogue};
 
-    ghost Value = { Catalogue };
+    ghost Value = { Catalogue ℕ };
 
-    ghost coded = { coded_catalogue };
+    ghost coded = { coded_catalogue coded_ℕ };
 
     ghost view = { λ records. map.from_entries records.by_name.entries };
 }
@@ -68,7 +70,7 @@ impl MapRecords {
     }
 
     // The versions under a key; `None` where there are none.
-    fn found_versions(&self, bucket: &BucketName, key: &Key) -> Option<&Versions>
+    fn found_versions(&self, bucket: &BucketName, key: &Key) -> Option<&Versions<u64>>
         ensures { found_versions (option_copied result) ≡ versions_of self.now bucket.now key.now }
     {
         match self.found_bucket(bucket) {
@@ -83,7 +85,7 @@ impl MapRecords {
         bucket: &BucketName,
         key: &Key,
         asked: Option<VersionId>,
-    ) -> Option<&Version>
+    ) -> Option<&Version<u64>>
         ensures { option_copied result ≡ asked_for asked (versions_of self.now bucket.now key.now) }
     {
         match self.found_versions(bucket, key) {
@@ -143,7 +145,7 @@ impl Records for MapRecords {
         alloc: Global,
         bucket: &BucketName,
         key: &Key,
-    ) -> Result<Vec<Version>, NoMemory> {
+    ) -> Result<Vec<Version<u64>>, NoMemory> {
         match self.found_versions(bucket, key) {
             None => Ok(Vec::new(alloc)),
             Some(versions) => versions.to_vec(alloc),
@@ -156,7 +158,7 @@ impl Records for MapRecords {
         bucket: &BucketName,
         key: &Key,
         asked: Option<VersionId>,
-    ) -> Result<Option<Version>, NoMemory> {
+    ) -> Result<Option<Version<u64>>, NoMemory> {
         match self.asked_for(bucket, key, asked) {
             None => Ok(None),
             Some(version) => Ok(Some(version.copy(alloc)?)),
@@ -199,8 +201,8 @@ impl Records for MapRecords {
         key: Key,
         number: u64,
         moment: Moment,
-        stored: Data,
-    ) -> Result<Option<Version>, NoMemory> {
+        stored: Data<u64>,
+    ) -> Result<Option<Version<u64>>, NoMemory> {
         match self.by_name.get_mut(bucket) {
             None => unreachable!(),
             Some(bucket) => bucket.put(alloc, key, number, moment, stored),
@@ -214,7 +216,7 @@ impl Records for MapRecords {
         key: Key,
         number: u64,
         moment: Moment,
-    ) -> Result<Option<Version>, NoMemory> {
+    ) -> Result<Option<Version<u64>>, NoMemory> {
         match self.by_name.get_mut(bucket) {
             None => unreachable!(),
             Some(bucket) => bucket.delete(alloc, key, number, moment),
@@ -227,7 +229,7 @@ impl Records for MapRecords {
         bucket: &BucketName,
         key: &Key,
         id: VersionId,
-    ) -> Result<Option<Version>, NoMemory> {
+    ) -> Result<Option<Version<u64>>, NoMemory> {
         match self.by_name.get_mut(bucket) {
             None => unreachable!(),
             Some(bucket) => Ok(bucket.drop_version(key, id)),
@@ -246,7 +248,7 @@ fn first_moment() -> Moment
 }
 
 // The version of a key's that a request asks for.
-fn asked_among(versions: &[Version], asked: Option<VersionId>) -> Option<&Version>
+fn asked_among(versions: &[Version<u64>], asked: Option<VersionId>) -> Option<&Version<u64>>
     ensures { option_copied result ≡ asked_for asked versions.now }
 {
     match asked {

@@ -1,5 +1,5 @@
 //! What every keeper of records promises.
-ghost use Rattle.std.specs.Prelude.{◌≡◌, ◌≢◌, [], Bool, true, false, None, IfOk, OnOk, OnErr, IsTrue, find, is_some};
+ghost use Rattle.std.specs.Prelude.{◌≡◌, ◌≢◌, ℕ, [], Bool, true, false, None, IfOk, OnOk, OnErr, IsTrue, find, is_some};
 ghost use Rattle.s3_versions.specs.Rules.{is_under, asked_for, replaced, is_new_number};
 ghost use Rattle.s3_records.specs.Catalogue.{Catalogue, facts_in, listed_buckets, has_bucket, is_empty_bucket, versions_of, versioning_of};
 ghost use Rattle.s3_records.specs.Changes.{bucket_added, bucket_dropped, versioning_changed, version_put, key_deleted, version_dropped};
@@ -33,7 +33,7 @@ pub struct ListedBucket {
 /// Rows name bytes by a number, and a change that takes a version away answers it, so that its bytes can be
 /// given back.
 pub trait Records {
-    ghost catalogue: { Self → Catalogue };
+    ghost catalogue: { Self → Catalogue ℕ };
 
     // Whether the keeper holds all in memory, so that what needs no more room never lacks it.
     ghost is_in_memory: { Bool };
@@ -63,7 +63,7 @@ pub trait Records {
         alloc: Global,
         bucket: &BucketName,
         key: &Key,
-    ) -> Result<Vec<Version>, NoMemory>
+    ) -> Result<Vec<Version<u64>>, NoMemory>
         ensures value { IfOk result (λ versions. versions.items ≡ versions_of (catalogue self.old) bucket.now key.now) }
         ensures same { catalogue self.new ≡ catalogue self.old }
         ensures memory { OnErr result (is_in_memory ≡ true → versions_of (catalogue self.old) bucket.now key.now ≢ []) };
@@ -76,7 +76,7 @@ pub trait Records {
         bucket: &BucketName,
         key: &Key,
         asked: Option<VersionId>,
-    ) -> Result<Option<Version>, NoMemory>
+    ) -> Result<Option<Version<u64>>, NoMemory>
         ensures value { IfOk result (λ found. found ≡ asked_for asked (versions_of (catalogue self.old) bucket.now key.now)) }
         ensures same { catalogue self.new ≡ catalogue self.old }
         ensures memory { OnErr result (
@@ -123,8 +123,8 @@ pub trait Records {
         key: Key,
         number: u64,
         moment: Moment,
-        stored: Data,
-    ) -> Result<Option<Version>, NoMemory>
+        stored: Data<u64>,
+    ) -> Result<Option<Version<u64>>, NoMemory>
         requires there { IsTrue (has_bucket (catalogue self.old) bucket.now) }
         requires newer { IsTrue (is_new_number number (versions_of (catalogue self.old) bucket.now key)) }
         ensures ok { OnOk result (catalogue self.new
@@ -145,7 +145,7 @@ pub trait Records {
         key: Key,
         number: u64,
         moment: Moment,
-    ) -> Result<Option<Version>, NoMemory>
+    ) -> Result<Option<Version<u64>>, NoMemory>
         requires there { IsTrue (has_bucket (catalogue self.old) bucket.now) }
         requires newer { IsTrue (is_new_number number (versions_of (catalogue self.old) bucket.now key)) }
         ensures ok { OnOk result (catalogue self.new ≡ key_deleted (catalogue self.old) bucket.now key number moment) }
@@ -165,7 +165,7 @@ pub trait Records {
         bucket: &BucketName,
         key: &Key,
         id: VersionId,
-    ) -> Result<Option<Version>, NoMemory>
+    ) -> Result<Option<Version<u64>>, NoMemory>
         requires { IsTrue (has_bucket (catalogue self.old) bucket.now) }
         ensures ok { OnOk result (catalogue self.new ≡ version_dropped (catalogue self.old) bucket.now key.now id) }
         ensures gone { IfOk result (λ gone. gone ≡ find (is_under id) (versions_of (catalogue self.old) bucket.now key.now)) }

@@ -1,5 +1,5 @@
 -- What is known of the texts of replies: each is one text, in which a client sees what came.
-use Rattle.std.proofs.Common.{◌≡◌, ℕ, Bool, true, false, List, ◌++◌, ◌∷◌, [], ap, refl, sym, ◌∙◌, append_assoc, append-nil, subst, Some, codes, length, not}
+use Rattle.std.proofs.Common.{◌≡◌, ℕ, Bool, true, false, List, ◌++◌, ◌∷◌, [], map, ap, refl, sym, ◌∙◌, append_assoc, append-nil, subst, Some, codes, length, not}
 use Rattle.std.specs.List.{flat_map, list_all}
 use Rattle.std.specs.Fmt.{digits, decimal}
 use Rattle.std.proofs.lemmas.List.Concat.{flat_map-append}
@@ -14,13 +14,13 @@ use Rattle.s3_replies.specs.declared.context.Context.{Context}
 use Rattle.s3_terms.specs.Code.{status_of}
 use Rattle.s3_terms.specs.declared.status.Status.{Status}
 use Rattle.s3_terms.specs.declared.status.Status.TheVariants as statuses
-use Rattle.s3_replies.specs.Lines.{Line, status_line, print_line, print_lines, flag, quoted}
+use Rattle.s3_replies.specs.Lines.{Line, status_line, print_line, print_lines, flag, metadata_line, quoted}
 use Rattle.s3_text.specs.Digits.{number_digits}
 use Rattle.s3_replies.specs.Date.{IsHttpDate}
 use Rattle.s3_replies.proofs.UnbrokenLemmas.{joined, lines_joined, number_unbroken, date_unbroken}
 use Rattle.s3_replies.specs.Head.{opening_lines, version_lines, print_head}
-use Rattle.s3_replies.specs.Replies.{Prints, PrintsOutcome, default_type, got_fields, print_reply, sent_body}
-use Rattle.s3_replies.specs.Laws.{Carries, is_unbroken, is_whole_line, tells_success, SuccessIsShown, ObjectsAreCarried}
+use Rattle.s3_replies.specs.Replies.{Prints, PrintsOutcome, got_fields, print_reply, sent_body}
+use Rattle.s3_replies.specs.Laws.{Carries, IsUnbroken, is_unbroken, is_whole_line, tells_success, SuccessIsShown, ObjectsAreCarried}
 use Rattle.httpdate.specs.Text.{imf_fixdate}
 use Rattle.httpdate.proofs.Theorems.{unix_secs_injective}
 use Rattle.s3_store.specs.declared.answer.Answer.{Answer}
@@ -81,47 +81,50 @@ flag_unbroken : (closes : Bool) → list_all is_whole_line (flag (codes "Connect
 flag_unbroken true = refl
 flag_unbroken false = refl
 
+-- the lines that tell of an object's body, in front of its size
+abbrev told : Object → List Line
+told object = (codes "Accept-Ranges", codes "bytes") ∷ (codes "Content-Type", object.content_type) ∷ map metadata_line object.metadata
+
 -- the lines of a get's reply in front of its size
 front_unbroken : (object : Object) (context : Context) (number : ℕ) (date modified : List ℕ) → IsHttpDate context.moment date → IsHttpDate object.moment modified
-    → is_unbroken object.tag ≡ true
+    → IsUnbroken object
     → list_all is_whole_line (opening_lines (got_fields object number context.closes date modified) ++ version_lines (got_fields object number context.closes date modified)
-    ++ ((codes "Accept-Ranges", codes "bytes") ∷ (codes "Content-Type", default_type) ∷ [])) ≡ true
-front_unbroken object context number date modified dated made tagged =
+    ++ told object) ≡ true
+front_unbroken object context number date modified dated made unbroken =
     let head = got_fields object number context.closes date modified in
     let at : is_unbroken date ≡ true = ap is_unbroken dated.2 ∙ date_unbroken dated.0.parts in
     let since : is_unbroken modified ≡ true = ap is_unbroken made.2 ∙ date_unbroken made.0.parts in
-    let quotes : is_unbroken (quoted object.tag) ≡ true = joined object.tag (34 ∷ []) tagged refl in
+    let quotes : is_unbroken (quoted object.tag) ≡ true = joined object.tag (34 ∷ []) unbroken.tag refl in
     let first : List Line = (codes "Date", date) ∷ [] in
     let keeps = flag (codes "Connection") (codes "close") context.closes in
     let id : List Line = (codes "x-amz-request-id", number_digits number) ∷ [] in
-    let two : List Line = (codes "Accept-Ranges", codes "bytes") ∷ (codes "Content-Type", default_type) ∷ [] in
     let opening : list_all is_whole_line (opening_lines head) ≡ true =
     lines_joined (first ++ keeps) id (lines_joined first keeps (rw at refl) (flag_unbroken context.closes)) (rw (number_unbroken number) refl) in
-    lines_joined (opening_lines head ++ version_lines head) two (lines_joined (opening_lines head) (version_lines head) opening (rw (quotes, since) refl)) refl
+    let body : list_all is_whole_line (told object) ≡ true = rw unbroken.content_type unbroken.metadata in
+    lines_joined (opening_lines head ++ version_lines head) (told object) (lines_joined (opening_lines head) (version_lines head) opening (rw (quotes, since) refl)) body
 
 carried : (number : ℕ) (outcome : Outcome) (context : Context) (date text : List ℕ) (object : Object) → PrintsOutcome number outcome context date text
-    → IsHttpDate context.moment date → given outcome ≡ Some object → is_unbroken object.tag ≡ true → context.head_only ≡ false → Carries object.body text
+    → IsHttpDate context.moment date → given outcome ≡ Some object → IsUnbroken object → context.head_only ≡ false → Carries object.body text
 unfolding print_head status_line digits
-carried number (Put tag) context date text object is dated none tagged whole = absurd (cc)
-carried number (Got found) context date text object is dated gives tagged whole =
+carried number (Put tag) context date text object is dated none unbroken whole = absurd (cc)
+carried number (Got found) context date text object is dated gives unbroken whole =
     let same : found ≡ object = cc in
     let head = got_fields found number context.closes date is.0 in
     let size : Line = (codes "Content-Length", decimal (length found.body)) in
     let front = opening_lines head ++ version_lines head in
-    let two : List Line = (codes "Accept-Ranges", codes "bytes") ∷ (codes "Content-Type", default_type) ∷ [] in
-    let lines = ap print_lines (sym (append_assoc front two (size ∷ []))) ∙ last_line (front ++ two) size in
+    let lines = ap print_lines (sym (append_assoc front (told found) (size ∷ []))) ∙ last_line (front ++ told found) size in
     let sent : sent_body context.head_only found.body ≡ found.body = rw whole refl in
     subst (λ (o : Object). Carries o.body text) same
     (record {
-      lines = front ++ two;
-      whole = front_unbroken found context number date is.0 dated is.1 (ap (λ (o : Object). is_unbroken o.tag) same ∙ tagged);
+      lines = front ++ told found;
+      whole = front_unbroken found context number date is.0 dated is.1 (subst IsUnbroken (sym same) unbroken);
       printed = is.2
           ∙ ap (λ l. status_line statuses.Ok ++ l ++ crlf ++ sent_body context.head_only found.body) lines
-          ∙ ap (λ r. r ++ crlf ++ sent_body context.head_only found.body) (sym (append_assoc (status_line statuses.Ok) (print_lines (front ++ two)) (print_line size)))
-          ∙ ap (λ b. status_line statuses.Ok ++ print_lines (front ++ two) ++ print_line size ++ crlf ++ b) sent;
+          ∙ ap (λ r. r ++ crlf ++ sent_body context.head_only found.body) (sym (append_assoc (status_line statuses.Ok) (print_lines (front ++ told found)) (print_line size)))
+          ∙ ap (λ b. status_line statuses.Ok ++ print_lines (front ++ told found) ++ print_line size ++ crlf ++ b) sent;
     })
-carried number (Refused code is_delete_marker) context date text object is dated none tagged whole = absurd (cc)
+carried number (Refused code is_delete_marker) context date text object is dated none unbroken whole = absurd (cc)
 
 pub objects_are_carried : ObjectsAreCarried
-objects_are_carried answer context text object prints gives tagged whole =
-    carried answer.number answer.outcome context prints.0 text object prints.2 prints.1 gives tagged whole
+objects_are_carried answer context text object prints gives unbroken whole =
+    carried answer.number answer.outcome context prints.0 text object prints.2 prints.1 gives unbroken whole

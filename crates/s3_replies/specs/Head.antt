@@ -7,7 +7,8 @@ use Rattle.s3_text.specs.Digits.{number_digits}
 use Rattle.s3_replies.specs.declared.head.Head.{Head}
 use Rattle.s3_terms.specs.declared.status.Status.{Status}
 use Rattle.s3_terms.specs.Status.{tells_size}
-use Rattle.s3_replies.specs.Lines.{Line, status_line, print_lines, flag, optional, metadata_line, quoted, value_of, value_length, pieces_of, metadata_length}
+use Rattle.s3_replies.specs.Lines.{Line, status_line, print_lines, flag, optional, metadata_line, quoted, value_of, value_length}
+use Rattle.s3_versions.specs.Metadata.{Entry, metadata_size}
 
 -- what a head says, in the order of its lines
 pub record Fields : Type 0 where
@@ -28,8 +29,8 @@ pub record Fields : Type 0 where
   pub accepts_ranges : Bool
   pub content_range : Option (List ℕ)
   pub content_type : Option (List ℕ)
-  -- names without their prefix, and values, sorted by name
-  pub metadata : List (List ℕ × List ℕ)
+  -- sorted by name
+  pub metadata : List Entry
   -- the size of the body, also where that is not sent
   pub size : ℕ
 
@@ -48,7 +49,7 @@ fields_of head = record {
   accepts_ranges = head.accepts_ranges;
   content_range = value_of head.content_range;
   content_type = value_of head.content_type;
-  metadata = pieces_of head.metadata.now;
+  metadata = head.metadata.now;
   size = head.size;
 }
 
@@ -115,5 +116,5 @@ pub record HasRoomFor (head : Fields) : Type 0 where
   pub modified : value_length head.modified ≤ 29
   pub content_range : value_length head.content_range ≤ 64
   pub content_type : value_length head.content_type ≤ 255
-  pub metadata : metadata_length head.metadata ≤ 2048
+  pub metadata : metadata_size head.metadata ≤ 2048
   pub metadata_count : length head.metadata ≤ 64

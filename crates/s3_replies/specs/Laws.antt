@@ -1,6 +1,6 @@
 -- What is known of all replies: they are fixed by what they answer, and a client sees in them what came of
 -- its request (RFC 9112, sections 4 to 6; RFC 9110, sections 8.6 and 15.3).
-use Rattle.std.specs.Prelude.{◌≡◌, IsTrue, ℕ, ◌==◌, Bool, true, false, not, ◌&&◌, List, ◌++◌, take, length, codes, Some}
+use Rattle.std.specs.Prelude.{◌≡◌, IsTrue, ℕ, ◌==◌, Bool, true, false, not, ◌&&◌, List, ◌++◌, map, take, length, codes, Some}
 use Rattle.std.specs.Fmt.{decimal}
 use Rattle.std.specs.List.{list_all}
 use Rattle.std.specs.Str.{bytes_eq}
@@ -11,7 +11,7 @@ use Rattle.s3_store.specs.declared.object.Object.{Object}
 use Rattle.s3_store.specs.declared.answer.Answer.{Answer}
 use Rattle.s3_store.specs.Store.{is_refused, given}
 use Rattle.s3_replies.specs.declared.context.Context.{Context}
-use Rattle.s3_replies.specs.Lines.{Line, print_line, print_lines}
+use Rattle.s3_replies.specs.Lines.{Line, print_line, print_lines, metadata_line}
 use Rattle.s3_replies.specs.Replies.{Prints, PrintsRefusal}
 
 -- an answer has one printed reply to a message
@@ -57,6 +57,12 @@ pub record Carries (body reply : List ℕ) : Type 0 where
 abbrev pub TagsAreUnbroken : Type 0
 TagsAreUnbroken = (body : List ℕ) → is_unbroken (tag_of body) ≡ true
 
+-- no carriage return is in what a head tells of an object
+pub record IsUnbroken (object : Object) : Type 0 where
+  pub tag : is_unbroken object.tag ≡ true
+  pub content_type : is_unbroken object.content_type ≡ true
+  pub metadata : list_all is_whole_line (map metadata_line object.metadata) ≡ true
+
 -- a reply tells of success exactly where the store did not refuse
 abbrev pub SuccessIsShown : Type 0
 SuccessIsShown =
@@ -67,5 +73,5 @@ SuccessIsShown =
 abbrev pub ObjectsAreCarried : Type 0
 ObjectsAreCarried =
     (answer : Answer) (context : Context) (text : List ℕ) (object : Object) → Prints answer context text
-    → given answer.outcome ≡ Some object → is_unbroken object.tag ≡ true → context.head_only ≡ false
+    → given answer.outcome ≡ Some object → IsUnbroken object → context.head_only ≡ false
     → Carries object.body text

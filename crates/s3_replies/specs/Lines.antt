@@ -1,10 +1,11 @@
 -- The status line and the header lines of a reply's head (RFC 9112, sections 4 and 5).
-use Rattle.std.specs.Prelude.{ℕ, ◌+◌, Bool, if◌then◌else◌, List, [], ◌∷◌, ◌++◌, length, map, codes, Option, Some, None, option_map}
+use Rattle.std.specs.Prelude.{ℕ, Bool, if◌then◌else◌, List, [], ◌∷◌, ◌++◌, length, codes, Option, Some, None, option_map}
 use Rattle.std.specs.Borrow.{Bor}
 use Rattle.std.specs.List.{flat_map}
 use Rattle.std.specs.Fmt.{decimal}
 use Rattle.s3_text.specs.Characters.{crlf, space, double_quote}
 use Rattle.s3_terms.specs.declared.status.Status.{Status}
+use Rattle.s3_versions.specs.Metadata.{Entry}
 use Rattle.s3_terms.specs.Status.{number_of, reason_phrase}
 
 -- a status line: `HTTP/1.1 200 OK`, and the end of the line
@@ -45,15 +46,6 @@ abbrev pub value_length : Option (List ℕ) → ℕ
 value_length None = 0
 value_length (Some value) = length value
 
--- a piece of metadata as a header line
-abbrev pub metadata_line : List ℕ × List ℕ → Line
-metadata_line piece = (codes "x-amz-meta-" ++ piece.0, piece.1)
-
--- the metadata that references point to
-abbrev pub pieces_of : List (Bor (List ℕ) × Bor (List ℕ)) → List (List ℕ × List ℕ)
-pieces_of metadata = map (λ piece. (piece.0.now, piece.1.now)) metadata
-
--- how many bytes the names and the values of metadata have
-abbrev pub metadata_length : List (List ℕ × List ℕ) → ℕ
-metadata_length [] = 0
-metadata_length (piece ∷ rest) = length piece.0 + length piece.1 + metadata_length rest
+-- an entry of metadata as a header line
+abbrev pub metadata_line : Entry → Line
+metadata_line entry = (codes "x-amz-meta-" ++ entry.name, entry.value)

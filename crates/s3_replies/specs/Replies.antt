@@ -32,10 +32,6 @@ abbrev pub put_fields : List ℕ → ℕ → Bool → List ℕ → Fields
 put_fields tag number closing date =
     let base = bare statuses.Ok date closing number in record base { tag = Some tag }
 
--- the type of an object whose put named none
-abbrev pub default_type : List ℕ
-default_type = codes "binary/octet-stream"
-
 -- GetObject: what is known of the object
 abbrev pub got_fields : Object → ℕ → Bool → List ℕ → List ℕ → Fields
 got_fields object number closing date modified =
@@ -44,7 +40,8 @@ got_fields object number closing date modified =
       tag = Some object.tag;
       modified = Some modified;
       accepts_ranges = true;
-      content_type = Some default_type;
+      content_type = Some object.content_type;
+      metadata = object.metadata;
     }
 
 -- a refusal: the status of its code, whether it is about a delete marker, and the type of its document

@@ -1,16 +1,17 @@
 //! The head of a reply: its status line and its header lines.
 
-ghost use Rattle.std.specs.Prelude.{◌≡◌, ◌≤◌, ◌+◌, ◌++◌};
+ghost use Rattle.std.specs.Prelude.{◌≡◌, ◌≤◌, ◌+◌, [], ◌++◌};
 ghost use Rattle.arrayvec.specs.ArrayVec.{array_vec_len};
 ghost use Rattle.s3_replies.specs.Head.{fields_of, bare, opening_lines, version_lines, body_lines, print_head, HasRoomFor};
 ghost use Rattle.s3_replies.specs.Lines.{print_lines};
 
 use crate::lines::{
-    Reply, status_line, write, write_flag, write_line, write_metadata, write_number,
-    write_optional, write_quoted,
+    Reply, write, write_flag, write_line, write_metadata, write_number, write_optional,
+    write_quoted, write_status,
 };
 use s3_terms::Status;
 use s3_text::number_digits;
+use s3_versions::MetadataEntry;
 
 /// No head is longer.
 pub(crate) const HEAD_MAX: usize = 3840;
@@ -35,8 +36,8 @@ pub(crate) struct Head<'a> {
     pub accepts_ranges: bool,
     pub content_range: Option<&'a [u8]>,
     pub content_type: Option<&'a [u8]>,
-    /// Names without their prefix, and values, sorted by name.
-    pub metadata: &'a [(&'a [u8], &'a [u8])],
+    /// Sorted by name.
+    pub metadata: &'a [MetadataEntry],
     /// The size of the body, also where that is not sent.
     pub size: u64,
 }
@@ -64,19 +65,20 @@ impl<'a> Head<'a> {
         }
     }
 
-    /// The printed head. It is `HEAD_MAX` bytes long at most.
+    /// Prints the head into an empty reply. It is `HEAD_MAX` bytes long at most. Every local reply is written with
+    /// zeros first, so that one is handed down, and not handed up.
     #[tactic(auto, using(crate::proofs::LineLemmas::more_lines), unfolding(crate::specs::Head::print_head))]
-    pub(crate) fn print(&self) -> Reply
-        requires { HasRoomFor (fields_of self.now) }
-        ensures items { result.items ≡ print_head (fields_of self.now) }
-        ensures bound { array_vec_len result ≤ HEAD_MAX }
+    pub(crate) fn print(&self, out: &mut Reply)
+        requires fits { HasRoomFor (fields_of self.now) }
+        requires empty { out.old.items ≡ [] }
+        ensures items { out.new.items ≡ print_head (fields_of self.now) }
+        ensures bound { array_vec_len out.new ≤ HEAD_MAX }
     {
-        let mut reply = status_line(self.status);
-        self.write_opening(&mut reply);
-        self.write_version(&mut reply);
-        self.write_body_lines(&mut reply);
-        write(&mut reply, b"\r\n");
-        reply
+        write_status(out, self.status);
+        self.write_opening(out);
+        self.write_version(out);
+        self.write_body_lines(out);
+        write(out, b"\r\n");
     }
 
     /// Appends the lines that say who answers, and when: 92 bytes at most.

@@ -2,11 +2,13 @@
 
 ghost use Rattle.std.specs.Prelude.{◌≡◌, ◌+◌, ◌*◌, ◌≤◌, ◌++◌, [], ◌∷◌, length, map, option_map, decimal};
 ghost use Rattle.arrayvec.specs.ArrayVec.{array_vec_len};
-ghost use Rattle.s3_replies.specs.Lines.{status_line, print_lines, flag, optional, quoted, value_of, value_length, metadata_line, pieces_of, metadata_length};
+ghost use Rattle.s3_replies.specs.Lines.{status_line, print_lines, flag, optional, quoted, value_of, value_length, metadata_line};
+ghost use Rattle.s3_versions.specs.Metadata.{metadata_size};
 
 use arrayvec::ArrayVec;
 use itoa::Buffer;
 use s3_terms::Status;
+use s3_versions::MetadataEntry;
 
 /// A reply while it is written.
 pub(crate) type Reply = ArrayVec<u8, 4096>;
@@ -20,20 +22,19 @@ pub(crate) fn write<const SIZE: usize>(out: &mut ArrayVec<u8, SIZE>, text: &[u8]
     let _fits = out.try_extend_from_slice(text);
 }
 
-/// The status line: 45 bytes at most.
+/// Writes the status line, of 45 bytes at most, into an empty reply.
 #[tactic(auto, unfolding(crate::specs::Lines::status_line))]
-pub(crate) fn status_line(status: Status) -> Reply
-    ensures items { result.items ≡ status_line status }
-    ensures bound { array_vec_len result ≤ 45 }
+pub(crate) fn write_status(out: &mut Reply, status: Status)
+    requires { out.old.items ≡ [] }
+    ensures items { out.new.items ≡ status_line status }
+    ensures bound { array_vec_len out.new ≤ 45 }
 {
     let mut digits = Buffer::new();
-    let mut reply = ArrayVec::new();
-    write(&mut reply, b"HTTP/1.1 ");
-    write(&mut reply, digits.format(status.number()).as_bytes());
-    write(&mut reply, b" ");
-    write(&mut reply, status.reason().as_bytes());
-    write(&mut reply, b"\r\n");
-    reply
+    write(out, b"HTTP/1.1 ");
+    write(out, digits.format(status.number()).as_bytes());
+    write(out, b" ");
+    write(out, status.reason().as_bytes());
+    write(out, b"\r\n");
 }
 
 /// Appends a header line.
@@ -105,35 +106,31 @@ pub(crate) fn write_number(out: &mut Reply, name: &str, number: u64, test: bool)
     write_flag(out, name, digits.format(number), test);
 }
 
-/// Appends a line of metadata.
+/// Appends the line of an entry of metadata.
 #[tactic(auto, unfolding(crate::specs::Lines::print_lines))]
-fn write_piece(out: &mut Reply, name: &[u8], value: &[u8])
-    requires { array_vec_len out.old + length name.now + length value.now + 15 ≤ 4096 }
-    ensures items { out.new.items
-        ≡ out.old.items ++ print_lines (metadata_line (name.now, value.now) ∷ []) }
+fn write_entry(out: &mut Reply, entry: &MetadataEntry)
+    requires { array_vec_len out.old + length entry.now.name + length entry.now.value + 15 ≤ 4096 }
+    ensures items { out.new.items ≡ out.old.items ++ print_lines (metadata_line entry.now ∷ []) }
     ensures len { array_vec_len out.new
-        ≡ array_vec_len out.old + length name.now + length value.now + 15 }
+        ≡ array_vec_len out.old + length entry.now.name + length entry.now.value + 15 }
 {
     write(out, b"x-amz-meta-");
-    write(out, name);
+    write(out, entry.name());
     write(out, b": ");
-    write(out, value);
+    write(out, entry.value());
     write(out, b"\r\n");
 }
 
 /// Appends the lines of metadata.
 #[tactic(auto, unfolding(crate::specs::Lines::print_lines))]
-pub(crate) fn write_metadata(out: &mut Reply, metadata: &[(&[u8], &[u8])])
-    requires { array_vec_len out.old + metadata_length (pieces_of metadata.now)
-        + 15 * length metadata.now ≤ 4096 }
-    ensures items { out.new.items
-        ≡ out.old.items ++ print_lines (map metadata_line (pieces_of metadata.now)) }
+pub(crate) fn write_metadata(out: &mut Reply, metadata: &[MetadataEntry])
+    requires { array_vec_len out.old + metadata_size metadata.now + 15 * length metadata.now ≤ 4096 }
+    ensures items { out.new.items ≡ out.old.items ++ print_lines (map metadata_line metadata.now) }
     ensures bound { array_vec_len out.new
-        ≤ array_vec_len out.old + metadata_length (pieces_of metadata.now)
-        + 15 * length metadata.now }
+        ≤ array_vec_len out.old + metadata_size metadata.now + 15 * length metadata.now }
 {
-    if let [(name, value), rest @ ..] = metadata {
-        write_piece(out, name, value);
+    if let [entry, rest @ ..] = metadata {
+        write_entry(out, entry);
         write_metadata(out, rest);
     }
 }

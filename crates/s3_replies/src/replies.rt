@@ -1,6 +1,6 @@
 //! The replies to answers of the store, and to messages that are refused before they come to it.
 
-ghost use Rattle.std.specs.Prelude.{◌≡◌, ◌+◌, ◌≤◌, ◌++◌, length};
+ghost use Rattle.std.specs.Prelude.{◌≡◌, ◌+◌, ◌≤◌, [], ◌++◌, length};
 ghost use Rattle.arrayvec.specs.ArrayVec.{array_vec_len};
 ghost use Rattle.s3_replies.specs.Replies.{Prints, PrintsRefusal, put_fields, got_fields, error_fields, sized, print_reply, internal_error, continue_line, body_of, sent_body};
 ghost use Rattle.s3_replies.specs.Document.{error_document};
@@ -17,43 +17,55 @@ use s3_names::Tag;
 use s3_store::{Answer, Object, Outcome};
 use s3_terms::{Code, Status};
 
-/// All of the reply to a put.
-fn put_reply(tag: &Tag, number: u64, closes: bool, date: [u8; 29]) -> Reply
-    ensures { result.items ≡ print_head (put_fields tag.now number closes date) }
+/// Writes all of the reply to a put, into an empty one.
+fn put_reply(out: &mut Reply, tag: &Tag, number: u64, closes: bool, date: [u8; 29])
+    requires { out.old.items ≡ [] }
+    ensures { out.new.items ≡ print_head (put_fields tag.now number closes date) }
 {
     let head = Head {
         tag: Some(&tag.text()),
         ..Head::bare(Status::Ok, &date, closes, number)
     };
-    head.print()
+    head.print(out);
 }
 
-/// The reply to a get without the object's bytes. The object's date is `modified`.
-fn got_head(object: &Object, number: u64, closes: bool, date: [u8; 29], modified: [u8; 29]) -> Reply
-    ensures { result.items
+/// Writes the reply to a get without the object's bytes, into an empty one. The object's date is `modified`.
+fn got_head(
+    out: &mut Reply,
+    object: &Object,
+    number: u64,
+    closes: bool,
+    date: [u8; 29],
+    modified: [u8; 29],
+)
+    requires { out.old.items ≡ [] }
+    ensures { out.new.items
         ≡ print_head (sized (got_fields object.now number closes date modified) object.now.body) }
 {
     let head = Head {
         tag: Some(&object.tag.text()),
         modified: Some(&modified),
         accepts_ranges: true,
-        content_type: Some(b"binary/octet-stream"),
+        content_type: Some(object.content_type.as_bytes()),
+        metadata: object.metadata.entries(),
         size: object.body.size(),
         ..Head::bare(Status::Ok, &date, closes, number)
     };
-    head.print()
+    head.print(out);
 }
 
-/// The whole reply that refuses with the code, under that number, and says whether what was asked for
-/// is a delete marker.
+/// Writes the whole reply that refuses with the code, under that number, and says whether what was asked for
+/// is a delete marker, into an empty one.
 fn error_reply(
+    out: &mut Reply,
     code: Code,
     is_delete_marker: bool,
     number: u64,
     context: &Context,
     date: [u8; 29],
-) -> Reply
-    ensures { result.items
+)
+    requires { out.old.items ≡ [] }
+    ensures { out.new.items
         ≡ print_reply (error_fields code is_delete_marker number context.now.closes date)
         context.now.head_only (error_document code) }
 {
@@ -64,9 +76,8 @@ fn error_reply(
         size: document.len() as u64,
         ..Head::bare(code.status(), &date, context.closes, number)
     };
-    let mut reply = head.print();
-    write_body(&mut reply, context.head_only, document.as_slice());
-    reply
+    head.print(out);
+    write_body(out, context.head_only, document.as_slice());
 }
 
 /// Appends the body, which a reply to a HEAD leaves out.
@@ -84,18 +95,34 @@ fn write_body(out: &mut Reply, head_only: bool, body: &[u8])
 pub fn head_of(answer: &Answer, context: &Context) -> ArrayVec<u8, 4096>
     ensures { Prints answer.now context.now (result.items ++ body_of answer.now context.now) }
 {
+    let mut reply = ArrayVec::new();
     let date = date_of(context.moment);
     match &answer.outcome {
-        Outcome::Put { tag } => put_reply(tag, answer.number, context.closes, date),
+        Outcome::Put { tag } => put_reply(&mut reply, tag, answer.number, context.closes, date),
         Outcome::Got { object } => {
             let modified = date_of(object.moment);
-            got_head(object, answer.number, context.closes, date, modified)
+            got_head(
+                &mut reply,
+                object,
+                answer.number,
+                context.closes,
+                date,
+                modified,
+            );
         }
         Outcome::Refused {
             code,
             is_delete_marker,
-        } => error_reply(*code, *is_delete_marker, answer.number, context, date),
+        } => error_reply(
+            &mut reply,
+            *code,
+            *is_delete_marker,
+            answer.number,
+            context,
+            date,
+        ),
     }
+    reply
 }
 
 /// The reply to a message of this moment that is refused before it comes to the store; `head_only` says
@@ -108,7 +135,9 @@ pub fn refusal(code: Code, moment: Moment, head_only: bool) -> ArrayVec<u8, 4096
         head_only,
         closes: true,
     };
-    error_reply(code, false, 0, &closing, date_of(moment))
+    let mut reply = ArrayVec::new();
+    error_reply(&mut reply, code, false, 0, &closing, date_of(moment));
+    reply
 }
 
 /// What is written in place of a reply where memory runs out; the connection ends with it.

@@ -2,7 +2,7 @@
 use crate::canonical::{are_joined, has_hash, has_query, has_uri};
 use crate::heads::{has_parts, is_framing};
 use crate::routing::{is_routed, is_unknown};
-use crate::targets::{Case, has_count, is_read_of};
+use crate::targets::{Case, Pair, has_count, is_read_of};
 use s3_http_heads::Head;
 use s3_terms::Code;
 use std::alloc::Global;
@@ -35,6 +35,8 @@ pub(crate) enum Asked {
     Puts(&'static [u8], &'static [u8]),
     /// It asks to get this key from this bucket.
     Gets(&'static [u8], &'static [u8]),
+    /// It asks to put an object of this media type, with these names of metadata and their values.
+    Stores(&'static [u8], &'static [Pair]),
     /// The canonical URI.
     Uri(Text),
     /// The canonical query.

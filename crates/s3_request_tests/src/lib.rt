@@ -1,5 +1,5 @@
-//! Tests of what a request goes through before its operation runs: heads, targets, canonical texts and routing.
-//! There is nothing else here.
+//! Tests of what a request goes through beside its signature: heads, targets, canonical texts, routing, the store and its
+//! printed replies. There is nothing else here.
 #![tactic(auto)]
 
 #[cfg(test)]
@@ -9,9 +9,13 @@ mod canonical;
 #[cfg(test)]
 mod heads;
 #[cfg(test)]
+mod replies;
+#[cfg(test)]
 mod routing;
 #[cfg(test)]
 mod search;
+#[cfg(test)]
+mod store;
 #[cfg(test)]
 mod targets;
 #[cfg(test)]

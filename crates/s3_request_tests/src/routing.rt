@@ -1,8 +1,10 @@
 //! Which operation a head asks for, and which refusal it gets where it asks for none.
 use crate::asked::{Asked, Long, Row, are_so, is_long_so, is_same, is_so_at};
+use crate::targets::Pair;
 use s3_http_heads::Head;
-use s3_requests::{Plan, route};
+use s3_requests::{KeyPlan, Plan, route};
 use s3_terms::Code;
+use s3_versions::Metadata;
 use std::alloc::Global;
 
 // Whether these are the names of a bucket and a key.
@@ -10,17 +12,46 @@ fn are_names(names: (&[u8], &[u8]), bucket: &[u8], key: &[u8]) -> bool {
     is_same(names.0, bucket) && is_same(names.1, key)
 }
 
-// Whether the plan is asked for.
-fn is_plan(plan: &Plan, asked: &Asked) -> bool {
+// Whether this is the metadata.
+fn is_metadata(metadata: &Metadata, pairs: &[Pair]) -> bool {
+    let entries = metadata.entries();
+    if entries.len() != pairs.len() {
+        return false;
+    }
+    for index in 0..entries.len() {
+        let pair = (entries[index].name(), entries[index].value());
+        if !are_names(pair, pairs[index].0, pairs[index].1) {
+            return false;
+        }
+    }
+    true
+}
+
+// Whether what is asked of this key is wanted.
+fn is_asked(plan: &KeyPlan, names: (&[u8], &[u8]), asked: &Asked) -> bool {
     match (plan, asked) {
         (_, Asked::Routed) => true,
-        (Plan::PutObject { bucket, key }, Asked::Puts(name, text)) => {
-            are_names((bucket.as_bytes(), key.as_bytes()), name, text)
-        }
-        (Plan::GetObject { bucket, key }, Asked::Gets(name, text)) => {
-            are_names((bucket.as_bytes(), key.as_bytes()), name, text)
-        }
+        (KeyPlan::Put { .. }, Asked::Puts(bucket, key)) => are_names(names, bucket, key),
+        (KeyPlan::Get, Asked::Gets(bucket, key)) => are_names(names, bucket, key),
+        (
+            KeyPlan::Put {
+                content_type,
+                metadata,
+            },
+            Asked::Stores(kind, pairs),
+        ) => is_same(content_type.as_bytes(), kind) && is_metadata(metadata, pairs),
         _ => false,
+    }
+}
+
+// Whether the plan is asked for.
+fn is_plan(plan: &Plan, asked: &Asked) -> bool {
+    match plan {
+        Plan::Key {
+            bucket,
+            key,
+            asked: plan,
+        } => is_asked(plan, (bucket.as_bytes(), key.as_bytes()), asked),
     }
 }
 
@@ -55,33 +86,23 @@ const LACKS: Asked = Asked::Refused(Code::NotImplemented);
 
 const NEVER: Asked = Asked::Refused(Code::MethodNotAllowed);
 
-static REFUSED: [Case; 13] = [
-    (b"GET", b"/", Asked::Refused(Code::NotImplemented)),
-    (b"PUT", b"/", Asked::Refused(Code::MethodNotAllowed)),
-    (b"GET", b"/pail/k?acl", Asked::Refused(Code::NotImplemented)),
-    (b"GET", b"/pail/k?&", Asked::Refused(Code::NotImplemented)),
-    (b"GET", b"pail/k?acl", Asked::Refused(Code::InvalidURI)),
-    (b"GET", b"/Pail/k", Asked::Refused(Code::InvalidBucketName)),
-    (b"GET", b"//k", Asked::Refused(Code::InvalidBucketName)),
-    (b"GET", b"/pail/%ff", Asked::Refused(Code::InvalidURI)),
-    (b"DELETE", b"/pail/", Asked::Refused(Code::NotImplemented)),
-    (b"PATCH", b"/pail", Asked::Refused(Code::MethodNotAllowed)),
-    (b"HEAD", b"/pail/k", Asked::Refused(Code::NotImplemented)),
-    (b"POST", b"/pail/k", Asked::Refused(Code::MethodNotAllowed)),
-    (b"get", b"/pail/k", Asked::Refused(Code::MethodNotAllowed)),
-];
+const WRONG: Asked = Asked::Refused(Code::InvalidArgument);
+
+const PUTS: Asked = Asked::Puts(b"pail", b"k");
+
+const GETS: Asked = Asked::Gets(b"pail", b"k");
 
 // Every method on the service, a bucket and a key.
-static METHODS: [Case; 18] = [
+static METHODS: [Case; 20] = [
     (b"GET", b"/", LACKS),
     (b"GET", b"/pail", LACKS),
-    (b"GET", b"/pail/k", Asked::Routed),
+    (b"GET", b"/pail/k", GETS),
     (b"HEAD", b"/", NEVER),
     (b"HEAD", b"/pail", LACKS),
     (b"HEAD", b"/pail/k", LACKS),
     (b"PUT", b"/", NEVER),
     (b"PUT", b"/pail", LACKS),
-    (b"PUT", b"/pail/k", Asked::Routed),
+    (b"PUT", b"/pail/k", PUTS),
     (b"POST", b"/", NEVER),
     (b"POST", b"/pail", LACKS),
     (b"POST", b"/pail/k", NEVER),
@@ -91,24 +112,75 @@ static METHODS: [Case; 18] = [
     (b"OPTIONS", b"/", NEVER),
     (b"OPTIONS", b"/pail", NEVER),
     (b"OPTIONS", b"/pail/k", NEVER),
+    (b"get", b"/pail/k", NEVER),
+    (b"DELETE", b"/pail/", LACKS),
 ];
 
-// The first fault refuses.
-static FAULTS: [Case; 6] = [
-    (b"PUT", b"/?acl", Asked::Refused(Code::NotImplemented)),
+// The rows of the table that a parameter tells apart, and parameters that tell nothing.
+static ROWS: [Case; 32] = [
+    (b"GET", b"/?list-type=2", LACKS),
+    (b"PUT", b"/pail?versioning", LACKS),
+    (b"GET", b"/pail?versioning", LACKS),
+    (b"GET", b"/pail?uploads", LACKS),
+    (b"GET", b"/pail?versions", LACKS),
+    (b"GET", b"/pail?list-type=2", LACKS),
+    (b"GET", b"/pail?list-type=1", LACKS),
+    (b"OPTIONS", b"/pail?versioning", NEVER),
+    (
+        b"PUT",
+        b"/pail/k?partNumber=1&uploadId=u0000000000000000",
+        LACKS,
+    ),
+    (b"PUT", b"/pail/k?partNumber=1", LACKS),
+    (b"PUT", b"/pail/k?uploadId", LACKS),
+    (b"GET", b"/pail/k?uploadId=u0000000000000000", LACKS),
+    (b"GET", b"/pail/k?partNumber=1", LACKS),
+    (b"HEAD", b"/pail/k?partNumber=1", LACKS),
+    (b"HEAD", b"/pail/k?uploadId=u0000000000000000", LACKS),
+    (b"DELETE", b"/pail/k?uploadId=u0000000000000000", LACKS),
+    (b"POST", b"/pail/k?uploads", LACKS),
+    (b"POST", b"/pail/k?uploadId=u0000000000000000", LACKS),
+    (b"POST", b"/pail/k?partNumber=1", NEVER),
+    (b"POST", b"/pail/k?versionId=null", NEVER),
+    (b"PUT", b"/pail/k?x-id=PutObject", PUTS),
+    (b"GET", b"/pail/k?x-id=GetObject", GETS),
+    (b"GET", b"/pail/k?&", GETS),
     (
         b"GET",
-        b"/Pail/%ff?acl",
-        Asked::Refused(Code::NotImplemented),
+        b"/pail/k?ACL&partnumber=1&uploads&versions&versioning",
+        GETS,
     ),
     (
+        b"PUT",
+        b"/pail/k?uploads&versions&versioning&versionId=v",
+        PUTS,
+    ),
+    (b"GET", b"/pail/k?a=acl&b=versionId", GETS),
+    (b"GET", b"/pail/k?versionId", WRONG),
+    (b"GET", b"/pail/k?versionId=", WRONG),
+    (b"GET", b"/pail/k?versionId=v000000000000000A", WRONG),
+    (b"GET", b"/pail/k?versionId=NULL&versionId=null", WRONG),
+    (b"GET", b"/pail/k?versionId=null&versionId=NULL", LACKS),
+    (b"GET", b"/pail/k?%76ersionId=v00000000000000ff", LACKS),
+];
+
+// Where two things are wrong, the first one refuses.
+static FAULTS: [Case; 14] = [
+    (b"GET", b"pail/k?acl", Asked::Refused(Code::InvalidURI)),
+    (b"PUT", b"/?acl", LACKS),
+    (b"GET", b"/Pail/%ff?acl", LACKS),
+    (b"OPTIONS", b"/pail/k?acl", LACKS),
+    (b"GET", b"/pail/k?versionId=&acl", LACKS),
+    (b"GET", b"/Pail/k", Asked::Refused(Code::InvalidBucketName)),
+    (b"GET", b"//k", Asked::Refused(Code::InvalidBucketName)),
+    (
         b"GET",
-        b"/Pail/%ff",
+        b"/pail%2Fj/k",
         Asked::Refused(Code::InvalidBucketName),
     ),
     (
         b"GET",
-        b"/pail%2Fj/k",
+        b"/Pail/%ff",
         Asked::Refused(Code::InvalidBucketName),
     ),
     (
@@ -117,6 +189,13 @@ static FAULTS: [Case; 6] = [
         Asked::Refused(Code::InvalidBucketName),
     ),
     (b"OPTIONS", b"/pail/%ff", Asked::Refused(Code::InvalidURI)),
+    (
+        b"GET",
+        b"/pail/%ff?versionId=",
+        Asked::Refused(Code::InvalidURI),
+    ),
+    (b"GET", b"/pail/k?uploadId&versionId=", LACKS),
+    (b"GET", b"/pail/k?partNumber=1&versionId=", LACKS),
 ];
 
 // Whether all cases come to that.
@@ -129,16 +208,69 @@ fn are_routed(alloc: Global, cases: &[Case]) -> bool {
     true
 }
 
-fn are_all_routed(alloc: Global) -> bool {
-    are_routed(alloc, &REFUSED) && are_routed(alloc, &METHODS) && are_routed(alloc, &FAULTS)
+// The sub-resources that the Amazon S3 API Reference has and this server has not.
+static SUB_RESOURCES: [&[u8]; 28] = [
+    b"accelerate",
+    b"acl",
+    b"analytics",
+    b"attributes",
+    b"cors",
+    b"delete",
+    b"encryption",
+    b"intelligent-tiering",
+    b"inventory",
+    b"legal-hold",
+    b"lifecycle",
+    b"location",
+    b"logging",
+    b"metrics",
+    b"notification",
+    b"object-lock",
+    b"ownershipControls",
+    b"policy",
+    b"policyStatus",
+    b"publicAccessBlock",
+    b"replication",
+    b"requestPayment",
+    b"restore",
+    b"retention",
+    b"select",
+    b"tagging",
+    b"torrent",
+    b"website",
+];
+
+// Whether a get is refused that names this.
+fn is_lacking(alloc: Global, name: &[u8]) -> bool {
+    match [b"/pail/k?x-id=GetObject&".as_slice(), name, b"=1"].concat(alloc) {
+        Ok(target) => is_so_at(alloc, b"GET", &target, &LACKS),
+        Err(_) => false,
+    }
+}
+
+// Whether a get is refused that names any of them.
+fn are_lacking(alloc: Global) -> bool {
+    for name in &SUB_RESOURCES {
+        if !is_lacking(alloc, name) {
+            return false;
+        }
+    }
+    true
 }
 
 #[test]
-fn refusals_of_routing(rt: HostRuntime) {
-    assert!(rt; are_all_routed(rt.alloc()));
+fn the_table_of_operations(rt: HostRuntime) {
+    assert!(rt;
+        are_routed(rt.alloc(), &METHODS)
+            && are_routed(rt.alloc(), &ROWS)
+            && are_routed(rt.alloc(), &FAULTS)
+            && are_lacking(rt.alloc())
+    );
 }
 
-static KEYS: [Long; 2] = [
+// Keys of 1,024 and of 1,025 bytes, and what comes before and behind a key that is too long; media types and
+// metadata at their limits.
+static LIMITS: [Long; 16] = [
     (
         b"GET /pail/",
         b"k",
@@ -153,13 +285,120 @@ static KEYS: [Long; 2] = [
         b" HTTP/1.1\r\n\r\n",
         Asked::Refused(Code::KeyTooLongError),
     ),
+    (
+        b"GET /pail/",
+        b"%ff",
+        1_025,
+        b" HTTP/1.1\r\n\r\n",
+        Asked::Refused(Code::InvalidURI),
+    ),
+    (
+        b"POST /pail/",
+        b"k",
+        1_025,
+        b"?versionId= HTTP/1.1\r\n\r\n",
+        Asked::Refused(Code::KeyTooLongError),
+    ),
+    (
+        b"PUT /pail/k HTTP/1.1\r\ncontent-type: ",
+        b"t",
+        255,
+        b"\r\n\r\n",
+        PUTS,
+    ),
+    (
+        b"PUT /pail/k HTTP/1.1\r\ncontent-type: ",
+        b"t",
+        256,
+        b"\r\n\r\n",
+        WRONG,
+    ),
+    (
+        b"PUT /pail/k HTTP/1.1\r\nx-amz-copy-source: /pail/j\r\ncontent-type: ",
+        b"t",
+        256,
+        b"\r\n\r\n",
+        LACKS,
+    ),
+    (
+        b"GET /pail/k HTTP/1.1\r\ncontent-type: ",
+        b"t",
+        256,
+        b"\r\n\r\n",
+        GETS,
+    ),
+    (
+        b"PUT /pail/k HTTP/1.1\r\nx-amz-meta-a: ",
+        b"v",
+        2_047,
+        b"\r\n\r\n",
+        PUTS,
+    ),
+    (
+        b"PUT /pail/k HTTP/1.1\r\nx-amz-meta-a: ",
+        b"v",
+        2_048,
+        b"\r\n\r\n",
+        Asked::Refused(Code::MetadataTooLarge),
+    ),
+    (
+        b"PUT /pail/k HTTP/1.1\r\nx-amz-meta-a: 1\r\nX-Amz-Meta-",
+        b"n",
+        2_046,
+        b":\r\n\r\n",
+        PUTS,
+    ),
+    (
+        b"PUT /pail/k HTTP/1.1\r\nx-amz-meta-a: 1\r\nX-Amz-Meta-A: ",
+        b"v",
+        2_045,
+        b"\r\n\r\n",
+        PUTS,
+    ),
+    (
+        b"PUT /pail/k HTTP/1.1\r\nx-amz-meta-a: 1\r\nX-Amz-Meta-A: ",
+        b"v",
+        2_046,
+        b"\r\n\r\n",
+        Asked::Refused(Code::MetadataTooLarge),
+    ),
+    (
+        b"GET /pail/k HTTP/1.1\r\nx-amz-meta-a: ",
+        b"v",
+        2_048,
+        b"\r\n\r\n",
+        GETS,
+    ),
+    // The type and the metadata are too long.
+    (
+        b"PUT /pail/k HTTP/1.1\r\nContent-Type: tttttttttttttttttttttttttttttttttttttttttttttttttttttttttttttttttttttttttttttttttttttttttttttttttttttttttttttttttttttttttttttttttttttttttttttttttttttttttttttttttttttttttttttttttttttttttttttttttttttttttttttttttttttttttttttttttttttttttttttttttttttttttttttttt",
+        b"\r\nx-amz-meta-a: 0123456789012345678901234567890123456789",
+        52,
+        b"\r\n\r\n",
+        WRONG,
+    ),
+    (
+        b"PUT /pail/k HTTP/1.1\r\nContent-Type: t",
+        b"\r\nx-amz-meta-a: 0123456789012345678901234567890123456789",
+        52,
+        b"\r\n\r\n",
+        Asked::Refused(Code::MetadataTooLarge),
+    ),
 ];
 
-#[test]
-fn the_longest_key(rt: HostRuntime) {
-    for long in &KEYS {
-        assert!(rt; is_long_so(rt.alloc(), long));
+// Whether all long heads come to that.
+fn are_long_so(alloc: Global, cases: &[Long]) -> bool {
+    for long in cases {
+        if !is_long_so(alloc, long) {
+            return false;
+        }
     }
+    true
+}
+
+#[test]
+fn limits(rt: HostRuntime) {
+    assert!(rt; are_long_so(rt.alloc(), &LIMITS));
 }
 
 static ESCAPES: [Row; 2] = [
@@ -173,24 +412,69 @@ static ESCAPES: [Row; 2] = [
     ),
 ];
 
-// A key has slashes and escapes; a bucket has escapes, and a query may be empty.
-#[test]
-fn names_with_escapes(rt: HostRuntime) {
-    assert!(rt; are_so(rt.alloc(), &ESCAPES));
-}
-
-static COPIES: [Row; 2] = [
+static COPIES: [Row; 4] = [
     (
         b"PUT /pail/k HTTP/1.1\r\nX-Amz-Copy-Source: /pail/j\r\n\r\n",
-        Asked::Refused(Code::NotImplemented),
+        LACKS,
+    ),
+    (
+        b"PUT /pail/k?uploadId HTTP/1.1\r\nX-Amz-Copy-Source: /pail/j\r\n\r\n",
+        LACKS,
+    ),
+    (
+        b"PUT /pail HTTP/1.1\r\nX-Amz-Copy-Source: /pail/j\r\n\r\n",
+        LACKS,
     ),
     (
         b"GET /pail/k HTTP/1.1\r\nX-Amz-Copy-Source: /pail/j\r\n\r\n",
-        Asked::Gets(b"pail", b"k"),
+        GETS,
     ),
 ];
 
+// What puts say of their objects: media types, and names of metadata with their values.
+static DESCRIPTIONS: [Row; 7] = [
+    (
+        b"PUT /pail/k HTTP/1.1\r\n\r\n",
+        Asked::Stores(b"binary/octet-stream", &[]),
+    ),
+    (
+        b"PUT /pail/k HTTP/1.1\r\nContent-Type:\r\n\r\n",
+        Asked::Stores(b"", &[]),
+    ),
+    (
+        b"PUT /pail/k HTTP/1.1\r\ncontent-TYPE:  text/plain; charset=utf-8 \r\nContent-Type: b\r\n\r\n",
+        Asked::Stores(b"text/plain; charset=utf-8", &[]),
+    ),
+    // Sorted by name, which is in lower case; the values of one name are joined.
+    (
+        b"PUT /pail/k HTTP/1.1\r\nx-amz-meta-b:1\r\nX-AMZ-META-A: x  y \r\nhost: h\r\nx-amz-meta-b: 2\r\nX-Amz-Meta-B:\r\n\r\n",
+        Asked::Stores(b"binary/octet-stream", &[(b"a", b"x  y"), (b"b", b"1,2,")]),
+    ),
+    // A shorter name comes before the one that goes on, and a name may be empty.
+    (
+        b"PUT /pail/k HTTP/1.1\r\nx-amz-meta-ab: 1\r\nx-amz-meta-a: 2\r\nx-amz-meta-: 3\r\nx-amz-meta-a-: 4\r\n\r\n",
+        Asked::Stores(
+            b"binary/octet-stream",
+            &[(b"", b"3"), (b"a", b"2"), (b"a-", b"4"), (b"ab", b"1")],
+        ),
+    ),
+    // Bytes beyond ASCII stay as they are, and names that only look like it are none.
+    (
+        b"PUT /pail/k HTTP/1.1\r\nx-amz-met-a: 1\r\nx-amz-meta: 2\r\nxx-amz-meta-a: 3\r\nx-amz-meta-b: \xc3\xa9\xff\r\n\r\n",
+        Asked::Stores(b"binary/octet-stream", &[(b"b", b"\xc3\xa9\xff")]),
+    ),
+    (
+        b"GET /pail/k HTTP/1.1\r\nContent-Type: a\r\nx-amz-meta-b: 1\r\n\r\n",
+        GETS,
+    ),
+];
+
+// A key has slashes and escapes; a bucket has escapes, and a query may be empty. A copy source is for puts alone.
 #[test]
-fn a_copy_source_is_for_puts_alone(rt: HostRuntime) {
-    assert!(rt; are_so(rt.alloc(), &COPIES));
+fn names_and_descriptions(rt: HostRuntime) {
+    assert!(rt;
+        are_so(rt.alloc(), &ESCAPES)
+            && are_so(rt.alloc(), &COPIES)
+            && are_so(rt.alloc(), &DESCRIPTIONS)
+    );
 }

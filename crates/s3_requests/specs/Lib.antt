@@ -1,7 +1,14 @@
+pub mod Arguments
+pub mod Description
+pub mod Laws
+pub mod Name
 pub mod Operations
 pub mod Routing
 pub use Rattle.s3_http_heads.specs.Head
 pub use Rattle.s3_http_heads.specs.Target
 pub use Rattle.s3_terms.specs.Code
 pub use Rattle.s3_terms.specs.Fault
+pub use Rattle.s3_names.specs.Ids
 pub use Rattle.s3_names.specs.Names
+pub use Rattle.s3_versions.specs.ContentType
+pub use Rattle.s3_versions.specs.Metadata

@@ -1,12 +1,15 @@
--- The table of the operations that routing knows (Amazon S3 API Reference, "Actions", and POST Object),
--- by the method and by what the address names. An operation that needs a query is not here.
-use Rattle.std.specs.Prelude.{ℕ, Bool, if◌then◌else◌, List, [], ◌∷◌, codes, Option, Some, None}
+-- The table of S3's operations (Amazon S3 API Reference, "Actions", and POST Object): which one a request asks
+-- for, by its method, by what its address names, and by the parameters and lines that tell operations apart. Of
+-- several rows that apply the first one counts.
+use Rattle.std.specs.Prelude.{ℕ, Bool, false, ◌&&◌, ◌||◌, if◌then◌else◌, List, [], ◌∷◌, codes, Option, Some, None}
+use Rattle.std.specs.Option.{option_map_or}
 use Rattle.std.specs.Str.{bytes_eq}
 use Rattle.s3_http_heads.specs.Head.{HeadParts, is_sent}
+use Rattle.s3_http_heads.specs.Target.{TargetParts, has_parameter, first_parameter}
 use Rattle.s3_requests.specs.declared.operations.Method.{Method}
 use Rattle.s3_requests.specs.declared.operations.Method.TheVariants.{Get, Head, Put, Post, Delete, Other}
 use Rattle.s3_requests.specs.declared.operations.Operation.{Operation}
-use Rattle.s3_requests.specs.declared.operations.Operation.TheVariants.{ListBuckets, ListObjects, CreateBucket, PostObject, HeadBucket, DeleteBucket, GetObject, HeadObject, CopyObject, PutObject, DeleteObject}
+use Rattle.s3_requests.specs.declared.operations.Operation.TheVariants.{ListBuckets, CreateBucket, HeadBucket, DeleteBucket, PutBucketVersioning, GetBucketVersioning, ListObjects, ListObjectsV2, ListObjectVersions, ListMultipartUploads, PostObject, PutObject, CopyObject, GetObject, HeadObject, GetObjectPart, HeadObjectPart, DeleteObject, CreateMultipartUpload, UploadPart, UploadPartCopy, ListParts, CompleteMultipartUpload, AbortMultipartUpload}
 
 -- the value of the first row whose condition holds, or the given one where none does
 abbrev pub first_row : {A : Type 0} → List (Bool × A) → A → A
@@ -29,20 +32,81 @@ abbrev pub service_operation : Method → Option Operation
 service_operation Get = Some ListBuckets
 service_operation _ = None
 
--- those on a bucket
-abbrev pub bucket_operation : Method → Option Operation
-bucket_operation Get = Some ListObjects
-bucket_operation Head = Some HeadBucket
-bucket_operation Put = Some CreateBucket
-bucket_operation Post = Some PostObject
-bucket_operation Delete = Some DeleteBucket
-bucket_operation Other = None
+-- the list is asked for in its second version
+abbrev pub asks_for_second_list : TargetParts → Bool
+asks_for_second_list target =
+    option_map_or (λ value. bytes_eq value (codes "2")) (first_parameter (codes "list-type") target) false
 
--- those on a key, of which some also depend on the lines of the head
-abbrev pub key_operation : Method → HeadParts → Option Operation
-key_operation Get head = Some GetObject
-key_operation Head head = Some HeadObject
-key_operation Put head = first_row ((is_sent (codes "x-amz-copy-source") head, Some CopyObject) ∷ []) (Some PutObject)
-key_operation Post head = None
-key_operation Delete head = Some DeleteObject
-key_operation Other head = None
+-- GET of a bucket
+abbrev pub bucket_read : TargetParts → Operation
+bucket_read target =
+    first_row (
+    (has_parameter (codes "versioning") target, GetBucketVersioning)
+    ∷ (has_parameter (codes "uploads") target, ListMultipartUploads)
+    ∷ (has_parameter (codes "versions") target, ListObjectVersions)
+    ∷ (asks_for_second_list target, ListObjectsV2)
+    ∷ []) ListObjects
+
+-- PUT of a bucket
+abbrev pub bucket_write : TargetParts → Operation
+bucket_write target =
+    first_row ((has_parameter (codes "versioning") target, PutBucketVersioning) ∷ []) CreateBucket
+
+-- the operations on a bucket
+abbrev pub bucket_operation : Method → TargetParts → Option Operation
+bucket_operation Get target = Some (bucket_read target)
+bucket_operation Head target = Some HeadBucket
+bucket_operation Put target = Some (bucket_write target)
+bucket_operation Post target = Some PostObject
+bucket_operation Delete target = Some DeleteBucket
+bucket_operation Other target = None
+
+-- GET of a key
+abbrev pub key_read : TargetParts → Operation
+key_read target =
+    first_row (
+    (has_parameter (codes "uploadId") target, ListParts)
+    ∷ (has_parameter (codes "partNumber") target, GetObjectPart)
+    ∷ []) GetObject
+
+-- HEAD of a key
+abbrev pub key_head : TargetParts → Operation
+key_head target = first_row ((has_parameter (codes "partNumber") target, HeadObjectPart) ∷ []) HeadObject
+
+-- a part of an upload is named
+abbrev pub names_part : TargetParts → Bool
+names_part target = has_parameter (codes "partNumber") target || has_parameter (codes "uploadId") target
+
+-- something that is stored is to be copied
+abbrev pub names_source : HeadParts → Bool
+names_source head = is_sent (codes "x-amz-copy-source") head
+
+-- PUT of a key
+abbrev pub key_write : HeadParts → TargetParts → Operation
+key_write head target =
+    first_row (
+    (names_part target && names_source head, UploadPartCopy)
+    ∷ (names_part target, UploadPart)
+    ∷ (names_source head, CopyObject)
+    ∷ []) PutObject
+
+-- POST of a key
+abbrev pub key_post : TargetParts → Option Operation
+key_post target =
+    first_row (
+    (has_parameter (codes "uploads") target, Some CreateMultipartUpload)
+    ∷ (has_parameter (codes "uploadId") target, Some CompleteMultipartUpload)
+    ∷ []) None
+
+-- DELETE of a key
+abbrev pub key_delete : TargetParts → Operation
+key_delete target = first_row ((has_parameter (codes "uploadId") target, AbortMultipartUpload) ∷ []) DeleteObject
+
+-- the operations on a key
+abbrev pub key_operation : Method → HeadParts → TargetParts → Option Operation
+key_operation Get head target = Some (key_read target)
+key_operation Head head target = Some (key_head target)
+key_operation Put head target = Some (key_write head target)
+key_operation Post head target = key_post target
+key_operation Delete head target = Some (key_delete target)
+key_operation Other head target = None

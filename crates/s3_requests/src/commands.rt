@@ -1,29 +1,53 @@
-//! What a head asks for, and what takes a turn at the store.
+//! What a head asks for, and what takes a turn at the store: operations with their arguments, grouped by what
+//! they are about.
 
 use s3_names::{BucketName, Key};
 use s3_segments::Payload;
+use s3_versions::{ContentType, Metadata};
 
 /// What a head asks for, before the body is read: an operation with its arguments.
 #[derive(Drop)]
 pub enum Plan {
-    /// Store the body under the key.
-    PutObject { bucket: BucketName, key: Key },
-    /// Give what is stored under the key.
-    GetObject { bucket: BucketName, key: Key },
+    /// One about the object under a key of a bucket.
+    Key {
+        bucket: BucketName,
+        key: Key,
+        asked: KeyPlan,
+    },
+}
+
+/// What is asked of a key, before the body is read.
+#[derive(Drop)]
+pub enum KeyPlan {
+    /// Store the body under it, with this media type and this metadata.
+    Put {
+        content_type: ContentType,
+        metadata: Metadata,
+    },
+    /// Give what is stored under it.
+    Get,
 }
 
 /// An operation with its arguments and the body that came with it: what takes a turn at the store.
 #[derive(Drop)]
 pub enum Command {
-    /// Store the payload under the key (Amazon S3 API Reference, PutObject).
-    PutObject {
+    /// One about the object under a key of a bucket.
+    Key {
         bucket: BucketName,
         key: Key,
+        asked: KeyCommand,
+    },
+}
+
+/// What is asked of a key.
+#[derive(Drop)]
+pub enum KeyCommand {
+    /// Store the payload under it, with this media type and this metadata (Amazon S3 API Reference, PutObject).
+    Put {
+        content_type: ContentType,
+        metadata: Metadata,
         payload: Payload,
     },
-    /// Give what is stored under the key (Amazon S3 API Reference, GetObject).
-    GetObject {
-        bucket: BucketName,
-        key: Key,
-    },
+    /// Give what is stored under it (Amazon S3 API Reference, GetObject).
+    Get,
 }

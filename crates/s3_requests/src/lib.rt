@@ -1,9 +1,14 @@
-//! What a verified message asks for: routing, and the command with the data that came.
+//! What a verified message asks for: routing by the table of S3's operations, their arguments, and the command
+//! with the data that came.
 #![tactic(auto)]
 
+mod arguments;
 mod commands;
+mod description;
+mod laws;
 mod operations;
 mod routing;
 
-pub use commands::{Command, Plan};
+pub use commands::{Command, KeyCommand, KeyPlan, Plan};
+pub use laws::plans_are_unbroken;
 pub use routing::{command, route};

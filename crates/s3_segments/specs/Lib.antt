@@ -1,1 +1,3 @@
 pub mod Payload
+pub mod Segments
+pub mod Inside

@@ -1,6 +1,6 @@
 //! The bytes of an object or of a part.
 
-ghost use Rattle.std.specs.Prelude.{◌≡◌, ℕ, List, length, IfOk};
+ghost use Rattle.std.specs.Prelude.{◌≡◌, ℕ, List, [], length, IfOk};
 
 use s3_terms::NoMemory;
 use std::alloc::Global;
@@ -24,6 +24,15 @@ impl Body {
         ensures { result ≡ bytes.items }
     {
         Body { bytes }
+    }
+
+    /// The body without bytes, which takes no memory.
+    pub fn empty(alloc: Global) -> Body
+        ensures { result ≡ [] }
+    {
+        Body {
+            bytes: Vec::new(alloc),
+        }
     }
 
     /// How many bytes the body has.

@@ -1,5 +1,7 @@
+pub mod AtOnceLemmas
 pub mod EarlyLemmas
 pub mod FrontLemmas
+pub mod InBodyLemmas
 pub mod IncomingLemmas
 pub mod InvitationLemmas
 pub mod OutputLemmas
@@ -12,5 +14,7 @@ pub mod SoundLemmas
 pub mod StandsLemmas
 pub mod StayLemmas
 pub mod TurnsLemmas
+pub mod UndecidedLemmas
 pub mod VerdictLemmas
 pub mod WalkLemmas
+pub mod UnbrokenLemmas

@@ -1,5 +1,5 @@
 -- What went into a connection fixes what it writes.
-use Rattle.std.proofs.Common.{◌≡◌, ℕ, suc, Bool, true, List, [], ◌∷◌, ◌++◌, map, MatchBool, Option, Some, None, refl, sym, ap, subst, ◌∙◌, append-nil, inl, inr}
+use Rattle.std.proofs.Common.{◌≡◌, ℕ, suc, Bool, true, false, List, [], ◌∷◌, ◌++◌, map, MatchBool, Option, Some, None, refl, sym, ap, subst, ◌∙◌, append-nil, inl, inr}
 use Rattle.std.specs.List.{AllByRecursion, flat_map}
 use Rattle.std.proofs.lemmas.Bool.{cases_Bool, MatchBool-at_true, MatchBool-at_false}
 use Rattle.s3_config.specs.Settings.{Settings}
@@ -19,9 +19,8 @@ use Rattle.s3_session.specs.Verdict as verdicts
 use Rattle.s3_session.specs.Decision.{Decision, Judges, FoundJudged, open_yet}
 use Rattle.s3_session.specs.Invitation.{Invites, FoundInvites}
 use Rattle.s3_session.specs.Walk.{Walks}
-use Rattle.s3_session.specs.Output.{Exchange, message_of, turn_of, written_for, IsReplied, Past, Standing, Reading, Waiting, Over, Dead, asked_of_clock, IsOpen, IsWaiting, IsRefused, Behind, Writes}
-use Rattle.s3_session.specs.Replay.{IsThrough}
-use Rattle.s3_session.specs.Laws.{OneVerdict, OneInvitation, IsLive, OneWriting, OneOutput}
+use Rattle.s3_session.specs.Output.{Exchange, message_of, turn_of, written_for, IsReplied, Past, Standing, Reading, Waiting, Over, Dead, asked_of_clock, IsOpen, IsWaiting, IsRefused, Behind, Writes, is_dead, is_waiting}
+use Rattle.s3_session.specs.Laws.{OneVerdict, OneInvitation, OneWriting, OneOutput}
 use Rattle.s3_session.proofs.ServesLemmas.{entry_of, entries_from, moments_of}
 use Rattle.s3_session.proofs.ReplayLemmas.{replayed_moments, replayed_legal, replayed_walk, replayed_behind}
 
@@ -125,25 +124,19 @@ module _ (settings : Settings) (ended : Bool) (rest late : List ℕ) (moment : �
         joined = x.joined;
       }
 
-  told : (p : Standing) → IsLive p → Behind p settings ended (Some rest) late waiting last → Agrees moment late
+  told : (p : Standing) → is_dead p ≡ false → Behind p settings ended (Some rest) late waiting last → Agrees moment late
       → Told p settings ended rest moment waiting last
   told Reading live x agrees = told_open x agrees
   told Waiting live x agrees = told_waiting x agrees
   told Over live x agrees = told_refused x agrees
-  told Dead live x agrees = absurd live
+  told Dead live x agrees = let never = live in absurd (cc)
 
   -- where a reply closed the connection, there is nothing to tell
-  closed : (p : Standing) → IsLive p → Behind p settings ended None late waiting last → (p ≡ Over) × (waiting ≡ []) × (last ≡ [])
+  closed : (p : Standing) → is_dead p ≡ false → Behind p settings ended None late waiting last → (p ≡ Over) × (waiting ≡ []) × (last ≡ [])
   closed Reading live x = absurd x
   closed Waiting live x = absurd x
   closed Over live x = (refl, x.1, x.2)
-  closed Dead live x = absurd live
-
-through_is_live : (p : Standing) → IsThrough p → IsLive p
-through_is_live Reading through = tt
-through_is_live Over through = tt
-through_is_live Waiting through = absurd through
-through_is_live Dead through = absurd through
+  closed Dead live x = let never = live in absurd (cc)
 
 -- ---- what is known of two pasts
 
@@ -191,7 +184,7 @@ module _ (one : OneVerdict) (invited : OneInvitation) (replies : RepliesAreUniqu
       )
 
   behind_once : (left : Option (List ℕ)) (p q : Standing) (moment : ℕ) (late later : List ℕ) (waiting other : List Turn) (last end : List ℕ)
-      → IsLive p → IsLive q → Behind p settings ended left late waiting last → Behind q settings ended left later other end
+      → is_dead p ≡ false → is_dead q ≡ false → Behind p settings ended left late waiting last → Behind q settings ended left later other end
       → Agrees moment late → Agrees moment later → (last ≡ end) × (waiting ≡ other) × (p ≡ q)
   behind_once (Some rest) p q moment late later waiting other last end live also x y agrees here =
       told_once p q rest moment waiting other last end (told settings ended rest late moment waiting last p live x agrees)
@@ -238,7 +231,7 @@ module _ (one : OneVerdict) (invited : OneInvitation) (replies : RepliesAreUniqu
       (ap (λ (e : Exchange). e ∷ xs) here ∙ ap (λ (es : List Exchange). y ∷ es) more.0, more.1)
 
   -- what is written, by the exchanges and by what stands behind them
-  written_once : (p q : Standing) (a b : Past) (x y : List ℕ) (moment : ℕ) → IsLive p → IsLive q → (v : Writes p settings a x) → (w : Writes q settings b y)
+  written_once : (p q : Standing) (a b : Past) (x y : List ℕ) (moment : ℕ) → is_dead p ≡ false → is_dead q ≡ false → (v : Writes p settings a x) → (w : Writes q settings b y)
       → a.ended ≡ ended → b.ended ≡ ended → a.bytes ≡ b.bytes
       → moments_of v.serves.exchanges ≡ moments_of w.serves.exchanges → answers_of v.serves.exchanges ≡ answers_of w.serves.exchanges
       → Agrees moment v.late → Agrees moment w.late → (x ≡ y) × (a.turns ≡ b.turns) × (p ≡ q)
@@ -267,12 +260,13 @@ module _ (one : OneVerdict) (invited : OneInvitation) (replies : RepliesAreUniqu
       → ¬ (Judges settings moment ended bytes (verdicts.Sound context command, rest))
 
   none_sound : (p : Standing) (left : Option (List ℕ)) (late : List ℕ) (moment : ℕ) (waiting : List Turn) (last : List ℕ)
-      → IsThrough p → Behind p settings ended left late waiting last → Agrees moment late → NoneSound moment left
-  none_sound p left late moment waiting last through behind agrees bytes rest context command is judged =
+      → is_waiting p ≡ false → is_dead p ≡ false → Behind p settings ended left late waiting last → Agrees moment late → NoneSound moment left
+  none_sound p left late moment waiting last idle live behind agrees bytes rest context command is judged =
       let here = subst (λ (l : Option (List ℕ)). Behind p settings ended l late waiting last) is behind in
-      let t = told settings ended bytes late moment waiting last p (through_is_live p through) here agrees in
+      let t = told settings ended bytes late moment waiting last p live here agrees in
       let same = one settings moment ended bytes t.decision (verdicts.Sound context command, rest) t.judged judged in
-      subst IsThrough (t.stands ∙ ap (λ (d : Decision). standing_of d.0) same) through
+      let never = subst (λ (q : Standing). is_waiting q ≡ false) (t.stands ∙ ap (λ (d : Decision). standing_of d.0) same) idle in
+      absurd (cc)
 
   -- at one moment, histories of the store that are legal answer the same to the same bytes
   answered_once : (xs ys : List Exchange) (s : State) (n moment : ℕ) (bytes : List ℕ) (left other : Option (List ℕ))
@@ -344,7 +338,7 @@ one_writing one invited replies refusals settings p q a b x y live also bytes en
     (agrees_first v.late) (subst (Agrees (first_moment v.late)) parts.1 (agrees_first v.late))
 
 pub one_output : OneVerdict → OneInvitation → RepliesAreUnique → RefusalsAreUnique → OneOutput
-one_output one invited replies refusals settings moment bytes a b (p, through, r) (q, also, s) =
+one_output one invited replies refusals settings moment bytes a b ((p, idle, r), live) ((q, waits, s), also) =
     let mine = replayed_moments p settings moment bytes a r in
     let its = replayed_moments q settings moment bytes b s in
     let agrees = agrees_all moment r.writes.late mine.1 in
@@ -353,9 +347,9 @@ one_output one invited replies refusals settings moment bytes a b (p, through, r
     (opening settings.buckets) 0 moment bytes r.writes.left s.writes.left
     (replayed_walk p settings moment bytes a r) (replayed_walk q settings moment bytes b s) mine.0 its.0
     (replayed_legal p settings moment bytes a r) (replayed_legal q settings moment bytes b s)
-    (none_sound one invited replies refusals settings true p r.writes.left r.writes.late moment r.writes.waiting r.writes.last through
+    (none_sound one invited replies refusals settings true p r.writes.left r.writes.late moment r.writes.waiting r.writes.last idle live
     (replayed_behind p settings moment bytes a r) agrees)
-    (none_sound one invited replies refusals settings true q s.writes.left s.writes.late moment s.writes.waiting s.writes.last also
+    (none_sound one invited replies refusals settings true q s.writes.left s.writes.late moment s.writes.waiting s.writes.last waits also
     (replayed_behind q settings moment bytes b s) here) in
-    (written_once one invited replies refusals settings true p q r.past s.past a b moment (through_is_live p through) (through_is_live q also)
+    (written_once one invited replies refusals settings true p q r.past s.past a b moment live also
     r.writes s.writes r.ended s.ended (r.came ∙ sym s.came) same.0 same.1 agrees here).0

@@ -1,20 +1,23 @@
 -- What is read back over one connection is what was written.
-use Rattle.std.proofs.Common.{rules, ◌≡◌, ℕ, suc, Bool, true, false, not, List, [], ◌∷◌, ◌++◌, Option, Some, None, is_some, refl, sym, ap, subst, ◌∙◌}
+use Rattle.std.proofs.Common.{rules, ◌≡◌, ℕ, suc, Bool, true, false, not, List, [], ◌∷◌, ◌++◌, Option, Some, None, option_map, is_some, refl, sym, ap, subst, ◌∙◌}
 use Rattle.std.specs.List.{AllByRecursion}
 use Rattle.std.proofs.lemmas.List.{map-append}
 use Rattle.s3_requests.specs.declared.commands.Plan.{Plan}
+use Rattle.s3_requests.specs.Laws.{PlansAreUnbroken}
 use Rattle.s3_requests.specs.Routing.{command_of}
 use Rattle.s3_store.specs.declared.object.Object.{Object}
 use Rattle.s3_store.specs.Store.{State, opening, put_object}
-use Rattle.s3_store.specs.Store.{Address, brings, is_refused, given}
+use Rattle.s3_store.specs.Store.{Address, Contents, contents_of, brings, is_refused, given}
 use Rattle.s3_store.specs.History.{Entry, Legal, IsAnswer, after_entry}
 use Rattle.s3_store.specs.Kept.{LeavesKey, Brought, PutsAreKept, OnlyPutsAreGiven, ReadsGiveOrRefuse}
-use Rattle.s3_replies.specs.Laws.{tells_success, SuccessIsShown, ObjectsAreCarried, TagsAreUnbroken}
+use Rattle.s3_replies.specs.Laws.{Carries, IsUnbroken, tells_success, SuccessIsShown, ObjectsAreCarried, TagsAreUnbroken}
 use Rattle.s3_session.specs.Output.{Exchange, IsReplied}
 use Rattle.s3_payloads.specs.Laws.{WholePayloadsAreBodies}
-use Rattle.s3_session.proofs.ReplayLemmas.{replayed_legal}
+use Rattle.s3_session.proofs.ReplayLemmas.{replayed_legal, replayed_walk}
 use Rattle.s3_session.proofs.ServesLemmas.{entry_of, entries_from, all_of_two}
 use Rattle.s3_session.proofs.SoundLemmas.{admitted_length, one_count}
+use Rattle.s3_session.proofs.UnbrokenLemmas.{StoresUnbroken, walked_unbroken}
+use Rattle.s3_session.specs.Laws.{SoundMessages}
 use Rattle.s3_session.specs.ReadBack.{LeavesAlone, LastWrote, PutsAreReadBack, OnlyPutsAreReadBack, PayloadsAreBrought}
 
 -- ---- what a reply shows of its entry
@@ -69,26 +72,40 @@ entries_at earlier x later = map-append entry_of earlier (x ∷ later)
 
 -- ---- the theorem, and its converse
 
-pub puts_are_read_back : PutsAreKept → SuccessIsShown → ObjectsAreCarried → TagsAreUnbroken → PutsAreReadBack
-puts_are_read_back kept success carried tags standing settings moment bytes out replay earlier later get address body at asks last =
+-- what a command that brings a body brings with it
+stored_with : (found : Option Contents) (body : List ℕ) → option_map (λ (contents : Contents). contents.body) found ≡ Some body
+    → (contents : Contents) × (found ≡ Some contents) × (contents.body ≡ body)
+stored_with (Some contents) body is = (contents, refl, cc)
+stored_with None body is = absurd (cc)
+
+abbrev Unbroken : Exchange → Type 0
+Unbroken x = StoresUnbroken x.command
+
+pub puts_are_read_back : PlansAreUnbroken → SoundMessages → PutsAreKept → SuccessIsShown → ObjectsAreCarried → TagsAreUnbroken → PutsAreReadBack
+puts_are_read_back plans messages kept success carried tags standing settings moment bytes out replay earlier later get address body at asks last =
     let put = last.write in
     let answered = all_of_two IsReplied earlier (get ∷ later) (subst (AllByRecursion IsReplied) at replay.writes.serves.replied) in
     let first = all_of_two IsReplied last.before (put ∷ last.between) (subst (AllByRecursion IsReplied) last.parts answered.0) in
     let entries : entries_from replay.writes.serves.exchanges ≡ (entries_from last.before ++ entry_of put ∷ entries_from last.between) ++ entry_of get ∷ entries_from later =
     ap entries_from at ∙ entries_at earlier get later
     ∙ ap (λ es. es ++ entry_of get ∷ entries_from later) (ap entries_from last.parts ∙ entries_at last.before put last.between) in
-    let object = put_object put.context.moment body in
+    let stored = stored_with (contents_of put.command) body last.wrote.brought in
+    let object = put_object put.context.moment stored.0 in
+    let walked = walked_unbroken plans messages settings true bytes replay.writes.serves.exchanges replay.writes.left (replayed_walk standing settings moment bytes out replay) in
+    let sound = all_of_two Unbroken earlier (get ∷ later) (subst (AllByRecursion Unbroken) at walked) in
+    let unbroken = (all_of_two Unbroken last.before (put ∷ last.between) (subst (AllByRecursion Unbroken) last.parts sound.0)).1.0 stored.0 stored.1 in
     let brought : Brought address object (entry_of put) = record {
-      body = body;
+      contents = stored.0;
       written = last.wrote.written;
       accepted = not_true _ (sym (shows success address put first.1.0) ∙ last.wrote.answered);
-      brought = last.wrote.brought;
+      brought = stored.1;
       made = refl;
     } in
     let gives = kept settings.min_part (opening settings.buckets) 0 (entries_from last.before) (entries_from last.between) (entries_from later) (entry_of put) (entry_of get) address object
     (subst (Legal settings.min_part (opening settings.buckets) 0) entries (replayed_legal standing settings moment bytes out replay))
     brought (leaves_key success address last.between first.1.1 last.alone) asks.read in
-    carried get.answer get.context get.reply object answered.1.0 gives (tags body) asks.whole
+    let whole : IsUnbroken object = record { tag = tags stored.0.body; content_type = unbroken.0; metadata = unbroken.1 } in
+    subst (λ (b : List ℕ). Carries b get.reply) stored.2 (carried get.answer get.context get.reply object answered.1.0 gives whole asks.whole)
 
 -- an object that a read hands out
 found_object : (found : Option Object) → is_some found ≡ true → (object : Object) × (found ≡ Some object)
@@ -108,7 +125,7 @@ last_wrote : SuccessIsShown → (address : Address) (object : Object) (earlier :
 last_wrote success address object earlier before between write answered s brought leaves =
     let first = all_of_two IsReplied s.front (s.at ∷ s.back) (subst (AllByRecursion IsReplied) s.parts answered) in
     let here : Brought address object (entry_of s.at) = subst (Brought address object) (sym s.here) brought in (
-      here.body,
+      here.contents.body,
       record {
         before = s.front;
         write = s.at;
@@ -116,7 +133,7 @@ last_wrote success address object earlier before between write answered s brough
         parts = s.parts;
         wrote = record {
           written = here.written;
-          brought = here.brought;
+          brought = ap (option_map (λ (contents : Contents). contents.body)) here.brought;
           answered = shows success address s.at first.1.0 ∙ ap not here.accepted;
         };
         alone = leaves_alone success address s.back first.1.1 (subst (LeavesKey address) (sym s.behind) leaves);

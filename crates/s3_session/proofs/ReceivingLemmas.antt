@@ -1,8 +1,8 @@
 -- What a piece makes of a connection, by the bytes that it leaves unanswered.
-use Rattle.std.proofs.Common.{◌≡◌, ◌≢◌, ◌⊎◌, ℕ, ◌+◌, ◌-◌, ◌≤◌, Bool, true, false, List, [], ◌∷◌, ◌++◌, take, drop, length, refl, sym, ap, subst, ◌∙◌, arith, inl, inr, if◌then◌else◌, append-nil, append_assoc, Option, Some, None, Result, Ok, Err, IfSome}
+use Rattle.std.proofs.Common.{◌≡◌, ◌≢◌, ◌⊎◌, ℕ, ◌+◌, ◌-◌, ◌<◌, ◌≤◌, Bool, true, false, List, [], ◌∷◌, ◌++◌, take, drop, length, refl, sym, ap, subst, ◌∙◌, arith, inl, inr, if◌then◌else◌, append-nil, append_assoc, Option, Some, None, Result, Ok, Err, IfSome}
 use Rattle.std.specs.Borrow.{Bor}
 use Rattle.std.specs.Option.{option_copied}
-use Rattle.std.proofs.lemmas.List.{take_all, drop_all, drop_at, drop-take, length-drop, take-append-drop, take-take}
+use Rattle.std.proofs.lemmas.List.{take_all, drop_all, drop_at, length-drop}
 use Rattle.s3_config.specs.Settings.{Settings}
 use Rattle.s3_terms.specs.declared.code.Code.{Code}
 use Rattle.s3_terms.specs.declared.code.Code.TheVariants.{HeadTooLarge, MalformedHead}
@@ -17,7 +17,8 @@ use Rattle.s3_requests.specs.declared.commands.Command.{Command}
 use Rattle.s3_replies.specs.declared.context.Context.{Context}
 use Rattle.s3_replies.specs.Replies.{PrintsRefusal, continue_line, internal_error}
 use Rattle.s3_session.specs.Verdict as verdicts
-use Rattle.s3_session.specs.Admission.{Asked, IsRuled, admission_of}
+use Rattle.s3_session.specs.Admission.{Asked, admission_of}
+use Rattle.s3_session.specs.Admitting.{IsRuled}
 use Rattle.s3_session.specs.Decision.{Judges, FoundJudged, AskedJudged, context_of, refused_message, text_at}
 use Rattle.s3_session.specs.Invitation.{Invites, FoundInvites, invitation, may_be_invited}
 use Rattle.s3_session.specs.Output.{HasText, IsDead}
@@ -34,20 +35,15 @@ use Rattle.s3_session.specs.declared.session.Stage.{Stage}
 use Rattle.s3_session.specs.declared.session.Stage.TheVariants as stages
 use Rattle.s3_session.specs.declared.session.Closing.TheVariants as closings
 use Rattle.s3_session.specs.Incoming.{IsIncoming, Opens, TextOpens, Progresses, is_open}
-use Rattle.s3_session.specs.Session.{Connection, Asks, GoesOn, Here, IsDying, IsFed, IsLonger, StandsAt, added, turns_of, unsent_of}
+use Rattle.s3_session.specs.Session.{Connection, Asks, GoesOn, Here, IsDying, IsFed, IsLonger, StandsAt, added, moment_at, turns_of, unsent_of}
 use Rattle.s3_session.proofs.StayLemmas.{HeadsStay}
 use Rattle.s3_session.proofs.FrontLemmas.{IsFront, said_judged, said_invites}
+use Rattle.s3_session.proofs.UndecidedLemmas.{found_undecided, nothing_taken, searching, take_on}
 
 -- ---- what is added to a text
 
 pub added_none : (old new : List ℕ) → new ≡ old → added old new ≡ []
 added_none old new same = ap (drop (length old)) same ∙ drop_all (length old) old (omega arith)
-
--- first so many, and then so many of those behind
-pub take_on : (n m : ℕ) (xs : List ℕ) → take n xs ++ take m (drop n xs) ≡ take (n + m) xs
-take_on n m xs =
-    let front : take n (take (n + m) xs) ≡ take n xs = take-take n (n + m) xs (omega arith) in
-    ap (λ l. l ++ take m (drop n xs)) (sym front) ∙ ap (λ l. take n (take (n + m) xs) ++ l) (sym (drop-take n m xs)) ∙ take-append-drop n (take (n + m) xs)
 
 pub added_text : (old new text : List ℕ) → new ≡ old ++ text → added old new ≡ text
 added_text old new text is = ap (drop (length old)) is ∙ drop_at old text (length old) refl
@@ -267,6 +263,7 @@ module _ (settings : Settings) (moment : ℕ) (rest piece : List ℕ) (old new :
           joined = refl;
         }));
         all = λ more. (let same = sym closes ∙ more in absurd (cc));
+        at_once = λ _. nothing_taken settings (moment_at new.stage) rest piece;
       }
 
   -- an admitted head, behind which the body is read
@@ -287,7 +284,7 @@ module _ (settings : Settings) (moment : ℕ) (rest piece : List ℕ) (old new :
         let told : Invites settings incoming.context.moment rest (if invited then continue_line else []) = rw same invites in
         let body = fed (if invited then continue_line else []) h told in
         let texts = added_on (unsent_of old) (unsent_of mid) (unsent_of new) (if invited then continue_line else []) said longer in
-        record { here = rw texts body.here; all = body.all }
+        record { here = rw texts body.here; all = body.all; at_once = body.at_once }
 
     pub begins_admitted : (text : Option (Bor (List ℕ))) → IfSome text (λ (t : Bor (List ℕ)). t.now ≡ skip_pairs rest)
         → Opens settings moment (option_copied text) (opening.Admitted incoming invited) → IsFed settings old new rest [] piece n need
@@ -308,6 +305,7 @@ module _ (settings : Settings) (rest piece : List ℕ) (old new : Connection) (n
           nothing = added_none (unsent_of old) (unsent_of new) same;
         });
         all = λ _. s.all refl;
+        at_once = λ _ m less. searching settings (moment_at new.stage) rest piece m (s.at_once m less);
       }
 
   too_large : (moment : ℕ) → found_in (rest ++ take n piece) ≡ found.TooLarge
@@ -320,8 +318,8 @@ module _ (settings : Settings) (rest piece : List ℕ) (old new : Connection) (n
 
   pub reads_large : (moment : ℕ) → found.TooLarge ≡ found_in (rest ++ take n piece) → new.stage ≡ stages.Closed (closings.Refused moment)
       → PrintsRefusal HeadTooLarge moment false (added (unsent_of old) (unsent_of new))
-      → need ≡ needs.Close → IsFed settings old new rest [] piece n need
-  reads_large moment is stage printed closes =
+      → need ≡ needs.Close → ((m : ℕ) → m < n → found_in (rest ++ take m piece) ≡ found.NeedMore) → IsFed settings old new rest [] piece n need
+  reads_large moment is stage printed closes before =
       let told = too_large moment (sym is) in
       record {
         here = at_stage settings new (rest ++ take n piece) moment (stages.Closed (closings.Refused moment)) (turns_of need) (added (unsent_of old) (unsent_of new)) stage (record {
@@ -338,14 +336,15 @@ module _ (settings : Settings) (rest piece : List ℕ) (old new : Connection) (n
           joined = refl;
         });
         all = λ more. (let same = sym closes ∙ more in absurd (cc));
+        at_once = λ _ m less. searching settings (moment_at new.stage) rest piece m (before m less);
       }
 
 -- the head is whole, and more of the piece is its body's
 pub reads_found : (settings : Settings) (rest piece : List ℕ) (old mid new : Connection) (len behind : ℕ) (need : Need)
-    → len ≤ length piece → unsent_of mid ≡ unsent_of old
+    → len ≤ length piece → ((m : ℕ) → m < len → found_in (rest ++ take m piece) ≡ found.NeedMore) → unsent_of mid ≡ unsent_of old
     → IsFed settings mid new (rest ++ take len piece) [] (take (length piece - len) (drop len piece)) behind need
     → IsFed settings old new rest [] piece (len + behind) need
-reads_found settings rest piece old mid new len behind need within same slice_fed =
+reads_found settings rest piece old mid new len behind need within before same slice_fed =
     let all : take (length piece - len) (drop len piece) ≡ drop len piece = take_all (length piece - len) (drop len piece) (omega (arith, length-drop len piece)) in
     let fed = subst (λ (p : List ℕ). IsFed settings mid new (rest ++ take len piece) [] p behind need) all slice_fed in
     let taken : (rest ++ take len piece) ++ take behind (drop len piece) ≡ rest ++ take (len + behind) piece =
@@ -354,6 +353,7 @@ reads_found settings rest piece old mid new len behind need within same slice_fe
     record {
       here = rw (← taken, ← texts) fed.here;
       all = λ more. omega (arith, fed.all more, length-drop len piece, within);
+      at_once = λ lives. found_undecided settings (moment_at new.stage) rest piece len behind before (fed.at_once lives);
     }
 
 -- only what was unsent before counts
@@ -361,4 +361,4 @@ pub fed_from : (settings : Settings) (old mid new : Connection) (rest last piece
     → IsFed settings mid new rest last piece n need → IsFed settings old new rest last piece n need
 fed_from settings old mid new rest last piece n need same f =
     let texts : added (unsent_of mid) (unsent_of new) ≡ added (unsent_of old) (unsent_of new) = ap (λ u. added u (unsent_of new)) same in
-    record { here = rw (← texts) f.here; all = f.all }
+    record { here = rw (← texts) f.here; all = f.all; at_once = f.at_once }

@@ -1,5 +1,5 @@
 -- What is known of a replay, and that one in which nothing is decided writes nothing.
-use Rattle.std.proofs.Common.{◌≡◌, ◌≢◌, ◌⊎◌, ◌<◌, arith, inr, length, Result, Ok, Err, OnErr, ℕ, true, List, [], ◌∷◌, ◌++◌, map, Option, Some, ap, subst, ◌∙◌, refl}
+use Rattle.std.proofs.Common.{◌≡◌, ◌≢◌, ◌⊎◌, ◌<◌, arith, inr, length, Result, Ok, Err, OnErr, ℕ, true, false, List, [], ◌∷◌, ◌++◌, map, Option, Some, ap, subst, ◌∙◌, refl}
 use Rattle.std.specs.List.{AllByRecursion, flat_map}
 use Rattle.s3_config.specs.Settings.{Settings}
 use Rattle.s3_terms.specs.declared.memory.NoMemory.{NoMemory}
@@ -14,8 +14,8 @@ use Rattle.s3_session.specs.Verdict as verdicts
 use Rattle.s3_session.specs.Decision.{Decision, Judges, open_yet}
 use Rattle.s3_session.specs.Invitation.{Invites, FoundInvites}
 use Rattle.s3_session.specs.Walk.{Walks}
-use Rattle.s3_session.specs.Output.{Exchange, message_of, written_for, Standing, Reading, Waiting, Over, Dead, Behind}
-use Rattle.s3_session.specs.Replay.{IsLast, Replays, ReplaysAs}
+use Rattle.s3_session.specs.Output.{Exchange, message_of, written_for, Standing, Reading, Waiting, Over, Dead, Behind, is_waiting}
+use Rattle.s3_session.specs.Replay.{Replays, ReplaysAs}
 use Rattle.s3_session.specs.Laws.{OneVerdict}
 use Rattle.s3_session.proofs.EarlyLemmas.{head_decided}
 use Rattle.s3_session.proofs.ServesLemmas.{entries_from, moments_of, serves_entries, all_of_two}
@@ -56,15 +56,15 @@ module _ (one : OneVerdict) (decide : EndsDecide) (settings : Settings) (moment 
   nothing_invited m text invites = nothing_found m text (found_in bytes) refl invites
 
   nothing_behind : (p : Standing) (late : List ℕ) (waiting : List Turn) (last : List ℕ)
-      → IsLast p → Behind p settings true (Some bytes) late waiting last → AllByRecursion (λ (m : ℕ). m ≡ moment) late → last ≡ []
-  nothing_behind Reading late waiting last through x all = nothing_invited x.moment last x.invites
-  nothing_behind Waiting late waiting last through x all = absurd through
-  nothing_behind Over late waiting last through x all =
+      → is_waiting p ≡ false → Behind p settings true (Some bytes) late waiting last → AllByRecursion (λ (m : ℕ). m ≡ moment) late → last ≡ []
+  nothing_behind Reading late waiting last idle x all = nothing_invited x.moment last x.invites
+  nothing_behind Waiting late waiting last idle x all = let never = idle in absurd (cc)
+  nothing_behind Over late waiting last idle x all =
       let here = (subst (AllByRecursion (λ (m : ℕ). m ≡ moment)) x.asked all).0 in
       let refused = subst (λ m. Judges settings m true bytes (verdicts.Refused x.code x.head_only, [])) here x.judged in
       let same = ap (λ (d : Decision). d.0) (one settings moment true bytes open_yet (verdicts.Refused x.code x.head_only, []) undecided refused) in
       absurd (cc)
-  nothing_behind Dead late waiting last through x all = absurd (head_decided decide settings moment bytes x.whole.size x.whole.found undecided)
+  nothing_behind Dead late waiting last idle x all = absurd (head_decided decide settings moment bytes x.whole.size x.whole.found undecided)
 
   no_message : (exchanges : List Exchange) (left : Option (List ℕ)) → Walks settings true bytes (map message_of exchanges) left
       → AllByRecursion (λ (m : ℕ). m ≡ moment) (moments_of exchanges) → (exchanges ≡ []) × (left ≡ Some bytes)
@@ -75,13 +75,13 @@ module _ (one : OneVerdict) (decide : EndsDecide) (settings : Settings) (moment 
       absurd (cc)
 
   pub open_writes_nothing : (out : List ℕ) → Replays settings moment bytes out → out ≡ []
-  open_writes_nothing out (p, through, r) =
+  open_writes_nothing out (p, idle, r) =
       let w = r.writes in
       let all = replayed_moments p settings moment bytes out r in
       let none = no_message w.serves.exchanges w.left (replayed_walk p settings moment bytes out r) all.0 in
       let behind = subst (λ (left : Option (List ℕ)). Behind p settings true left w.late w.waiting w.last) none.1 (replayed_behind p settings moment bytes out r) in
       w.serves.joined ∙ ap (λ (es : List Exchange). flat_map written_for es ++ w.last) none.0
-      ∙ nothing_behind p w.late w.waiting w.last through behind all.1
+      ∙ nothing_behind p w.late w.waiting w.last idle behind all.1
 
 -- where there was no memory for what was written, something is decided
 pub written_decided : {X : Type 0} → OneVerdict → EndsDecide → (settings : Settings) (moment : ℕ) (bytes out : List ℕ) → Replays settings moment bytes out

@@ -71,6 +71,17 @@ admitted_length settings head moment asked is =
     let length_is : announces.0.length ≡ size.0 = announced_size settings head proved.0 announces.0 announces.1 ∙ ap (λ (count : Option ℕ). unwrap_or count 0) told in
     told ∙ ap Some (sym length_is ∙ ap (λ (a : Announced). a.length) same)
 
+-- and asks for what routing plans
+pub admitted_route : (settings : Settings) (head : HeadParts) (moment : ℕ) (asked : Asked)
+    → admission_of settings head moment ≡ Ok asked → route_of head ≡ Ok asked.plan
+unfolding admission_of
+admitted_route settings head moment asked is =
+    let size = stage_ok (framing_of head settings.body_limit) _ asked is in
+    let proved = stage_ok (head_verdict settings head moment) _ asked size.2 in
+    let announces = stage_ok (announced_payload settings head proved.0) _ asked proved.2 in
+    let plan = stage_ok (route_of head) _ asked announces.2 in
+    plan.1 ∙ ap Ok (ap (λ (a : Asked). a.plan) (one_value _ asked plan.2))
+
 -- ---- what a sound verdict says
 
 abbrev pub sound : Context → Command → List ℕ → Decision

@@ -94,7 +94,7 @@ refused_found settings moment ended rest code head_only judged none =
 -- ---- more bytes, or their end
 
 module _ (stay : VerdictsStay) (invited : InvitationsStay) (settings : Settings) (ended : Bool) (more : List ℕ) where
-  walk_more : (past : Past) (messages : List Message) (left : Option (List ℕ)) → past.ended ≡ false → Walks settings past.ended past.bytes messages left
+  pub walk_more : (past : Past) (messages : List Message) (left : Option (List ℕ)) → past.ended ≡ false → Walks settings past.ended past.bytes messages left
       → Walks settings ended (past.bytes ++ more) messages (option_map (λ (rest : List ℕ). rest ++ more) left)
   walk_more past messages left unended walk =
       walks_on stay invited settings ended past.bytes more messages left (subst (λ e. Walks settings e past.bytes messages left) unended walk)

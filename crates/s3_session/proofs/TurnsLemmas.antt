@@ -1,5 +1,5 @@
 -- A replay after some turns, and how it ends.
-use Rattle.std.proofs.Common.{◌≡◌, ◌≢◌, ℕ, ◌+◌, ◌-◌, ◌≤◌, Bool, true, false, List, [], ◌∷◌, ◌++◌, map, take, drop, length, refl, sym, ap, subst, ◌∙◌, arith, inl, inr, append-nil, zero-add, Option, Some, None, option_map, Ok, Err}
+use Rattle.std.proofs.Common.{◌≡◌, ◌≢◌, ℕ, ◌+◌, ◌≤◌, Bool, true, false, List, [], ◌∷◌, ◌++◌, map, take, drop, length, refl, sym, ap, subst, ◌∙◌, arith, inl, inr, append-nil, zero-add, Option, Some, None, option_map, Ok, Err}
 use Rattle.std.specs.List.{AllByRecursion}
 use Rattle.std.proofs.lemmas.Bool.{cases_Bool, MatchBool-at_true, MatchBool-at_false}
 use Rattle.std.proofs.lemmas.List.{take-append-drop, take_all, length-take, length-drop, length-map, length_push, nil_from_length}
@@ -10,17 +10,17 @@ use Rattle.s3_store.specs.Store.{State, opening, step}
 use Rattle.s3_store.specs.History.{Entry, Legal, IsAnswer, after, after_entry}
 use Rattle.s3_store.specs.declared.answer.Answer.{Answer}
 use Rattle.s3_session.specs.Walk.{Message, Walks}
-use Rattle.s3_session.specs.Output.{Behind, Exchange, Past, Standing, Reading, Waiting, Over, Dead, message_of, nothing_yet}
+use Rattle.s3_session.specs.Output.{Behind, Exchange, Past, Standing, Reading, Waiting, Over, Dead, message_of, nothing_yet, is_waiting}
 use Rattle.s3_session.specs.Laws.{InvitationsStay, SoundMessages, VerdictsStay}
-use Rattle.s3_session.specs.Replay.{IsLast, Replays, entries_of}
+use Rattle.s3_session.specs.Replay.{Replays, entries_of}
 use Rattle.s3_session.specs.declared.clock.Still.{Still}
 use Rattle.s3_session.specs.declared.turn.Turn.{Turn}
 use Rattle.s3_session.specs.declared.session.Need.{Need}
 use Rattle.s3_session.specs.declared.session.Need.TheVariants as needs
-use Rattle.s3_session.specs.Session.{Connection, IsAnsweredTo, IsClockAsked, Needs, Stands, answered, fed, gave_between, is_waiting, standing_of, turns_of, unsent_of}
+use Rattle.s3_session.specs.Session.{Connection, IsAnsweredTo, IsClockAsked, Needs, Stands, answered, fed, gave_between, standing_of, turns_of, unsent_of}
 use Rattle.s3_session.proofs.StayLemmas.{HeadsStay, IsExact}
 use Rattle.s3_session.proofs.ShorterLemmas.{sound_shorter}
-use Rattle.s3_session.proofs.ReceivingLemmas.{take_on}
+use Rattle.s3_session.proofs.UndecidedLemmas.{take_on}
 use Rattle.s3_session.proofs.StandsLemmas.{dead_more, nothing_found, empty_found, refused_more, serves_more, sessions_write}
 
 -- the laws of the history, as the store states them
@@ -122,12 +122,6 @@ turns_first settings moment bytes session stands idle goes_on = record {
 
 -- ---- how a replay ends
 
-is_last : (standing : Standing) → is_waiting standing ≡ false → IsLast standing
-is_last Reading idle = tt
-is_last Waiting idle = let never = idle in absurd (cc)
-is_last Over idle = tt
-is_last Dead idle = tt
-
 -- all bytes went through, and they have ended
 pub replays_ended : PayloadsJudge → (settings : Settings) (moment : ℕ) (bytes : List ℕ) (session : Connection) (past : Past)
     → Stands session settings (record past { ended = true }) [] → past.bytes ≡ bytes → AllByRecursion (λ (m : ℕ). m ≡ moment) past.moments
@@ -135,7 +129,7 @@ pub replays_ended : PayloadsJudge → (settings : Settings) (moment : ℕ) (byte
     → is_waiting (standing_of session) ≡ false → Replays settings moment bytes (unsent_of session)
 replays_ended judge settings moment bytes session past stands came moments legal idle = (
   standing_of session,
-  is_last (standing_of session) idle,
+  idle,
   record {
     past = record past { ended = true };
     came = came;
@@ -167,7 +161,7 @@ replays_closed stay invited heads judge settings moment bytes taken session past
     let all : Past = record past { bytes = past.bytes ++ more; ended = true } in
     let behind = subst (λ e. Behind (standing_of session) settings e w.left w.late w.waiting w.last) unended w.behind in (
       standing_of session,
-      is_last (standing_of session) idle,
+      idle,
       record {
         past = all;
         came = ap (λ (b : List ℕ). b ++ more) came ∙ take-append-drop taken bytes;
@@ -190,7 +184,7 @@ pub replays_nothing : (settings : Settings) (moment : ℕ) → Replays settings 
 replays_nothing settings moment =
     let told = nothing_found settings 0 true [] [] empty_found refl in (
       Reading,
-      tt,
+      refl,
       record {
         past = record nothing_yet { ended = true };
         came = refl;
@@ -241,25 +235,19 @@ dead_stage e Over dead = absurd dead
 dead_stage e Dead dead = (refl, λ is. absurd (cc))
 
 module _ (settings : Settings) (moment : ℕ) (bytes : List ℕ) (session mid : Connection) (clock later : Still) (store : State) (taken number n : ℕ) (need : Need)
-    (t : TakesTurns settings moment bytes session clock store taken number)
+    (piece : List ℕ) (offered : piece ≡ drop taken bytes) (t : TakesTurns settings moment bytes session clock store taken number)
     (asked : IsClockAsked (λ (o : Still) (c : Still) (m : ℕ). (m ≡ o.moment) × (c ≡ o)) clock later (gave_between session mid))
-    (stands : Stands mid settings (fed t.past (take n (take (length bytes - taken) (drop taken bytes))) (gave_between session mid) (turns_of need)) [])
-    (within : n ≤ length (take (length bytes - taken) (drop taken bytes))) where
-  rest : List ℕ
-  rest = take (length bytes - taken) (drop taken bytes)
-
-  rest_is : take (length bytes - taken) (drop taken bytes) ≡ drop taken bytes
-  rest_is = take_all (length bytes - taken) (drop taken bytes) (omega (arith, length-drop taken bytes))
-
+    (stands : Stands mid settings (fed t.past (take n piece) (gave_between session mid) (turns_of need)) [])
+    (within : n ≤ length piece) where
   past_then : Past
-  past_then = fed t.past (take n (take (length bytes - taken) (drop taken bytes))) (gave_between session mid) (turns_of need)
+  past_then = fed t.past (take n piece) (gave_between session mid) (turns_of need)
 
-  came_then : t.past.bytes ++ take n (take (length bytes - taken) (drop taken bytes)) ≡ take (taken + n) bytes
-  came_then = ap (λ (b : List ℕ). b ++ take n (take (length bytes - taken) (drop taken bytes))) t.came
-      ∙ ap (λ (b : List ℕ). take taken bytes ++ take n b) rest_is ∙ take_on taken n bytes
+  came_then : t.past.bytes ++ take n piece ≡ take (taken + n) bytes
+  came_then = ap (λ (b : List ℕ). b ++ take n piece) t.came
+      ∙ ap (λ (b : List ℕ). take taken bytes ++ take n b) offered ∙ take_on taken n bytes
 
   pub within_then : taken + n ≤ length bytes
-  within_then = omega (arith, t.within, within, ap length rest_is, length-drop taken bytes)
+  within_then = omega (arith, t.within, within, ap length offered, length-drop taken bytes)
 
   moments_then : (later.moment ≡ moment) × AllByRecursion (λ (m : ℕ). m ≡ moment) (t.past.moments ++ gave_between session mid)
   moments_then =
@@ -277,21 +265,21 @@ module _ (settings : Settings) (moment : ℕ) (bytes : List ℕ) (session mid : 
       let legal : Legal settings.min_part (opening settings.buckets) 0 (entries_of (t.past.turns ++ turns_of need) t.past.answers) =
       subst (λ (ts : List Turn). Legal settings.min_part (opening settings.buckets) 0 (entries_of ts t.past.answers)) (sym (ap (λ (ts : List Turn). t.past.turns ++ ts) none ∙ append-nil t.past.turns)) t.legal in
       let shut = closed_standing (standing_of mid) (subst (λ (m : Need). Needs m (standing_of mid)) closes needed) in
-      replays_closed stay invited heads judge settings moment bytes (taken + n) mid (fed t.past (take n (take (length bytes - taken) (drop taken bytes))) (gave_between session mid) (turns_of need))
+      replays_closed stay invited heads judge settings moment bytes (taken + n) mid (fed t.past (take n piece) (gave_between session mid) (turns_of need))
       stands came_then t.unended moments_then.1 legal shut.0 shut.1
 
   -- more bytes are needed, and there are none
-  pub by_more : PayloadsJudge → (last : Connection) → need ≡ needs.More → n ≡ length (take (length bytes - taken) (drop taken bytes))
+  pub by_more : PayloadsJudge → (last : Connection) → need ≡ needs.More → n ≡ length piece
       → ((past : Past) → Stands mid settings past [] → Stands last settings (record past { ended = true }) [])
       → is_waiting (standing_of last) ≡ is_waiting (standing_of mid) → Needs need (standing_of mid) → Replays settings moment bytes (unsent_of last)
-  unfolding counts came_then moments_then rest_is
+  unfolding counts came_then moments_then
   by_more judge last more all ends same needed =
       let none : turns_of need ≡ [] = ap turns_of more in
       let legal : Legal settings.min_part (opening settings.buckets) 0 (entries_of (t.past.turns ++ turns_of need) t.past.answers) =
       subst (λ (ts : List Turn). Legal settings.min_part (opening settings.buckets) 0 (entries_of ts t.past.answers)) (sym (ap (λ (ts : List Turn). t.past.turns ++ ts) none ∙ append-nil t.past.turns)) t.legal in
-      let whole : taken + n ≡ length bytes = omega (arith, all, ap length rest_is, length-drop taken bytes, t.within) in
+      let whole : taken + n ≡ length bytes = omega (arith, all, ap length offered, length-drop taken bytes, t.within) in
       let idle = more_standing (standing_of mid) (subst (λ (m : Need). Needs m (standing_of mid)) more needed) in
-      replays_ended judge settings moment bytes last (fed t.past (take n (take (length bytes - taken) (drop taken bytes))) (gave_between session mid) (turns_of need))
+      replays_ended judge settings moment bytes last (fed t.past (take n piece) (gave_between session mid) (turns_of need))
       (ends _ stands) (came_then ∙ take_all (taken + n) bytes (omega (arith, whole))) moments_then.1 legal (same ∙ idle)
 
   module _ (turn : Turn) (asks : need ≡ needs.Turn turn) (new : Connection) where
@@ -313,7 +301,7 @@ module _ (settings : Settings) (moment : ℕ) (bytes : List ℕ) (session mid : 
         let same : answer ≡ record { number = number; outcome = (step settings.min_part store number turn.moment turn.command).1 } = rw (← least_is) is in
         let right : IsAnswer settings.min_part (after settings.min_part (opening settings.buckets) entries_before) (0 + length entries_before) entry = rw (t.state, count, zero-add) same in
         record {
-          past = answered (fed t.past (take n (take (length bytes - taken) (drop taken bytes))) (gave_between session mid) (turns_of need)) (Ok answer);
+          past = answered (fed t.past (take n piece) (gave_between session mid) (turns_of need)) (Ok answer);
           stands = replies _ stands;
           came = came_then;
           unended = t.unended;
@@ -340,7 +328,7 @@ module _ (settings : Settings) (moment : ℕ) (bytes : List ℕ) (session mid : 
         let entries : entries_of (t.past.turns ++ turns_of need) t.past.answers ≡ entries_of t.past.turns t.past.answers =
         ap (λ (ts : List Turn). entries_of (t.past.turns ++ ts) t.past.answers) turns_are ∙ entries_short t.past.turns t.past.answers turn counts in
         let shut = dead_stage e (standing_of new) dead in
-        replays_closed stay invited heads judge settings moment bytes (taken + n) new (fed t.past (take n (take (length bytes - taken) (drop taken bytes))) (gave_between session mid) (turns_of need))
+        replays_closed stay invited heads judge settings moment bytes (taken + n) new (fed t.past (take n piece) (gave_between session mid) (turns_of need))
         (dies _ stands) came_then t.unended moments_then.1 (subst (Legal settings.min_part (opening settings.buckets) 0) (sym entries) t.legal) shut.0 shut.1
 
 -- as many turns were taken as there are bytes

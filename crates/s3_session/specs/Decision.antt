@@ -74,3 +74,15 @@ FoundJudged settings moment ended bytes (found.Head n) decision =
 unfoldable pub Judges : Settings → ℕ → Bool → List ℕ → Decision → Type 0
 Judges settings moment ended bytes decision =
     FoundJudged settings moment ended bytes (found_in bytes) decision
+
+-- the head of the message at the front of the bytes was admitted, and of its body nothing is decided yet: so the body
+-- isn't empty, since an empty one is decided with its head
+pub record AwaitsBody (settings : Settings) (moment : ℕ) (ended : Bool) (bytes : List ℕ) : Type 0 where
+  pub size : ℕ
+  pub found : found_in bytes ≡ found.Head size
+  pub head : HeadParts
+  pub says : Says (text_at size bytes) head
+  pub asked : Asked
+  pub admitted : admission_of settings head moment ≡ Ok asked
+  pub held : List ℕ
+  pub undecided : payloads.Judges asked.announced (behind_text size bytes) ended (bodies.Open held)

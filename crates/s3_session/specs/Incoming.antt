@@ -12,7 +12,8 @@ use Rattle.s3_payloads.specs.Reader as payloads
 use Rattle.s3_requests.specs.Routing.{command_of}
 use Rattle.s3_replies.specs.declared.context.Context.{Context}
 use Rattle.s3_session.specs.Verdict as verdicts
-use Rattle.s3_session.specs.Admission.{Asked, IsRuled, admission_of}
+use Rattle.s3_session.specs.Admission.{Asked, admission_of}
+use Rattle.s3_session.specs.Admitting.{IsRuled}
 use Rattle.s3_session.specs.Decision.{Judges, context_of}
 use Rattle.s3_session.specs.Invitation.{may_be_invited}
 use Rattle.s3_session.specs.declared.incoming.Incoming.{Incoming}

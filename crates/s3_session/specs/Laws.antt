@@ -16,7 +16,7 @@ use Rattle.s3_session.specs.Verdict as verdicts
 use Rattle.s3_session.specs.Admission.{Asked, admission_of}
 use Rattle.s3_session.specs.Decision.{Decision, Judges, context_of}
 use Rattle.s3_session.specs.Invitation.{Invites}
-use Rattle.s3_session.specs.Output.{Past, Standing, Reading, Waiting, Over, Dead, Writes}
+use Rattle.s3_session.specs.Output.{Past, Standing, Writes, is_dead}
 use Rattle.s3_session.specs.Replay.{LiveReplays}
 use Rattle.s3_session.specs.Session.{Connection, Stands, standing_of, unsent_of}
 
@@ -88,20 +88,13 @@ SoundIsJudged =
     → IsSound settings moment bytes context command rest
     → Judges settings moment ended bytes (verdicts.Sound context command, rest)
 
--- memory did not run out
-abbrev pub IsLive : Standing → Type 0
-IsLive Reading = Unit {0}
-IsLive Waiting = Unit {0}
-IsLive Over = Unit {0}
-IsLive Dead = ⊥
-
 -- Two connections under the same settings, whose bytes are the same, of which both or neither have ended, to which
 -- the same moments and the same answers were given, and in which memory did not run out, have written the same, wait
 -- for the same turns and stand alike: however their bytes were cut into pieces.
 abbrev pub OneWriting : Type 0
 OneWriting =
     (settings : Settings) (p q : Standing) (a b : Past) (x y : List ℕ)
-    → IsLive p → IsLive q
+    → is_dead p ≡ false → is_dead q ≡ false
     → a.bytes ≡ b.bytes → a.ended ≡ b.ended → a.moments ≡ b.moments → a.answers ≡ b.answers
     → Writes p settings a x → Writes q settings b y
     → (x ≡ y) × (a.turns ≡ b.turns) × (p ≡ q)

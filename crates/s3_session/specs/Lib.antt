@@ -1,4 +1,5 @@
 pub mod Admission
+pub mod Admitting
 pub mod Decision
 pub mod Incoming
 pub mod Invitation

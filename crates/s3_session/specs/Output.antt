@@ -1,5 +1,5 @@
 -- What a connection writes: a reply to each message, and what stands behind the last one.
-use Rattle.std.specs.Prelude.{◌≡◌, ℕ, ◌⊎◌, Bool, false, List, [], ◌∷◌, ◌++◌, map, Option, Some, None}
+use Rattle.std.specs.Prelude.{◌≡◌, ℕ, ◌⊎◌, Bool, true, false, List, [], ◌∷◌, ◌++◌, map, Option, Some, None}
 use Rattle.std.specs.List.{AllByRecursion, flat_map}
 use Rattle.s3_config.specs.Settings.{Settings}
 use Rattle.s3_terms.specs.declared.code.Code.{Code}
@@ -12,7 +12,7 @@ use Rattle.s3_replies.specs.declared.context.Context.{Context}
 use Rattle.s3_replies.specs.Replies.{Prints, PrintsRefusal, internal_error}
 use Rattle.s3_session.specs.Verdict as verdicts
 use Rattle.s3_session.specs.declared.turn.Turn.{Turn}
-use Rattle.s3_session.specs.Decision.{Judges}
+use Rattle.s3_session.specs.Decision.{AwaitsBody, Judges, open_yet, refused_message}
 use Rattle.s3_session.specs.Invitation.{Invites}
 use Rattle.s3_session.specs.Walk.{Message, Walks}
 
@@ -73,6 +73,20 @@ pub data Standing : Type 0 where
   Over : Standing
   Dead : Standing
 
+-- a turn waits
+abbrev pub is_waiting : Standing → Bool
+is_waiting Reading = false
+is_waiting Waiting = true
+is_waiting Over = false
+is_waiting Dead = false
+
+-- memory ran out
+abbrev pub is_dead : Standing → Bool
+is_dead Reading = false
+is_dead Waiting = false
+is_dead Over = false
+is_dead Dead = true
+
 -- the clock is asked once for each message: when its whole head has come, or more than a head may have
 abbrev pub asked_of_clock : Found → ℕ → List ℕ
 asked_of_clock found.NeedMore moment = []
@@ -84,7 +98,7 @@ pub record IsOpen (settings : Settings) (ended : Bool) (rest late : List ℕ) (w
   pub moment : ℕ
   pub asked : late ≡ asked_of_clock (found_in rest) moment
   pub none : waiting ≡ []
-  pub judged : Judges settings moment ended rest (verdicts.Open, [])
+  pub judged : Judges settings moment ended rest open_yet
   pub invites : Invites settings moment rest last
 
 -- it is sound, and its turn waits
@@ -106,7 +120,7 @@ pub record IsRefused (settings : Settings) (ended : Bool) (rest late : List ℕ)
   pub text : List ℕ
   pub asked : late ≡ moment ∷ []
   pub none : waiting ≡ []
-  pub judged : Judges settings moment ended rest (verdicts.Refused code head_only, [])
+  pub judged : Judges settings moment ended rest (refused_message code head_only)
   pub invites : Invites settings moment rest before
   pub printed : PrintsRefusal code moment head_only text
   pub joined : last ≡ before ++ text
@@ -150,3 +164,13 @@ pub record Writes (standing : Standing) (settings : Settings) (past : Past) (out
   pub last : List ℕ
   pub serves : Serves settings past out left late waiting last
   pub behind : Behind standing settings past.ended left late waiting last
+
+-- It reads the body of the next message: the head of that was admitted, and of its body nothing is decided yet.
+pub record ReadsBody (settings : Settings) (past : Past) : Type 0 where
+  pub out : List ℕ
+  pub writes : Writes Reading settings past out
+  pub moment : ℕ
+  pub late : writes.late ≡ moment ∷ []
+  pub rest : List ℕ
+  pub left : writes.left ≡ Some rest
+  pub awaits : AwaitsBody settings moment past.ended rest

@@ -1,13 +1,13 @@
 -- What a replay of one connection writes: the headline for one connection, as a relation on its bytes
 -- and its output.
-use Rattle.std.specs.Prelude.{◌≡◌, ℕ, true, List, [], ◌∷◌}
+use Rattle.std.specs.Prelude.{◌≡◌, ℕ, true, false, List, [], ◌∷◌}
 use Rattle.std.specs.List.{AllByRecursion}
 use Rattle.s3_config.specs.Settings.{Settings}
 use Rattle.s3_store.specs.Store.{opening}
 use Rattle.s3_store.specs.History.{Entry, Legal}
 use Rattle.s3_store.specs.declared.answer.Answer.{Answer}
 use Rattle.s3_session.specs.declared.turn.Turn.{Turn}
-use Rattle.s3_session.specs.Output.{Past, Standing, Reading, Waiting, Over, Dead, Writes}
+use Rattle.s3_session.specs.Output.{Past, Standing, Writes, is_dead, is_waiting}
 
 -- the entries of the history that turns and their answers make
 abbrev pub entries_of : List Turn → List Answer → List Entry
@@ -26,24 +26,10 @@ pub record ReplaysAs (standing : Standing) (settings : Settings) (moment : ℕ) 
   pub writes : Writes standing settings past out
   pub legal : Legal settings.min_part (opening settings.buckets) 0 (entries_of past.turns past.answers)
 
--- no turn waits, and memory did not run out
-abbrev pub IsThrough : Standing → Type 0
-IsThrough Reading = Unit {0}
-IsThrough Over = Unit {0}
-IsThrough Waiting = ⊥
-IsThrough Dead = ⊥
-
--- the same, or memory ran out
-abbrev pub IsLast : Standing → Type 0
-IsLast Dead = Unit {0}
-IsLast Reading = Unit {0}
-IsLast Over = Unit {0}
-IsLast Waiting = ⊥
-
 -- all commands had their turns, up to the end or to the message at which memory ran out
 abbrev pub Replays : Settings → ℕ → List ℕ → List ℕ → Type 0
-Replays settings moment bytes out = (standing : Standing) × IsLast standing × ReplaysAs standing settings moment bytes out
+Replays settings moment bytes out = (standing : Standing) × (is_waiting standing ≡ false) × ReplaysAs standing settings moment bytes out
 
--- all commands had their turns, and memory did not run out
+-- the same, and memory did not run out
 abbrev pub LiveReplays : Settings → ℕ → List ℕ → List ℕ → Type 0
-LiveReplays settings moment bytes out = (standing : Standing) × IsThrough standing × ReplaysAs standing settings moment bytes out
+LiveReplays settings moment bytes out = (replay : Replays settings moment bytes out) × (is_dead replay.0 ≡ false)

@@ -1,8 +1,8 @@
 -- A connection, and how it stands after all that went through it.
 -- `Stands` is what the clauses of the session carry along. What it comes to is a law, `sessions_write`: the output of the
--- connection. So its inside need not be believed. A reader believes the words up to `Needs`; those from `IsReading` on serve
+-- connection. So its inside need not be believed. A reader believes the words up to `Needs`; those from `is_in_body` on serve
 -- `Stands` and the clauses of private functions alone.
-use Rattle.std.specs.Prelude.{◌≡◌, ◌⊎◌, ℕ, take, Bool, true, false, List, [], ◌∷◌, ◌++◌, drop, length, Option, Some, None, Result, Ok, Err}
+use Rattle.std.specs.Prelude.{◌≡◌, ◌<◌, ◌⊎◌, ℕ, take, Bool, true, false, List, [], ◌∷◌, ◌++◌, drop, length, Option, Some, None, Result, Ok, Err}
 use Rattle.s3_config.specs.Settings.{Settings}
 use Rattle.s3_terms.specs.declared.code.Code.{Code}
 use Rattle.s3_terms.specs.declared.memory.NoMemory.{NoMemory}
@@ -19,7 +19,7 @@ use Rattle.s3_session.specs.Verdict as verdicts
 use Rattle.s3_session.specs.Decision.{Judges}
 use Rattle.s3_session.specs.Invitation.{Invites}
 use Rattle.s3_session.specs.Incoming.{IsInBody}
-use Rattle.s3_session.specs.Output.{Past, Standing, Serves, IsRefused, IsDead}
+use Rattle.s3_session.specs.Output.{Past, Standing, Serves, Writes, IsOpen, IsRefused, IsDead, is_dead}
 use Rattle.s3_session.specs.Output as standings
 use Rattle.s3_session.specs.declared.incoming.Incoming.{Incoming}
 use Rattle.s3_session.specs.declared.incoming.Progress.{Progress}
@@ -57,33 +57,12 @@ standing_at (stages.Closed (closings.Died moment)) = standings.Dead
 abbrev pub standing_of : Connection → Standing
 standing_of session = standing_at session.stage
 
--- a command waits for its answer
-abbrev pub is_waiting : Standing → Bool
-is_waiting standings.Reading = false
-is_waiting standings.Waiting = true
-is_waiting standings.Over = false
-is_waiting standings.Dead = false
-
 -- no more is read
 abbrev pub is_closed : Standing → Bool
 is_closed standings.Reading = false
 is_closed standings.Waiting = false
 is_closed standings.Over = true
 is_closed standings.Dead = true
-
--- memory ran out
-abbrev pub is_dead : Standing → Bool
-is_dead standings.Reading = false
-is_dead standings.Waiting = false
-is_dead standings.Over = false
-is_dead standings.Dead = true
-
--- the head of a message was admitted, and its body is still open
-abbrev pub is_in_body : Stage → Bool
-is_in_body stages.Reading = false
-is_in_body (stages.Body incoming) = true
-is_in_body (stages.Waiting context) = false
-is_in_body (stages.Closed closing) = false
 
 -- what it wrote and has not sent
 abbrev pub unsent_of : Connection → List ℕ
@@ -127,6 +106,12 @@ abbrev pub fed : Past → List ℕ → List ℕ → List Turn → Past
 fed past bytes moments turns =
     record past { bytes = past.bytes ++ bytes; moments = past.moments ++ moments; turns = past.turns ++ turns }
 
+-- with fewer of these bytes behind it the connection would still be reading, whether or not its clock had given these
+-- moments by then: nothing would be decided about its next message
+abbrev pub StaysOpen : Settings → Past → List ℕ → List ℕ → Type 0
+StaysOpen settings past bytes moments =
+    (n : ℕ) → n < length bytes → (k : ℕ) × (out : List ℕ) × Writes standings.Reading settings (fed past (take n bytes) (take k moments) []) out
+
 -- the waiting turn was answered, unless memory ran out at it
 abbrev pub answered : Past → Result Answer NoMemory → Past
 answered past (Ok answer) = record past { answers = past.answers ++ answer ∷ [] }
@@ -146,6 +131,13 @@ Needs (needs.Turn turn) standings.Waiting = Unit {0}
 Needs needs.Close standings.Over = Unit {0}
 Needs needs.Close standings.Dead = Unit {0}
 Needs need standing = ⊥
+
+-- the head of a message was admitted, and its body is still open
+abbrev pub is_in_body : Stage → Bool
+is_in_body stages.Reading = false
+is_in_body (stages.Body incoming) = true
+is_in_body (stages.Waiting context) = false
+is_in_body (stages.Closed closing) = false
 
 -- no head has come behind the answered messages
 pub record IsReading (session : Connection) (ended : Bool) (rest : List ℕ) (waiting : List Turn) (last : List ℕ) : Type 0 where
@@ -193,11 +185,17 @@ pub record Stands (session : Connection) (settings : Settings) (past : Past) (se
   pub here : HereOr settings session past.ended left waiting last
   pub end : past.ended ≡ session.is_ended
 
+-- with fewer than so many bytes of a piece behind these nothing is decided yet
+abbrev pub IsUndecided : Settings → List ℕ → List ℕ → List ℕ → ℕ → Type 0
+IsUndecided settings moments rest piece taken =
+    (n : ℕ) → n < taken → (k : ℕ) × (text : List ℕ) × IsOpen settings false (rest ++ take n piece) (take k moments) [] text
+
 -- what a piece made of a session, by the bytes that it left unanswered before and the text that was written for them:
--- these bytes with those that were taken, and the text with what was added
+-- these bytes with those that were taken, and the text with what was added; and that no fewer would do
 pub record IsFed (settings : Settings) (old new : Connection) (rest last piece : List ℕ) (taken : ℕ) (need : Need) : Type 0 where
   pub here : Here settings new false (rest ++ take taken piece) (turns_of need) (last ++ added (unsent_of old) (unsent_of new))
   pub all : need ≡ needs.More → taken ≡ length piece
+  pub at_once : is_dead (standing_of new) ≡ false → IsUndecided settings (moment_at new.stage) rest piece taken
 
 -- memory ran out for a message of this moment
 abbrev pub IsDying : ℕ → Connection → Connection → Need → Type 0

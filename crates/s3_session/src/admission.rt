@@ -1,14 +1,15 @@
 //! Whether a head is admitted: what has to hold before its body is looked at.
 
 ghost use Rattle.std.specs.Prelude.{◌≡◌};
-ghost use Rattle.s3_session.specs.Admission as rules;
+ghost use Rattle.s3_session.specs.Admission.{admission_of};
+ghost use Rattle.s3_session.specs.Admitting as rules;
 
 use s3_calendar::Moment;
 use s3_config::Config;
 use s3_http_heads::{Head, framing};
 use s3_payloads::PayloadReader;
 use s3_requests::{Plan, route};
-use s3_signing::verify_head;
+use s3_signing::{KeptKey, verify_head};
 use s3_terms::Code;
 use std::alloc::Global;
 
@@ -23,14 +24,20 @@ pub struct Admission {
 
 /// Judges a head that has been read: its framing, its signature, what it announces of its body, and its
 /// routing, in this order (`docs/PROTOCOL.md`, "Refusals"). The refusal is the first fault; `InternalError`
-/// says that memory ran out, past all that shows before the signature.
-#[tactic(auto, unfolding(crate::specs::Admission::admission_of, crate::specs::Admission::early_admission, s3_signing::specs::Verdict::head_verdict))]
-pub fn admit(alloc: Global, config: &Config, head: &Head, moment: Moment) -> Result<Admission, Code>
+/// says that memory ran out, past all that shows before the signature. `kept` is what `verify_head` keeps.
+#[tactic(auto, unfolding(crate::specs::Admission::admission_of, crate::specs::Admitting::early_admission, s3_signing::specs::Verdict::head_verdict))]
+pub fn admit(
+    alloc: Global,
+    config: &Config,
+    head: &Head,
+    moment: Moment,
+    kept: &mut KeptKey,
+) -> Result<Admission, Code>
     ensures { rules.Admits (rules.early_admission config.now head.now moment) result
-        (rules.admission_of config.now head.now moment) }
+        (admission_of config.now head.now moment) }
 {
     let _size = framing(head, config.body_limit())?;
-    let verified = verify_head(alloc, config, head, moment)?;
+    let verified = verify_head(alloc, config, head, moment, kept)?;
     let reader = PayloadReader::new(alloc, config, head, verified)?;
     let plan = route(alloc, head)?;
     Ok(Admission { reader, plan })

@@ -1,14 +1,16 @@
 //! The body of a message whose head was admitted, as it comes.
 
-ghost use Rattle.std.specs.Prelude.{◌≡◌, ◌≤◌, ℕ, Bool, true, List, ◌++◌, length, take};
+ghost use Rattle.std.specs.Prelude.{◌≡◌, ◌≢◌, ◌<◌, ◌≤◌, ◌-◌, ℕ, Bool, true, false, List, ◌++◌, length, take};
 ghost use Rattle.s3_config.specs.Settings.{Settings};
 ghost use Rattle.s3_payloads.specs.Form.{Announced};
-ghost use Rattle.s3_payloads.specs.Reader.{Stands, verdict_of};
+ghost use Rattle.s3_payloads.specs.Reader.{Stands, taken_of, verdict_of};
+ghost use Rattle.s3_session.specs.Decision.{Judges, open_yet};
 ghost use Rattle.s3_session.specs.Incoming as rules;
 
 use crate::admission::Admission;
 use s3_payloads::{
     accepted_bodies_are_whole, open_bodies_are_short, payloads_are_judged, refusals_stand,
+    verdicts_are_final,
 };
 use s3_replies::Context;
 use s3_requests::{Command, command};
@@ -43,21 +45,30 @@ impl Incoming {
             → rules.Progresses settings self.context (rest ++ take result.0 piece.now) result.1 }
         ensures all { (settings : Settings) (rest : List ℕ) → rules.IsIncoming settings self rest
             → rules.is_open result.1 ≡ true → result.0 ≡ length piece.now }
+        ensures at_once { (settings : Settings) (rest : List ℕ) → rules.IsIncoming settings self rest
+            → result.1 ≢ Progress.Died → (n : ℕ) → n < result.0
+            → Judges settings self.context.moment false (rest ++ take n piece.now) open_yet }
         ensures kept { rules.context_in self.context result.1 ≡ self.context }
     {
         payloads_are_judged();
         open_bodies_are_short();
         refusals_stand();
         accepted_bodies_are_whole();
+        verdicts_are_final();
         s3_http_heads::verdicts_stay();
         let before = self.admission.reader.taken();
         match self.admission.reader.feed(piece) {
             Ok(len) => (len, self.settled()),
-            Err(code) => (
-                (self.admission.reader.taken() - before) as usize,
-                refused(code),
-            ),
+            Err(code) => (self.taken_since(before), refused(code)),
         }
+    }
+
+    // How many bytes of the body were taken since so many had been.
+    fn taken_since(&self, before: u64) -> usize
+        requires { before ≤ taken_of self.now.admission.reader }
+        ensures { result ≡ taken_of self.now.admission.reader - before }
+    {
+        (self.admission.reader.taken() - before) as usize
     }
 
     // Says that no more bytes of it come: with what code it is refused.

@@ -6,6 +6,7 @@ ghost use Rattle.s3_session.specs.Laws.{InvitationsStay, OneInvitation, OneOutpu
 use s3_http_heads::{texts_say_one_thing, verdict_is_exact};
 use s3_payloads::{accepted_bodies_are_whole, payloads_are_judged, verdicts_are_final};
 use s3_replies::{refusals_are_unique, replies_are_unique, replies_show_what_came};
+use s3_requests::plans_are_unbroken;
 use s3_store::{only_puts_are_given, puts_are_kept};
 
 /// A law: a verdict, other than open, that is reached before the bytes have ended is the verdict on those
@@ -101,6 +102,8 @@ pub fn puts_are_read_back()
     ensures payloads { PayloadsAreBrought }
 {
     accepted_bodies_are_whole();
+    sound_verdicts_are_exact();
+    plans_are_unbroken();
     puts_are_kept();
     only_puts_are_given();
     replies_show_what_came();

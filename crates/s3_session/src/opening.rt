@@ -12,6 +12,7 @@ use s3_calendar::Moment;
 use s3_config::Config;
 use s3_http_heads::{Head, announced_length};
 use s3_replies::Context;
+use s3_signing::KeptKey;
 use s3_terms::Code;
 use std::alloc::Global;
 
@@ -32,6 +33,7 @@ pub(crate) fn open_text(
     config: &Config,
     text: Option<&[u8]>,
     moment: Moment,
+    kept: &mut KeptKey,
 ) -> Opening
     ensures { rules.Opens config.now moment (option_copied text.entry) result }
 {
@@ -39,7 +41,7 @@ pub(crate) fn open_text(
         return Opening::Died;
     };
     match Head::read(alloc, text) {
-        Ok(head) => open_head(alloc, config, &head, moment),
+        Ok(head) => open_head(alloc, config, &head, moment, kept),
         Err(Code::MalformedHead) => Opening::Refused {
             code: Code::MalformedHead,
             head_only: false,
@@ -49,10 +51,16 @@ pub(crate) fn open_text(
 }
 
 // What comes of this head.
-fn open_head(alloc: Global, config: &Config, head: &Head, moment: Moment) -> Opening
+fn open_head(
+    alloc: Global,
+    config: &Config,
+    head: &Head,
+    moment: Moment,
+    kept: &mut KeptKey,
+) -> Opening
     ensures { rules.HeadOpens head.now moment (admission_of config.now head.now moment) result }
 {
-    match admit(alloc, config, head, moment) {
+    match admit(alloc, config, head, moment, kept) {
         Ok(admission) => Opening::Admitted(
             Incoming {
                 admission,

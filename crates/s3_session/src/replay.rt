@@ -1,6 +1,6 @@
 //! A whole connection over a store of its own, whose commands have their turns at once.
 
-ghost use Rattle.std.specs.Prelude.{◌≡◌, ◌≢◌, ◌⊎◌, true, [], IfOk, OnErr};
+ghost use Rattle.std.specs.Prelude.{◌≡◌, ◌≢◌, ◌⊎◌, ◌≤◌, true, [], drop, length, IfOk, OnErr};
 ghost use Rattle.s3_store.specs.Store.{opening};
 ghost use Rattle.s3_session.specs.Decision.{Judges, open_yet};
 ghost use Rattle.s3_session.specs.Replay.{Replays};
@@ -72,7 +72,7 @@ fn take_turns(
     let mut session = Session::new(alloc);
     let mut taken = 0;
     for number in 0..bytes.len() as u64 {
-        let (len, need) = session.feed(alloc, config, &mut clock, &bytes[taken..]);
+        let (len, need) = session.feed(alloc, config, &mut clock, offered(bytes, taken));
         taken += len;
         match need {
             Need::Turn(turn) => {
@@ -93,4 +93,12 @@ fn take_turns(
     }
     session.end();
     session
+}
+
+// What is offered next: the bytes behind those that were taken.
+fn offered(bytes: &[u8], taken: usize) -> &[u8]
+    requires within { taken ≤ length bytes.now }
+    ensures { result.now ≡ drop taken bytes.now }
+{
+    &bytes[taken..]
 }

@@ -8,11 +8,11 @@ ghost use Rattle.s3_outbox.specs.Pending.{bytes_of};
 ghost use Rattle.s3_replies.specs.Replies.{Prints, PrintsRefusal, body_of, continue_line, internal_error};
 ghost use Rattle.s3_session.specs.Incoming.{IsIncoming, IsInBody};
 ghost use Rattle.s3_session.specs.Invitation.{Invites};
-ghost use Rattle.s3_session.specs.Output.{HasText, Past, Reading, nothing_yet};
+ghost use Rattle.s3_session.specs.Output.{HasText, Past, Reading, ReadsBody, is_dead, is_waiting, nothing_yet};
 
 use crate::clock::Clock;
 use crate::incoming::{Incoming, Progress};
-use crate::laws::{invitations_are_final, verdicts_stay};
+use crate::laws::{inputs_fix_outputs, invitations_are_final, sessions_write, verdicts_stay};
 use crate::opening::{Opening, open_text};
 use crate::turn::Turn;
 use s3_calendar::Moment;
@@ -23,6 +23,7 @@ use s3_payloads::payloads_are_judged;
 use s3_replies::{Context, continue_reply, head_of, internal_error_reply, refusal};
 use s3_requests::Command;
 use s3_segments::Body;
+use s3_signing::KeptKey;
 use s3_store::{Answer, Outcome};
 use s3_terms::{Code, NoMemory};
 use std::alloc::Global;
@@ -74,6 +75,8 @@ pub struct Session {
     stage: Stage,
     outbox: Outbox,
     is_ended: bool,
+    // The signing key of the last head that was verified. No clause sees it: it saves time and decides nothing.
+    kept: KeptKey,
 }
 
 impl Model for Session {
@@ -101,6 +104,7 @@ impl Session {
             stage: Stage::Reading,
             outbox: Outbox::new(alloc),
             is_ended: false,
+            kept: KeptKey::new(),
         }
     }
 
@@ -123,7 +127,7 @@ impl Session {
         clock: &mut C,
         piece: &[u8],
     ) -> (usize, Need)
-        requires answered { rules.is_waiting (rules.standing_of self.old) ≡ false }
+        requires answered { is_waiting (rules.standing_of self.old) ≡ false }
         requires goes_on { self.old.is_ended ≡ false }
         ensures within { result.0 ≤ length piece.now }
         ensures stands { (past : Past) (sent : List ℕ) → rules.Stands self.old config.now past sent
@@ -134,11 +138,17 @@ impl Session {
         ensures closed { rules.is_closed (rules.standing_of self.old) ≡ true → result.0 ≡ 0 }
         ensures all { (past : Past) (sent : List ℕ) → rules.Stands self.old config.now past sent
             → result.1 ≡ Need.More → result.0 ≡ length piece.now }
+
+        // Where memory doesn't run out, it stops at the first byte with which something is decided.
+        ensures at_once { (past : Past) (sent : List ℕ) → rules.Stands self.old config.now past sent
+            → is_dead (rules.standing_of self.new) ≡ false
+            → rules.StaysOpen config.now past (take result.0 piece.now) (rules.gave_between self.old self.new) }
         ensures longer { rules.IsLonger (rules.unsent_of self.old) (rules.unsent_of self.new) }
         ensures goes_on { self.new.is_ended ≡ false }
     {
         verdicts_stay();
         invitations_are_final();
+        s3_http_heads::verdicts_stay();
         match &self.stage {
             Stage::Reading => self.read_head(alloc, config, clock, piece),
             Stage::Body(_) => {
@@ -202,7 +212,7 @@ impl Session {
     {
         searches_find();
         payloads_are_judged();
-        match open_text(alloc, config, self.search.text(), moment) {
+        match open_text(alloc, config, self.search.text(), moment, &mut self.kept) {
             Opening::Admitted(incoming, invited) => match self.invite(invited) {
                 Ok(()) => self.read_body(incoming, piece),
                 Err(NoMemory) => {
@@ -309,8 +319,8 @@ impl Session {
         ensures printed { PrintsRefusal code moment head_only (rules.added (rules.unsent_of self.old) (rules.unsent_of self.new)) }
         ensures end { self.new.is_ended ≡ self.old.is_ended }
     {
-        self.outbox
-            .end_with(refusal(code, moment, head_only).as_slice());
+        let text = refusal(code, moment, head_only);
+        self.outbox.end_with(text.as_slice());
         self.stage = Stage::Closed(Closing::Refused(moment));
     }
 
@@ -328,7 +338,7 @@ impl Session {
     /// Answers the turn that was asked for: the reply is written, or, where memory ran out at the turn, what stands
     /// for one. It takes no memory: the room was made before the turn was asked for.
     pub fn answer(&mut self, answered: Result<Answer, NoMemory>)
-        requires waits { rules.is_waiting (rules.standing_of self.old) ≡ true }
+        requires waits { is_waiting (rules.standing_of self.old) ≡ true }
         ensures stands { (settings : Settings) (past : Past) (sent : List ℕ) → rules.Stands self.old settings past sent
             → rules.Stands self.new settings (rules.answered past answered) sent }
         ensures standing { rules.IsAnsweredTo answered (rules.standing_of self.new) }
@@ -380,8 +390,8 @@ impl Session {
     pub fn end(&mut self)
         ensures stands { (settings : Settings) (past : Past) (sent : List ℕ) → rules.Stands self.old settings past sent
             → rules.Stands self.new settings (record past { ended = true }) sent }
-        ensures waits { rules.is_waiting (rules.standing_of self.new) ≡ rules.is_waiting (rules.standing_of self.old) }
-        ensures lives { rules.is_dead (rules.standing_of self.new) ≡ rules.is_dead (rules.standing_of self.old) }
+        ensures waits { is_waiting (rules.standing_of self.new) ≡ is_waiting (rules.standing_of self.old) }
+        ensures lives { is_dead (rules.standing_of self.new) ≡ is_dead (rules.standing_of self.old) }
         ensures longer { rules.IsLonger (rules.unsent_of self.old) (rules.unsent_of self.new) }
         ensures end { self.new.is_ended ≡ true }
     {
@@ -392,7 +402,7 @@ impl Session {
         invitations_are_final();
         s3_http_heads::verdicts_stay();
         self.is_ended = true;
-        if self.in_body() {
+        if self.is_in_body() {
             self.cut();
         }
     }
@@ -402,8 +412,8 @@ impl Session {
         requires body { rules.is_in_body self.old.stage ≡ true }
         ensures cut { (incoming : Incoming) → self.old.stage ≡ Stage.Body incoming → (settings : Settings) (rest : List ℕ)
             → IsInBody settings incoming rest → rules.IsCutTo settings incoming.context rest self.old self.new }
-        ensures waits { rules.is_waiting (rules.standing_of self.new) ≡ false }
-        ensures lives { rules.is_dead (rules.standing_of self.new) ≡ false }
+        ensures waits { is_waiting (rules.standing_of self.new) ≡ false }
+        ensures lives { is_dead (rules.standing_of self.new) ≡ false }
         ensures longer { rules.IsLonger (rules.unsent_of self.old) (rules.unsent_of self.new) }
         ensures end { self.new.is_ended ≡ self.old.is_ended }
     {
@@ -419,10 +429,20 @@ impl Session {
     /// Whether the head of a message was admitted, and of its body, which isn't empty, nothing is decided yet.
     /// It takes no memory.
     pub fn in_body(&self) -> bool
-        ensures value { result ≡ rules.is_in_body self.now.stage }
-        ensures began { (settings : Settings) (past : Past) (sent : List ℕ) → rules.Stands self.now settings past sent
-            → result ≡ true → length past.moments ≡ length past.answers + 1 }
-        ensures reads { result ≡ true → rules.standing_of self.now ≡ Reading }
+        ensures reads { (settings : Settings) (past : Past) (sent : List ℕ) → rules.Stands self.now settings past sent
+            → result ≡ true → ReadsBody settings past }
+        ensures only { (settings : Settings) (past : Past) (sent : List ℕ) → rules.Stands self.now settings past sent
+            → is_dead (rules.standing_of self.now) ≡ false → ReadsBody settings past → result ≡ true }
+    {
+        payloads_are_judged();
+        sessions_write();
+        inputs_fix_outputs();
+        self.is_in_body()
+    }
+
+    // Whether it reads a body.
+    fn is_in_body(&self) -> bool
+        ensures { result ≡ rules.is_in_body self.now.stage }
     {
         matches!(self.stage, Stage::Body(_))
     }

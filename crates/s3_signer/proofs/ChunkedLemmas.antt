@@ -5,17 +5,16 @@ use Rattle.std.specs.Fmt.{decimal}
 use Rattle.s3_text.specs.Characters.{crlf}
 use Rattle.httparse.specs.Grammar.{print_request}
 use Rattle.s3_text.specs.Digits.{decimal_number}
-use Rattle.s3_http_heads.specs.BodyLength.{length_lines}
-use Rattle.s3_http_heads.specs.Head.{parts_of}
+use Rattle.s3_http_heads.specs.BodyLength.{decoded_length, length_lines}
+use Rattle.s3_http_heads.specs.Head.{only, parts_of}
 use Rattle.s3_http_heads.specs.Message.{IsMessage}
 use Rattle.s3_signing.specs.Chain.{Link, seed_with}
-use Rattle.s3_signing.specs.Verdict.{only}
 use Rattle.s3_signing.specs.Word.{signed_chunks}
 use Rattle.s3_aws_chunked.specs.Chunk.{Chunk, chunk_text, chunks_text, data_of, first_line}
 use Rattle.s3_aws_chunked.specs.Laws.{WritingsAreAccepted, WritingsAreOne}
 use Rattle.s3_aws_chunked.specs.Write.{Writes, written_length}
 use Rattle.s3_signer.specs.declared.signed.SignedLines.{SignedLines}
-use Rattle.s3_signer.specs.Chunked.{IsChunkedText, IsSignableInChunks, IsVerifiedChunkedRequest, chunked, decoded_length, first_link}
+use Rattle.s3_signer.specs.Chunked.{IsChunkedText, IsSignableInChunks, IsVerifiedChunkedRequest, chunked, first_link}
 use Rattle.s3_signer.specs.Line.{AreLinesOf, IsMessageOf, head_with}
 use Rattle.s3_signer.specs.Request.{CanBeSent, HasOne, HeaderLine, Told, authorization_of, signed_head, text_with, unsigned_head, unsigned_lines}
 use Rattle.s3_signer.proofs.NumberLemmas.{announced_small, decimal_read, ends_signed}

@@ -8,12 +8,12 @@ use Rattle.httparse.specs.Spans.{name_and_value}
 use Rattle.s3_config.specs.Settings.{Settings}
 use Rattle.s3_calendar.specs.Moment.{is_stamp, stamp_seconds}
 use Rattle.s3_http_heads.specs.Target.{target_parts}
-use Rattle.s3_http_heads.specs.Head.{HeadParts, Says, is_named, parts_of, values_of}
+use Rattle.s3_http_heads.specs.Head.{HeadParts, Says, is_named, only, parts_of, values_of}
 use Rattle.s3_http_heads.specs.Message.{IsMessage}
 use Rattle.s3_text.specs.Digest.{is_hex_digest}
 use Rattle.s3_text.proofs.ListLemmas.{is_some-first_kept}
 use Rattle.s3_signing.specs.Accepted.{IsReady, IsVerifiedWith, Knows, other_lines, proved_by}
-use Rattle.s3_signing.specs.Verdict.{checked_stamp, head_verdict, is_near, is_presigned, is_word, only, sent_word}
+use Rattle.s3_signing.specs.Verdict.{checked_stamp, head_verdict, is_near, is_presigned, is_word, sent_word}
 use Rattle.s3_signer.specs.declared.signed.SignedLines.{SignedLines}
 use Rattle.s3_signer.specs.declared.unsigned.Unsigned.{Unsigned}
 use Rattle.s3_signer.specs.Line.{AreLinesOf, IsMessageOf, ReadsBack, head_with}

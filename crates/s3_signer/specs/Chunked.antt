@@ -1,13 +1,13 @@
 -- A signed request whose body is sent in signed chunks (Amazon S3 API Reference, "Signature calculations for the
 -- authorization header: transferring payload in multiple chunks").
-use Rattle.std.specs.Prelude.{◌≡◌, ℕ, ◌≤◌, Bool, true, List, [], ◌∷◌, length, codes, Option, Some, option_and_then, Ok}
+use Rattle.std.specs.Prelude.{◌≡◌, ℕ, ◌≤◌, Bool, true, List, [], ◌∷◌, length, codes, Some, Ok}
 use Rattle.std.specs.Fmt.{decimal}
-use Rattle.s3_text.specs.Digits.{decimal_number}
 use Rattle.s3_config.specs.Settings.{Settings}
-use Rattle.s3_http_heads.specs.Head.{HeadParts, values_of}
+use Rattle.s3_http_heads.specs.BodyLength.{decoded_length}
+use Rattle.s3_http_heads.specs.Head.{HeadParts}
 use Rattle.s3_http_heads.specs.Message.{IsMessage}
 use Rattle.s3_signing.specs.Chain.{Link, seed_of}
-use Rattle.s3_signing.specs.Verdict.{Proved, head_verdict, only}
+use Rattle.s3_signing.specs.Verdict.{Proved, head_verdict}
 use Rattle.s3_signing.specs.Word.{signed_chunks}
 use Rattle.s3_aws_chunked.specs.Verdict.{Accepted, Judges}
 use Rattle.s3_aws_chunked.specs.Write.{Writes, written_length}
@@ -54,11 +54,6 @@ pub record IsSignableInChunks (id secret region method target : List ℕ) (heade
   pub body : List ℕ
   pub written : Writes (first_link secret region method target headers bytes size stamp) bytes size body
   pub sent : CanBeSent id secret region method target headers (chunked bytes size) stamp body
-
--- how many bytes of data the chunks hold together, where one line says it in 1 to 18 decimal digits
-abbrev pub decoded_length : HeadParts → Option ℕ
-decoded_length head =
-    option_and_then (decimal_number 18) (only (values_of (codes "x-amz-decoded-content-length") head))
 
 -- the bytes are one message, and its head is verified at the moment: it proves this, with the word of chunks; it
 -- says how long the data is, and its body is chunks that are accepted with just that data, by what the head has

@@ -1,6 +1,7 @@
 //! A signed request whose body is sent in signed chunks.
 
 ghost use Rattle.std.specs.Prelude.{◌≡◌, ◌≤◌, ◌-◌, List, ℕ, length, drop, IfOk, OnOk, IsErrOf};
+ghost use Rattle.s3_http_heads.specs.Head.{line_limit};
 ghost use Rattle.s3_signing.specs.Chain.{seed_with};
 ghost use Rattle.s3_aws_chunked.specs.Write.{Writes, written_length};
 ghost use Rattle.s3_signer.specs.Chunked.{IsChunkedText, IsSignableInChunks, IsVerifiedChunkedRequest, chunked};
@@ -137,6 +138,10 @@ pub fn chunked_request(
         method.now target.now (given_lines headers.now) body.now size stamp) }
     ensures refused { IsErrOf result Unsigned.NotSignable → ¬ (IsSignableInChunks id.now secret.now region.now
         method.now target.now (given_lines headers.now) body.now size stamp) }
+
+    // Memory runs out only where the given lines, the secret and the region are no more than there may be.
+    ensures memory { IsErrOf result Unsigned.OutOfMemory
+        → (length headers.now ≤ line_limit) × (length secret.now ≤ 128) × (length region.now ≤ 64) }
 
     // What is written is verified, by every server that knows the signer, and its chunks are accepted.
     ensures verified { IfOk result (λ text. IsVerifiedChunkedRequest id.now secret.now region.now

@@ -1,6 +1,7 @@
 //! A signed request whose body is sent as it is.
 
-ghost use Rattle.std.specs.Prelude.{◌≡◌, IfOk, OnOk, IsErrOf};
+ghost use Rattle.std.specs.Prelude.{◌≡◌, ◌≤◌, length, IfOk, OnOk, IsErrOf};
+ghost use Rattle.s3_http_heads.specs.Head.{line_limit};
 ghost use Rattle.s3_signer.specs.Request.{IsSignable, given_lines, request_text};
 ghost use Rattle.s3_signer.specs.Verified.{IsVerifiedRequest};
 
@@ -57,6 +58,9 @@ pub fn signed_request(
         (IsSignable id.now secret.now region.now method.now target.now (given_lines headers.now) body.now stamp) }
     ensures refused { IsErrOf result Unsigned.NotSignable
         → ¬ (IsSignable id.now secret.now region.now method.now target.now (given_lines headers.now) body.now stamp) }
+
+    // Memory runs out only where the given lines are no more than a head may have.
+    ensures memory { IsErrOf result Unsigned.OutOfMemory → length headers.now ≤ line_limit }
 
     // What is written is verified, by every server that knows the signer.
     ensures verified { IfOk result (λ text. IsVerifiedRequest id.now secret.now region.now

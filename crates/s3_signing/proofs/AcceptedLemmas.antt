@@ -16,7 +16,7 @@ use Rattle.s3_text.proofs.OptionLemmas.{some_kept}
 use Rattle.s3_terms.specs.declared.code.Code.TheVariants.{AccessDenied}
 use Rattle.s3_calendar.specs.Moment.{is_stamp, is_stamp_date, is_stamp_form, is_stamp_time, stamp_seconds, stamp_date}
 use Rattle.s3_config.specs.Settings.{Settings, Credentials, are_settings, are_access_keys, are_credentials, is_access_key_id, is_secret, is_region, is_id_byte, is_region_byte, secret_of}
-use Rattle.s3_http_heads.specs.Head.{HeadParts, is_named, is_sent, values_of}
+use Rattle.s3_http_heads.specs.Head.{HeadParts, is_named, is_sent, only, values_of}
 use Rattle.s3_authorization.specs.Authorization.{Parts, are_signed_names, authorization_of}
 use Rattle.s3_authorization.specs.Spelling.{Spells, is_plain}
 use Rattle.s3_http_heads.specs.Target.{is_unreadable, target_of, target_parts}
@@ -25,7 +25,7 @@ use Rattle.s3_signing.specs.Authorize.{authorization_text, credential_text, sign
 use Rattle.s3_signing.specs.Key.{signing_key}
 use Rattle.s3_signing.specs.Names.{IsOrdered, cover_of, names_to_cover}
 use Rattle.s3_signing.specs.Signature.{signature_of}
-use Rattle.s3_signing.specs.Verdict.{Checked, authorization_at, check_target, checked_head, checked_stamp, head_verdict, is_near, is_presigned, is_word, key_proved, only, secret_at, sent_authorization, sent_stamp, sent_word, stamp_at, word_at, word_line, word_lines, word_of}
+use Rattle.s3_signing.specs.Verdict.{Checked, authorization_at, check_target, checked_head, checked_stamp, head_verdict, is_near, is_presigned, is_word, key_proved, secret_at, sent_authorization, sent_stamp, sent_word, stamp_at, word_at, word_line, word_lines, word_of}
 use Rattle.s3_signing.proofs.CoverLemmas.{AreCut, cover_enough, cover_form, cover_others}
 use Rattle.s3_signing.proofs.OtherLineLemmas.{signature_same, values_of_other}
 

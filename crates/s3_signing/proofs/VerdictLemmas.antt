@@ -6,7 +6,6 @@ use Rattle.std.proofs.lemmas.Bool.{not-false}
 use Rattle.std.proofs.Math.Bool.{Bool-set}
 use Rattle.std.proofs.Math.Logic.{∥∥₁_elim}
 use Rattle.s3_terms.specs.declared.code.Code.TheVariants.{AccessDenied, NotImplemented, InvalidArgument}
-use Rattle.s3_terms.specs.Fault.{◌>>◌}
 use Rattle.s3_config.specs.Settings.{Settings}
 use Rattle.s3_http_heads.specs.Head.{HeadParts}
 use Rattle.s3_signing.specs.Cover.{covers_enough}

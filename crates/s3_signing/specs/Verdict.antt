@@ -1,7 +1,7 @@
 -- Whether a head is verified, and otherwise which fault comes first (AWS Signature Version 4; Amazon
 -- S3 API Reference, "Authenticating requests (AWS Signature Version 4)" and "Error responses").
-use Rattle.std.specs.Prelude.{◌≡◌, ℕ, ◌+◌, ◌≤◌, Bool, true, not, ◌&&◌, ◌||◌, ◌==◌, nat_le, nat_eq, if◌then◌else◌, List, [], ◌∷◌, length, codes, Option, Some, None, option_and_then, ok_or, unwrap_or, Result, Ok, ⊤}
-use Rattle.std.specs.List.{list_any, starts_with}
+use Rattle.std.specs.Prelude.{◌≡◌, ℕ, ◌+◌, ◌≤◌, Bool, true, not, ◌&&◌, ◌||◌, ◌==◌, nat_le, nat_eq, if◌then◌else◌, List, [], length, codes, Option, Some, None, option_and_then, ok_or, unwrap_or, Result, Ok, ⊤}
+use Rattle.std.specs.List.{starts_with}
 use Rattle.std.specs.Str.{bytes_eq}
 use Rattle.s3_text.specs.Digest.{is_hex_digest}
 use Rattle.s3_terms.specs.Fault.{refuse, ◌>>◌, ◌>>=◌}
@@ -9,7 +9,7 @@ use Rattle.s3_config.specs.Settings.{Settings, are_settings, secret_of}
 use Rattle.s3_calendar.specs.Moment.{last_moment, is_stamp, stamp_seconds, stamp_date}
 use Rattle.s3_terms.specs.declared.code.Code.{Code}
 use Rattle.s3_terms.specs.declared.code.Code.TheVariants.{AccessDenied, AuthorizationHeaderMalformed, InvalidAccessKeyId, RequestTimeTooSkewed, InvalidRequest, InvalidArgument, NotImplemented, SignatureDoesNotMatch}
-use Rattle.s3_http_heads.specs.Head.{HeadParts, values_of, first_value, is_sent}
+use Rattle.s3_http_heads.specs.Head.{HeadParts, values_of, first_value, is_sent, only}
 use Rattle.s3_http_heads.specs.Target.{TargetParts, target_of, has_parameter}
 use Rattle.s3_authorization.specs.Authorization.{authorization_of}
 use Rattle.s3_authorization.specs.Authorization as authorization
@@ -21,11 +21,6 @@ use Rattle.s3_signing.specs.Word.{signed_chunks, unsigned_payload}
 -- the query has the signature of a presigned request: a form that is not accepted
 abbrev pub is_presigned : TargetParts → Bool
 is_presigned target = has_parameter (codes "X-Amz-Signature") target
-
--- the one value of a header that was sent once
-abbrev pub only : List (List ℕ) → Option (List ℕ)
-only (value ∷ []) = Some value
-only other = None
 
 -- the parts of the one Authorization line, if it has the form
 abbrev pub sent_authorization : HeadParts → Option authorization.Parts

@@ -12,7 +12,7 @@ ghost use Rattle.s3_signing.specs.Authorize.{authorization_text, credential_text
 ghost use Rattle.s3_signing.specs.Names.{cover_of};
 ghost use Rattle.s3_signing.specs.Verdict.{sent_word, word_lines};
 
-use crate::key::signing_key;
+use crate::key::SigningKey;
 use crate::names::cover_of;
 use crate::signature::signature;
 use s3_authorization::{authorizations_are_spelled, signed_names_are_cut};
@@ -75,7 +75,7 @@ fn head_signature(
     ensures form { IfOk result (λ digits. is_hex_digest digits ≡ true) }
 {
     let word = head.first(b"x-amz-content-sha256").unwrap();
-    let key = signing_key(secret, stamp.date(), region);
+    let key = SigningKey::new(secret, stamp.date(), region);
     match request_hash(alloc, head, signed, word) {
         Ok(hash) => Ok(signature(&key, stamp, region, &hash)),
         Err(_) => Err(NoMemory),

@@ -8,7 +8,7 @@ ghost use Rattle.s3_text.specs.Digest.{is_hex_digest};
 ghost use Rattle.s3_signing.specs.Chain.{chunk_signing_text, linked, next_signature, seed_of, seed_with};
 
 use crate::compare::same_digits;
-use crate::key::signing_key;
+use crate::key::{SECRET_MAX, signing_key};
 use crate::region::{REGION_MAX, Region};
 use crate::verdict::Verified;
 use s3_calendar::Stamp;
@@ -16,9 +16,6 @@ use s3_hmac::Mac;
 use s3_text::hex_digest;
 use sha2::{Digest, Sha256};
 use std::marker::Model;
-
-/// The longest secret of an access key, in bytes.
-const SECRET_MAX: usize = 128;
 
 /// The chain of the signatures of a body's chunks (AWS Signature Version 4, "Transferring payload in
 /// multiple chunks"): it knows the signature before, and gives the one of the next chunk.

@@ -5,6 +5,7 @@ mod authorize;
 mod chain;
 mod compare;
 mod cover;
+mod kept_key;
 mod key;
 mod lines;
 mod names;
@@ -16,6 +17,7 @@ mod word;
 
 pub use authorize::sign_head;
 pub use chain::ChunkChain;
+pub use kept_key::KeptKey;
 pub use key::signing_key;
 pub use region::{REGION_MAX, Region};
 pub use verdict::{Verified, verify_head};

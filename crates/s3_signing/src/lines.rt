@@ -2,7 +2,7 @@
 
 ghost use Rattle.std.specs.Prelude.{◌≡◌, Ok, Err, IfOk, IfErr};
 ghost use Rattle.std.specs.Option.{option_copied};
-ghost use Rattle.s3_http_heads.specs.Head.{values_of};
+ghost use Rattle.s3_http_heads.specs.Head.{only, values_of};
 ghost use Rattle.s3_signing.specs.Verdict as rules;
 ghost use Rattle.s3_signing.specs.Word.{word_text};
 
@@ -16,7 +16,7 @@ const WORD_NAME: &[u8] = b"x-amz-content-sha256";
 
 // The value of a header that was sent once.
 fn only<'a>(head: &'a Head, name: &[u8]) -> Option<&'a [u8]>
-    ensures { option_copied result ≡ rules.only (values_of name.now head.now) }
+    ensures { option_copied result ≡ only (values_of name.now head.now) }
 {
     if head.count(name) != 1 {
         return None;

@@ -6,17 +6,17 @@ ghost use Rattle.s3_text.specs.Digest.{is_hex_digest};
 ghost use Rattle.s3_hmac.specs.Hmac.{hmac};
 ghost use Rattle.s3_signing.specs.Signature.{signing_text};
 
+use crate::key::SigningKey;
 use s3_calendar::Stamp;
-use s3_hmac::Mac;
 use s3_text::hex_digest;
 
 // The signature that this key gives to a canonical request with this hash, which was stamped so and
 // sent to this region: 64 lower-case hexadecimal digits. The string to sign is fed part by part.
-pub(crate) fn signature(key: &[u8; 32], stamp: &Stamp, region: &[u8], hash: &[u8; 32]) -> [u8; 64]
+pub(crate) fn signature(key: &SigningKey, stamp: &Stamp, region: &[u8], hash: &[u8; 32]) -> [u8; 64]
     ensures value { result ≡ encode_lower (hmac key.now (signing_text stamp.now region.now hash.now)) }
     ensures form { is_hex_digest result ≡ true }
 {
-    let mut mac = Mac::new(key);
+    let mut mac = key.begin();
     mac.update(b"AWS4-HMAC-SHA256\n");
     mac.update(stamp.text());
     mac.update(b"\n");

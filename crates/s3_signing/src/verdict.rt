@@ -1,6 +1,6 @@
 //! Whether a head is verified.
 
-ghost use Rattle.std.specs.Prelude.{◌≡◌, ◌≤◌, true, not, length, Ok, Err, IfOk, IfErr, IsOk};
+ghost use Rattle.std.specs.Prelude.{◌≡◌, ◌≤◌, true, not, length, Ok, Err, IfOk, IfErr, IsOk, OnErr};
 ghost use Rattle.s3_terms.specs.Fault.{Follows, FollowsPast};
 ghost use Rattle.s3_calendar.specs.Moment.{last_moment};
 ghost use Rattle.hex.specs.Hex.{encode_lower};
@@ -13,7 +13,8 @@ ghost use Rattle.s3_signing.specs.Word.{word_text};
 
 use crate::compare::same_digits;
 use crate::cover::covers_enough;
-use crate::key::signing_key;
+use crate::kept_key::KeptKey;
+use crate::key::SigningKey;
 use crate::lines::{authorization_at, stamp_at, word_at};
 use crate::region::{REGION_MAX, Region};
 use crate::signature::signature;
@@ -201,7 +202,7 @@ fn checked_head<'a>(config: &'a Config, head: &'a Head, moment: Moment) -> Resul
 // The signature that the head has to have under this key.
 fn expected_signature(
     alloc: Global,
-    key: &[u8; 32],
+    key: &SigningKey,
     region: &[u8],
     head: &Head,
     checked: &Checked,
@@ -216,22 +217,26 @@ fn expected_signature(
     }
 }
 
-// The key of the day, where the signature is the one that this key gives.
-#[tactic(auto, unfolding(crate::specs::Signature::signature_of, crate::specs::Verdict::key_proved))]
+// The key of the day, where the signature is the one that this key gives; from then on that key is kept.
+#[tactic(auto, unfolding(crate::specs::Signature::signature_of, crate::specs::Verdict::key_proved, s3_config::specs::Settings::are_settings, s3_config::specs::Settings::is_region))]
 fn key_proved(
     alloc: Global,
     config: &Config,
     head: &Head,
     checked: &Checked,
+    kept: &mut KeptKey,
 ) -> Result<[u8; 32], Code>
-    ensures { Follows result (rules.key_proved config.now head.now checked.now) }
+    ensures value { Follows result (rules.key_proved config.now head.now checked.now) }
+    ensures kept { OnErr result (kept.new ≡ kept.old) }
 {
-    let key = signing_key(checked.secret, checked.stamp.date(), config.region());
+    let key = kept.key_of(checked.secret, &checked.stamp, config.region());
     let expected = expected_signature(alloc, &key, config.region(), head, checked)?;
     if !same_digits(&checked.sent.signature(), &expected) {
         return Err(Code::SignatureDoesNotMatch);
     }
-    Ok(key)
+    let bytes = key.bytes();
+    kept.keep(checked.secret, checked.stamp, config.region(), key);
+    Ok(bytes)
 }
 
 // What a verified head has proved, in its own type.
@@ -254,6 +259,10 @@ fn proved_with(checked: &Checked, region: &[u8], key: [u8; 32]) -> Verified
 /// key's id, the time, the payload word, the names that are signed and the signature are judged in
 /// this order, and the first fault is the refusal.
 ///
+/// The signing key is taken from `kept`, where it keeps the one of this secret, day and region, and is computed
+/// otherwise; the verdict is the same. It is kept from then on, once the signature was verified, so that
+/// nobody without a secret changes what is kept.
+///
 /// Takes memory for the canonical request and gives it back, and time by the length of the head and by
 /// the number of signed names times that of the header lines, among which each is looked up. The
 /// signatures are compared whole, so that the time does not tell where they differ; that is not proved.
@@ -262,19 +271,24 @@ fn proved_with(checked: &Checked, region: &[u8], key: [u8; 32]) -> Verified
 ///
 /// `InvalidURI`, `AccessDenied`, `AuthorizationHeaderMalformed`, `InvalidAccessKeyId`,
 /// `RequestTimeTooSkewed`, `InvalidRequest`, `InvalidArgument`, `NotImplemented` and
-/// `SignatureDoesNotMatch` by that order, and `InternalError` where memory runs out.
+/// `SignatureDoesNotMatch` by that order, and `InternalError` where memory runs out. The key that is kept stays
+/// then.
 #[tactic(auto, unfolding(crate::specs::Verdict::head_verdict, s3_config::specs::Settings::are_settings, s3_config::specs::Settings::is_region))]
 pub fn verify_head(
     alloc: Global,
     config: &Config,
     head: &Head,
     moment: Moment,
+    kept: &mut KeptKey,
 ) -> Result<Verified, Code>
     // Memory is needed for the signature alone, once nothing else is wrong.
-    ensures { FollowsPast (rules.checked_head config.now head.now moment) result
+    ensures verdict { FollowsPast (rules.checked_head config.now head.now moment) result
         (rules.head_verdict config.now head.now moment) }
+
+    // A head that isn't verified doesn't change what is kept.
+    ensures kept { OnErr result (kept.new ≡ kept.old) }
 {
     let checked = checked_head(config, head, moment)?;
-    let key = key_proved(alloc, config, head, &checked)?;
+    let key = key_proved(alloc, config, head, &checked, kept)?;
     Ok(proved_with(&checked, config.region(), key))
 }

@@ -5,7 +5,7 @@ ghost use Rattle.s3_http_heads.specs.Target.{is_unreadable};
 use crate::outcomes::{REGION, STAMP, is_same};
 use s3_calendar::{Moment, Stamp};
 use s3_http_heads::Head;
-use s3_signing::{Verified, Word, sign_head, verify_head};
+use s3_signing::{KeptKey, Verified, Word, sign_head, verify_head};
 use s3_terms::Code;
 use s3_test_servers::{ID, SECRET, config};
 use std::alloc::Global;
@@ -67,7 +67,7 @@ fn is_refused(code: Code, wanted: &Wanted) -> bool {
 fn verdict(alloc: Global, region: &[u8], head: &Head, seconds: u64) -> Result<Verified, Code> {
     let moment = Moment::new(seconds).ok_or(Code::InternalError)?;
     match config(alloc, region, 5, 1_024, &[]) {
-        Some(config) => verify_head(alloc, &config, head, moment),
+        Some(config) => verify_head(alloc, &config, head, moment, &mut KeptKey::new()),
         None => Err(Code::InternalError),
     }
 }

@@ -1,8 +1,9 @@
 -- What the store has under an address is what the last write there that was accepted brought.
-use Rattle.std.proofs.Common.{◌≡◌, refl, sym, ap, subst, ◌∙◌, ℕ, ◌⊎◌, inl, inr, List, [], ◌∷◌, ◌++◌, append_assoc, not, Some, is_some}
+use Rattle.std.proofs.Common.{◌≡◌, refl, sym, ap, subst, ◌∙◌, false, ℕ, ◌⊎◌, inl, inr, List, [], ◌∷◌, ◌++◌, append_assoc, not, Some, is_some}
+use Rattle.std.specs.Prelude.{option_map}
 use Rattle.s3_store.specs.declared.object.Object.{Object}
 use Rattle.s3_store.specs.Store.{State, put_object, step}
-use Rattle.s3_store.specs.Store.{Address, reads, is_refused, given, acknowledged}
+use Rattle.s3_store.specs.Store.{Address, writes, contents_of, reads, is_refused, given, acknowledged}
 use Rattle.s3_store.specs.History.{Entry, IsAnswer, Legal, after, after_entry}
 use Rattle.s3_store.specs.Kept.{Leaves, LeavesKey, Brought, PutsAreKept, TagsAreOfBodies, ReadsGiveOrRefuse, RefusalsChangeNothing, ReadsChangeNothing}
 use Rattle.s3_store.proofs.EffectLemmas.{held, step_does, step_gives, step_acknowledges, step_refused, step_reads, step_reads_something}
@@ -14,9 +15,11 @@ module _ (least : ℕ) where
   outcome_is s n e answer =
       ap (λ a. a.outcome) answer ∙ sym (ap (λ a. (step least s a.number e.moment e.command).1) answer)
 
-  -- an entry brought what is now under the address, or left what was there
-  abbrev pub Made : State → Entry → Address → Type 0
-  Made s e a = (object : Object) × Brought a object e × (held (after_entry least s e) a ≡ Some object)
+  -- an entry was accepted, and what it brought, if anything, is now under the address; or it left what was there
+  pub record Made (s : State) (e : Entry) (a : Address) : Type 0 where
+    pub written : writes e.command ≡ Some a
+    pub accepted : is_refused e.answer.outcome ≡ false
+    pub here : held (after_entry least s e) a ≡ option_map (put_object e.moment) (contents_of e.command)
 
   abbrev pub Left : State → Entry → Address → Type 0
   Left s e a = (held (after_entry least s e) a ≡ held s a) × Leaves a e
@@ -25,15 +28,7 @@ module _ (least : ℕ) where
   entry_does s n e a answer =
       let outcome = ap is_refused (outcome_is s n e answer) in
       elim (step_does least s e.answer.number e.moment e.command a) [
-        | inl stores ↦
-            let brought : Brought a (put_object e.moment stores.body) e = record {
-              body = stores.body;
-              written = stores.written;
-              accepted = outcome ∙ stores.accepted;
-              brought = stores.brought;
-              made = refl;
-            } in
-            inl (put_object e.moment stores.body, brought, stores.here)
+        | inl stores ↦ inl (record { written = stores.written; accepted = outcome ∙ stores.accepted; here = stores.here })
         | inr spares ↦ inr (spares.here, λ is. outcome ∙ spares.refused is)
       ]
 
@@ -43,7 +38,7 @@ module _ (least : ℕ) where
   after_held s n (e ∷ es) a legal leaves =
       let here : held (after_entry least s e) a ≡ held s a =
       elim (entry_does s n e a legal.0) [
-        | inl made ↦ let refused = leaves.0 made.1.written in let accepted = made.1.accepted in absurd (cc)
+        | inl made ↦ let refused = leaves.0 made.written in let accepted = made.accepted in absurd (cc)
         | inr left ↦ left.0
       ] in
       after_held (after_entry least s e) _ es a legal.1 leaves.1 ∙ here
@@ -52,11 +47,7 @@ module _ (least : ℕ) where
   brought_held : (s : State) (n : ℕ) (e : Entry) (a : Address) (object : Object) → IsAnswer least s n e → Brought a object e → held (after_entry least s e) a ≡ Some object
   brought_held s n e a object answer brought =
       elim (entry_does s n e a answer) [
-        | inl made ↦
-            let one = made.1.brought in
-            let other = brought.brought in
-            let same : made.1.body ≡ brought.body = cc in
-            made.2 ∙ ap Some (made.1.made ∙ ap (put_object e.moment) same ∙ sym brought.made)
+        | inl made ↦ made.here ∙ ap (option_map (put_object e.moment)) brought.brought ∙ ap Some (sym brought.made)
         | inr left ↦ let refused = left.1 brought.written in let accepted = brought.accepted in absurd (cc)
       ]
 

@@ -1,14 +1,15 @@
 -- Each object of the store was brought by an entry of the history.
-use Rattle.std.proofs.Common.{◌≡◌, refl, sym, ap, subst, ◌∙◌, Bool, true, false, cond, ℕ, suc, inl, inr, List, [], ◌∷◌, ◌++◌, append_assoc, append-nil, Some, None}
+use Rattle.std.proofs.Common.{◌≡◌, refl, sym, ap, subst, ◌∙◌, Bool, true, false, cond, ℕ, suc, inl, inr, List, [], ◌∷◌, ◌++◌, append_assoc, append-nil, Option, Some, None}
+use Rattle.std.specs.Prelude.{option_map}
 use Rattle.std.specs.FinMap as map
 use Rattle.std.specs.FinMap.{get-empty}
 use Rattle.std.specs.Ordering.{eq_by_cmp}
 use Rattle.s3_text.specs.Order.{byte_order}
 use Rattle.s3_store.specs.declared.object.Object.{Object}
-use Rattle.s3_store.specs.Store.{State, opening, object_in}
-use Rattle.s3_store.specs.Store.{Address}
+use Rattle.s3_store.specs.Store.{State, opening, object_in, put_object}
+use Rattle.s3_store.specs.Store.{Address, Contents, contents_of}
 use Rattle.s3_store.specs.History.{Entry, IsAnswer, Legal, after, after_entry}
-use Rattle.s3_store.specs.Kept.{Leaves, LeavesKey, Brought, LastBrought, OnlyPutsAreGiven}
+use Rattle.s3_store.specs.Kept.{Leaves, LeavesKey, LastBrought, OnlyPutsAreGiven}
 use Rattle.s3_store.proofs.EffectLemmas.{held}
 use Rattle.s3_store.proofs.HistoryLemmas.{Legal-append}
 use Rattle.s3_store.proofs.KeptLemmas.{entry_does, entry_gives}
@@ -43,19 +44,26 @@ last_push a object past e known leaves = record {
   leaves = leaves_push a known.between e known.leaves leaves;
 }
 
+-- what is there was made of what was brought
+brought_from : (t : ℕ) (found : Option Contents) (object : Object) → option_map (put_object t) found ≡ Some object
+    → (contents : Contents) × (found ≡ Some contents) × (object ≡ put_object t contents)
+brought_from t None object is = absurd (cc)
+brought_from t (Some contents) object is =
+    let same : object ≡ put_object t contents = cc in
+    (contents, refl, same)
+
 module _ (least : ℕ) where
   known_push : (s : State) (n : ℕ) (past : List Entry) (e : Entry) → Known s past → IsAnswer least s n e → Known (after_entry least s e) (past ++ e ∷ [])
   known_push s n past e known answer a object here =
       elim (entry_does least s n e a answer) [
         | inl made ↦
-            let now = made.2 in
-            let same : made.0 ≡ object = cc in
+            let of_it = brought_from e.moment (contents_of e.command) object (sym made.here ∙ here) in
             record {
               before = past;
               write = e;
               between = [];
               parts = refl;
-              brought = subst (λ o. Brought a o e) same made.1;
+              brought = record { contents = of_it.0; written = made.written; accepted = made.accepted; brought = of_it.1; made = of_it.2 };
               leaves = tt;
             }
         | inr left ↦ last_push a object past e (known a object (sym left.0 ∙ here)) left.1

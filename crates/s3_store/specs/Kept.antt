@@ -1,11 +1,11 @@
--- What the store keeps: the bytes that were acknowledged are the bytes that come back and no others
--- do, and what was refused or only read changes nothing.
+-- What the store keeps: the bytes that were acknowledged, their media type and their metadata come back and
+-- no others do, and what was refused or only read changes nothing.
 use Rattle.std.specs.Prelude.{◌≡◌, ℕ, true, false, not, List, ◌∷◌, ◌++◌, Some, is_some}
 use Rattle.std.specs.List.{AllByRecursion}
 use Rattle.s3_segments.specs.Payload.{tag_of}
 use Rattle.s3_store.specs.declared.object.Object.{Object}
 use Rattle.s3_store.specs.Store.{State, opening, put_object}
-use Rattle.s3_store.specs.Store.{Address, writes, brings, reads, only_reads, is_refused, given, acknowledged}
+use Rattle.s3_store.specs.Store.{Address, Contents, writes, contents_of, brings, reads, only_reads, is_refused, given, acknowledged}
 use Rattle.s3_store.specs.History.{Entry, IsAnswer, Legal, after_entry}
 
 -- the entry, if it writes to the address, is refused
@@ -16,17 +16,17 @@ Leaves address e = writes e.command ≡ Some address → is_refused e.answer.out
 abbrev pub LeavesKey : Address → List Entry → Type 0
 LeavesKey address entries = AllByRecursion (Leaves address) entries
 
--- the entry wrote to the address, was not refused, and brought the body that makes this object at its
--- moment
+-- the entry wrote to the address, was not refused, and brought the type, the metadata and the body that make
+-- this object at its moment
 pub record Brought (address : Address) (object : Object) (e : Entry) : Type 0 where
-  pub body : List ℕ
+  pub contents : Contents
   pub written : writes e.command ≡ Some address
   pub accepted : is_refused e.answer.outcome ≡ false
-  pub brought : brings e.command ≡ Some body
-  pub made : object ≡ put_object e.moment body
+  pub brought : contents_of e.command ≡ Some contents
+  pub made : object ≡ put_object e.moment contents
 
 -- in a legal history, a read answers the object that the last write to its address, among those that
--- were not refused, made of the body that it brought
+-- were not refused, made of the type, the metadata and the body that it brought
 abbrev pub PutsAreKept : Type 0
 PutsAreKept =
     (least : ℕ) (s : State) (n : ℕ) (before between later : List Entry) (put get : Entry) (address : Address) (object : Object)

@@ -15,8 +15,8 @@ pub fn one_more_entry()
         → after least s (es ++ e ∷ []) ≡ after_entry least (after least s es) e }
 {}
 
-/// A law: in a legal history the bytes of a put that was acknowledged come back,
-/// with their tag, which is the one that was acknowledged, and the put's moment, at each get of their
+/// A law: in a legal history the bytes, the media type and the metadata of a put that was acknowledged come back,
+/// with the tag of the bytes, which is the one that was acknowledged, and the put's moment, at each get of their
 /// key before the next write there that is acknowledged.
 pub fn puts_are_kept()
     ensures kept { PutsAreKept }

@@ -7,8 +7,7 @@ use crate::objects::Objects;
 use crate::{Answer, Object, Outcome};
 use s3_calendar::Moment;
 use s3_names::{BucketName, Key};
-use s3_requests::Command;
-use s3_segments::Payload;
+use s3_requests::{Command, KeyCommand};
 use s3_terms::{Code, NoMemory};
 use std::alloc::Global;
 use std::collections::BTreeMap;
@@ -34,7 +33,7 @@ impl Model for Store {
 }
 
 impl Store {
-    ghost use Rattle.s3_store.specs.Store.{opening, step, put_step, get_step, object_at, replaces};
+    ghost use Rattle.s3_store.specs.Store.{opening, step, key_step, put_step, get_step, object_at, replaces};
     ghost use Rattle.s3_store.specs.Store.{is_refused};
 
     /// The store with these buckets, which are unversioned and have nothing in them. A name that stands
@@ -102,12 +101,42 @@ impl Store {
         ensures in_place { OnErr result (replaces self.old command ≡ false) }
     {
         match command {
-            Command::PutObject {
-                bucket,
-                key,
+            Command::Key { bucket, key, asked } => {
+                self.take_on_key(alloc, &bucket, key, asked, moment)
+            }
+        }
+    }
+
+    /// Takes the step of a command that is about a key.
+    fn take_on_key(
+        &mut self,
+        alloc: Global,
+        bucket: &BucketName,
+        key: Key,
+        asked: KeyCommand,
+        moment: Moment,
+    ) -> Result<Outcome, NoMemory>
+        ensures state { OnOk result (self.new
+            ≡ (key_step self.old moment bucket.now key asked (map.get self.old bucket.now)).0) }
+        ensures outcome { IfOk result (λ outcome. outcome
+            ≡ (key_step self.old moment bucket.now key asked (map.get self.old bucket.now)).1) }
+        ensures err { OnErr result (self.new ≡ self.old) }
+        ensures memory { OnErr result (is_refused
+            (key_step self.old moment bucket.now key asked (map.get self.old bucket.now)).1
+            ≡ false) }
+        ensures in_place { OnErr result (
+            replaces self.old (Command.Key bucket.now key asked) ≡ false) }
+    {
+        match asked {
+            KeyCommand::Put {
+                content_type,
+                metadata,
                 payload,
-            } => self.put(&bucket, key, payload, moment),
-            Command::GetObject { bucket, key } => self.get(alloc, &bucket, &key),
+            } => {
+                let object = Object::of_payload(content_type, metadata, payload, moment);
+                self.put(bucket, key, object)
+            }
+            KeyCommand::Get => self.get(alloc, bucket, &key),
         }
     }
 
@@ -121,25 +150,18 @@ impl Store {
     }
 
     /// PutObject.
-    fn put(
-        &mut self,
-        bucket: &BucketName,
-        key: Key,
-        payload: Payload,
-        moment: Moment,
-    ) -> Result<Outcome, NoMemory>
+    fn put(&mut self, bucket: &BucketName, key: Key, object: Object) -> Result<Outcome, NoMemory>
         ensures state { OnOk result (self.new
-            ≡ (put_step self.old bucket.now key moment payload (map.get self.old bucket.now)).0) }
+            ≡ (put_step self.old bucket.now key object (map.get self.old bucket.now)).0) }
         ensures outcome { IfOk result (λ outcome. outcome
-            ≡ (put_step self.old bucket.now key moment payload (map.get self.old bucket.now)).1) }
+            ≡ (put_step self.old bucket.now key object (map.get self.old bucket.now)).1) }
         ensures err { OnErr result (self.new ≡ self.old) }
         ensures memory { OnErr result (is_refused
-            (put_step self.old bucket.now key moment payload (map.get self.old bucket.now)).1
+            (put_step self.old bucket.now key object (map.get self.old bucket.now)).1
             ≡ false) }
         ensures in_place { OnErr result (is_some (object_at self.old bucket.now key) ≡ false) }
     {
-        let tag = payload.tag();
-        let object = Object::of_payload(payload, moment);
+        let tag = object.tag.copy();
         match self.by_name.get_mut(bucket) {
             None => Ok(refused(Code::NoSuchBucket)),
             Some(objects) => match objects.put(key, object) {

@@ -34,7 +34,7 @@ config_fault known o setup draft (BadKeysLine number) asked drafted h = (draft, 
 config_fault known o setup draft BadSetting asked drafted h = inr (inl (draft, drafted, (setup, asked, h)))
 config_fault known o setup draft InputFailed asked drafted h = absurd h
 config_fault known o setup draft OutputFailed asked drafted h = absurd h
-config_fault known o setup draft OutOfMemory asked drafted h = tt
+config_fault known o setup draft OutOfMemory asked drafted h = asked.valid
 
 -- there are settings, and there is no request
 request_fault : (known : List ℕ → Option (List ℕ)) (o : SignOptions) (draft : Draft) (settings : Settings) (stamp : List ℕ) (fault : Fault) → IsPrepared known o draft settings stamp → IsRequestFault known settings draft stamp fault → IsSignFault known o fault
@@ -43,7 +43,7 @@ request_fault known o draft settings stamp (BadKeysLine number) ready h = absurd
 request_fault known o draft settings stamp BadSetting ready h = inr (inr (draft, settings, stamp, ready, h))
 request_fault known o draft settings stamp InputFailed ready h = absurd h
 request_fault known o draft settings stamp OutputFailed ready h = absurd h
-request_fault known o draft settings stamp OutOfMemory ready h = tt
+request_fault known o draft settings stamp OutOfMemory ready h = ready.asked.valid
 
 -- what a draft comes to, the options that describe it come to
 pub text_of_draft : (known : List ℕ → Option (List ℕ)) (o : SignOptions) (setup : Setup) (draft : Draft) (text : List ℕ) → IsSetupOf o.common setup → IsDraftOf o draft → IsDraftText known setup draft text → IsTextOf known o text

@@ -1,6 +1,6 @@
 -- What a run of `s3d` does, over the bytes that its devices tell: `None` stands for those of a device
 -- that tells none.
-use Rattle.std.specs.Prelude.{◌≡◌, ◌≢◌, ◌⊎◌, IsTrue, ℕ, Bool, true, false, List, Option, IfSome, ⊤}
+use Rattle.std.specs.Prelude.{◌≡◌, ◌≢◌, ◌⊎◌, IsTrue, ℕ, Bool, true, false, List, Option, IfSome}
 use Rattle.s3_config.specs.Settings.{Settings}
 use Rattle.s3_settings.specs.declared.fault.Fault.{Fault}
 use Rattle.s3_settings.specs.declared.fault.Fault.TheVariants.{CannotRead, BadKeysLine, BadSetting, InputFailed, OutputFailed, OutOfMemory}
@@ -24,15 +24,15 @@ pub record IsReplayed (known : List ℕ → Option (List ℕ)) (input : Option (
   pub configured : IsConfigured (known setup.keys.now) setup settings
   pub answered : IfSome input (λ bytes. Replays settings setup.moment bytes out)
 
--- why a replay has no such text, each fault only where none that comes before it is there, but out of
--- memory, which may come anywhere
+-- why a replay has no such text, each fault only where none that comes before it is there; memory runs out
+-- only where the options are of their forms
 abbrev pub IsReplayFault : (List ℕ → Option (List ℕ)) → Options → Fault → Type 0
 IsReplayFault known options BadSetting = (are_options options ≡ false) ⊎ HasConfigFault known options BadSetting
 IsReplayFault known options (CannotRead path) = HasConfigFault known options (CannotRead path)
 IsReplayFault known options (BadKeysLine number) = HasConfigFault known options (BadKeysLine number)
 IsReplayFault known options InputFailed = HasSettings known options
 IsReplayFault known options OutputFailed = ⊥
-IsReplayFault known options OutOfMemory = ⊤
+IsReplayFault known options OutOfMemory = are_options options ≡ true
 
 -- the fault is found before the input is read
 abbrev pub is_before_input : Fault → Bool

@@ -1,6 +1,6 @@
 -- What `s3d sign` writes, over the bytes that its files tell: `None` stands for those of a file that
 -- tells none.
-use Rattle.std.specs.Prelude.{◌≡◌, ◌⊎◌, ⊤, ℕ, Bool, true, false, IsTrue, ◌&&◌, ◌==◌, nat_le, if◌then◌else◌, List, [], ◌∷◌, map, codes, Option, Some, None, is_some, IfSome, option_map, position}
+use Rattle.std.specs.Prelude.{◌≡◌, ◌⊎◌, ℕ, Bool, true, false, IsTrue, ◌&&◌, ◌==◌, nat_le, if◌then◌else◌, List, [], ◌∷◌, map, codes, Option, Some, None, is_some, IfSome, option_map, position}
 use Rattle.std.specs.List.{list_all, before_first, after_first}
 use Rattle.std.specs.Borrow.{Bor}
 use Rattle.s3_calendar.specs.Moment.{is_stamp, stamp_seconds}
@@ -111,14 +111,14 @@ pub record IsRequestOf (known : List ℕ → Option (List ℕ)) (settings : Sett
   pub signable : IsSignableDraft settings secret draft bytes stamp
   pub signed : IsSignedDraft settings secret draft bytes stamp text
 
--- why there is none
+-- why there is none; memory runs out only where the settings have the id
 abbrev pub IsRequestFault : (List ℕ → Option (List ℕ)) → Settings → Draft → List ℕ → Fault → Type 0
 IsRequestFault known settings draft stamp BadSetting =
     (secret_of settings.keys draft.id.now ≡ None)
     ⊎ ((secret : List ℕ) × (body : List ℕ) × (secret_of settings.keys draft.id.now ≡ Some secret) × IsBodyOf known draft.body body × ¬ (IsSignableDraft settings secret draft body stamp))
 IsRequestFault known settings draft stamp (CannotRead path) =
     (is_some (secret_of settings.keys draft.id.now) ≡ true) × IsBodyFault known draft.body (CannotRead path)
-IsRequestFault known settings draft stamp OutOfMemory = ⊤
+IsRequestFault known settings draft stamp OutOfMemory = is_some (secret_of settings.keys draft.id.now) ≡ true
 IsRequestFault known settings draft stamp _ = ⊥
 
 -- the stamp is the one of the moment
@@ -151,8 +151,8 @@ HasRequestFault known o fault =
     (draft : Draft) × (settings : Settings) × (stamp : List ℕ)
     × IsPrepared known o draft settings stamp × IsRequestFault known settings draft stamp fault
 
--- why a signing has no such text, each fault only where none that comes before it is there, but out of
--- memory, which may come anywhere
+-- why a signing has no such text, each fault only where none that comes before it is there; memory runs out
+-- only where the options on the settings are of their forms
 abbrev pub IsSignFault : (List ℕ → Option (List ℕ)) → SignOptions → Fault → Type 0
 IsSignFault known o BadSetting =
     ((are_options o.common && are_sign_options o) ≡ false)
@@ -162,7 +162,7 @@ IsSignFault known o (CannotRead path) =
 IsSignFault known o (BadKeysLine number) = HasDraftAndConfigFault known o (BadKeysLine number)
 IsSignFault known o InputFailed = ⊥
 IsSignFault known o OutputFailed = ⊥
-IsSignFault known o OutOfMemory = ⊤
+IsSignFault known o OutOfMemory = are_options o.common ≡ true
 
 -- The rest serves clauses of private functions alone.
 

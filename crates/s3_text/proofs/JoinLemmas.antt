@@ -1,7 +1,7 @@
 -- Parts that are joined by a byte, and a text that is cut at one.
 use Rattle.std.proofs.Common.{◌≡◌, ℕ, ◌+◌, ◌<◌, Bool, true, false, not, ◌==◌, List, [], ◌∷◌, ◌++◌, length, take, get_or, refl, sym, ap, ◌∙◌, ⊎_elim, arith, append_assoc, length-take-le}
 use Rattle.std.specs.Prelude.{All}
-use Rattle.std.specs.List.{list_any, list_all, slice_split, onto_first, join_with_byte}
+use Rattle.std.specs.List.{list_all, slice_split, onto_first, join_with_byte}
 use Rattle.std.proofs.lemmas.Bool.{cases_Bool, false≢true, and_parts, and_from, not-true, ne_eqb, eq-eqb}
 use Rattle.std.proofs.lemmas.List.{take_more}
 use Rattle.std.proofs.lemmas.List.Folds.{list_all-append}
@@ -58,11 +58,6 @@ split_joined c part (next ∷ parts) all =
     let both = and_parts (lacks c part) (list_all (lacks c) (next ∷ parts)) all in
     slice_split_at (λ b. b == c) part c (join_with_byte c (next ∷ parts)) (none_same c part both.0) (eq-eqb c c refl)
     ∙ ap (λ rest. part ∷ rest) (split_joined c next parts both.1)
-
--- the same, where some part passes a test
-pub split_some_joined : (c : ℕ) (p : List ℕ → Bool) (parts : List (List ℕ)) → list_any p parts ≡ true → list_all (lacks c) parts ≡ true → parts_at c (join_with_byte c parts) ≡ parts
-split_some_joined c p [] some all = absurd (false≢true some)
-split_some_joined c p (part ∷ parts) some all = split_joined c part parts all
 
 -- a test that the joining byte passes too
 pub joined_all : (p : ℕ → Bool) (c : ℕ) → p c ≡ true → (parts : List (List ℕ)) → list_all (list_all p) parts ≡ true → list_all p (join_with_byte c parts) ≡ true

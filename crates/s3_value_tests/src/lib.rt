@@ -1,5 +1,5 @@
-//! Tests of the crates at the bottom: texts, codes, names, calendar, settings, HMAC and payloads. It has
-//! nothing but tests, so those crates are proved once.
+//! Tests of the crates at the bottom: texts, codes, names, calendar, settings, HMAC, bodies and payloads; what a connection
+//! has still to send; versions, records and documents. It has nothing but tests, so those crates are proved once.
 #![tactic(auto)]
 
 #[cfg(test)]
@@ -13,8 +13,24 @@ mod hmac;
 #[cfg(test)]
 mod ids;
 #[cfg(test)]
+mod listed_buckets;
+#[cfg(test)]
 mod names;
+#[cfg(test)]
+mod outbox;
 #[cfg(test)]
 mod payloads;
 #[cfg(test)]
+mod picking;
+#[cfg(test)]
+mod records;
+#[cfg(test)]
+mod segments;
+#[cfg(test)]
 mod settings;
+#[cfg(test)]
+mod steps;
+#[cfg(test)]
+mod versioning;
+#[cfg(test)]
+mod versions;

@@ -16,20 +16,20 @@ use Rattle.s3_versions.specs.Laws.{OneUnderEachId, PutsLeaveVersions, DeletesLea
 use Rattle.s3_versions.proofs.ListLemmas.{list_all-then, list_all-filter, length-filter_one, sum_by-filter_one, find-left, find-others}
 use Rattle.s3_versions.proofs.VersionLemmas.{at_most_one, without-valid, new_precedes, new_null_precedes}
 
-pub one_under_each_id : OneUnderEachId
+pub one_under_each_id : {B : Type 0} → OneUnderEachId B
 one_under_each_id vs id valid = length-filter_one (is_under id) vs (at_most_one id vs valid)
 
-pub puts_leave_versions : PutsLeaveVersions
+pub puts_leave_versions : {B : Type 0} → PutsLeaveVersions B
 puts_leave_versions Unversioned n t stored vs valid new = new_null_precedes (made Unversioned n t (Stored stored)) vs new valid
 puts_leave_versions Enabled n t stored vs valid new = new_precedes (made Enabled n t (Stored stored)) vs refl new valid
 puts_leave_versions Suspended n t stored vs valid new = new_null_precedes (made Suspended n t (Stored stored)) vs new valid
 
-pub deletes_leave_versions : DeletesLeaveVersions
+pub deletes_leave_versions : {B : Type 0} → DeletesLeaveVersions B
 deletes_leave_versions Unversioned n t vs valid new = without-valid Null vs valid
 deletes_leave_versions Enabled n t vs valid new = new_precedes (made Enabled n t DeleteMarker) vs refl new valid
 deletes_leave_versions Suspended n t vs valid new = new_null_precedes (made Suspended n t DeleteMarker) vs new valid
 
-pub drops_leave_versions : DropsLeaveVersions
+pub drops_leave_versions : {B : Type 0} → DropsLeaveVersions B
 drops_leave_versions id vs valid = without-valid id vs valid
 
 lt_later : (a n m : ℕ) → a < n → n ≤ m → a < m
@@ -38,34 +38,34 @@ lt_later a n m below rises = omega arith
 below_next : (n : ℕ) → nat_lt n (n + 1) ≡ true
 below_next n = lt-ltb n (n + 1) (omega arith)
 
-later_new : (n m : ℕ) (vs : List Version) → n ≤ m → list_all (λ v. nat_lt v.number n) vs ≡ true → list_all (λ v. nat_lt v.number m) vs ≡ true
+later_new : {B : Type 0} (n m : ℕ) (vs : List (Version B)) → n ≤ m → list_all (λ v. nat_lt v.number n) vs ≡ true → list_all (λ v. nat_lt v.number m) vs ≡ true
 later_new n m vs rises new =
     list_all-then (λ v. nat_lt v.number n) (λ v. nat_lt v.number m) vs (λ v below. lt-ltb v.number m (lt_later v.number n m (ltb-true v.number n below) rises)) new
 
-next_kept : (n : ℕ) (p : Version → Bool) (vs : List Version) → list_all (λ v. nat_lt v.number n) vs ≡ true → list_all (λ v. nat_lt v.number (n + 1)) (filter p vs) ≡ true
+next_kept : {B : Type 0} (n : ℕ) (p : Version B → Bool) (vs : List (Version B)) → list_all (λ v. nat_lt v.number n) vs ≡ true → list_all (λ v. nat_lt v.number (n + 1)) (filter p vs) ≡ true
 next_kept n p vs new = list_all-filter (λ v. nat_lt v.number (n + 1)) p vs (later_new n (n + 1) vs (omega arith) new)
 
-next_after_adding : (b : Versioning) (n t : ℕ) (content : Content) (vs : List Version) → IsTrue (is_new_number n vs) → IsTrue (is_new_number (n + 1) (after_adding b n t content vs))
+next_after_adding : {B : Type 0} (b : Versioning) (n t : ℕ) (content : Content B) (vs : List (Version B)) → IsTrue (is_new_number n vs) → IsTrue (is_new_number (n + 1) (after_adding b n t content vs))
 unfolding is_new_number without
 next_after_adding Enabled n t content vs new = and_from _ _ (below_next n) (later_new n (n + 1) vs (omega arith) new)
 next_after_adding Unversioned n t content vs new = and_from _ _ (below_next n) (next_kept n (λ v. not (is_under Null v)) vs new)
 next_after_adding Suspended n t content vs new = and_from _ _ (below_next n) (next_kept n (λ v. not (is_under Null v)) vs new)
 
-next_after_dropping : (n : ℕ) (id : VersionId) (vs : List Version) → IsTrue (is_new_number n vs) → IsTrue (is_new_number n (without id vs))
+next_after_dropping : {B : Type 0} (n : ℕ) (id : VersionId) (vs : List (Version B)) → IsTrue (is_new_number n vs) → IsTrue (is_new_number n (without id vs))
 unfolding is_new_number without
 next_after_dropping n id vs new = list_all-filter (λ v. nat_lt v.number n) (λ v. not (is_under id v)) vs new
 
-later_is_new : (n m : ℕ) (vs : List Version) → n ≤ m → IsTrue (is_new_number n vs) → IsTrue (is_new_number m vs)
+later_is_new : {B : Type 0} (n m : ℕ) (vs : List (Version B)) → n ≤ m → IsTrue (is_new_number n vs) → IsTrue (is_new_number m vs)
 unfolding is_new_number
 later_is_new n m vs rises new = later_new n m vs rises new
 
-next_after_delete : (b : Versioning) (n t : ℕ) (vs : List Version) → IsTrue (is_new_number n vs) → IsTrue (is_new_number (n + 1) (after_delete b n t vs))
+next_after_delete : {B : Type 0} (b : Versioning) (n t : ℕ) (vs : List (Version B)) → IsTrue (is_new_number n vs) → IsTrue (is_new_number (n + 1) (after_delete b n t vs))
 next_after_delete Enabled n t vs new = next_after_adding Enabled n t DeleteMarker vs new
 next_after_delete Suspended n t vs new = next_after_adding Suspended n t DeleteMarker vs new
 next_after_delete Unversioned n t vs new =
     later_is_new n (n + 1) (without Null vs) (omega arith) (next_after_dropping n Null vs new)
 
-pub next_is_new : NextIsNew
+pub next_is_new : {B : Type 0} → NextIsNew B
 next_is_new n vs new = record {
   later = λ m rises. later_is_new n m vs rises new;
   put = λ b t stored. next_after_adding b n t (Stored stored) vs new;
@@ -74,7 +74,7 @@ next_is_new n vs new = record {
 }
 
 -- a version has one id
-one_id : (a b : VersionId) (v : Version) → is_under a v ≡ true → is_under b v ≡ true → a ≡ b
+one_id : {B : Type 0} (a b : VersionId) (v : Version B) → is_under a v ≡ true → is_under b v ≡ true → a ≡ b
 one_id Null Null v here there = refl
 one_id Null (Numbered n) v here there = grind (arith, nat_tests)
 one_id (Numbered m) Null v here there = grind (arith, nat_tests)
@@ -82,28 +82,28 @@ one_id (Numbered m) (Numbered n) v here there =
     let same : m ≡ n = grind (arith, nat_tests) in
     ap Numbered same
 
-apart : (id other : VersionId) (v : Version) → other ≢ id → is_under id v ≡ true → is_under other v ≡ false
+apart : {B : Type 0} (id other : VersionId) (v : Version B) → other ≢ id → is_under id v ≡ true → is_under other v ≡ false
 apart id other v differ here = false_from_ne_true (is_under other v) (λ there. differ (one_id other id v there here))
 
-left_under : (id : VersionId) (vs : List Version) (other : VersionId) → other ≢ id → find (is_under other) (without id vs) ≡ find (is_under other) vs
+left_under : {B : Type 0} (id : VersionId) (vs : List (Version B)) (other : VersionId) → other ≢ id → find (is_under other) (without id vs) ≡ find (is_under other) vs
 unfolding without
 left_under id vs other differ = find-others (is_under id) (is_under other) vs (λ v here. apart id other v differ here)
 
-none_under : (id : VersionId) (vs : List Version) → find (is_under id) (without id vs) ≡ None
+none_under : {B : Type 0} (id : VersionId) (vs : List (Version B)) → find (is_under id) (without id vs) ≡ None
 unfolding without
 none_under id vs = find-left (is_under id) vs
 
-pub one_version_goes : OneVersionGoes
+pub one_version_goes : {B : Type 0} → OneVersionGoes B
 one_version_goes vs id = (none_under id vs, λ other differ. left_under id vs other differ)
 
-pub sum_of_what_goes : SumOfWhatGoes
+pub sum_of_what_goes : {B : Type 0} → SumOfWhatGoes B
 unfolding without
 sum_of_what_goes f vs id valid =
     let under = sum_by-filter_one f (is_under id) vs (at_most_one id vs valid) in
     let both = sum_by-filter_both (is_under id) (λ v. not (is_under id v)) (λ v. refl) f vs in
     omega arith
 
-pub only_null_goes : OnlyNullGoes
+pub only_null_goes : {B : Type 0} → OnlyNullGoes B
 only_null_goes Enabled n t stored vs id other named = absurd (other refl)
 only_null_goes Unversioned n t stored vs Null other named = absurd (named refl)
 only_null_goes Suspended n t stored vs Null other named = absurd (named refl)

@@ -1,3 +1,4 @@
+pub mod FillingLemmas
 pub mod LawLemmas
 pub mod ListLemmas
 pub mod VersionLemmas

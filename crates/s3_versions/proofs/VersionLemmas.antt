@@ -10,15 +10,15 @@ use Rattle.s3_versions.specs.Rules.{is_under, may_precede, are_versions, is_new_
 use Rattle.s3_versions.proofs.ListLemmas.{list_all-then, list_all-filter, list_all-kept, filter-all, find-none, AtMostOne, position-none, position-found, position-left}
 
 -- of two versions in order, at most one is under an id
-under_once : (id : VersionId) (v w : Version) → may_precede v w ≡ true → is_under id v ≡ true → not (is_under id w) ≡ true
+under_once : {B : Type 0} (id : VersionId) (v w : Version B) → may_precede v w ≡ true → is_under id v ≡ true → not (is_under id w) ≡ true
 under_once Null v w order here = grind (arith, nat_tests)
 under_once (Numbered number) v w order here = grind (arith, nat_tests)
 
-one_precedes : (v w : Version) → nat_lt w.number v.number ≡ true → not w.is_null ≡ true → may_precede v w ≡ true
+one_precedes : {B : Type 0} (v w : Version B) → nat_lt w.number v.number ≡ true → not w.is_null ≡ true → may_precede v w ≡ true
 one_precedes v w older other = grind (arith, nat_tests)
 
 -- no two versions have one id
-pub at_most_one : (id : VersionId) (vs : List Version) → are_versions vs ≡ true → AtMostOne (is_under id) vs
+pub at_most_one : {B : Type 0} (id : VersionId) (vs : List (Version B)) → are_versions vs ≡ true → AtMostOne (is_under id) vs
 unfolding are_versions
 at_most_one id [] valid = tt
 at_most_one id (v ∷ vs) valid =
@@ -26,7 +26,7 @@ at_most_one id (v ∷ vs) valid =
     (λ here. list_all-then (may_precede v) (λ w. not (is_under id w)) vs (λ w order. under_once id v w order here) parts.0, at_most_one id vs parts.1)
 
 -- some of a key's versions are versions of one key
-kept_versions : (p : Version → Bool) (vs : List Version) → are_versions vs ≡ true → are_versions (filter p vs) ≡ true
+kept_versions : {B : Type 0} (p : Version B → Bool) (vs : List (Version B)) → are_versions vs ≡ true → are_versions (filter p vs) ≡ true
 unfolding are_versions
 kept_versions p [] valid = refl
 kept_versions p (v ∷ vs) valid =
@@ -37,22 +37,22 @@ kept_versions p (v ∷ vs) valid =
       | false ↦ rest
     ]
 
-pub without-valid : (id : VersionId) (vs : List Version) → IsTrue (are_versions vs) → IsTrue (are_versions (without id vs))
+pub without-valid : {B : Type 0} (id : VersionId) (vs : List (Version B)) → IsTrue (are_versions vs) → IsTrue (are_versions (without id vs))
 unfolding without
 without-valid id vs valid = kept_versions (λ v. not (is_under id v)) vs valid
 
 -- where no version is under the id, none is taken out
-pub without-absent : (id : VersionId) (vs : List Version) → find (is_under id) vs ≡ None → without id vs ≡ vs
+pub without-absent : {B : Type 0} (id : VersionId) (vs : List (Version B)) → find (is_under id) vs ≡ None → without id vs ≡ vs
 unfolding without
 without-absent id vs none = filter-all (λ v. not (is_under id v)) vs (find-none (is_under id) vs none)
 
 -- a new version may stand before all others
-pub new_precedes : (v : Version) (vs : List Version) → v.is_null ≡ false → IsTrue (is_new_number v.number vs) → IsTrue (are_versions vs) → IsTrue (are_versions (v ∷ vs))
+pub new_precedes : {B : Type 0} (v : Version B) (vs : List (Version B)) → v.is_null ≡ false → IsTrue (is_new_number v.number vs) → IsTrue (are_versions vs) → IsTrue (are_versions (v ∷ vs))
 unfolding are_versions is_new_number
 new_precedes v vs own new valid =
     and_from _ _ (list_all-then (λ w. nat_lt w.number v.number) (may_precede v) vs (λ w older. grind (arith, nat_tests)) new) valid
 
-both_precede : (v : Version) (vs : List Version) → list_all (λ w. nat_lt w.number v.number) vs ≡ true → list_all (λ w. not (is_under Null w)) vs ≡ true → list_all (may_precede v) vs ≡ true
+both_precede : {B : Type 0} (v : Version B) (vs : List (Version B)) → list_all (λ w. nat_lt w.number v.number) vs ≡ true → list_all (λ w. not (is_under Null w)) vs ≡ true → list_all (may_precede v) vs ≡ true
 both_precede v [] older others = refl
 both_precede v (w ∷ vs) older others =
     let first = and_parts _ _ older in
@@ -61,7 +61,7 @@ both_precede v (w ∷ vs) older others =
     and_from _ _ here (both_precede v vs first.1 second.1)
 
 -- so may a new version `null`, where none is `null`
-pub new_null_precedes : (v : Version) (vs : List Version) → IsTrue (is_new_number v.number vs) → IsTrue (are_versions vs) → IsTrue (are_versions (v ∷ without Null vs))
+pub new_null_precedes : {B : Type 0} (v : Version B) (vs : List (Version B)) → IsTrue (is_new_number v.number vs) → IsTrue (are_versions vs) → IsTrue (are_versions (v ∷ without Null vs))
 unfolding are_versions is_new_number without
 new_null_precedes v vs new valid =
     let older = list_all-filter (λ w. nat_lt w.number v.number) (λ w. not (is_under Null w)) vs new in
@@ -69,20 +69,20 @@ new_null_precedes v vs new valid =
     and_from _ _ (both_precede v (filter (λ w. not (is_under Null w)) vs) older others) (kept_versions (λ w. not (is_under Null w)) vs valid)
 
 -- where no place is found, no version is under the id
-pub place-absent : (id : VersionId) (vs : List Version) (place : Option ℕ) → place ≡ position (is_under id) vs → IfNone place (find (is_under id) vs ≡ None)
+pub place-absent : {B : Type 0} (id : VersionId) (vs : List (Version B)) (place : Option ℕ) → place ≡ position (is_under id) vs → IfNone place (find (is_under id) vs ≡ None)
 place-absent id vs None is = position-none (is_under id) vs (sym is)
 place-absent id vs (Some place) is = tt
 
-pub place-found : (id : VersionId) (vs : List Version) (place : Option ℕ) → place ≡ position (is_under id) vs → IfSome place (λ i. find (is_under id) vs ≡ slice_get vs i)
+pub place-found : {B : Type 0} (id : VersionId) (vs : List (Version B)) (place : Option ℕ) → place ≡ position (is_under id) vs → IfSome place (λ i. find (is_under id) vs ≡ slice_get vs i)
 place-found id vs None is = tt
 place-found id vs (Some place) is = position-found (is_under id) vs place (sym is)
 
-pub place-left : (id : VersionId) (vs : List Version) (place : Option ℕ) → IsTrue (are_versions vs) → place ≡ position (is_under id) vs → IfSome place (λ i. remove vs i ≡ without id vs)
+pub place-left : {B : Type 0} (id : VersionId) (vs : List (Version B)) (place : Option ℕ) → IsTrue (are_versions vs) → place ≡ position (is_under id) vs → IfSome place (λ i. remove vs i ≡ without id vs)
 unfolding without
 place-left id vs None valid is = tt
 place-left id vs (Some place) valid is = position-left (is_under id) vs place (at_most_one id vs valid) (sym is)
 
-pub place-all : (id : VersionId) (vs : List Version) (place : Option ℕ) → place ≡ position (is_under id) vs → IfNone place (without id vs ≡ vs)
+pub place-all : {B : Type 0} (id : VersionId) (vs : List (Version B)) (place : Option ℕ) → place ≡ position (is_under id) vs → IfNone place (without id vs ≡ vs)
 place-all id vs None is = without-absent id vs (position-none (is_under id) vs (sym is))
 place-all id vs (Some place) is = tt
 

@@ -12,80 +12,80 @@ use Rattle.s3_versions.specs.declared.version.Versioning.TheVariants.{Enabled, S
 use Rattle.s3_versions.specs.Rules.{id_of, is_under, current, asked_for, pick, made, after_put, after_delete, after_delete_version, are_versions, is_new_number}
 
 -- at most one version has an id
-abbrev pub OneUnderEachId : Type 0
-OneUnderEachId =
-    (vs : List Version) (id : VersionId) → IsTrue (are_versions vs) → length (filter (is_under id) vs) ≤ 1
+abbrev pub OneUnderEachId : Type 0 → Type 0
+OneUnderEachId B =
+    (vs : List (Version B)) (id : VersionId) → IsTrue (are_versions vs) → length (filter (is_under id) vs) ≤ 1
 
 -- a version is under its own id, and under no other
-abbrev pub IdsAreTold : Type 0
-IdsAreTold =
-    ((v : Version) → IsTrue (is_under (id_of v) v)) × ((id : VersionId) (v : Version) → IsTrue (is_under id v) → id_of v ≡ id)
+abbrev pub IdsAreTold : Type 0 → Type 0
+IdsAreTold B =
+    ((v : Version B) → IsTrue (is_under (id_of v) v)) × ((id : VersionId) (v : Version B) → IsTrue (is_under id v) → id_of v ≡ id)
 
 -- what a put leaves are versions of one key again
-abbrev pub PutsLeaveVersions : Type 0
-PutsLeaveVersions =
-    (b : Versioning) (n t : ℕ) (stored : Data) (vs : List Version)
+abbrev pub PutsLeaveVersions : Type 0 → Type 0
+PutsLeaveVersions B =
+    (b : Versioning) (n t : ℕ) (stored : Data B) (vs : List (Version B))
     → IsTrue (are_versions vs) → IsTrue (is_new_number n vs) → IsTrue (are_versions (after_put b n t stored vs))
 
 -- so are what a delete leaves
-abbrev pub DeletesLeaveVersions : Type 0
-DeletesLeaveVersions =
-    (b : Versioning) (n t : ℕ) (vs : List Version)
+abbrev pub DeletesLeaveVersions : Type 0 → Type 0
+DeletesLeaveVersions B =
+    (b : Versioning) (n t : ℕ) (vs : List (Version B))
     → IsTrue (are_versions vs) → IsTrue (is_new_number n vs) → IsTrue (are_versions (after_delete b n t vs))
 
 -- and what a delete by an id leaves
-abbrev pub DropsLeaveVersions : Type 0
-DropsLeaveVersions =
-    (id : VersionId) (vs : List Version) → IsTrue (are_versions vs) → IsTrue (are_versions (after_delete_version id vs))
+abbrev pub DropsLeaveVersions : Type 0 → Type 0
+DropsLeaveVersions B =
+    (id : VersionId) (vs : List (Version B)) → IsTrue (are_versions vs) → IsTrue (are_versions (after_delete_version id vs))
 
 -- a number above those of a key's versions, as they change
-pub record NumbersRise (n : ℕ) (vs : List Version) : Type 0 where
+pub record NumbersRise {B : Type 0} (n : ℕ) (vs : List (Version B)) : Type 0 where
   pub later : (m : ℕ) → n ≤ m → IsTrue (is_new_number m vs)
-  pub put : (b : Versioning) (t : ℕ) (stored : Data) → IsTrue (is_new_number (n + 1) (after_put b n t stored vs))
+  pub put : (b : Versioning) (t : ℕ) (stored : Data B) → IsTrue (is_new_number (n + 1) (after_put b n t stored vs))
   pub deleted : (b : Versioning) (t : ℕ) → IsTrue (is_new_number (n + 1) (after_delete b n t vs))
   pub version_gone : (id : VersionId) → IsTrue (is_new_number n (after_delete_version id vs))
 
 -- the number of the next entry is above them again
-abbrev pub NextIsNew : Type 0
-NextIsNew = (n : ℕ) (vs : List Version) → IsTrue (is_new_number n vs) → NumbersRise n vs
+abbrev pub NextIsNew : Type 0 → Type 0
+NextIsNew B = (n : ℕ) (vs : List (Version B)) → IsTrue (is_new_number n vs) → NumbersRise n vs
 
 -- what was put is current, and a read that names no version gets it
-abbrev pub PutsAreCurrent : Type 0
-PutsAreCurrent =
-    (b : Versioning) (n t : ℕ) (stored : Data) (vs : List Version)
+abbrev pub PutsAreCurrent : Type 0 → Type 0
+PutsAreCurrent B =
+    (b : Versioning) (n t : ℕ) (stored : Data B) (vs : List (Version B))
     → (current (after_put b n t stored vs) ≡ Some (made b n t (Stored stored)))
-    × (pick None (after_put b n t stored vs) ≡ Ok (made b n t (Stored stored)))
+    × (pick None (after_put b n t stored vs) ≡ Ok (made b n t (Stored stored), stored))
 
 -- after a delete that makes a marker, a read that names no version is told of it
-abbrev pub MarkersHide : Type 0
-MarkersHide =
-    (n t : ℕ) (vs : List Version)
+abbrev pub MarkersHide : Type 0 → Type 0
+MarkersHide B =
+    (n t : ℕ) (vs : List (Version B))
     → (pick None (after_delete Enabled n t vs) ≡ Err (record { code = NoSuchKey; is_delete_marker = true }))
     × (pick None (after_delete Suspended n t vs) ≡ Err (record { code = NoSuchKey; is_delete_marker = true }))
 
 -- where versioning is enabled, a put and a delete leave what is under each id but the new one
-abbrev pub EnabledTakesNothing : Type 0
-EnabledTakesNothing =
-    (n t : ℕ) (stored : Data) (vs : List Version) (id : VersionId) → id ≢ Numbered n
+abbrev pub EnabledTakesNothing : Type 0 → Type 0
+EnabledTakesNothing B =
+    (n t : ℕ) (stored : Data B) (vs : List (Version B)) (id : VersionId) → id ≢ Numbered n
     → (asked_for (Some id) (after_put Enabled n t stored vs) ≡ asked_for (Some id) vs)
     × (asked_for (Some id) (after_delete Enabled n t vs) ≡ asked_for (Some id) vs)
 
 -- elsewhere they leave what is under each id but `null`
-abbrev pub OnlyNullGoes : Type 0
-OnlyNullGoes =
-    (b : Versioning) (n t : ℕ) (stored : Data) (vs : List Version) (id : VersionId) → b ≢ Enabled → id ≢ Null
+abbrev pub OnlyNullGoes : Type 0 → Type 0
+OnlyNullGoes B =
+    (b : Versioning) (n t : ℕ) (stored : Data B) (vs : List (Version B)) (id : VersionId) → b ≢ Enabled → id ≢ Null
     → (asked_for (Some id) (after_put b n t stored vs) ≡ asked_for (Some id) vs)
     × (asked_for (Some id) (after_delete b n t vs) ≡ asked_for (Some id) vs)
 
 -- to delete by an id leaves nothing under it, and what is under each other id
-abbrev pub OneVersionGoes : Type 0
-OneVersionGoes =
-    (vs : List Version) (id : VersionId)
+abbrev pub OneVersionGoes : Type 0 → Type 0
+OneVersionGoes B =
+    (vs : List (Version B)) (id : VersionId)
     → (asked_for (Some id) (after_delete_version id vs) ≡ None)
     × ((other : VersionId) → other ≢ id → asked_for (Some other) (after_delete_version id vs) ≡ asked_for (Some other) vs)
 
 -- what stays and what goes are what was there, whatever is counted of a version
-abbrev pub SumOfWhatGoes : Type 0
-SumOfWhatGoes =
-    (f : Version → ℕ) (vs : List Version) (id : VersionId) → IsTrue (are_versions vs)
+abbrev pub SumOfWhatGoes : Type 0 → Type 0
+SumOfWhatGoes B =
+    (f : Version B → ℕ) (vs : List (Version B)) (id : VersionId) → IsTrue (are_versions vs)
     → sum_by f (after_delete_version id vs) + unwrap_or (option_map f (find (is_under id) vs)) 0 ≡ sum_by f vs

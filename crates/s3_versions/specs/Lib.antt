@@ -1,4 +1,6 @@
 pub mod Codes
+pub mod ContentType
+pub mod Filling
 pub mod Laws
 pub mod Metadata
 pub mod Rules

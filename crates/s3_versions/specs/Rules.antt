@@ -20,108 +20,117 @@ versioning_set status.Enabled = Enabled
 versioning_set status.Suspended = Suspended
 
 -- a version's id: `null`, or the number of the entry that made it
-abbrev pub id_of : Version → VersionId
+abbrev pub id_of : {B : Type 0} → Version B → VersionId
 id_of v = if v.is_null then Null else Numbered v.number
 
 -- the id is the version's
-abbrev pub is_under : VersionId → Version → Bool
+abbrev pub is_under : {B : Type 0} → VersionId → Version B → Bool
 is_under Null v = v.is_null
 is_under (Numbered number) v = not v.is_null && v.number == number
 
 -- what a put stored, unless the version is a delete marker
-abbrev pub stored_in : Content → Option Data
+abbrev pub stored_in : {B : Type 0} → Content B → Option (Data B)
 stored_in DeleteMarker = None
 stored_in (Stored stored) = Some stored
 
-abbrev pub stored : Version → Option Data
+abbrev pub stored : {B : Type 0} → Version B → Option (Data B)
 stored v = stored_in v.content
 
 -- the version is a delete marker
-abbrev pub is_marker : Content → Bool
+abbrev pub is_marker : {B : Type 0} → Content B → Bool
 is_marker DeleteMarker = true
 is_marker (Stored stored) = false
 
-abbrev pub is_delete_marker : Version → Bool
+abbrev pub is_delete_marker : {B : Type 0} → Version B → Bool
 is_delete_marker v = is_marker v.content
 
 -- the current version: the newest
-abbrev pub current : List Version → Option Version
+abbrev pub current : {B : Type 0} → List (Version B) → Option (Version B)
 current [] = None
 current (v ∷ vs) = Some v
 
 -- the version that a request asks for: that under its id, or the current one where it names none
-abbrev pub asked_for : Option VersionId → List Version → Option Version
+abbrev pub asked_for : {B : Type 0} → Option VersionId → List (Version B) → Option (Version B)
 asked_for None vs = current vs
 asked_for (Some id) vs = find (is_under id) vs
+
+-- a version that is read, with what it stores; a delete marker is refused
+abbrev pub read_as : {B : Type 0} → Refusal → Version B → Content B → Result (Version B × Data B) Refusal
+read_as refusal v DeleteMarker = Err refusal
+read_as refusal v (Stored stored) = Ok (v, stored)
 
 -- a GET whose current version is a delete marker is answered as if the object were not there, and one that
 -- names a delete marker's id with 405, "Method Not Allowed"; both tell that it is a delete marker ("Working
 -- with delete markers")
-abbrev pub judged : Option VersionId → Option Version → Result Version Refusal
+abbrev pub judged : {B : Type 0} → Option VersionId → Option (Version B) → Result (Version B × Data B) Refusal
 judged None None = Err (record { code = NoSuchKey; is_delete_marker = false })
-judged None (Some v) =
-    if is_delete_marker v then Err (record { code = NoSuchKey; is_delete_marker = true }) else Ok v
+judged None (Some v) = read_as (record { code = NoSuchKey; is_delete_marker = true }) v v.content
 judged (Some id) None = Err (record { code = NoSuchVersion; is_delete_marker = false })
-judged (Some id) (Some v) =
-    if is_delete_marker v then Err (record { code = MethodNotAllowed; is_delete_marker = true }) else Ok v
+judged (Some id) (Some v) = read_as (record { code = MethodNotAllowed; is_delete_marker = true }) v v.content
 
--- the version that a request reads, or the refusal
-abbrev pub pick : Option VersionId → List Version → Result Version Refusal
+-- the version that a request reads, with what it stores, or the refusal
+abbrev pub pick : {B : Type 0} → Option VersionId → List (Version B) → Result (Version B × Data B) Refusal
 pick asked vs = judged asked (asked_for asked vs)
 
 -- the versions without the one under an id
-unfoldable pub without : VersionId → List Version → List Version
+unfoldable pub without : {B : Type 0} → VersionId → List (Version B) → List (Version B)
 without id vs = filter (λ v. not (is_under id v)) vs
 
 -- the version that entry n makes at moment t: under an id of its own where versioning is enabled, else
 -- under `null` ("Adding objects to versioning-enabled buckets" and "to versioning-suspended buckets")
-abbrev pub made : Versioning → ℕ → ℕ → Content → Version
+abbrev pub made : {B : Type 0} → Versioning → ℕ → ℕ → Content B → Version B
 made Enabled n t content = record { is_null = false; number = n; moment = t; content = content }
 made Unversioned n t content = record { is_null = true; number = n; moment = t; content = content }
 made Suspended n t content = record { is_null = true; number = n; moment = t; content = content }
 
+-- the id of that version
+abbrev pub new_id : Versioning → ℕ → VersionId
+new_id Enabled n = Numbered n
+new_id Unversioned n = Null
+new_id Suspended n = Null
+
 -- what entry n adds at moment t goes in front: beside all others where versioning is enabled; elsewhere it
 -- overwrites the version `null`, if there is one ("Adding objects to versioning-enabled buckets" and "to
 -- versioning-suspended buckets")
-abbrev pub after_adding : Versioning → ℕ → ℕ → Content → List Version → List Version
+abbrev pub after_adding : {B : Type 0} → Versioning → ℕ → ℕ → Content B → List (Version B) → List (Version B)
 after_adding Enabled n t content vs = made Enabled n t content ∷ vs
 after_adding Unversioned n t content vs = made Unversioned n t content ∷ without Null vs
 after_adding Suspended n t content vs = made Suspended n t content ∷ without Null vs
 
 -- a PUT adds what it stores
-abbrev pub after_put : Versioning → ℕ → ℕ → Data → List Version → List Version
+abbrev pub after_put : {B : Type 0} → Versioning → ℕ → ℕ → Data B → List (Version B) → List (Version B)
 after_put versioning n t stored vs = after_adding versioning n t (Stored stored) vs
 
 -- a DELETE that names no version: where versioning is enabled it adds a delete marker and removes nothing
 -- ("Deleting object versions from a versioning-enabled bucket"); where it is suspended it removes the
 -- version `null` alone, if there is one, and adds a delete marker `null` ("Deleting objects from
 -- versioning-suspended buckets"); where it never was enabled it removes the object
-abbrev pub after_delete : Versioning → ℕ → ℕ → List Version → List Version
+abbrev pub after_delete : {B : Type 0} → Versioning → ℕ → ℕ → List (Version B) → List (Version B)
 after_delete Enabled n t vs = after_adding Enabled n t DeleteMarker vs
 after_delete Suspended n t vs = after_adding Suspended n t DeleteMarker vs
 after_delete Unversioned n t vs = without Null vs
 
 -- the version that a put, or a DELETE that names no version, takes away: none where versioning is enabled,
 -- otherwise that under `null`
-abbrev pub replaced : Versioning → List Version → Option Version
+abbrev pub replaced : {B : Type 0} → Versioning → List (Version B) → Option (Version B)
 replaced Enabled vs = None
 replaced Unversioned vs = find (is_under Null) vs
 replaced Suspended vs = find (is_under Null) vs
 
 -- a DELETE that names a version removes it, for good, and no other ("Deleting object versions from a
 -- versioning-enabled bucket")
-abbrev pub after_delete_version : VersionId → List Version → List Version
+abbrev pub after_delete_version : {B : Type 0} → VersionId → List (Version B) → List (Version B)
 after_delete_version id vs = without id vs
 
 -- one version may stand before another: it is newer, and not both are `null`
-abbrev pub may_precede : Version → Version → Bool
+abbrev pub may_precede : {B : Type 0} → Version B → Version B → Bool
 may_precede v w = nat_lt w.number v.number && not (v.is_null && w.is_null)
 
 -- versions of one key: newest first, and at most one is `null`
-unfoldable pub are_versions : List Version → Bool
+unfoldable pub are_versions : {B : Type 0} → List (Version B) → Bool
 are_versions [] = true
 are_versions (v ∷ vs) = list_all (may_precede v) vs && are_versions vs
 
 -- a number is above those of all entries that made a version
-unfoldable pub is_new_number : ℕ → List Version → Bool
+unfoldable pub is_new_number : {B : Type 0} → ℕ → List (Version B) → Bool
 is_new_number n vs = list_all (λ v. nat_lt v.number n) vs

@@ -1,41 +1,50 @@
 //! Laws of the rules: what users rely on, with nothing to run.
 ghost use Rattle.s3_versions.specs.Laws.{OneUnderEachId, IdsAreTold, PutsLeaveVersions, DeletesLeaveVersions, DropsLeaveVersions, NextIsNew, PutsAreCurrent, MarkersHide, EnabledTakesNothing, OnlyNullGoes, OneVersionGoes, SumOfWhatGoes};
+ghost use Rattle.s3_versions.specs.Filling.{VersionsAreAlike, ReadsAreAlike, ChangesAreAlike};
 
 /// A law, with nothing to run: no two versions of a key have one id, and a version is under its own id and
 /// no other.
-pub fn ids_differ()
-    ensures one { OneUnderEachId }
-    ensures told { IdsAreTold }
+pub fn ids_differ<B>()
+    ensures one { OneUnderEachId B }
+    ensures told { IdsAreTold B }
 {}
 
 /// A law, with nothing to run: what a put or a delete leaves are versions of one key again, newest first and
 /// at most one of them `null`, if the number of the entry is above those that made the versions there. The next
 /// number is above them again.
-pub fn stay_versions()
-    ensures put { PutsLeaveVersions }
-    ensures deleted { DeletesLeaveVersions }
-    ensures version_gone { DropsLeaveVersions }
-    ensures next { NextIsNew }
+pub fn stay_versions<B>()
+    ensures put { PutsLeaveVersions B }
+    ensures deleted { DeletesLeaveVersions B }
+    ensures version_gone { DropsLeaveVersions B }
+    ensures next { NextIsNew B }
 {}
 
 /// A law, with nothing to run: after a put the current version is the one put, and a read that names no
 /// version gets it.
-pub fn puts_are_current()
-    ensures { PutsAreCurrent }
+pub fn puts_are_current<B>()
+    ensures { PutsAreCurrent B }
 {}
 
 /// A law, with nothing to run: after a delete that makes a marker, a read that names no version is told that
 /// there is no such key, and that it is a delete marker; where versioning is enabled, a put or a delete takes
 /// no version away, and elsewhere only `null`.
-pub fn markers_hide()
-    ensures hidden { MarkersHide }
-    ensures kept { EnabledTakesNothing }
-    ensures others { OnlyNullGoes }
+pub fn markers_hide<B>()
+    ensures hidden { MarkersHide B }
+    ensures kept { EnabledTakesNothing B }
+    ensures others { OnlyNullGoes B }
 {}
 
 /// A law, with nothing to run: to delete a version by its id takes away that version alone. What goes and
 /// what stays are what was there, whatever is counted of it.
-pub fn one_version_goes()
-    ensures one { OneVersionGoes }
-    ensures sum { SumOfWhatGoes }
+pub fn one_version_goes<B>()
+    ensures one { OneVersionGoes B }
+    ensures sum { SumOfWhatGoes B }
+{}
+
+/// A law, with nothing to run: the rules don't look at bytes. What each of them says of versions, it says of the
+/// same versions with other bytes, or with the bytes in the place of what stands for them.
+pub fn rules_ignore_bytes<B, C>()
+    ensures versions { VersionsAreAlike B C }
+    ensures reads { ReadsAreAlike B C }
+    ensures changes { ChangesAreAlike B C }
 {}

@@ -11,7 +11,9 @@ mod version;
 mod versions;
 
 pub use content_type::ContentType;
-pub use laws::{ids_differ, markers_hide, one_version_goes, puts_are_current, stay_versions};
+pub use laws::{
+    ids_differ, markers_hide, one_version_goes, puts_are_current, rules_ignore_bytes, stay_versions,
+};
 pub use metadata::{Metadata, MetadataEntry};
 pub use picking::{Picked, Refusal, current, judge, pick, version_under};
 pub use version::{Content, Data, Version, Versioning, VersioningStatus};

@@ -1,9 +1,13 @@
 //! The user metadata of an object.
-ghost use Rattle.std.specs.Prelude.{◌≡◌, IfOk};
+ghost use Rattle.std.specs.Prelude.{◌≡◌, ◌≤◌, nat_le, length, IfOk};
+ghost use Rattle.s3_versions.specs.Metadata.{metadata, metadata_size};
 
-use s3_terms::NoMemory;
+use s3_terms::{Code, NoMemory};
 use std::alloc::Global;
 use std::marker::Model;
+
+/// The most bytes of metadata: of names, without `x-amz-meta-`, and of values.
+const METADATA_MAX: usize = 2048;
 
 /// One name of an object's user metadata and its value. A contract sees it as both texts.
 #[derive(Drop)]
@@ -55,35 +59,45 @@ impl MetadataEntry {
 }
 
 /// The user metadata of an object (Amazon S3 User Guide, "Working with object metadata"), in the order in
-/// which replies tell it. A contract sees it as the list of its entries.
+/// which replies tell it: 64 entries and 2,048 bytes at most. A contract sees it as the list of its entries.
 #[derive(Drop)]
 pub struct Metadata {
     entries: Vec<MetadataEntry>,
 }
 
 impl Model for Metadata {
-    ghost use Rattle.std.specs.Prelude.{List};
+    ghost use Rattle.std.specs.Prelude.{List, ◌≤◌, length};
     ghost use Rattle.std.specs.Coded.{coded_list};
-    ghost use Rattle.s3_versions.specs.Metadata.{Entry, coded_entry};
+    ghost use Rattle.s3_versions.specs.Metadata.{Entry, coded_entry, metadata_size};
 
     ghost Value = { List Entry };
 
     ghost coded = { coded_list coded_entry };
 
     ghost view = { λ metadata. metadata.entries.items };
+
+    ghost invariant = { λ metadata. (length metadata.entries.items ≤ 64)
+        × (metadata_size metadata.entries.items ≤ 2_048) };
 }
 
 impl Metadata {
-    /// The metadata of these entries, which are moved and not copied.
-    pub fn new(entries: Vec<MetadataEntry>) -> Metadata
-        ensures { result ≡ entries.items }
+    /// The metadata of these entries, which are moved and not copied: `MetadataTooLarge` above 2,048 bytes.
+    #[tactic(auto, unfolding(crate::specs::Metadata::metadata))]
+    pub fn new(entries: Vec<MetadataEntry>) -> Result<Metadata, Code>
+        requires { length entries.items ≤ 64 }
+        ensures { result ≡ metadata entries.items }
     {
-        Metadata { entries }
+        if !fits(&entries, METADATA_MAX) {
+            return Err(Code::MetadataTooLarge);
+        }
+        Ok(Metadata { entries })
     }
 
     /// The entries.
     pub fn entries(&self) -> &[MetadataEntry]
-        ensures { result.now ≡ self.now }
+        ensures value { result.now ≡ self.now }
+        ensures count { length self.now ≤ 64 }
+        ensures size { metadata_size self.now ≤ 2_048 }
     {
         self.entries.as_slice()
     }
@@ -97,5 +111,19 @@ impl Metadata {
             entries.push(entry.copy(alloc)?)?;
         }
         Ok(Metadata { entries })
+    }
+}
+
+// Whether the entries have no more bytes than that.
+fn fits(entries: &[MetadataEntry], room: usize) -> bool
+    ensures { result ≡ nat_le (metadata_size entries.now) room }
+{
+    match entries {
+        [] => true,
+        [entry, rest @ ..] => {
+            let name = entry.name().len();
+            let value = entry.value().len();
+            name <= room && value <= room - name && fits(rest, room - name - value)
+        }
     }
 }

@@ -17,23 +17,23 @@ pub struct Refusal {
 
 /// The version that a request reads.
 #[derive(Clone, Copy)]
-pub struct Picked<'a> {
-    pub version: &'a Version,
+pub struct Picked<'a, B> {
+    pub version: &'a Version<B>,
     /// What it stores: it is no delete marker.
-    pub stored: &'a Data,
+    pub stored: &'a Data<B>,
 }
 
 ghost use Rattle.s3_versions.specs.Rules.{current as current_of, is_under, asked_for, judged as rule, pick as pick_rule, stored};
 
 /// The current version, which is the newest. `versions` are those of one key, newest first.
-pub fn current(versions: &[Version]) -> Option<&Version>
+pub fn current<B>(versions: &[Version<B>]) -> Option<&Version<B>>
     ensures { option_copied result ≡ current_of versions.now }
 {
     versions.first()
 }
 
 /// The version under this id, found at the cost of the list's length.
-pub fn version_under(versions: &[Version], id: VersionId) -> Option<&Version>
+pub fn version_under<B>(versions: &[Version<B>], id: VersionId) -> Option<&Version<B>>
     ensures { option_copied result ≡ find (is_under id) versions.now }
 {
     versions.iter().find(|version| version.is_under(id))
@@ -42,15 +42,18 @@ pub fn version_under(versions: &[Version], id: VersionId) -> Option<&Version>
 /// Judges what a request reads: `found` is the version under the id that it names, or the current one
 /// where it names none. Refused with `NoSuchKey` or `NoSuchVersion` where there is none, and with
 /// `NoSuchKey` or `MethodNotAllowed` where it is a delete marker.
-pub fn judge(asked: Option<VersionId>, found: Option<&Version>) -> Result<Picked<'_>, Refusal>
-    ensures value { IfOk result (λ picked. rule asked (option_copied found.entry) ≡ Ok picked.version.now) }
-    ensures stored { IfOk result (λ picked. stored picked.version.now ≡ Some picked.stored.now) }
+pub fn judge<B>(
+    asked: Option<VersionId>,
+    found: Option<&Version<B>>,
+) -> Result<Picked<'_, B>, Refusal>
+    ensures value { IfOk result (λ picked.
+        rule asked (option_copied found.entry) ≡ Ok (picked.version.now, picked.stored.now)) }
     ensures refused { IfErr result (λ refusal. rule asked (option_copied found.entry) ≡ Err refusal) }
 {
     match found {
-        None => Err(absent(asked)),
+        None => Err(absent::<B>(asked)),
         Some(version) => match version.stored() {
-            None => Err(marked(asked)),
+            None => Err(marked::<B>(asked)),
             Some(stored) => Ok(Picked { version, stored }),
         },
     }
@@ -58,9 +61,8 @@ pub fn judge(asked: Option<VersionId>, found: Option<&Version>) -> Result<Picked
 
 /// The version of this key that a request reads, by the rule of `judge`. `versions` are those of one key,
 /// newest first.
-pub fn pick(versions: &[Version], asked: Option<VersionId>) -> Result<Picked<'_>, Refusal>
-    ensures value { IfOk result (λ picked. pick_rule asked versions.now ≡ Ok picked.version.now) }
-    ensures stored { IfOk result (λ picked. stored picked.version.now ≡ Some picked.stored.now) }
+pub fn pick<B>(versions: &[Version<B>], asked: Option<VersionId>) -> Result<Picked<'_, B>, Refusal>
+    ensures value { IfOk result (λ picked. pick_rule asked versions.now ≡ Ok (picked.version.now, picked.stored.now)) }
     ensures refused { IfErr result (λ refusal. pick_rule asked versions.now ≡ Err refusal) }
 {
     match asked {
@@ -70,8 +72,8 @@ pub fn pick(versions: &[Version], asked: Option<VersionId>) -> Result<Picked<'_>
 }
 
 // The refusal where there is no version.
-fn absent(asked: Option<VersionId>) -> Refusal
-    ensures { rule asked None ≡ Err result }
+fn absent<B>(asked: Option<VersionId>) -> Refusal
+    ensures { rule {B = B} asked None ≡ Err result }
 {
     let code = match asked {
         None => Code::NoSuchKey,
@@ -84,8 +86,8 @@ fn absent(asked: Option<VersionId>) -> Refusal
 }
 
 // The refusal where the version is a delete marker.
-fn marked(asked: Option<VersionId>) -> Refusal
-    ensures { (v : Version) → stored v ≡ None → rule asked (Some v) ≡ Err result }
+fn marked<B>(asked: Option<VersionId>) -> Refusal
+    ensures { (v : Version B) → stored v ≡ None → rule asked (Some v) ≡ Err result }
 {
     let code = match asked {
         None => Code::NoSuchKey,

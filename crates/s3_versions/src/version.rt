@@ -1,5 +1,5 @@
 //! A version of an object, and a delete marker.
-ghost use Rattle.std.specs.Prelude.{◌≡◌, ℕ, false, IfOk, OnErr};
+ghost use Rattle.std.specs.Prelude.{◌≡◌, false, IfOk, OnErr};
 ghost use Rattle.std.specs.Option.{option_copied};
 
 use crate::{ContentType, Metadata};
@@ -21,12 +21,11 @@ pub enum Versioning {
 }
 
 impl Versioning {
-    ghost use Rattle.s3_versions.specs.declared.version.Content.{Content};
-    ghost use Rattle.s3_versions.specs.Rules.{id_of, made};
+    ghost use Rattle.s3_versions.specs.Rules.{new_id};
 
     /// The id of what the entry of this number adds.
     pub fn new_id(self, number: u64) -> VersionId
-        ensures { (t : ℕ) (content : Content) → result ≡ id_of (made self number t content) }
+        ensures { result ≡ new_id self number }
     {
         match self {
             Versioning::Enabled => VersionId::of(number),
@@ -57,21 +56,22 @@ impl VersioningStatus {
     }
 }
 
-/// What a put stored.
+/// What a put stored. `B` is what stands for the bytes: their number in the rows of a catalogue, a body in the
+/// state and in answers.
 #[derive(Drop)]
-pub struct Data {
+pub struct Data<B> {
     pub tag: Tag,
     pub content_type: ContentType,
     pub metadata: Metadata,
     /// How many bytes there are.
     pub size: u64,
-    /// The number under which the bytes are kept.
-    pub body: u64,
+    /// The bytes, or what stands for them, as the number under which they are kept.
+    pub body: B,
 }
 
-impl Data {
+impl<B: Copy> Data<B> {
     /// A copy, which names the same bytes, at the cost of its media type and metadata.
-    pub fn copy(&self, alloc: Global) -> Result<Data, NoMemory>
+    pub fn copy(&self, alloc: Global) -> Result<Data<B>, NoMemory>
         ensures { IfOk result (λ copied. copied ≡ self.now) }
     {
         let content_type = self.content_type.copy(alloc)?;
@@ -88,19 +88,19 @@ impl Data {
 
 /// What a version is.
 #[derive(Drop)]
-pub enum Content {
+pub enum Content<B> {
     /// A delete marker: the object counts as deleted.
     DeleteMarker,
     /// What a put stored.
-    Stored(Data),
+    Stored(Data<B>),
 }
 
-impl Content {
+impl<B: Copy> Content<B> {
     ghost use Rattle.s3_versions.specs.Rules.{is_marker};
 
     /// A copy, which names the same bytes, at the cost of its media type and metadata. A delete marker takes no
     /// memory.
-    pub fn copy(&self, alloc: Global) -> Result<Content, NoMemory>
+    pub fn copy(&self, alloc: Global) -> Result<Content<B>, NoMemory>
         ensures value { IfOk result (λ copied. copied ≡ self.now) }
         ensures memory { OnErr result (is_marker self.now ≡ false) }
     {
@@ -113,17 +113,17 @@ impl Content {
 
 /// A version of an object.
 #[derive(Drop)]
-pub struct Version {
+pub struct Version<B> {
     /// Whether its id is `null`, and not the number of the entry that made it.
     pub is_null: bool,
     /// The number of the entry that made it.
     pub number: u64,
     /// When it was made.
     pub moment: Moment,
-    pub content: Content,
+    pub content: Content<B>,
 }
 
-impl Version {
+impl<B> Version<B> {
     ghost use Rattle.s3_versions.specs.Rules.{id_of, is_under, is_delete_marker, stored};
 
     /// Its id.
@@ -158,7 +158,7 @@ impl Version {
     }
 
     /// What a put stored; `None` for a delete marker.
-    pub fn stored(&self) -> Option<&Data>
+    pub fn stored(&self) -> Option<&Data<B>>
         ensures { option_copied result ≡ stored self.now }
     {
         match &self.content {
@@ -166,10 +166,14 @@ impl Version {
             Content::Stored(data) => Some(data),
         }
     }
+}
+
+impl<B: Copy> Version<B> {
+    ghost use Rattle.s3_versions.specs.Rules.{is_delete_marker};
 
     /// A copy, which names the same bytes, at the cost of its media type and metadata. A delete marker takes no
     /// memory.
-    pub fn copy(&self, alloc: Global) -> Result<Version, NoMemory>
+    pub fn copy(&self, alloc: Global) -> Result<Version<B>, NoMemory>
         ensures value { IfOk result (λ copied. copied ≡ self.now) }
         ensures memory { OnErr result (is_delete_marker self.now ≡ false) }
     {

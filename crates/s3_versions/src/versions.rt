@@ -13,30 +13,30 @@ use std::marker::Model;
 /// The versions of one key, newest first. A contract sees them as a list. The entries that made them have
 /// falling numbers, and at most one version has the id `null`, so no two have one id.
 #[derive(Drop)]
-pub struct Versions {
-    list: Vec<Version>,
+pub struct Versions<B> {
+    list: Vec<Version<B>>,
 }
 
-impl Model for Versions {
+impl<B> Model for Versions<B> {
     ghost use Rattle.std.specs.Prelude.{List, IsTrue};
     ghost use Rattle.std.specs.Coded.{coded_list};
     ghost use Rattle.s3_versions.specs.declared.version.Version.{Version};
     ghost use Rattle.s3_versions.specs.Codes.{coded_version};
     ghost use Rattle.s3_versions.specs.Rules.{are_versions};
 
-    ghost Value = { List Version };
+    ghost Value = { List (Version B) };
 
-    ghost coded = { coded_list coded_version };
+    ghost coded = { coded_list (coded_version B.code) };
 
     ghost view = { λ versions. versions.list.items };
 
     ghost invariant = { λ versions. IsTrue (are_versions versions.list.items) };
 }
 
-impl Versions {
+impl<B: Drop> Versions<B> {
     /// No versions, which take no memory yet.
     #[tactic(auto, unfolding(crate::specs::Rules::are_versions))]
-    pub fn new(alloc: Global) -> Versions
+    pub fn new(alloc: Global) -> Versions<B>
         ensures { result ≡ [] }
     {
         Versions {
@@ -45,24 +45,11 @@ impl Versions {
     }
 
     /// The versions, newest first.
-    pub fn as_slice(&self) -> &[Version]
+    pub fn as_slice(&self) -> &[Version<B>]
         ensures value { result.now ≡ self.now }
         ensures valid { IsTrue (are_versions self.now) }
     {
         self.list.as_slice()
-    }
-
-    /// Copies of the versions, newest first, which name the same bytes. Costs their media types and metadata.
-    /// `NoMemory` comes only where there is a version.
-    pub fn to_vec(&self, alloc: Global) -> Result<Vec<Version>, NoMemory>
-        ensures value { IfOk result (λ copies. copies.items ≡ self.now) }
-        ensures memory { OnErr result (self.now ≢ []) }
-    {
-        let mut copies = Vec::new(alloc);
-        for version in &self.list {
-            copies.push(version.copy(alloc)?)?;
-        }
-        Ok(copies)
     }
 
     /// Whether there is no version.
@@ -83,8 +70,8 @@ impl Versions {
         versioning: Versioning,
         number: u64,
         moment: Moment,
-        content: Content,
-    ) -> Result<Option<Version>, NoMemory>
+        content: Content<B>,
+    ) -> Result<Option<Version<B>>, NoMemory>
         requires { IsTrue (is_new_number number self.old) }
         ensures ok { OnOk result (self.new ≡ after_adding versioning number moment content self.old) }
         ensures gone { IfOk result (λ gone. gone ≡ replaced versioning self.old) }
@@ -104,8 +91,8 @@ impl Versions {
         versioning: Versioning,
         number: u64,
         moment: Moment,
-        stored: Data,
-    ) -> Result<Option<Version>, NoMemory>
+        stored: Data<B>,
+    ) -> Result<Option<Version<B>>, NoMemory>
         requires { IsTrue (is_new_number number self.old) }
         ensures ok { OnOk result (self.new ≡ after_put versioning number moment stored self.old) }
         ensures gone { IfOk result (λ gone. gone ≡ replaced versioning self.old) }
@@ -125,7 +112,7 @@ impl Versions {
         versioning: Versioning,
         number: u64,
         moment: Moment,
-    ) -> Result<Option<Version>, NoMemory>
+    ) -> Result<Option<Version<B>>, NoMemory>
         requires { IsTrue (is_new_number number self.old) }
         ensures ok { OnOk result (self.new ≡ after_delete versioning number moment self.old) }
         ensures gone { IfOk result (λ gone. gone ≡ replaced versioning self.old) }
@@ -142,7 +129,7 @@ impl Versions {
     }
 
     /// Takes out the version under this id, and answers it. Takes no memory, and costs the list's length.
-    pub fn delete_version(&mut self, id: VersionId) -> Option<Version>
+    pub fn delete_version(&mut self, id: VersionId) -> Option<Version<B>>
         ensures value { self.new ≡ after_delete_version id self.old }
         ensures gone { result ≡ find (is_under id) self.old }
     {
@@ -167,7 +154,7 @@ impl Versions {
 
     // Puts a version with an id of its own in front.
     #[tactic(auto, using(crate::proofs::VersionLemmas::new_precedes))]
-    fn push_newest(&mut self, version: Version) -> Result<Option<Version>, NoMemory>
+    fn push_newest(&mut self, version: Version<B>) -> Result<Option<Version<B>>, NoMemory>
         requires newer { IsTrue (is_new_number version.number self.old) }
         requires own { version.is_null ≡ false }
         ensures ok { OnOk result (self.new ≡ version ∷ self.old) }
@@ -180,7 +167,7 @@ impl Versions {
 
     // Puts a version `null` in front, in the place of the one that is there.
     #[tactic(auto, using(crate::proofs::VersionLemmas::new_null_precedes))]
-    fn replace_null(&mut self, version: Version) -> Result<Option<Version>, NoMemory>
+    fn replace_null(&mut self, version: Version<B>) -> Result<Option<Version<B>>, NoMemory>
         requires { IsTrue (is_new_number version.number self.old) }
         ensures ok { OnOk result (self.new ≡ version ∷ without Null self.old) }
         ensures gone { IfOk result (λ gone. gone ≡ find (is_under Null) self.old) }
@@ -197,8 +184,28 @@ impl Versions {
     }
 }
 
+impl<B: Copy + Drop> Versions<B> {
+    /// Copies of the versions, newest first, which name the same bytes. Costs their media types and metadata.
+    /// `NoMemory` comes only where there is a version.
+    pub fn to_vec(&self, alloc: Global) -> Result<Vec<Version<B>>, NoMemory>
+        ensures value { IfOk result (λ copies. copies.items ≡ self.now) }
+        ensures memory { OnErr result (self.now ≢ []) }
+    {
+        let mut copies = Vec::new(alloc);
+        for version in &self.list {
+            copies.push(version.copy(alloc)?)?;
+        }
+        Ok(copies)
+    }
+}
+
 // The version that the entry of this number makes at this moment.
-fn version_made(versioning: Versioning, number: u64, moment: Moment, content: Content) -> Version
+fn version_made<B: Drop>(
+    versioning: Versioning,
+    number: u64,
+    moment: Moment,
+    content: Content<B>,
+) -> Version<B>
     ensures { result ≡ made versioning number moment content }
 {
     let is_null = match versioning {
@@ -214,7 +221,7 @@ fn version_made(versioning: Versioning, number: u64, moment: Moment, content: Co
 }
 
 // Where the first version under this id is.
-fn first_under(versions: &[Version], id: VersionId) -> Option<usize>
+fn first_under<B: Drop>(versions: &[Version<B>], id: VersionId) -> Option<usize>
     ensures value { result ≡ position (is_under id) versions.now }
     ensures bound { IfSome result (λ place. place < length versions.now) }
 {
@@ -222,7 +229,7 @@ fn first_under(versions: &[Version], id: VersionId) -> Option<usize>
 }
 
 // Puts a version in front.
-fn put_first(versions: &mut Vec<Version>, version: Version) -> Result<(), NoMemory>
+fn put_first<B: Drop>(versions: &mut Vec<Version<B>>, version: Version<B>) -> Result<(), NoMemory>
     ensures ok { OnOk result (versions.new.items ≡ version ∷ versions.old.items) }
     ensures err { OnErr result (versions.new.items ≡ versions.old.items) }
 {
@@ -231,7 +238,7 @@ fn put_first(versions: &mut Vec<Version>, version: Version) -> Result<(), NoMemo
 }
 
 // Takes out the version at this place.
-fn take_at(versions: &mut Vec<Version>, place: usize) -> Version
+fn take_at<B: Drop>(versions: &mut Vec<Version<B>>, place: usize) -> Version<B>
     requires { place < vec_len versions.old }
     ensures items { versions.new.items ≡ remove versions.old.items place }
     ensures gone { slice_get versions.old.items place ≡ Some result }
@@ -241,7 +248,11 @@ fn take_at(versions: &mut Vec<Version>, place: usize) -> Version
 }
 
 // Takes out the version at this place and puts another in front, which needs no more room.
-fn replace_at(versions: &mut Vec<Version>, place: usize, version: Version) -> Version
+fn replace_at<B: Drop>(
+    versions: &mut Vec<Version<B>>,
+    place: usize,
+    version: Version<B>,
+) -> Version<B>
     requires { place < vec_len versions.old }
     ensures items { versions.new.items ≡ version ∷ remove versions.old.items place }
     ensures gone { slice_get versions.old.items place ≡ Some result }

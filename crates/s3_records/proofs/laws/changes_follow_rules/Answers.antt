@@ -2,7 +2,7 @@ use Rattle.s3_records.proofs.LawLemmas.{changes_follow_rules, switches_keep_keys
 use Rattle.s3_records.proofs.laws.changes_follow_rules.Goals as goal
 
 pub returns-clause-rules : goal.returns-clause-rules
-returns-clause-rules c = changes_follow_rules
+returns-clause-rules g c = changes_follow_rules
 
 pub returns-clause-switches : goal.returns-clause-switches
-returns-clause-switches c = switches_keep_keys
+returns-clause-switches g c = switches_keep_keys

@@ -2,10 +2,10 @@ use Rattle.s3_records.proofs.LawLemmas.{empty_has_nothing, others_have_something
 use Rattle.s3_records.proofs.laws.empty_has_nothing.Goals as goal
 
 pub returns-clause-nothing : goal.returns-clause-nothing
-returns-clause-nothing c = empty_has_nothing
+returns-clause-nothing g c = empty_has_nothing
 
 pub returns-clause-something : goal.returns-clause-something
-returns-clause-something c = others_have_something
+returns-clause-something g c = others_have_something
 
 pub returns-clause-filled : goal.returns-clause-filled
-returns-clause-filled c = keys_stay_filled
+returns-clause-filled g c = keys_stay_filled

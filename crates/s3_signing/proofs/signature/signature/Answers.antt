@@ -7,7 +7,7 @@ use Rattle.s3_signing.proofs.signature.signature.Goals as goal
 pub returns-clause-value : goal.returns-clause-value
 returns-clause-value c =
     let key = c.args.key.now in
-    let scheme = c.update.ensures key [] c.new-mac.ensures in
+    let scheme = c.update.ensures key [] c.begin-mac.ensures in
     let stamped = c.update-3.ensures key _ (c.update-2.ensures key _ scheme) in
     let dated = c.update-5.ensures key _ (c.update-4.ensures key _ stamped) in
     let placed = c.update-7.ensures key _ (c.update-6.ensures key _ dated) in

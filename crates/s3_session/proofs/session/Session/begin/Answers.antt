@@ -1,18 +1,22 @@
-use Rattle.std.proofs.Common.{refl, subst, sym}
+use Rattle.std.proofs.Common.{◌≡◌, [], ◌++◌, refl, subst, sym}
+use Rattle.std.specs.Prelude.{if◌then◌else◌}
 use Rattle.s3_http_heads.specs.Search.{Holds}
-use Rattle.s3_session.specs.Session.{Connection}
+use Rattle.s3_replies.specs.Replies.{PrintsRefusal, continue_line}
+use Rattle.s3_session.specs.Session.{Connection, added, unsent_of}
 use Rattle.s3_session.proofs.ReceivingLemmas.{begins_admitted, begins_refused}
 use Rattle.s3_session.proofs.session.Session.begin.Goals as goal
 
 pub returns-in-Ok-clause-fed : goal.returns-in-Ok-clause-fed
 returns-in-Ok-clause-fed c rest held whole =
+    let written = subst (λ (s : Connection). unsent_of c.invite.new.self ≡ unsent_of s ++ (if c.in-Admitted.invited then continue_line else [])) c.self.view_is c.in-Ok.ensures.written in
     begins_admitted c.args.config.now c.args.moment rest c.args.piece.now c.args.self.now _ held whole c.searches_find.ensures.head
     c.payloads_are_judged.ensures.within c.in-Admitted.incoming c.in-Admitted.invited _ c.read_body.result.0 c.read_body.result.1
-    c.in-Ok.ensures.written c.read_body.ensures.longer (λ last h invites. c.read_body.ensures.fed c.args.config.now rest last h invites)
+    written c.read_body.ensures.longer (λ last h invites. c.read_body.ensures.fed c.args.config.now rest last h invites)
     c.text.result (c.text.ensures.text rest (subst (λ (s : Connection). Holds s.search rest) (sym c.self.view_is) held)) c.in-Admitted.ensures
 
 pub returns-in-Refused-clause-fed : goal.returns-in-Refused-clause-fed
 returns-in-Refused-clause-fed c rest held whole =
+    let printed = subst (λ (s : Connection). PrintsRefusal c.in-Refused.code c.args.moment c.in-Refused.head_only (added (unsent_of s) (unsent_of c.refuse.new.self))) c.self.view_is c.refuse.ensures.printed in
     begins_refused c.args.config.now c.args.moment rest c.args.piece.now c.args.self.now _ held whole c.searches_find.ensures.head
     c.text.result (c.text.ensures.text rest (subst (λ (s : Connection). Holds s.search rest) (sym c.self.view_is) held)) c.in-Refused.code c.in-Refused.head_only c.in-Refused.ensures
-    c.refuse.ensures.stage c.refuse.ensures.printed _ refl
+    c.refuse.ensures.stage printed _ refl

@@ -1,4 +1,5 @@
 use Rattle.s3_session.proofs.ReceivingLemmas.{body_fed, more_taken}
+use Rattle.s3_session.proofs.UndecidedLemmas.{body_undecided}
 use Rattle.s3_session.proofs.session.Session.read_body.Goals as goal
 
 pub returns-clause-fed : goal.returns-clause-fed
@@ -6,4 +7,6 @@ returns-clause-fed c settings rest last h invites = record {
   here = body_fed c.verdicts_stay.ensures.head c.invitations_are_final.ensures.stay settings c.args.incoming rest last c.args.piece.now c.args.self.now _
       c.read-len.result.0 c.read-len.result.1 c.go_on.result h invites (c.read-len.ensures.read settings rest h) c.go_on.ensures.goes_on;
   all = more_taken c.args.incoming.context c.args.self.now _ c.read-len.result.1 c.go_on.result c.go_on.ensures.goes_on (c.read-len.ensures.all settings rest h);
+  at_once = body_undecided c.verdicts_stay.ensures.head c.invitations_are_final.ensures.stay settings c.args.incoming rest last c.args.piece.now c.args.self.now _
+      c.read-len.result.0 c.read-len.result.1 c.go_on.result h invites (c.read-len.ensures.at_once settings rest h) c.go_on.ensures.goes_on c.read-len.ensures.kept;
 }

@@ -1,0 +1,3 @@
+pub mod DateLemmas
+pub mod RowLemmas
+pub mod TextLemmas

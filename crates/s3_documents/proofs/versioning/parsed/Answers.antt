@@ -1,0 +1,11 @@
+use Rattle.std.proofs.Common.{refl, inr}
+use Rattle.serde_json.specs.View.{view}
+use Rattle.s3_documents.proofs.TextLemmas.{json_of-text, json_of-bytes}
+use Rattle.s3_documents.proofs.versioning.parsed.Goals as goal
+
+pub returns-in_default-clause-refused : goal.returns-in_default-clause-refused
+returns-in_default-clause-refused c = inr (refl, json_of-bytes c.args.body.now c.in_default.ensures.cases.0)
+
+pub returns-in-Ok-from_str-clause-value : goal.returns-in-Ok-from_str-clause-value
+returns-in-Ok-from_str-clause-value c =
+    json_of-text c.args.body.now c.in-Ok.text.now (view c.in-Ok-from_str.value) c.in-Ok.ensures.cases.0 c.in-Ok.ensures.cases.1 c.in-Ok-from_str.ensures.ok

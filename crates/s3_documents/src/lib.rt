@@ -1,0 +1,10 @@
+//! The documents of requests and replies, as JSON: what is read from the body of a request, and the exact text of
+//! a reply's body, which `serde_json` prints, compact and with its members in the order of their bytes.
+#![tactic(auto)]
+
+mod buckets;
+mod timestamp;
+mod versioning;
+
+pub use buckets::buckets_document;
+pub use versioning::{read_versioning, versioning_document};

@@ -1,0 +1,25 @@
+//! Moments, as documents write them.
+ghost use Rattle.std.specs.Prelude.{◌≡◌, IsAscii, length};
+ghost use Rattle.s3_documents.specs.Timestamp.{IsTimestamp, spelled_out};
+
+use s3_calendar::{Moment, Stamp};
+
+/// The moment as documents write it, as `2013-05-24T00:00:00.000Z`.
+pub(crate) fn timestamp(moment: Moment) -> [u8; 24]
+    ensures value { IsTimestamp moment result }
+    ensures ascii { IsAscii result }
+{
+    let stamp = Stamp::at(moment);
+    spelled(stamp.text())
+}
+
+// The date and the time of day of a stamp's text.
+fn spelled(t: &[u8]) -> [u8; 24]
+    requires { length t.now ≡ 16 }
+    ensures { result ≡ spelled_out t.now }
+{
+    [
+        t[0], t[1], t[2], t[3], b'-', t[4], t[5], b'-', t[6], t[7], b'T', t[9], t[10], b':', t[11],
+        t[12], b':', t[13], t[14], b'.', b'0', b'0', b'0', b'Z',
+    ]
+}

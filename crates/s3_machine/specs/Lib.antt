@@ -1,0 +1,3 @@
+pub mod Fault
+pub mod Laws
+pub mod Step

@@ -1,0 +1,125 @@
+-- The state of a server, and one step of it (Amazon S3 API Reference, the operations that are named; Amazon S3 User
+-- Guide, "Using versioning in S3 buckets").
+use Rattle.std.specs.Prelude.{ℕ, Bool, true, false, not, List, length, Option, Some, None, find, Result, Ok, Err}
+use Rattle.std.specs.Option.{option_map, unwrap_or}
+use Rattle.s3_segments.specs.Payload.{tag_of}
+use Rattle.s3_terms.specs.declared.code.Code.TheVariants.{NoSuchBucket, BucketAlreadyOwnedByYou, BucketNotEmpty}
+use Rattle.s3_names.specs.declared.ids.VersionId.{VersionId}
+use Rattle.s3_versions.specs.Metadata.{Entry}
+use Rattle.s3_versions.specs.declared.picking.Refusal.{Refusal}
+use Rattle.s3_versions.specs.declared.version.Data.{Data}
+use Rattle.s3_versions.specs.declared.version.Version.{Version}
+use Rattle.s3_versions.specs.declared.version.Versioning.{Versioning}
+use Rattle.s3_versions.specs.declared.version.Versioning.TheVariants.{Unversioned, Enabled, Suspended}
+use Rattle.s3_versions.specs.Rules.{id_of, is_under, is_delete_marker, pick, new_id}
+use Rattle.s3_versions.specs.Filling.{filled_data}
+use Rattle.s3_records.specs.Catalogue.{Catalogue, has_bucket, listed_buckets, is_empty_bucket, versions_of, versioning_of}
+use Rattle.s3_records.specs.Changes.{bucket_added, bucket_dropped, versioning_changed, version_put, key_deleted, version_dropped}
+use Rattle.s3_machine.specs.declared.command.BucketCommand.{BucketCommand}
+use Rattle.s3_machine.specs.declared.command.BucketCommand.TheVariants as bucket_commands
+use Rattle.s3_machine.specs.declared.command.Command.{Command}
+use Rattle.s3_machine.specs.declared.command.Command.TheVariants as commands
+use Rattle.s3_machine.specs.declared.command.KeyCommand.{KeyCommand}
+use Rattle.s3_machine.specs.declared.command.KeyCommand.TheVariants as key_commands
+use Rattle.s3_machine.specs.declared.outcome.Found.{Found}
+use Rattle.s3_machine.specs.declared.outcome.Outcome.{Outcome}
+use Rattle.s3_machine.specs.declared.outcome.Outcome.TheVariants as outcomes
+use Rattle.s3_machine.specs.Fault.{refuse, ◌>>◌, ◌>>=◌}
+
+-- the buckets, with their keys and the versions under these, with their bytes
+abbrev pub State : Type 0
+State = Catalogue (List ℕ)
+
+-- the state after a step, and what came of the command
+abbrev pub Stepped : Type 0
+Stepped = State × Outcome
+
+-- the id that a reply shows: none where versioning never was set
+abbrev pub shown_in : Versioning → VersionId → Option VersionId
+shown_in Unversioned id = None
+shown_in Enabled id = Some id
+shown_in Suspended id = Some id
+
+-- a DELETE that names no version makes a delete marker where versioning was ever set
+abbrev pub makes_marker : Versioning → Bool
+makes_marker Unversioned = false
+makes_marker Enabled = true
+makes_marker Suspended = true
+
+-- the version of an id is a delete marker
+abbrev pub is_marker_under : {B : Type 0} → VersionId → List (Version B) → Bool
+is_marker_under id vs = unwrap_or (option_map is_delete_marker (find (is_under id) vs)) false
+
+-- what a put stores
+abbrev pub data_of : List ℕ → List Entry → List ℕ → Data (List ℕ)
+data_of content_type metadata bytes =
+    record { tag = tag_of bytes; content_type = content_type; metadata = metadata; size = length bytes; body = bytes }
+
+-- what is told of a version that is read, and what it stores
+abbrev pub found_in : {B : Type 0} → Versioning → Version B × Data B → Found B
+found_in versioning read =
+    record { shown = shown_in versioning (id_of read.0); moment = read.0.moment; stored = read.1 }
+
+-- the same without the bytes
+abbrev pub head_of : {B : Type 0} → Found B → Found (Unit {0})
+head_of found = record { shown = found.shown; moment = found.moment; stored = filled_data (λ body. tt) found.stored }
+
+-- what a command on a bucket does at moment t
+unfoldable pub bucket_done : State → ℕ → List ℕ → BucketCommand → Result Stepped Refusal
+bucket_done s t name bucket_commands.Create = do
+  refuse (has_bucket s name) BucketAlreadyOwnedByYou
+  Ok (bucket_added s name t, outcomes.BucketMade name)
+bucket_done s t name bucket_commands.Head = do
+  refuse (not (has_bucket s name)) NoSuchBucket
+  Ok (s, outcomes.BucketFound)
+bucket_done s t name bucket_commands.Delete = do
+  refuse (not (has_bucket s name)) NoSuchBucket
+  refuse (not (is_empty_bucket s name)) BucketNotEmpty
+  Ok (bucket_dropped s name, outcomes.BucketDropped)
+bucket_done s t name (bucket_commands.PutVersioning status) = do
+  refuse (not (has_bucket s name)) NoSuchBucket
+  Ok (versioning_changed s name status, outcomes.VersioningSet)
+bucket_done s t name bucket_commands.GetVersioning = do
+  refuse (not (has_bucket s name)) NoSuchBucket
+  Ok (s, outcomes.BucketVersioning (versioning_of s name))
+
+-- what a command on a key does, as entry n at moment t, in a bucket that is there
+unfoldable pub key_done : State → ℕ → ℕ → List ℕ → List ℕ → KeyCommand → Result Stepped Refusal
+key_done s n t name key (key_commands.Put content_type metadata payload) =
+    Ok (
+      version_put s name key n t (data_of content_type metadata payload),
+      outcomes.Put (tag_of payload) (shown_in (versioning_of s name) (new_id (versioning_of s name) n)),
+    )
+key_done s n t name key (key_commands.Get asked) = do
+  read ← pick asked (versions_of s name key)
+  Ok (s, outcomes.Got (found_in (versioning_of s name) read))
+key_done s n t name key (key_commands.Head asked) = do
+  read ← pick asked (versions_of s name key)
+  Ok (s, outcomes.HeadGot (head_of (found_in (versioning_of s name) read)))
+key_done s n t name key (key_commands.Delete None) =
+    Ok (
+      key_deleted s name key n t,
+      outcomes.Deleted (shown_in (versioning_of s name) (new_id (versioning_of s name) n)) (makes_marker (versioning_of s name)),
+    )
+key_done s n t name key (key_commands.Delete (Some id)) =
+    Ok (
+      version_dropped s name key id,
+      outcomes.Deleted (shown_in (versioning_of s name) id) (is_marker_under id (versions_of s name key)),
+    )
+
+-- what a command does, as entry n at moment t: the first refusal, or the change and what came of it
+unfoldable pub done : State → ℕ → ℕ → Command → Result Stepped Refusal
+done s n t commands.ListBuckets = Ok (s, outcomes.Buckets (listed_buckets s))
+done s n t (commands.Bucket name asked) = bucket_done s t name asked
+done s n t (commands.Key name key asked) = do
+  refuse (not (has_bucket s name)) NoSuchBucket
+  key_done s n t name key asked
+
+-- a refusal leaves the state as it was
+abbrev pub stepped : State → Result Stepped Refusal → Stepped
+stepped s (Ok result) = result
+stepped s (Err refusal) = (s, outcomes.Refused refusal.code refusal.is_delete_marker)
+
+-- one step
+abbrev pub step : State → ℕ → ℕ → Command → Stepped
+step s n t command = stepped s (done s n t command)

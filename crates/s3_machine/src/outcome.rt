@@ -1,0 +1,104 @@
+//! What the machine answers to a command.
+ghost use Rattle.std.specs.Prelude.{◌≡◌};
+
+use s3_calendar::Moment;
+use s3_names::{BucketName, Tag, VersionId};
+use s3_records::ListedBucket;
+use s3_segments::Body;
+use s3_terms::Code;
+use s3_versions::{Data, Versioning};
+use std::marker::Model;
+
+/// The machine's answer to one command.
+#[derive(Drop)]
+pub struct Answer {
+    /// The number of the entry: how many commands the machine has answered before this one.
+    pub number: u64,
+    pub outcome: Outcome,
+}
+
+/// What came of a command. A version's id is shown where the bucket's versioning was ever set.
+#[derive(Drop)]
+pub enum Outcome {
+    /// All buckets, by name in the order of bytes.
+    Buckets {
+        buckets: BucketList,
+    },
+    /// The bucket of this name is made.
+    BucketMade {
+        name: BucketName,
+    },
+    /// The bucket is there.
+    BucketFound,
+    /// The bucket is dropped.
+    BucketDropped,
+    /// The bucket's versioning is set.
+    VersioningSet,
+    /// The bucket's versioning.
+    BucketVersioning {
+        versioning: Versioning,
+    },
+    /// The object is stored, under this tag and as a version of this id.
+    Put {
+        tag: Tag,
+        shown: Option<VersionId>,
+    },
+    /// The version with its bytes.
+    Got {
+        found: Found<Body>,
+    },
+    /// What is told of the version beside its bytes.
+    HeadGot {
+        found: Found<()>,
+    },
+    /// What was to be deleted is not there now: the id is that of the delete marker that was made, or the one
+    /// that the request named. Says whether a delete marker was made or is gone.
+    Deleted {
+        shown: Option<VersionId>,
+        is_delete_marker: bool,
+    },
+    /// The machine refuses, and is as it was. Says whether what was asked for is a delete marker.
+    Refused {
+        code: Code,
+        is_delete_marker: bool,
+    },
+}
+
+/// A version that was read: when it was made, and what a put stored.
+#[derive(Drop)]
+pub struct Found<B> {
+    pub shown: Option<VersionId>,
+    pub moment: Moment,
+    pub stored: Data<B>,
+}
+
+/// Buckets as they are listed. A contract sees the list of their rows.
+#[derive(Drop)]
+pub struct BucketList {
+    rows: Vec<ListedBucket>,
+}
+
+impl Model for BucketList {
+    ghost use Rattle.std.specs.Prelude.{List};
+    ghost use Rattle.s3_records.specs.declared.records.ListedBucket.{ListedBucket};
+
+    ghost Value = { List ListedBucket };
+
+    ghost view = { λ list. list.rows.items };
+}
+
+impl BucketList {
+    /// The list of these rows, which are moved and not copied.
+    pub fn new(rows: Vec<ListedBucket>) -> BucketList
+        ensures { result ≡ rows.items }
+    {
+        BucketList { rows }
+    }
+
+    /// The rows.
+    pub fn rows(&self) -> &[ListedBucket]
+        ensures { result.now ≡ self.now }
+    {
+        self.rows.as_slice()
+    }
+}

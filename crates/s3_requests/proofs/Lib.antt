@@ -1,0 +1,2 @@
+pub mod DescriptionLemmas
+pub mod UnbrokenLemmas

@@ -1,0 +1,218 @@
+-- What a head asks to be stored beside a body has no carriage return in it.
+use Rattle.std.proofs.Common.{◌≡◌, inl, inr, ℕ, ◌+◌, Bool, true, false, not, ◌&&◌, List, [], ◌∷◌, ◌++◌, map, filter, take, drop, refl, sym, ap, subst, ◌∙◌, arith, Option, Some, None, Result, Ok, Err, if◌then◌else◌, slice_get, take-append-drop}
+use Rattle.std.specs.Prelude.{◌==◌, nat_lt, length, not, ok_or, is_some, codes, ⊤}
+use Rattle.std.specs.Char.{to_ascii_lowercase}
+use Rattle.std.specs.List.{list_all, cons_option, filter_map, dedup, dedup_from, join_with_byte}
+use Rattle.std.specs.Str.{bytes_eq, str_to_ascii_lowercase}
+use Rattle.std.specs.declared.cmp.Ordering.{Ordering}
+use Rattle.std.specs.Ordering.{is_gt}
+use Rattle.std.proofs.lemmas.Bool.{cases_Bool}
+use Rattle.std.proofs.lemmas.List.Folds.{list_all-append}
+use Rattle.s3_text.specs.Order.{byte_order}
+use Rattle.s3_text.specs.Sorting.{insert_by, sorted_by}
+use Rattle.s3_terms.specs.Fault.{refuse, ◌>>◌, ◌>>=◌}
+use Rattle.s3_terms.specs.declared.code.Code.{Code}
+use Rattle.s3_terms.specs.declared.code.Code.TheVariants.{NotImplemented, MethodNotAllowed, InvalidBucketName}
+use Rattle.s3_http_heads.specs.Head.{HeadParts, LinesAreWhole, is_named, is_unbroken, is_whole_line, values_of}
+use Rattle.s3_http_heads.specs.Target.{TargetParts}
+use Rattle.s3_versions.specs.ContentType.{content_type}
+use Rattle.s3_versions.specs.Metadata.{Entry, metadata, metadata_size}
+use Rattle.s3_requests.specs.declared.commands.Plan.{Plan}
+use Rattle.s3_requests.specs.declared.commands.Plan.TheVariants as plans
+use Rattle.s3_requests.specs.declared.commands.KeyPlan.{KeyPlan}
+use Rattle.s3_requests.specs.declared.commands.KeyPlan.TheVariants as key_plans
+use Rattle.s3_requests.specs.declared.operations.Operation.{Operation}
+use Rattle.s3_requests.specs.declared.operations.Operation.TheVariants as operations
+use Rattle.s3_names.specs.Names.{is_bucket_name}
+use Rattle.s3_names.specs.declared.ids.VersionId.{VersionId}
+use Rattle.s3_requests.specs.Arguments.{version_argument}
+use Rattle.s3_requests.specs.Operations.{method_of, key_operation}
+use Rattle.s3_requests.specs.Description.{type_sent, content_type_of, front, name_in, names_of, entry_of, metadata_of}
+use Rattle.s3_requests.specs.Routing.{address_at, key_at, plan_for, put_plan, get_plan, key_plan, route_of}
+use Rattle.s3_requests.specs.Laws.{is_unbroken_entry, IsUnbrokenAsk, IsUnbrokenPlan, PlansAreUnbroken}
+
+both : (a b : Bool) → (a && b) ≡ true → (a ≡ true) × (b ≡ true)
+both true b is = (refl, is)
+both false b is = absurd (cc)
+
+-- ---- lists of which all pass
+
+module _ {X : Type 0} (p : X → Bool) where
+  chosen : (q : X → Bool) (xs : List X) → list_all p xs ≡ true → list_all p (filter q xs) ≡ true
+  chosen q [] all = refl
+  chosen q (x ∷ xs) all =
+      let parts = both (p x) (list_all p xs) all in
+      elim (cases_Bool (q x)) [
+        | inl taken ↦ rw (taken, parts.0) (chosen q xs parts.1)
+        | inr left ↦ rw left (chosen q xs parts.1)
+      ]
+
+  behind : (n : ℕ) (xs : List X) → list_all p xs ≡ true → list_all p (drop n xs) ≡ true
+  behind n xs all =
+      (both (list_all p (take n xs)) (list_all p (drop n xs))
+      (sym (list_all-append p (take n xs) (drop n xs)) ∙ ap (list_all p) (take-append-drop n xs) ∙ all)).1
+
+  placed : (cmp : X → X → Ordering) (x : X) (ys : List X) → p x ≡ true → list_all p ys ≡ true → list_all p (insert_by cmp x ys) ≡ true
+  placed cmp x [] here all = rw here refl
+  placed cmp x (y ∷ ys) here all =
+      let parts = both (p y) (list_all p ys) all in
+      elim (cases_Bool (is_gt (cmp x y))) [
+        | inl past ↦ rw (past, parts.0) (placed cmp x ys here parts.1)
+        | inr first ↦ rw (first, here) all
+      ]
+
+  sorted : (cmp : X → X → Ordering) (xs : List X) → list_all p xs ≡ true → list_all p (sorted_by cmp xs) ≡ true
+  unfolding sorted_by
+  sorted cmp [] all = refl
+  sorted cmp (x ∷ xs) all =
+      let parts = both (p x) (list_all p xs) all in
+      placed cmp x (sorted_by cmp xs) parts.0 (sorted cmp xs parts.1)
+
+  once_from : (same : X → X → Bool) (k : X) (xs : List X) → p k ≡ true → list_all p xs ≡ true → list_all p (dedup_from same k xs) ≡ true
+  once_from same k [] here all = rw here refl
+  once_from same k (x ∷ xs) here all =
+      let parts = both (p x) (list_all p xs) all in
+      elim (cases_Bool (same x k)) [
+        | inl again ↦ rw again (once_from same k xs here parts.1)
+        | inr other ↦ rw (other, here) (once_from same x xs parts.0 parts.1)
+      ]
+
+  once : (same : X → X → Bool) (xs : List X) → list_all p xs ≡ true → list_all p (dedup same xs) ≡ true
+  once same [] all = refl
+  once same (x ∷ xs) all = let parts = both (p x) (list_all p xs) all in once_from same x xs parts.0 parts.1
+
+-- ---- texts
+
+shifted : (b : ℕ) → not (b + 32 == 13) ≡ true
+shifted b = grind arith
+
+lower_byte : (b : ℕ) → not (b == 13) ≡ true → not (to_ascii_lowercase b == 13) ≡ true
+lower_byte b whole = elim (cases_Bool (nat_lt b 65)) [
+  | inl small ↦ rw small whole
+  | inr other ↦ elim (cases_Bool (nat_lt b 91)) [
+    | inl capital ↦ rw (other, capital) (shifted b)
+    | inr beyond ↦ rw (other, beyond) whole
+  ]
+]
+
+lower_unbroken : (bytes : List ℕ) → is_unbroken bytes ≡ true → is_unbroken (str_to_ascii_lowercase bytes) ≡ true
+lower_unbroken [] all = refl
+lower_unbroken (b ∷ bytes) all =
+    let parts = both (not (b == 13)) (is_unbroken bytes) all in
+    rw (lower_byte b parts.0) (lower_unbroken bytes parts.1)
+
+joined : (texts : List (List ℕ)) → list_all is_unbroken texts ≡ true → is_unbroken (join_with_byte 44 texts) ≡ true
+joined [] all = refl
+joined (x ∷ []) all = (both (is_unbroken x) true all).0
+joined (x ∷ y ∷ texts) all =
+    let parts = both (is_unbroken x) (list_all is_unbroken (y ∷ texts)) all in
+    list_all-append (λ b. not (b == 13)) x (44 ∷ join_with_byte 44 (y ∷ texts)) ∙ rw (parts.0) (joined (y ∷ texts) parts.1)
+
+-- ---- the lines of a head
+
+values_whole : (lines : List (List ℕ × List ℕ)) → list_all is_whole_line lines ≡ true → list_all is_unbroken (map (λ (line : List ℕ × List ℕ). line.1) lines) ≡ true
+values_whole [] all = refl
+values_whole (line ∷ lines) all =
+    let parts = both (is_whole_line line) (list_all is_whole_line lines) all in
+    rw ((both (is_unbroken line.0) (is_unbroken line.1) parts.0).1) (values_whole lines parts.1)
+
+values_unbroken : (name : List ℕ) (head : HeadParts) → list_all is_whole_line head.headers ≡ true → list_all is_unbroken (values_of name head) ≡ true
+unfolding values_of
+values_unbroken name head all = values_whole (filter (is_named name) head.headers) (chosen is_whole_line (is_named name) head.headers all)
+
+onto : (test : Bool) (name : List ℕ) (names : List (List ℕ)) → is_unbroken name ≡ true → list_all is_unbroken names ≡ true
+    → list_all is_unbroken (cons_option (if test then Some name else None) names) ≡ true
+onto true name names here all = rw here all
+onto false name names here all = all
+
+names_whole : (lines : List (List ℕ × List ℕ)) → list_all is_whole_line lines ≡ true → list_all is_unbroken (filter_map (λ (line : List ℕ × List ℕ). name_in line.0) lines) ≡ true
+names_whole [] all = refl
+names_whole (line ∷ lines) all =
+    let parts = both (is_whole_line line) (list_all is_whole_line lines) all in
+    let sent = (both (is_unbroken line.0) (is_unbroken line.1) parts.0).0 in
+    onto (bytes_eq (str_to_ascii_lowercase (take 11 line.0)) front) (str_to_ascii_lowercase (drop 11 line.0)) _
+    (lower_unbroken (drop 11 line.0) (behind (λ b. not (b == 13)) 11 line.0 sent)) (names_whole lines parts.1)
+
+names_unbroken : (head : HeadParts) → list_all is_whole_line head.headers ≡ true → list_all is_unbroken (names_of head) ≡ true
+names_unbroken head all =
+    let names = filter_map (λ (line : List ℕ × List ℕ). name_in line.0) head.headers in
+    once is_unbroken bytes_eq (sorted_by byte_order names) (sorted is_unbroken byte_order names (names_whole head.headers all))
+
+entries_unbroken : (head : HeadParts) (names : List (List ℕ)) → list_all is_whole_line head.headers ≡ true → list_all is_unbroken names ≡ true
+    → list_all is_unbroken_entry (map (entry_of head) names) ≡ true
+entries_unbroken head [] lines all = refl
+entries_unbroken head (name ∷ names) lines all =
+    let parts = both (is_unbroken name) (list_all is_unbroken names) all in
+    rw (parts.0, joined (values_of (front ++ name) head) (values_unbroken (front ++ name) head lines)) (entries_unbroken head names lines parts.1)
+
+-- ---- what refuses nothing
+
+passed : {A : Type 0} (fault : Bool) (code : Code) (x y : A) → ◌≡◌ {A = Result A Code} (refuse fault code >> Ok x) (Ok y) → x ≡ y
+passed true code x y is = absurd (cc)
+passed false code x y is = cc
+
+bound : {A B : Type 0} (r : Result A Code) (next : A → Result B Code) (y : B) → (r >>= next) ≡ Ok y → (x : A) × (r ≡ Ok x) × (next x ≡ Ok y)
+bound (Ok x) next y is = (x, refl, is)
+bound (Err code) next y is = absurd (cc)
+
+followed : {B : Type 0} (r : Result ⊤ Code) (next : Result B Code) (y : B) → (r >> next) ≡ Ok y → next ≡ Ok y
+followed (Ok done) next y is = is
+followed (Err code) next y is = absurd (cc)
+
+type_unbroken : (values : List (List ℕ)) → list_all is_unbroken values ≡ true → is_unbroken (type_sent (slice_get values 0)) ≡ true
+type_unbroken [] all = refl
+type_unbroken (value ∷ values) all = (both (is_unbroken value) (list_all is_unbroken values) all).0
+
+module _ (head : HeadParts) (lines : list_all is_whole_line head.headers ≡ true) where
+  content_type_unbroken : (kind : List ℕ) → content_type_of head ≡ Ok kind → is_unbroken kind ≡ true
+  unfolding content_type_of content_type
+  content_type_unbroken kind is =
+      let sent = type_sent (slice_get (values_of (codes "content-type") head) 0) in
+      ap is_unbroken (sym (passed (nat_lt 255 (length sent)) _ sent kind is))
+      ∙ type_unbroken (values_of (codes "content-type") head) (values_unbroken (codes "content-type") head lines)
+
+  metadata_unbroken : (entries : List Entry) → metadata_of head ≡ Ok entries → list_all is_unbroken_entry entries ≡ true
+  unfolding metadata_of metadata
+  metadata_unbroken entries is =
+      let all = map (entry_of head) (names_of head) in
+      ap (list_all is_unbroken_entry) (sym (passed (nat_lt 2_048 (metadata_size all)) _ all entries is)) ∙ entries_unbroken head (names_of head) lines (names_unbroken head lines)
+
+  put_unbroken : (asked : KeyPlan) → put_plan head ≡ Ok asked → IsUnbrokenAsk asked
+  unfolding put_plan
+  put_unbroken asked is =
+      let one = bound (content_type_of head) (λ (kind : List ℕ). metadata_of head >>= (λ (entries : List Entry). Ok (key_plans.Put kind entries))) asked is in
+      let two = bound (metadata_of head) (λ (entries : List Entry). Ok (key_plans.Put one.0 entries)) asked one.2 in
+      let same : key_plans.Put one.0 two.0 ≡ asked = cc in
+      subst IsUnbrokenAsk same (content_type_unbroken one.0 one.1, metadata_unbroken two.0 two.1)
+
+  get_unbroken : (target : TargetParts) (asked : KeyPlan) → get_plan target ≡ Ok asked → IsUnbrokenAsk asked
+  unfolding get_plan
+  get_unbroken target asked is =
+      let one = bound (version_argument target) (λ (version : Option VersionId). refuse (is_some version) NotImplemented >> Ok key_plans.Get) asked is in
+      let same : key_plans.Get ≡ asked = passed (is_some one.0) NotImplemented key_plans.Get asked one.2 in
+      subst IsUnbrokenAsk same tt
+
+  planned_unbroken : (operation : Operation) (target : TargetParts) (asked : KeyPlan) → plan_for operation head target ≡ Ok asked → IsUnbrokenAsk asked
+  planned_unbroken operations.PutObject target asked is = put_unbroken asked is
+  planned_unbroken operations.GetObject target asked is = get_unbroken target asked is
+  planned_unbroken _ target asked is = absurd (cc)
+
+  asked_unbroken : (target : TargetParts) (asked : KeyPlan) → key_plan head target ≡ Ok asked → IsUnbrokenAsk asked
+  unfolding key_plan
+  asked_unbroken target asked is =
+      let one = bound (ok_or (key_operation (method_of head.method) head target) MethodNotAllowed) (λ (operation : Operation). plan_for operation head target) asked is in
+      planned_unbroken one.0 target asked one.2
+
+  route_unbroken : (plan : Plan) → route_of head ≡ Ok plan → IsUnbrokenPlan plan
+  unfolding route_of
+  route_unbroken plan is =
+      let target = bound (address_at head) (λ (t : TargetParts). refuse (not (is_bucket_name t.bucket)) InvalidBucketName >> (key_at head t >>= (λ (k : List ℕ). key_plan head t >>= (λ (a : KeyPlan). Ok (plans.Key t.bucket k a))))) plan is in
+      let t = target.0 in
+      let named = followed (refuse (not (is_bucket_name t.bucket)) InvalidBucketName) (key_at head t >>= (λ (k : List ℕ). key_plan head t >>= (λ (a : KeyPlan). Ok (plans.Key t.bucket k a)))) plan target.2 in
+      let key = bound (key_at head t) (λ (k : List ℕ). key_plan head t >>= (λ (a : KeyPlan). Ok (plans.Key t.bucket k a))) plan named in
+      let asked = bound (key_plan head t) (λ (a : KeyPlan). Ok (plans.Key t.bucket key.0 a)) plan key.2 in
+      let same : plans.Key t.bucket key.0 asked.0 ≡ plan = cc in
+      subst IsUnbrokenPlan same (asked_unbroken t asked.0 asked.1)
+
+pub plans_are_unbroken : LinesAreWhole → PlansAreUnbroken
+plans_are_unbroken whole text head plan says is = route_unbroken head (whole text head says) plan is

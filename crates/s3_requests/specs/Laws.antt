@@ -1,0 +1,28 @@
+-- What is known of all plans: what they store beside a body may stand in the lines of a reply.
+use Rattle.std.specs.Prelude.{◌≡◌, ℕ, Bool, true, ◌&&◌, List, Ok}
+use Rattle.std.specs.List.{list_all}
+use Rattle.s3_http_heads.specs.Head.{HeadParts, Says, is_unbroken}
+use Rattle.s3_versions.specs.Metadata.{Entry}
+use Rattle.s3_requests.specs.declared.commands.Plan.{Plan}
+use Rattle.s3_requests.specs.declared.commands.Plan.TheVariants as plans
+use Rattle.s3_requests.specs.declared.commands.KeyPlan.{KeyPlan}
+use Rattle.s3_requests.specs.declared.commands.KeyPlan.TheVariants as key_plans
+use Rattle.s3_requests.specs.Routing.{route_of}
+
+-- no carriage return is in the name and the value
+abbrev pub is_unbroken_entry : Entry → Bool
+is_unbroken_entry entry = is_unbroken entry.name && is_unbroken entry.value
+
+-- nor in what is to be stored under a key beside a body
+abbrev pub IsUnbrokenAsk : KeyPlan → Type 0
+IsUnbrokenAsk (key_plans.Put content_type metadata) =
+    (is_unbroken content_type ≡ true) × (list_all is_unbroken_entry metadata ≡ true)
+IsUnbrokenAsk key_plans.Get = Unit {0}
+
+abbrev pub IsUnbrokenPlan : Plan → Type 0
+IsUnbrokenPlan (plans.Key bucket key asked) = IsUnbrokenAsk asked
+
+-- what a head asks for has none there
+abbrev pub PlansAreUnbroken : Type 0
+PlansAreUnbroken =
+    (text : List ℕ) (head : HeadParts) (plan : Plan) → Says text head → route_of head ≡ Ok plan → IsUnbrokenPlan plan

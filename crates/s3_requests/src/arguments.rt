@@ -1,0 +1,21 @@
+//! The arguments of operations.
+ghost use Rattle.std.specs.Prelude.{◌≡◌};
+ghost use Rattle.s3_requests.specs.Arguments.{version_argument};
+
+use s3_http_heads::Target;
+use s3_names::VersionId;
+use s3_terms::Code;
+
+// The version that is asked for, if one is: `InvalidArgument` where what names it is no id.
+#[tactic(auto, unfolding(crate::specs::Arguments::version_argument))]
+pub(crate) fn version_argument(target: &Target) -> Result<Option<VersionId>, Code>
+    ensures { result ≡ version_argument target.now }
+{
+    match target.first(b"versionId") {
+        None => Ok(None),
+        Some(text) => match VersionId::read(text) {
+            Some(id) => Ok(Some(id)),
+            None => Err(Code::InvalidArgument),
+        },
+    }
+}

@@ -1,0 +1,164 @@
+//! What the head of a put says of its object: its media type and its user metadata.
+ghost use Rattle.std.specs.Prelude.{◌≡◌, ◌++◌, ◌∷◌, ◌≤◌, if◌then◌else◌, map, length, IfOk};
+ghost use Rattle.std.specs.List.{filter_map, join_with_byte};
+ghost use Rattle.std.specs.Option.{option_copied, option_to_list};
+ghost use Rattle.s3_terms.specs.Fault.{Follows, FollowsToEnd};
+ghost use Rattle.s3_text.specs.Characters.{comma};
+ghost use Rattle.s3_http_heads.specs.Head.{values_of};
+ghost use Rattle.s3_requests.specs.Description as rules;
+ghost use Rattle.s3_requests.specs.Name.{texts};
+
+use s3_http_heads::{Head, is_named};
+use s3_terms::Code;
+use s3_versions::{ContentType, Metadata, MetadataEntry};
+use std::alloc::{AllocError, Global};
+
+/// The media type of an object whose put names none.
+const DEFAULT_TYPE: &[u8] = b"binary/octet-stream";
+
+/// How the names of metadata lines begin.
+const FRONT: &[u8] = b"x-amz-meta-";
+
+// The media type of the object: the value of the first Content-Type line, or the default. `InvalidArgument` above
+// 255 bytes.
+#[tactic(auto, unfolding(crate::specs::Description::content_type_of))]
+pub(crate) fn content_type_of(alloc: Global, head: &Head) -> Result<ContentType, Code>
+    ensures { FollowsToEnd result (rules.content_type_of head.now) }
+{
+    ContentType::read(alloc, type_sent(head.first(b"content-type")))
+}
+
+// The type that was sent, or the default.
+fn type_sent<'a>(sent: Option<&'a [u8]>) -> &'a [u8]
+    ensures { result.now ≡ rules.type_sent (option_copied sent.entry) }
+{
+    match sent {
+        Some(sent) => sent,
+        None => DEFAULT_TYPE,
+    }
+}
+
+// The metadata of the object. `MetadataTooLarge` above 2,048 bytes.
+#[tactic(auto, unfolding(crate::specs::Description::metadata_of))]
+pub(crate) fn metadata_of(alloc: Global, head: &Head) -> Result<Metadata, Code>
+    ensures { Follows result (rules.metadata_of head.now) }
+{
+    match entries_of(alloc, head) {
+        Ok(entries) => Metadata::new(entries),
+        Err(AllocError) => Err(Code::InternalError),
+    }
+}
+
+// The entries of the metadata.
+fn entries_of(alloc: Global, head: &Head) -> Result<Vec<MetadataEntry>, AllocError>
+    ensures value { IfOk result (λ entries. entries.items ≡ map (rules.entry_of head.now) (rules.names_of head.now)) }
+    ensures count { IfOk result (λ entries. length entries.items ≤ 64) }
+{
+    head.has_few_lines();
+    let mut names = names_sent(alloc, head)?;
+    names.sort()?;
+    names.dedup();
+    let entries = entries_under(alloc, head, &names)?;
+    Ok(entries)
+}
+
+/// A name of metadata, in lower case. Its order is that of its bytes.
+#[derive(Drop, PartialEq, Eq, PartialOrd, Ord)]
+pub(crate) struct Name {
+    text: Vec<u8>,
+}
+
+// The names of metadata that header lines hold, as they come.
+fn names_sent(alloc: Global, head: &Head) -> Result<Vec<Name>, AllocError>
+    ensures { IfOk result (λ names. texts names.items
+        ≡ filter_map (λ line. rules.name_in line.0) head.now.headers) }
+{
+    let mut names = Vec::new(alloc);
+    for index in 0..head.header_count() {
+        push_name(alloc, head.header(index).0, &mut names)?;
+    }
+    Ok(names)
+}
+
+// Appends the name of metadata that the name of a header line holds, if it holds one.
+fn push_name(alloc: Global, sent: &[u8], names: &mut Vec<Name>) -> Result<(), AllocError>
+    ensures { IfOk result (λ _. texts names.new.items ≡ texts names.old.items ++ option_to_list (rules.name_in sent.now)) }
+{
+    let (front, name) = sent.split_at(sent.len().min(FRONT.len()));
+    if is_named(front, FRONT) {
+        let text = name.to_ascii_lowercase(alloc)?;
+        names.push(Name { text })?;
+    }
+    Ok(())
+}
+
+// Each of the names with its value.
+fn entries_under(
+    alloc: Global,
+    head: &Head,
+    names: &[Name],
+) -> Result<Vec<MetadataEntry>, AllocError>
+    ensures { IfOk result (λ entries. entries.items ≡ map (rules.entry_of head.now) (texts names.now)) }
+{
+    let mut entries = Vec::new(alloc);
+    for name in names {
+        entries.push(entry_under(alloc, head, &name.text)?)?;
+    }
+    Ok(entries)
+}
+
+// The name with its value.
+fn entry_under(alloc: Global, head: &Head, name: &[u8]) -> Result<MetadataEntry, AllocError>
+    ensures { IfOk result (λ entry. entry ≡ rules.entry_of head.now name.now) }
+{
+    let value = value_under(alloc, head, name)?;
+    let name = Vec::from_slice(alloc, name)?;
+    Ok(MetadataEntry::new(name, value))
+}
+
+// The value of the name.
+fn value_under(alloc: Global, head: &Head, name: &[u8]) -> Result<Vec<u8>, AllocError>
+    ensures { IfOk result (λ value. value.items
+        ≡ join_with_byte comma (values_of (rules.front ++ name.now) head.now)) }
+{
+    let line = line_name(alloc, name)?;
+    let mut value = Vec::new(alloc);
+    push_values(head, &line, &mut value)?;
+    Ok(value)
+}
+
+// The name of the header lines of that name.
+fn line_name(alloc: Global, name: &[u8]) -> Result<Vec<u8>, AllocError>
+    ensures { IfOk result (λ line. line.items ≡ rules.front ++ name.now) }
+{
+    let mut line = Vec::from_slice(alloc, FRONT)?;
+    line.extend_from_slice(name)?;
+    Ok(line)
+}
+
+// Appends the values of the lines of a name, joined by commas.
+fn push_values(head: &Head, name: &[u8], text: &mut Vec<u8>) -> Result<(), AllocError>
+    ensures { IfOk result (λ _. text.new.items ≡ text.old.items ++ join_with_byte comma (values_of name.now head.now)) }
+{
+    let mut found = false;
+    for index in 0..head.header_count() {
+        let (sent, value) = head.header(index);
+        if is_named(sent, name) {
+            push_value(value, found, text)?;
+            found = true;
+        }
+    }
+    Ok(())
+}
+
+// Appends a value, after a comma where it is not the first one.
+fn push_value(value: &[u8], later: bool, text: &mut Vec<u8>) -> Result<(), AllocError>
+    ensures { IfOk result (λ _. text.new.items
+        ≡ text.old.items ++ (if later then comma ∷ value.now else value.now)) }
+{
+    if later {
+        text.push(b',')?;
+    }
+    text.extend_from_slice(value)?;
+    Ok(())
+}

@@ -1,0 +1,2 @@
+pub mod NumberLemmas
+pub mod SegmentLemmas

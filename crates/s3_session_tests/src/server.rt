@@ -1,0 +1,34 @@
+//! The settings of a server with the access key of AWS's examples and two buckets, and the moment of its first message.
+use s3_calendar::Moment;
+use s3_config::Config;
+use s3_session::replay_one;
+use std::alloc::Global;
+
+/// 2013-05-24T00:00:00Z.
+pub(crate) fn moment() -> Option<Moment> {
+    Moment::new(1_369_353_600)
+}
+
+/// The settings of the server, with a bucket of ours and that of AWS's example of signed chunks; `None` says that
+/// there was no memory.
+pub(crate) fn config(alloc: Global) -> Option<Config> {
+    let buckets = [b"pail".as_slice(), b"examplebucket"];
+    s3_test_servers::config(alloc, b"us-east-1", 5_242_880, 67_108_864, &buckets)
+}
+
+// What a connection of these bytes is answered at that moment; `None` where the test itself is wrong or has no memory.
+fn replayed(alloc: Global, bytes: &[u8]) -> Option<Vec<u8>> {
+    let moment = moment()?;
+    match config(alloc) {
+        Some(config) => replay_one(alloc, &config, bytes, moment).ok(),
+        None => None,
+    }
+}
+
+/// Whether a connection of these bytes is answered by those, and by nothing else.
+pub(crate) fn is_answered(alloc: Global, bytes: &[u8], wanted: &[u8]) -> bool {
+    match replayed(alloc, bytes) {
+        Some(out) => out.as_slice() == wanted,
+        None => false,
+    }
+}
