@@ -72,9 +72,9 @@ key_refusal s n t name key (key_commands.Delete (Some id)) = λ is. absurd (fals
 
 pub refusals_change_nothing : RefusalsChangeNothing
 unfolding done
-refusals_change_nothing s n t commands.ListBuckets is = refl
-refusals_change_nothing s n t (commands.Bucket name asked) is = bucket_refusal s t name asked is
-refusals_change_nothing s n t (commands.Key name key asked) is = refusal_first s (not (has_bucket s name)) NoSuchBucket (key_done s n t name key asked) (key_refusal s n t name key asked) is
+refusals_change_nothing least s n t commands.ListBuckets is = refl
+refusals_change_nothing least s n t (commands.Bucket name asked) is = bucket_refusal s t name asked is
+refusals_change_nothing least s n t (commands.Key name key asked) is = refusal_first s (not (has_bucket s name)) NoSuchBucket (key_done s n t name key asked) (key_refusal s n t name key asked) is
 
 bucket_read : (s : State) (t : ℕ) (name : List ℕ) (asked : BucketCommand) → only_reads_bucket asked ≡ true → Leaves s (bucket_done s t name asked)
 unfolding bucket_done
@@ -95,6 +95,6 @@ key_read s n t name key (key_commands.Delete asked) reads = absurd (false≢true
 
 pub reads_change_nothing : ReadsChangeNothing
 unfolding done
-reads_change_nothing s n t commands.ListBuckets reads = refl
-reads_change_nothing s n t (commands.Bucket name asked) reads = bucket_read s t name asked reads
-reads_change_nothing s n t (commands.Key name key asked) reads = leaves_first s (not (has_bucket s name)) NoSuchBucket (key_done s n t name key asked) (key_read s n t name key asked reads)
+reads_change_nothing least s n t commands.ListBuckets reads = refl
+reads_change_nothing least s n t (commands.Bucket name asked) reads = bucket_read s t name asked reads
+reads_change_nothing least s n t (commands.Key name key asked) reads = leaves_first s (not (has_bucket s name)) NoSuchBucket (key_done s n t name key asked) (key_read s n t name key asked reads)

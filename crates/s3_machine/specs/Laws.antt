@@ -37,8 +37,10 @@ only_reads (commands.Key name key asked) = only_reads_key asked
 -- a refusal leaves the state as it was
 abbrev pub RefusalsChangeNothing : Type 0
 RefusalsChangeNothing =
-    (s : State) (n t : ℕ) (command : Command) → is_refused (step s n t command).1 ≡ true → (step s n t command).0 ≡ s
+    (least : ℕ) (s : State) (n t : ℕ) (command : Command)
+    → is_refused (step least s n t command).1 ≡ true → (step least s n t command).0 ≡ s
 
 -- so does a command that only reads
 abbrev pub ReadsChangeNothing : Type 0
-ReadsChangeNothing = (s : State) (n t : ℕ) (command : Command) → only_reads command ≡ true → (step s n t command).0 ≡ s
+ReadsChangeNothing =
+    (least : ℕ) (s : State) (n t : ℕ) (command : Command) → only_reads command ≡ true → (step least s n t command).0 ≡ s

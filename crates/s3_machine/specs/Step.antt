@@ -107,11 +107,12 @@ key_done s n t name key (key_commands.Delete (Some id)) =
       outcomes.Deleted (shown_in (versioning_of s name) id) (is_marker_under id (versions_of s name key)),
     )
 
--- what a command does, as entry n at moment t: the first refusal, or the change and what came of it
-unfoldable pub done : State → ℕ → ℕ → Command → Result Stepped Refusal
-done s n t commands.ListBuckets = Ok (s, outcomes.Buckets (listed_buckets s))
-done s n t (commands.Bucket name asked) = bucket_done s t name asked
-done s n t (commands.Key name key asked) = do
+-- what a command does, as entry n at moment t: the first refusal, or the change and what came of it; least is the
+-- least size of a part that is not the last, which none of these operations looks at
+unfoldable pub done : ℕ → State → ℕ → ℕ → Command → Result Stepped Refusal
+done least s n t commands.ListBuckets = Ok (s, outcomes.Buckets (listed_buckets s))
+done least s n t (commands.Bucket name asked) = bucket_done s t name asked
+done least s n t (commands.Key name key asked) = do
   refuse (not (has_bucket s name)) NoSuchBucket
   key_done s n t name key asked
 
@@ -121,5 +122,5 @@ stepped s (Ok result) = result
 stepped s (Err refusal) = (s, outcomes.Refused refusal.code refusal.is_delete_marker)
 
 -- one step
-abbrev pub step : State → ℕ → ℕ → Command → Stepped
-step s n t command = stepped s (done s n t command)
+abbrev pub step : ℕ → State → ℕ → ℕ → Command → Stepped
+step least s n t command = stepped s (done least s n t command)

@@ -2,10 +2,12 @@
 //! What a step is stands in `specs/Step.antt`.
 #![tactic(auto)]
 
+mod bucket_list;
 mod command;
 mod laws;
 mod outcome;
 
+pub use bucket_list::BucketList;
 pub use command::{BucketCommand, Command, KeyCommand};
 pub use laws::nothing_changes;
-pub use outcome::{Answer, BucketList, Found, Outcome};
+pub use outcome::{Answer, Found, Outcome};

@@ -1,13 +1,11 @@
 //! What the machine answers to a command.
-ghost use Rattle.std.specs.Prelude.{◌≡◌};
 
+use crate::BucketList;
 use s3_calendar::Moment;
 use s3_names::{BucketName, Tag, VersionId};
-use s3_records::ListedBucket;
 use s3_segments::Body;
 use s3_terms::Code;
 use s3_versions::{Data, Versioning};
-use std::marker::Model;
 
 /// The machine's answer to one command.
 #[derive(Drop)]
@@ -70,35 +68,4 @@ pub struct Found<B> {
     pub shown: Option<VersionId>,
     pub moment: Moment,
     pub stored: Data<B>,
-}
-
-/// Buckets as they are listed. A contract sees the list of their rows.
-#[derive(Drop)]
-pub struct BucketList {
-    rows: Vec<ListedBucket>,
-}
-
-impl Model for BucketList {
-    ghost use Rattle.std.specs.Prelude.{List};
-    ghost use Rattle.s3_records.specs.declared.records.ListedBucket.{ListedBucket};
-
-    ghost Value = { List ListedBucket };
-
-    ghost view = { λ list. list.rows.items };
-}
-
-impl BucketList {
-    /// The list of these rows, which are moved and not copied.
-    pub fn new(rows: Vec<ListedBucket>) -> BucketList
-        ensures { result ≡ rows.items }
-    {
-        BucketList { rows }
-    }
-
-    /// The rows.
-    pub fn rows(&self) -> &[ListedBucket]
-        ensures { result.now ≡ self.now }
-    {
-        self.rows.as_slice()
-    }
 }
