@@ -1,3 +1,4 @@
 pub mod DateLemmas
 pub mod RowLemmas
 pub mod TextLemmas
+pub mod LawLemmas

@@ -1,3 +1,4 @@
 pub mod Buckets
+pub mod Laws
 pub mod Timestamp
 pub mod Versioning

@@ -3,8 +3,10 @@
 #![tactic(auto)]
 
 mod buckets;
+mod laws;
 mod timestamp;
 mod versioning;
 
 pub use buckets::buckets_document;
+pub use laws::documents_are_one;
 pub use versioning::{read_versioning, versioning_document};

@@ -1,1 +1,6 @@
+pub mod AnswerLemmas
+pub mod EffectLemmas
+pub mod HistoryLemmas
+pub mod KeptLemmas
 pub mod LawLemmas
+pub mod OriginLemmas

@@ -1,3 +1,6 @@
+pub mod Effects
 pub mod Fault
+pub mod History
+pub mod Kept
 pub mod Laws
 pub mod Step

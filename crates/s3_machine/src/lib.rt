@@ -1,13 +1,17 @@
 //! The machine: one state of buckets and versions with their bytes, and one step for each command, all or nothing.
-//! What a step is stands in `specs/Step.antt`.
+//! What a step is stands in `specs/Step.antt`, and what users may rely on over histories of steps in `specs/Kept.antt`.
 #![tactic(auto)]
 
 mod bucket_list;
 mod command;
+mod history;
 mod laws;
 mod outcome;
 
 pub use bucket_list::BucketList;
 pub use command::{BucketCommand, Command, KeyCommand};
+pub use history::{
+    delete_markers_hide, entries_change_nothing, one_more_entry, only_puts_are_given, puts_are_kept,
+};
 pub use laws::nothing_changes;
 pub use outcome::{Answer, Found, Outcome};

@@ -5,5 +5,7 @@
 mod outbox;
 mod pending;
 mod placed;
+mod printed;
 
 pub use outbox::Outbox;
+pub use printed::PrintedReply;

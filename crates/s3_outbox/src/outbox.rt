@@ -5,6 +5,7 @@ ghost use Rattle.s3_outbox.specs.Pending.{bytes_of};
 ghost use Rattle.s3_outbox.specs.Outbox.{nothing, with_room, with_reply, with_end, without};
 
 use crate::pending::Pending;
+use crate::printed::PrintedReply;
 use arrayvec::ArrayVec;
 use s3_segments::Body;
 use s3_terms::NoMemory;
@@ -108,6 +109,16 @@ impl Outbox {
         ensures pushed { self.new ≡ with_reply self.old (head.now ++ bytes_of body) }
     {
         self.replies.push(head, body);
+        self.has_room = false;
+    }
+
+    /// Puts a reply behind the others, which prints itself into the room that was set aside. It takes no memory.
+    pub fn print<R: PrintedReply>(&mut self, reply: R)
+        requires room { self.old.has_room ≡ true }
+        requires unended { self.old.is_ended ≡ false }
+        ensures printed { (text : List ℕ) × R.is_printed reply text × (self.new ≡ with_reply self.old text) }
+    {
+        self.replies.print(reply);
         self.has_room = false;
     }
 

@@ -6,6 +6,7 @@ ghost use Rattle.std.specs.VecDeque.{deque_len, deque_capacity};
 ghost use Rattle.s3_outbox.specs.Pending.{bytes_of, waiting, AreInOrder, IsPartGone, IsSound, HasRoom, LeavesRoom, text_front, body_size};
 
 use crate::placed::{Placed, first_of, place};
+use crate::printed::PrintedReply;
 use s3_segments::Body;
 use s3_terms::NoMemory;
 use std::alloc::Global;
@@ -66,6 +67,19 @@ impl Pending {
         let Ok(()) = self.text.extend_from_slice(head) else {
             unreachable!()
         };
+        place(&mut self.bodies, self.text.len(), body);
+    }
+
+    // Puts a reply behind the others, which prints itself into the room that there is.
+    pub(crate) fn print<R: PrintedReply>(&mut self, reply: R)
+        requires sound { IsSound self.old }
+        requires room { HasRoom self.old }
+        ensures sound { IsSound self.new }
+        ensures printed { (text : List ℕ) × R.is_printed reply text × (waiting self.new ≡ waiting self.old ++ text) }
+        ensures text_stays { vec_capacity self.old.text ≤ vec_capacity self.new.text }
+        ensures bodies_stay { deque_capacity self.old.bodies ≤ deque_capacity self.new.bodies }
+    {
+        let body = reply.print(&mut self.text);
         place(&mut self.bodies, self.text.len(), body);
     }
 

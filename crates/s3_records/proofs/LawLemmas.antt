@@ -34,7 +34,7 @@ get-put_other m k v q differ = get-put m k v q ∙ ap (λ b. cond b (Some v) (ge
 get-remove_other : {X : Type 0} (m : FinMap byte_order X) (k q : List ℕ) → q ≢ k → get (remove m k) q ≡ get m q
 get-remove_other m k q differ = get-remove nat_list_cmp_total m k q ∙ ap (λ b. cond b None (get m q)) (not_tied q k differ)
 
-get-remove_here : {X : Type 0} (m : FinMap byte_order X) (k : List ℕ) → get (remove m k) k ≡ None
+pub get-remove_here : {X : Type 0} (m : FinMap byte_order X) (k : List ℕ) → get (remove m k) k ≡ None
 get-remove_here m k = get-remove nat_list_cmp_total m k k ∙ ap (λ b. cond b None (get m k)) ((eq_by_cmp_equiv nat_list_cmp_total).refl k)
 
 -- a bucket that is changed, and the others
@@ -157,7 +157,7 @@ none_valid : (B : Type 0) → are_versions {B = B} [] ≡ true
 unfolding are_versions
 none_valid B = refl
 
-differs : (q k : List ℕ) → q ≡ k → eq_by_cmp byte_order q k ≡ false → ⊥
+pub differs : (q k : List ℕ) → q ≡ k → eq_by_cmp byte_order q k ≡ false → ⊥
 differs q k same is = false≢true (sym is ∙ ap (λ x. eq_by_cmp byte_order x k) same ∙ (eq_by_cmp_equiv nat_list_cmp_total).refl k)
 
 -- a catalogue of which one bucket is other, by what it has there

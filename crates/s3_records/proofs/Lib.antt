@@ -3,3 +3,4 @@ pub mod FillingLemmas
 pub mod KeyLemmas
 pub mod LawLemmas
 pub mod MapLemmas
+pub mod PlaceLemmas

@@ -1,8 +1,11 @@
 //! Laws of the catalogue: what every change keeps, with nothing to run.
 ghost use Rattle.s3_records.specs.Laws.{ChangesAreLocal, ChangesNameOneKey, ChangesFollowRules, SwitchesKeepKeys, VersionsStayInOrder, OpeningIsEmpty, EmptyHasNothing, KeysStayFilled, OthersHaveSomething};
+ghost use Rattle.s3_records.specs.Places.{ChangesAreByPlace, NumbersStayBelow, OpeningIsBelow};
 ghost use Rattle.s3_records.specs.Filling.{CataloguesAreAlike, CatalogueChangesAreAlike, OpeningsAreAlike, BytesAreByVersion};
 
-use s3_versions::{ids_differ, rules_ignore_bytes, stay_versions};
+use s3_versions::{
+    ids_differ, one_id_changes, one_version_goes, rules_ignore_bytes, stay_versions,
+};
 
 /// A law, with nothing to run: a change leaves every bucket but the one that it names, and one that names a
 /// key leaves every other key of that bucket, its moment and its versioning.
@@ -34,6 +37,25 @@ pub fn empty_has_nothing<B>()
     ensures something { OthersHaveSomething B }
     ensures filled { KeysStayFilled B }
 {}
+
+/// A law, with nothing to run: a put, a delete and a delete of a version change what stands at one place (in a bucket, under
+/// a key, with an id), and what stands at every other stays; to make a bucket, to drop an empty one and to set a bucket's
+/// versioning change it nowhere.
+pub fn changes_are_by_place<B>()
+    ensures places { ChangesAreByPlace B }
+{
+    one_id_changes::<B>();
+    one_version_goes::<B>();
+}
+
+/// A law, with nothing to run: where the number of an entry is above those of all versions, the next one is above them
+/// again after it, from the opening on.
+pub fn numbers_stay_below<B>()
+    ensures rise { NumbersStayBelow B }
+    ensures opening { OpeningIsBelow B }
+{
+    stay_versions::<B>();
+}
 
 /// A law, with nothing to run: the catalogue doesn't look at bytes. What is told of it, and what each change makes
 /// of it, is the same with other bytes, or with the bytes in the place of what stands for them. Which bytes it has

@@ -10,8 +10,8 @@ mod map_records;
 mod records;
 
 pub use laws::{
-    catalogue_ignores_bytes, changes_are_local, changes_follow_rules, empty_has_nothing,
-    versions_stay_in_order,
+    catalogue_ignores_bytes, changes_are_by_place, changes_are_local, changes_follow_rules,
+    empty_has_nothing, numbers_stay_below, versions_stay_in_order,
 };
 pub use map_records::MapRecords;
 pub use records::{BucketFacts, ListedBucket, Records};

@@ -49,9 +49,11 @@ impl MapRecords {
         MapRecords::of_buckets(alloc, config.buckets())
     }
 
-    // Records with these buckets. A name that stands twice is one bucket.
-    fn of_buckets(alloc: Global, names: &[BucketName]) -> Result<MapRecords, NoMemory>
-        ensures { IfOk result (λ records. records ≡ opening names.now) }
+    /// Records with these buckets, which are unversioned and empty, made at moment 0. A name that stands twice is one
+    /// bucket. The names are copied; without one no memory is taken.
+    pub fn of_buckets(alloc: Global, names: &[BucketName]) -> Result<MapRecords, NoMemory>
+        ensures value { IfOk result (λ records. records ≡ opening names.now) }
+        ensures memory { OnErr result (names.now ≢ []) }
     {
         let mut records = MapRecords {
             by_name: BTreeMap::new(alloc),

@@ -1,6 +1,6 @@
 //! What every keeper of records promises.
-ghost use Rattle.std.specs.Prelude.{◌≡◌, ◌≢◌, ℕ, [], Bool, true, false, None, IfOk, OnOk, OnErr, IsTrue, find, is_some};
-ghost use Rattle.s3_versions.specs.Rules.{is_under, asked_for, replaced, is_new_number};
+ghost use Rattle.std.specs.Prelude.{◌≡◌, ◌≢◌, ℕ, [], Bool, true, false, None, IfOk, OnOk, OnErr, IsTrue, find, is_some, option_and_then};
+ghost use Rattle.s3_versions.specs.Rules.{is_under, asked_for, stored, replaced, is_new_number};
 ghost use Rattle.s3_records.specs.Catalogue.{Catalogue, facts_in, listed_buckets, has_bucket, is_empty_bucket, versions_of, versioning_of};
 ghost use Rattle.s3_records.specs.Changes.{bucket_added, bucket_dropped, versioning_changed, version_put, key_deleted, version_dropped};
 
@@ -80,7 +80,7 @@ pub trait Records {
         ensures value { IfOk result (λ found. found ≡ asked_for asked (versions_of (catalogue self.old) bucket.now key.now)) }
         ensures same { catalogue self.new ≡ catalogue self.old }
         ensures memory { OnErr result (
-            is_in_memory ≡ true → asked_for asked (versions_of (catalogue self.old) bucket.now key.now) ≢ None) };
+            is_in_memory ≡ true → option_and_then stored (asked_for asked (versions_of (catalogue self.old) bucket.now key.now)) ≢ None) };
 
     /// Makes a bucket at this moment, unversioned and empty. There is none of this name.
     fn add_bucket(

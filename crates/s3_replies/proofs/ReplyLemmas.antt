@@ -1,29 +1,36 @@
 -- What is known of the texts of replies: each is one text, in which a client sees what came.
-use Rattle.std.proofs.Common.{◌≡◌, ℕ, Bool, true, false, List, ◌++◌, ◌∷◌, [], map, ap, refl, sym, ◌∙◌, append_assoc, append-nil, subst, Some, codes, length, not}
+use Rattle.std.proofs.Common.{◌≡◌, ℕ, Bool, true, false, List, ◌++◌, ◌∷◌, [], map, ap, refl, sym, ◌∙◌, append_assoc, append-nil, subst, Option, Some, None, codes, length, not}
 use Rattle.std.specs.List.{flat_map, list_all}
 use Rattle.std.specs.Fmt.{digits, decimal}
 use Rattle.std.proofs.lemmas.List.Concat.{flat_map-append}
 use Rattle.s3_text.specs.Characters.{crlf}
 use Rattle.s3_terms.specs.declared.code.Code.{Code}
 use Rattle.s3_terms.specs.declared.code.Code.TheVariants.{MalformedHead}
-use Rattle.s3_store.specs.declared.object.Object.{Object}
-use Rattle.s3_store.specs.declared.answer.Outcome.{Outcome}
-use Rattle.s3_store.specs.declared.answer.Outcome.TheVariants.{Put, Got, Refused}
-use Rattle.s3_store.specs.Store.{is_refused, given}
+use Rattle.s3_names.specs.declared.ids.VersionId.{VersionId}
+use Rattle.s3_versions.specs.declared.version.Data.{Data}
+use Rattle.s3_records.specs.declared.records.ListedBucket.{ListedBucket}
+use Rattle.s3_documents.specs.Buckets.{IsBucketsText}
+use Rattle.s3_documents.specs.Laws.{OneTextForBuckets}
+use Rattle.s3_documents.specs.Versioning.{versioning_text}
+use Rattle.s3_machine.specs.declared.outcome.Answer.{Answer}
+use Rattle.s3_machine.specs.declared.outcome.Found.{Found}
+use Rattle.s3_machine.specs.declared.outcome.Outcome.{Outcome}
+use Rattle.s3_machine.specs.declared.outcome.Outcome.TheVariants.{Buckets, BucketMade, BucketFound, BucketDropped, VersioningSet, BucketVersioning, Put, Got, HeadGot, Deleted, Refused}
+use Rattle.s3_machine.specs.Laws.{is_refused}
 use Rattle.s3_replies.specs.declared.context.Context.{Context}
 use Rattle.s3_terms.specs.Code.{status_of}
 use Rattle.s3_terms.specs.declared.status.Status.{Status}
 use Rattle.s3_terms.specs.declared.status.Status.TheVariants as statuses
-use Rattle.s3_replies.specs.Lines.{Line, status_line, print_line, print_lines, flag, metadata_line, quoted}
+use Rattle.s3_replies.specs.Lines.{Line, status_line, print_line, print_lines, flag, optional, metadata_line, quoted}
 use Rattle.s3_text.specs.Digits.{number_digits}
 use Rattle.s3_replies.specs.Date.{IsHttpDate}
-use Rattle.s3_replies.proofs.UnbrokenLemmas.{joined, lines_joined, number_unbroken, date_unbroken}
-use Rattle.s3_replies.specs.Head.{opening_lines, version_lines, print_head}
-use Rattle.s3_replies.specs.Replies.{Prints, PrintsOutcome, got_fields, print_reply, sent_body}
-use Rattle.s3_replies.specs.Laws.{Carries, IsUnbroken, is_unbroken, is_whole_line, tells_success, SuccessIsShown, ObjectsAreCarried}
+use Rattle.s3_replies.specs.Document.{error_document}
+use Rattle.s3_replies.proofs.UnbrokenLemmas.{joined, lines_joined, number_unbroken, id_unbroken, date_unbroken}
+use Rattle.s3_replies.specs.Head.{Fields, bare, opening_lines, version_lines, print_head}
+use Rattle.s3_replies.specs.Replies.{Prints, PrintsOutcome, IsOutcomeHead, document_fields, got_fields, error_fields, print_reply, sent_body, sized, shown_text}
+use Rattle.s3_replies.specs.Laws.{Carries, IsUnbroken, is_unbroken, is_whole_line, tells_success, SuccessIsShown, ObjectsAreCarried, HeadsTellOfObjects}
 use Rattle.httpdate.specs.Text.{imf_fixdate}
 use Rattle.httpdate.proofs.Theorems.{unix_secs_injective}
-use Rattle.s3_store.specs.declared.answer.Answer.{Answer}
 
 -- ---- a reply has one text: its moments have one date each, and nothing else in it is chosen
 
@@ -31,24 +38,47 @@ pub IsHttpDate_unique : (t : ℕ) (a b : List ℕ) → IsHttpDate t a → IsHttp
 IsHttpDate_unique t a b h k =
     h.2 ∙ ap imf_fixdate (unix_secs_injective h.0 k.0 (h.1 ∙ sym k.1)) ∙ sym k.2
 
-PrintsOutcome_unique : (number : ℕ) (outcome : Outcome) (context : Context) (date t u : List ℕ) → PrintsOutcome number outcome context date t → PrintsOutcome number outcome context date u → t ≡ u
-PrintsOutcome_unique number (Put tag) context date t u h k = h ∙ sym k
-PrintsOutcome_unique number (Got object) context date t u h k =
-    let print = λ (modified : List ℕ). print_reply (got_fields object number context.closes date modified) context.head_only object.body in
-    h.2 ∙ ap print (IsHttpDate_unique object.moment h.0 k.0 h.1 k.1) ∙ sym k.2
-PrintsOutcome_unique number (Refused code is_delete_marker) context date t u h k = h ∙ sym k
+PrintsOutcome_unique : OneTextForBuckets → (number : ℕ) (outcome : Outcome) (context : Context) (date t u : List ℕ) → PrintsOutcome number outcome context date t → PrintsOutcome number outcome context date u → t ≡ u
+PrintsOutcome_unique one number (Buckets buckets) context date t u h k =
+    let print = λ (document : List ℕ). print_reply (document_fields number context.closes date) context.head_only document in
+    h.2 ∙ ap print (one buckets h.0 k.0 h.1 k.1) ∙ sym k.2
+PrintsOutcome_unique one number (BucketMade name) context date t u h k = h ∙ sym k
+PrintsOutcome_unique one number BucketFound context date t u h k = h ∙ sym k
+PrintsOutcome_unique one number BucketDropped context date t u h k = h ∙ sym k
+PrintsOutcome_unique one number VersioningSet context date t u h k = h ∙ sym k
+PrintsOutcome_unique one number (BucketVersioning versioning) context date t u h k = h ∙ sym k
+PrintsOutcome_unique one number (Put tag shown) context date t u h k = h ∙ sym k
+PrintsOutcome_unique one number (Got found) context date t u h k =
+    let print = λ (modified : List ℕ). print_reply (got_fields found number context.closes date modified) context.head_only found.stored.body in
+    h.2 ∙ ap print (IsHttpDate_unique found.moment h.0 k.0 h.1 k.1) ∙ sym k.2
+PrintsOutcome_unique one number (HeadGot found) context date t u h k =
+    let print = λ (modified : List ℕ). print_head (got_fields found number context.closes date modified) in
+    h.2 ∙ ap print (IsHttpDate_unique found.moment h.0 k.0 h.1 k.1) ∙ sym k.2
+PrintsOutcome_unique one number (Deleted shown is_delete_marker) context date t u h k = h ∙ sym k
+PrintsOutcome_unique one number (Refused code is_delete_marker) context date t u h k = h ∙ sym k
 
-pub Prints_unique : (answer : Answer) (context : Context) (t u : List ℕ) → Prints answer context t → Prints answer context u → t ≡ u
-Prints_unique answer context t u h k =
+pub Prints_unique : OneTextForBuckets → (answer : Answer) (context : Context) (t u : List ℕ) → Prints answer context t → Prints answer context u → t ≡ u
+Prints_unique one answer context t u h k =
     let same = IsHttpDate_unique context.moment h.0 k.0 h.1 k.1 in
     let P : List ℕ → Type 0 = λ date. PrintsOutcome answer.number answer.outcome context date t in
-    PrintsOutcome_unique answer.number answer.outcome context k.0 t u (subst P same h.2) k.2
+    PrintsOutcome_unique one answer.number answer.outcome context k.0 t u (subst P same h.2) k.2
+
+-- the head of a list goes before the one document of the buckets
+pub list_printed : OneTextForBuckets → (number : ℕ) (buckets : List ListedBucket) (context : Context) (date head document : List ℕ) → IsBucketsText buckets document
+    → head ≡ print_head (sized (document_fields number context.closes date) document) → IsOutcomeHead number (Buckets buckets) context date head
+list_printed one number buckets context date head document told is = λ bytes body.
+    let same = body.2 ∙ ap (sent_body context.head_only) (one buckets body.0 document body.1 told) in
+    (document, told, ap (λ b. head ++ b) same ∙ ap (λ h. h ++ sent_body context.head_only document) is)
 
 -- ---- what a client sees of it
 
 ok_succeeds : (more : List ℕ) → tells_success (status_line statuses.Ok ++ more) ≡ true
 unfolding status_line digits
 ok_succeeds more = refl
+
+no_content_succeeds : (more : List ℕ) → tells_success (status_line statuses.NoContent ++ more) ≡ true
+unfolding status_line digits
+no_content_succeeds more = refl
 
 refusal_fails : (code : Code) (more : List ℕ) → tells_success (status_line (status_of code) ++ more) ≡ false
 unfolding status_line digits
@@ -60,15 +90,35 @@ behind_status : (status : Status) (lines end body : List ℕ) → status_line st
 behind_status status lines end body =
     ap (λ r. r ++ body) (append_assoc (status_line status) lines end) ∙ append_assoc (status_line status) (lines ++ end) body
 
+-- what the status line shows, a reply that is a head shows, and one with a body
+Shows : Status → Bool → Type 0
+Shows status success = (more : List ℕ) → tells_success (status_line status ++ more) ≡ success
+
+head_shows : (head : Fields) (text : List ℕ) (success : Bool) → Shows head.status success → text ≡ print_head head → tells_success text ≡ success
+unfolding print_head Shows
+head_shows head text success shows is = ap tells_success (is ∙ append_assoc (status_line head.status) _ crlf) ∙ shows _
+
+reply_shows : (head : Fields) (head_only : Bool) (body text : List ℕ) (success : Bool) → Shows head.status success → text ≡ print_reply head head_only body → tells_success text ≡ success
+unfolding print_head Shows
+reply_shows head head_only body text success shows is = ap tells_success (is ∙ behind_status head.status _ _ _) ∙ shows _
+
 shown : (number : ℕ) (outcome : Outcome) (context : Context) (date text : List ℕ) → PrintsOutcome number outcome context date text
     → tells_success text ≡ not (is_refused outcome)
-unfolding print_head
-shown number (Put tag) context date text is =
-    ap tells_success (is ∙ append_assoc (status_line statuses.Ok) _ crlf) ∙ ok_succeeds _
-shown number (Got object) context date text is =
-    ap tells_success (is.2 ∙ behind_status statuses.Ok _ _ _) ∙ ok_succeeds _
+unfolding Shows
+shown number (Buckets buckets) context date text is = reply_shows (document_fields number context.closes date) context.head_only is.0 text true ok_succeeds is.2
+shown number (BucketMade name) context date text is = head_shows _ text true ok_succeeds is
+shown number BucketFound context date text is = head_shows _ text true ok_succeeds is
+shown number BucketDropped context date text is = head_shows _ text true no_content_succeeds is
+shown number VersioningSet context date text is = head_shows _ text true ok_succeeds is
+shown number (BucketVersioning versioning) context date text is =
+    reply_shows (document_fields number context.closes date) context.head_only (versioning_text versioning) text true ok_succeeds is
+shown number (Put tag id) context date text is = head_shows _ text true ok_succeeds is
+shown number (Got found) context date text is =
+    reply_shows (got_fields found number context.closes date is.0) context.head_only found.stored.body text true ok_succeeds is.2
+shown number (HeadGot found) context date text is = head_shows _ text true ok_succeeds is.2
+shown number (Deleted id is_delete_marker) context date text is = head_shows _ text true no_content_succeeds is
 shown number (Refused code is_delete_marker) context date text is =
-    ap tells_success (is ∙ behind_status (status_of code) _ _ _) ∙ refusal_fails code _
+    reply_shows (error_fields code is_delete_marker number context.closes date) context.head_only (error_document code) text false (refusal_fails code) is
 
 pub success_is_shown : SuccessIsShown
 success_is_shown answer context text prints = shown answer.number answer.outcome context prints.0 text prints.2
@@ -82,49 +132,75 @@ flag_unbroken true = refl
 flag_unbroken false = refl
 
 -- the lines that tell of an object's body, in front of its size
-abbrev told : Object → List Line
-told object = (codes "Accept-Ranges", codes "bytes") ∷ (codes "Content-Type", object.content_type) ∷ map metadata_line object.metadata
+abbrev told : Data (List ℕ) → List Line
+told stored = (codes "Accept-Ranges", codes "bytes") ∷ (codes "Content-Type", stored.content_type) ∷ map metadata_line stored.metadata
+
+id_line_unbroken : (shown : Option VersionId) → list_all is_whole_line (optional (codes "x-amz-version-id") (shown_text shown)) ≡ true
+id_line_unbroken None = refl
+id_line_unbroken (Some id) = rw (id_unbroken id) refl
+
+-- the lines that tell who answers, and when
+opening_unbroken : (number : ℕ) (closes : Bool) (date : List ℕ) → is_unbroken date ≡ true
+    → list_all is_whole_line (opening_lines (bare statuses.Ok date closes number)) ≡ true
+opening_unbroken number closes date at =
+    let first : List Line = (codes "Date", date) ∷ [] in
+    let keeps = flag (codes "Connection") (codes "close") closes in
+    let id : List Line = (codes "x-amz-request-id", number_digits number) ∷ [] in
+    lines_joined (first ++ keeps) id (lines_joined first keeps (rw at refl) (flag_unbroken closes)) (rw (number_unbroken number) refl)
+
+-- the lines that tell of a version
+version_unbroken : (found : Found (List ℕ)) (number : ℕ) (closes : Bool) (date modified : List ℕ) → IsUnbroken found.stored → is_unbroken modified ≡ true
+    → list_all is_whole_line (version_lines (got_fields found number closes date modified)) ≡ true
+version_unbroken found number closes date modified unbroken since =
+    let id = optional (codes "x-amz-version-id") (shown_text found.shown) in
+    let tag : List Line = (codes "ETag", quoted found.stored.tag) ∷ [] in
+    let made : List Line = (codes "Last-Modified", modified) ∷ [] in
+    let quotes : is_unbroken (quoted found.stored.tag) ≡ true = joined found.stored.tag (34 ∷ []) unbroken.tag refl in
+    let no_marker = lines_joined id [] (id_line_unbroken found.shown) refl in
+    let no_place = lines_joined (id ++ []) [] no_marker refl in
+    lines_joined (id ++ [] ++ [] ++ tag) made (lines_joined (id ++ [] ++ []) tag no_place (rw quotes refl)) (rw since refl)
 
 -- the lines of a get's reply in front of its size
-front_unbroken : (object : Object) (context : Context) (number : ℕ) (date modified : List ℕ) → IsHttpDate context.moment date → IsHttpDate object.moment modified
-    → IsUnbroken object
-    → list_all is_whole_line (opening_lines (got_fields object number context.closes date modified) ++ version_lines (got_fields object number context.closes date modified)
-    ++ told object) ≡ true
-front_unbroken object context number date modified dated made unbroken =
-    let head = got_fields object number context.closes date modified in
+front_unbroken : (found : Found (List ℕ)) (context : Context) (number : ℕ) (date modified : List ℕ) → IsHttpDate context.moment date → IsHttpDate found.moment modified
+    → IsUnbroken found.stored
+    → list_all is_whole_line (opening_lines (got_fields found number context.closes date modified) ++ version_lines (got_fields found number context.closes date modified)
+    ++ told found.stored) ≡ true
+front_unbroken found context number date modified dated made unbroken =
+    let head = got_fields found number context.closes date modified in
     let at : is_unbroken date ≡ true = ap is_unbroken dated.2 ∙ date_unbroken dated.0.parts in
     let since : is_unbroken modified ≡ true = ap is_unbroken made.2 ∙ date_unbroken made.0.parts in
-    let quotes : is_unbroken (quoted object.tag) ≡ true = joined object.tag (34 ∷ []) unbroken.tag refl in
-    let first : List Line = (codes "Date", date) ∷ [] in
-    let keeps = flag (codes "Connection") (codes "close") context.closes in
-    let id : List Line = (codes "x-amz-request-id", number_digits number) ∷ [] in
-    let opening : list_all is_whole_line (opening_lines head) ≡ true =
-    lines_joined (first ++ keeps) id (lines_joined first keeps (rw at refl) (flag_unbroken context.closes)) (rw (number_unbroken number) refl) in
-    let body : list_all is_whole_line (told object) ≡ true = rw unbroken.content_type unbroken.metadata in
-    lines_joined (opening_lines head ++ version_lines head) (told object) (lines_joined (opening_lines head) (version_lines head) opening (rw (quotes, since) refl)) body
+    let opening = opening_unbroken number context.closes date at in
+    let version = version_unbroken found number context.closes date modified unbroken since in
+    let body : list_all is_whole_line (told found.stored) ≡ true = rw unbroken.content_type unbroken.metadata in
+    lines_joined (opening_lines head ++ version_lines head) (told found.stored) (lines_joined (opening_lines head) (version_lines head) opening version) body
 
-carried : (number : ℕ) (outcome : Outcome) (context : Context) (date text : List ℕ) (object : Object) → PrintsOutcome number outcome context date text
-    → IsHttpDate context.moment date → given outcome ≡ Some object → IsUnbroken object → context.head_only ≡ false → Carries object.body text
+got_carries : (number : ℕ) (found : Found (List ℕ)) (context : Context) (date text : List ℕ) → PrintsOutcome number (Got found) context date text
+    → IsHttpDate context.moment date → IsUnbroken found.stored → context.head_only ≡ false → Carries found.stored.body text
 unfolding print_head status_line digits
-carried number (Put tag) context date text object is dated none unbroken whole = absurd (cc)
-carried number (Got found) context date text object is dated gives unbroken whole =
-    let same : found ≡ object = cc in
+got_carries number found context date text is dated unbroken whole =
     let head = got_fields found number context.closes date is.0 in
-    let size : Line = (codes "Content-Length", decimal (length found.body)) in
+    let size : Line = (codes "Content-Length", decimal (length found.stored.body)) in
     let front = opening_lines head ++ version_lines head in
-    let lines = ap print_lines (sym (append_assoc front (told found) (size ∷ []))) ∙ last_line (front ++ told found) size in
-    let sent : sent_body context.head_only found.body ≡ found.body = rw whole refl in
-    subst (λ (o : Object). Carries o.body text) same
-    (record {
-      lines = front ++ told found;
-      whole = front_unbroken found context number date is.0 dated is.1 (subst IsUnbroken (sym same) unbroken);
+    let lines = ap print_lines (sym (append_assoc front (told found.stored) (size ∷ []))) ∙ last_line (front ++ told found.stored) size in
+    let sent : sent_body context.head_only found.stored.body ≡ found.stored.body = rw whole refl in
+    record {
+      lines = front ++ told found.stored;
+      whole = front_unbroken found context number date is.0 dated is.1 unbroken;
       printed = is.2
-          ∙ ap (λ l. status_line statuses.Ok ++ l ++ crlf ++ sent_body context.head_only found.body) lines
-          ∙ ap (λ r. r ++ crlf ++ sent_body context.head_only found.body) (sym (append_assoc (status_line statuses.Ok) (print_lines (front ++ told found)) (print_line size)))
-          ∙ ap (λ b. status_line statuses.Ok ++ print_lines (front ++ told found) ++ print_line size ++ crlf ++ b) sent;
-    })
-carried number (Refused code is_delete_marker) context date text object is dated none unbroken whole = absurd (cc)
+          ∙ ap (λ l. status_line statuses.Ok ++ l ++ crlf ++ sent_body context.head_only found.stored.body) lines
+          ∙ ap (λ r. r ++ crlf ++ sent_body context.head_only found.stored.body) (sym (append_assoc (status_line statuses.Ok) (print_lines (front ++ told found.stored)) (print_line size)))
+          ∙ ap (λ b. status_line statuses.Ok ++ print_lines (front ++ told found.stored) ++ print_line size ++ crlf ++ b) sent;
+    }
 
 pub objects_are_carried : ObjectsAreCarried
-objects_are_carried answer context text object prints gives unbroken whole =
-    carried answer.number answer.outcome context prints.0 text object prints.2 prints.1 gives unbroken whole
+objects_are_carried answer context text found prints gives unbroken whole =
+    let P : Outcome → Type 0 = λ outcome. PrintsOutcome answer.number outcome context prints.0 text in
+    got_carries answer.number found context prints.0 text (subst P gives prints.2) prints.1 unbroken whole
+
+pub heads_tell_of_objects : HeadsTellOfObjects
+heads_tell_of_objects number found context text size whole prints =
+    let is = prints.2 in
+    let head = got_fields found number context.closes prints.0 is.0 in
+    let told : print_head (record head { size = found.stored.size }) ≡ print_reply head context.head_only found.stored.body =
+    rw (whole, size) (sym (append-nil (print_head (sized head found.stored.body)))) in
+    (prints.0, prints.1, (is.0, is.1, is.2 ∙ told))

@@ -8,6 +8,9 @@ use Rattle.hex.specs.Hex.{encode_lower, encode_with, lower_digits}
 use Rattle.httpdate.specs.declared.parts.Parts.{Parts}
 use Rattle.httpdate.specs.Text.{day_name, month_name, two_digits, four_digits, time_of_day, imf_fixdate}
 use Rattle.s3_text.specs.Digits.{number_digits}
+use Rattle.s3_names.specs.Ids.{numbered_id, version_id_text}
+use Rattle.s3_names.specs.declared.ids.VersionId.{VersionId}
+use Rattle.s3_names.specs.declared.ids.VersionId.TheVariants.{Null, Numbered}
 use Rattle.s3_replies.specs.Lines.{Line}
 use Rattle.s3_replies.specs.Laws.{is_unbroken, is_whole_line, TagsAreUnbroken}
 
@@ -41,6 +44,11 @@ hex_unbroken (b ∷ bytes) = rw (byte_of lower_digits (b / 16) refl, byte_of low
 pub number_unbroken : (n : ℕ) → is_unbroken (number_digits n) ≡ true
 unfolding number_digits
 number_unbroken n = hex_unbroken (to_be_bytes w64 n)
+
+pub id_unbroken : (id : VersionId) → is_unbroken (version_id_text id) ≡ true
+unfolding numbered_id
+id_unbroken Null = refl
+id_unbroken (Numbered number) = number_unbroken number
 
 pub tags_are_unbroken : TagsAreUnbroken
 tags_are_unbroken body = hex_unbroken _

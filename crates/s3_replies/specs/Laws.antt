@@ -1,15 +1,18 @@
 -- What is known of all replies: they are fixed by what they answer, and a client sees in them what came of
 -- its request (RFC 9112, sections 4 to 6; RFC 9110, sections 8.6 and 15.3).
-use Rattle.std.specs.Prelude.{◌≡◌, IsTrue, ℕ, ◌==◌, Bool, true, false, not, ◌&&◌, List, ◌++◌, map, take, length, codes, Some}
+use Rattle.std.specs.Prelude.{◌≡◌, IsTrue, ℕ, ◌==◌, Bool, true, false, not, ◌&&◌, List, ◌++◌, map, take, length, codes}
 use Rattle.std.specs.Fmt.{decimal}
 use Rattle.std.specs.List.{list_all}
 use Rattle.std.specs.Str.{bytes_eq}
 use Rattle.s3_text.specs.Characters.{crlf, carriage_return}
 use Rattle.s3_terms.specs.declared.code.Code.{Code}
 use Rattle.s3_segments.specs.Payload.{tag_of}
-use Rattle.s3_store.specs.declared.object.Object.{Object}
-use Rattle.s3_store.specs.declared.answer.Answer.{Answer}
-use Rattle.s3_store.specs.Store.{is_refused, given}
+use Rattle.s3_versions.specs.declared.version.Data.{Data}
+use Rattle.s3_machine.specs.declared.outcome.Answer.{Answer}
+use Rattle.s3_machine.specs.declared.outcome.Found.{Found}
+use Rattle.s3_machine.specs.declared.outcome.Outcome.TheVariants.{Got, HeadGot}
+use Rattle.s3_machine.specs.Laws.{is_refused}
+use Rattle.s3_machine.specs.Step.{head_of}
 use Rattle.s3_replies.specs.declared.context.Context.{Context}
 use Rattle.s3_replies.specs.Lines.{Line, print_line, print_lines, metadata_line}
 use Rattle.s3_replies.specs.Replies.{Prints, PrintsRefusal}
@@ -57,21 +60,29 @@ pub record Carries (body reply : List ℕ) : Type 0 where
 abbrev pub TagsAreUnbroken : Type 0
 TagsAreUnbroken = (body : List ℕ) → is_unbroken (tag_of body) ≡ true
 
--- no carriage return is in what a head tells of an object
-pub record IsUnbroken (object : Object) : Type 0 where
-  pub tag : is_unbroken object.tag ≡ true
-  pub content_type : is_unbroken object.content_type ≡ true
-  pub metadata : list_all is_whole_line (map metadata_line object.metadata) ≡ true
+-- no carriage return is in what a head tells of a put
+pub record IsUnbroken (stored : Data (List ℕ)) : Type 0 where
+  pub tag : is_unbroken stored.tag ≡ true
+  pub content_type : is_unbroken stored.content_type ≡ true
+  pub metadata : list_all is_whole_line (map metadata_line stored.metadata) ≡ true
 
--- a reply tells of success exactly where the store did not refuse
+-- a reply tells of success exactly where the machine did not refuse
 abbrev pub SuccessIsShown : Type 0
 SuccessIsShown =
     (answer : Answer) (context : Context) (text : List ℕ) → Prints answer context text
     → tells_success text ≡ not (is_refused answer.outcome)
 
--- an object that was asked for is carried, unless by the reply to a HEAD
+-- the bytes of a version that was asked for are carried, unless by the reply to a HEAD
 abbrev pub ObjectsAreCarried : Type 0
 ObjectsAreCarried =
-    (answer : Answer) (context : Context) (text : List ℕ) (object : Object) → Prints answer context text
-    → given answer.outcome ≡ Some object → IsUnbroken object → context.head_only ≡ false
-    → Carries object.body text
+    (answer : Answer) (context : Context) (text : List ℕ) (found : Found (List ℕ)) → Prints answer context text
+    → answer.outcome ≡ Got found → IsUnbroken found.stored → context.head_only ≡ false
+    → Carries found.stored.body text
+
+-- a HeadObject is answered as a HEAD that asked for the bytes would be, where the size that is kept is theirs
+-- (RFC 9110, section 9.3.2)
+abbrev pub HeadsTellOfObjects : Type 0
+HeadsTellOfObjects =
+    (number : ℕ) (found : Found (List ℕ)) (context : Context) (text : List ℕ) → found.stored.size ≡ length found.stored.body
+    → context.head_only ≡ true → Prints (record { number = number; outcome = HeadGot (head_of found) }) context text
+    → Prints (record { number = number; outcome = Got found }) context text

@@ -4,7 +4,10 @@ pub mod Head
 pub mod Document
 pub mod Replies
 pub mod Laws
-pub use Rattle.s3_store.specs.Store
+pub use Rattle.s3_machine.specs.Step
+pub use Rattle.s3_documents.specs.Buckets
+pub use Rattle.s3_documents.specs.Versioning
+pub use Rattle.s3_names.specs.Ids
 pub use Rattle.s3_terms.specs.Code
 pub use Rattle.s3_text.specs.Digits
 pub use Rattle.s3_terms.specs.Status

@@ -1,11 +1,13 @@
-//! The documents of refusals.
+//! The documents of refusals, and those that tell of a bucket's versioning.
 
-ghost use Rattle.std.specs.Prelude.{◌≡◌};
+ghost use Rattle.std.specs.Prelude.{◌≡◌, ◌≤◌, length};
+ghost use Rattle.s3_documents.specs.Versioning.{versioning_text};
 ghost use Rattle.s3_replies.specs.Document.{error_document, error_object};
 
-use crate::lines::write;
+use crate::room::Room;
 use arrayvec::ArrayVec;
 use s3_terms::Code;
+use s3_versions::Versioning;
 
 /// No name and no message of a code is longer.
 const TEXT_MAX: usize = 64;
@@ -29,10 +31,22 @@ fn object_of(code: Code) -> ArrayVec<u8, DOCUMENT_MAX>
     ensures { result.items ≡ error_object code }
 {
     let mut object = ArrayVec::new();
-    write(&mut object, b"{\"Code\":\"");
-    write(&mut object, code.name().as_bytes());
-    write(&mut object, b"\",\"Message\":\"");
-    write(&mut object, code.message().as_bytes());
-    write(&mut object, b"\"}");
+    object.write(b"{\"Code\":\"");
+    object.write(code.name().as_bytes());
+    object.write(b"\",\"Message\":\"");
+    object.write(code.message().as_bytes());
+    object.write(b"\"}");
     object
+}
+
+/// The document that tells of a bucket's versioning.
+pub(crate) fn versioning_document(versioning: Versioning) -> &'static [u8]
+    ensures value { result.now ≡ versioning_text versioning }
+    ensures bound { length result.now ≤ TEXT_MAX }
+{
+    match versioning {
+        Versioning::Unversioned => b"{}",
+        Versioning::Enabled => b"{\"Status\":\"Enabled\"}",
+        Versioning::Suspended => b"{\"Status\":\"Suspended\"}",
+    }
 }

@@ -1,14 +1,14 @@
 //! The head of a reply: its status line and its header lines.
 
 ghost use Rattle.std.specs.Prelude.{◌≡◌, ◌≤◌, ◌+◌, [], ◌++◌};
-ghost use Rattle.arrayvec.specs.ArrayVec.{array_vec_len};
 ghost use Rattle.s3_replies.specs.Head.{fields_of, bare, opening_lines, version_lines, body_lines, print_head, HasRoomFor};
 ghost use Rattle.s3_replies.specs.Lines.{print_lines};
 
 use crate::lines::{
-    Reply, write, write_flag, write_line, write_metadata, write_number, write_optional,
-    write_quoted, write_status,
+    write_flag, write_line, write_metadata, write_number, write_optional, write_quoted,
+    write_status,
 };
+use crate::room::Room;
 use s3_terms::Status;
 use s3_text::number_digits;
 use s3_versions::MetadataEntry;
@@ -65,29 +65,29 @@ impl<'a> Head<'a> {
         }
     }
 
-    /// Prints the head into an empty reply. It is `HEAD_MAX` bytes long at most. Every local reply is written with
-    /// zeros first, so that one is handed down, and not handed up.
-    #[tactic(auto, using(crate::proofs::LineLemmas::more_lines), unfolding(crate::specs::Head::print_head))]
-    pub(crate) fn print(&self, out: &mut Reply)
+    /// Appends the head, which is `HEAD_MAX` bytes long at most.
+    pub(crate) fn print<R: Room>(&self, out: &mut R)
         requires fits { HasRoomFor (fields_of self.now) }
-        requires empty { out.old.items ≡ [] }
-        ensures items { out.new.items ≡ print_head (fields_of self.now) }
-        ensures bound { array_vec_len out.new ≤ HEAD_MAX }
+        requires room { R.size out.old + HEAD_MAX ≤ R.capacity out.old }
+        ensures items { R.written out.new ≡ R.written out.old ++ print_head (fields_of self.now) }
+        ensures bound { R.size out.new ≤ R.size out.old + HEAD_MAX }
+        ensures capacity { R.capacity out.old ≤ R.capacity out.new }
     {
         write_status(out, self.status);
         self.write_opening(out);
         self.write_version(out);
         self.write_body_lines(out);
-        write(out, b"\r\n");
+        out.write(b"\r\n");
     }
 
     /// Appends the lines that say who answers, and when: 92 bytes at most.
-    fn write_opening(&self, out: &mut Reply)
+    fn write_opening<R: Room>(&self, out: &mut R)
         requires fits { HasRoomFor (fields_of self.now) }
-        requires room { array_vec_len out.old + 92 ≤ 4096 }
-        ensures items { out.new.items
-            ≡ out.old.items ++ print_lines (opening_lines (fields_of self.now)) }
-        ensures bound { array_vec_len out.new ≤ array_vec_len out.old + 92 }
+        requires room { R.size out.old + 92 ≤ R.capacity out.old }
+        ensures items { R.written out.new
+            ≡ R.written out.old ++ print_lines (opening_lines (fields_of self.now)) }
+        ensures bound { R.size out.new ≤ R.size out.old + 92 }
+        ensures capacity { R.capacity out.old ≤ R.capacity out.new }
     {
         write_line(out, "Date", self.date);
         write_flag(out, "Connection", "close", self.closes);
@@ -95,12 +95,13 @@ impl<'a> Head<'a> {
     }
 
     /// Appends the lines that tell of a bucket, an object or its version: 236 bytes at most.
-    fn write_version(&self, out: &mut Reply)
+    fn write_version<R: Room>(&self, out: &mut R)
         requires fits { HasRoomFor (fields_of self.now) }
-        requires room { array_vec_len out.old + 236 ≤ 4096 }
-        ensures items { out.new.items
-            ≡ out.old.items ++ print_lines (version_lines (fields_of self.now)) }
-        ensures bound { array_vec_len out.new ≤ array_vec_len out.old + 236 }
+        requires room { R.size out.old + 236 ≤ R.capacity out.old }
+        ensures items { R.written out.new
+            ≡ R.written out.old ++ print_lines (version_lines (fields_of self.now)) }
+        ensures bound { R.size out.new ≤ R.size out.old + 236 }
+        ensures capacity { R.capacity out.old ≤ R.capacity out.new }
     {
         write_optional(out, "x-amz-version-id", self.version_id);
         write_flag(out, "x-amz-delete-marker", "true", self.is_delete_marker);
@@ -110,12 +111,13 @@ impl<'a> Head<'a> {
     }
 
     /// Appends the lines that tell of a body: 3,420 bytes at most.
-    fn write_body_lines(&self, out: &mut Reply)
+    fn write_body_lines<R: Room>(&self, out: &mut R)
         requires fits { HasRoomFor (fields_of self.now) }
-        requires room { array_vec_len out.old + 3420 ≤ 4096 }
-        ensures items { out.new.items
-            ≡ out.old.items ++ print_lines (body_lines (fields_of self.now)) }
-        ensures bound { array_vec_len out.new ≤ array_vec_len out.old + 3420 }
+        requires room { R.size out.old + 3420 ≤ R.capacity out.old }
+        ensures items { R.written out.new
+            ≡ R.written out.old ++ print_lines (body_lines (fields_of self.now)) }
+        ensures bound { R.size out.new ≤ R.size out.old + 3420 }
+        ensures capacity { R.capacity out.old ≤ R.capacity out.new }
     {
         write_flag(out, "Accept-Ranges", "bytes", self.accepts_ranges);
         write_optional(out, "Content-Range", self.content_range);

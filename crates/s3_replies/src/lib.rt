@@ -1,5 +1,5 @@
-//! The printed replies: the exact bytes of every answer of the store and of every refusal. Nothing
-//! here takes memory or fails: all but the bytes of an object fits into 4,096 bytes.
+//! The printed replies: the exact bytes of every answer of the machine and of every refusal. Nothing
+//! here takes memory or fails: all but the bytes of an object and the document of a list fits into 4,096 bytes.
 #![tactic(auto)]
 
 mod context;
@@ -9,9 +9,12 @@ mod head;
 mod laws;
 mod lines;
 mod replies;
+mod room;
+mod values;
 
 pub use context::Context;
 pub use laws::{refusals_are_unique, replies_are_unique, replies_show_what_came};
 pub use replies::{
-    CONTINUE, INTERNAL_ERROR, continue_reply, head_of, internal_error_reply, refusal,
+    CONTINUE, INTERNAL_ERROR, body_of, continue_reply, head_of, internal_error_reply, refusal,
 };
+pub use room::Room;

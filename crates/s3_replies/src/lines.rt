@@ -1,63 +1,53 @@
 //! The lines of a reply's head, written one after another.
 
 ghost use Rattle.std.specs.Prelude.{◌≡◌, ◌+◌, ◌*◌, ◌≤◌, ◌++◌, [], ◌∷◌, length, map, option_map, decimal};
-ghost use Rattle.arrayvec.specs.ArrayVec.{array_vec_len};
 ghost use Rattle.s3_replies.specs.Lines.{status_line, print_lines, flag, optional, quoted, value_of, value_length, metadata_line};
 ghost use Rattle.s3_versions.specs.Metadata.{metadata_size};
 
-use arrayvec::ArrayVec;
+use crate::room::Room;
 use itoa::Buffer;
 use s3_terms::Status;
 use s3_versions::MetadataEntry;
 
-/// A reply while it is written.
-pub(crate) type Reply = ArrayVec<u8, 4096>;
-
-/// Appends the text, for which the caller has left room.
-pub(crate) fn write<const SIZE: usize>(out: &mut ArrayVec<u8, SIZE>, text: &[u8])
-    requires { array_vec_len out.old + length text.now ≤ SIZE }
-    ensures items { out.new.items ≡ out.old.items ++ text.now }
-    ensures len { array_vec_len out.new ≡ array_vec_len out.old + length text.now }
-{
-    let _fits = out.try_extend_from_slice(text);
-}
-
-/// Writes the status line, of 45 bytes at most, into an empty reply.
+/// Appends the status line, of 45 bytes at most.
 #[tactic(auto, unfolding(crate::specs::Lines::status_line))]
-pub(crate) fn write_status(out: &mut Reply, status: Status)
-    requires { out.old.items ≡ [] }
-    ensures items { out.new.items ≡ status_line status }
-    ensures bound { array_vec_len out.new ≤ 45 }
+pub(crate) fn write_status<R: Room>(out: &mut R, status: Status)
+    requires { R.size out.old + 45 ≤ R.capacity out.old }
+    ensures items { R.written out.new ≡ R.written out.old ++ status_line status }
+    ensures bound { R.size out.new ≤ R.size out.old + 45 }
+    ensures capacity { R.capacity out.old ≤ R.capacity out.new }
 {
     let mut digits = Buffer::new();
-    write(out, b"HTTP/1.1 ");
-    write(out, digits.format(status.number()).as_bytes());
-    write(out, b" ");
-    write(out, status.reason().as_bytes());
-    write(out, b"\r\n");
+    out.write(b"HTTP/1.1 ");
+    out.write(digits.format(status.number()).as_bytes());
+    out.write(b" ");
+    out.write(status.reason().as_bytes());
+    out.write(b"\r\n");
 }
 
 /// Appends a header line.
 #[tactic(auto, unfolding(crate::specs::Lines::print_lines))]
-pub(crate) fn write_line(out: &mut Reply, name: &str, value: &[u8])
-    requires { array_vec_len out.old + length name.now + length value.now + 4 ≤ 4096 }
-    ensures items { out.new.items ≡ out.old.items ++ print_lines ((name.now, value.now) ∷ []) }
-    ensures len { array_vec_len out.new
-        ≡ array_vec_len out.old + length name.now + length value.now + 4 }
+pub(crate) fn write_line<R: Room>(out: &mut R, name: &str, value: &[u8])
+    requires { R.size out.old + length name.now + length value.now + 4 ≤ R.capacity out.old }
+    ensures items { R.written out.new ≡ R.written out.old ++ print_lines ((name.now, value.now) ∷ []) }
+    ensures len { R.size out.new
+        ≡ R.size out.old + length name.now + length value.now + 4 }
+    ensures capacity { R.capacity out.old ≤ R.capacity out.new }
 {
-    write(out, name.as_bytes());
-    write(out, b": ");
-    write(out, value);
-    write(out, b"\r\n");
+    out.write(name.as_bytes());
+    out.write(b": ");
+    out.write(value);
+    out.write(b"\r\n");
 }
 
 /// Appends the line where the test holds.
 #[tactic(auto, unfolding(crate::specs::Lines::print_lines))]
-pub(crate) fn write_flag(out: &mut Reply, name: &str, value: &str, test: bool)
-    requires { array_vec_len out.old + length name.now + length value.now + 4 ≤ 4096 }
-    ensures items { out.new.items ≡ out.old.items ++ print_lines (flag name.now value.now test) }
-    ensures bound { array_vec_len out.new
-        ≤ array_vec_len out.old + length name.now + length value.now + 4 }
+pub(crate) fn write_flag<R: Room>(out: &mut R, name: &str, value: &str, test: bool)
+    requires { R.size out.old + length name.now + length value.now + 4 ≤ R.capacity out.old }
+    ensures items { R.written out.new ≡ R.written out.old ++ print_lines (flag name.now value.now test) }
+    ensures bound { R.size out.new
+        ≤ R.size out.old + length name.now + length value.now + 4 }
+    ensures capacity { R.capacity out.old ≤ R.capacity out.new }
 {
     if test {
         write_line(out, name, value.as_bytes());
@@ -66,12 +56,13 @@ pub(crate) fn write_flag(out: &mut Reply, name: &str, value: &str, test: bool)
 
 /// Appends the line where there is a value.
 #[tactic(auto, unfolding(crate::specs::Lines::print_lines))]
-pub(crate) fn write_optional(out: &mut Reply, name: &str, value: Option<&[u8]>)
-    requires { array_vec_len out.old + length name.now + value_length (value_of value) + 4 ≤ 4096 }
-    ensures items { out.new.items
-        ≡ out.old.items ++ print_lines (optional name.now (value_of value.entry)) }
-    ensures bound { array_vec_len out.new
-        ≤ array_vec_len out.old + length name.now + value_length (value_of value.entry) + 4 }
+pub(crate) fn write_optional<R: Room>(out: &mut R, name: &str, value: Option<&[u8]>)
+    requires { R.size out.old + length name.now + value_length (value_of value) + 4 ≤ R.capacity out.old }
+    ensures items { R.written out.new
+        ≡ R.written out.old ++ print_lines (optional name.now (value_of value.entry)) }
+    ensures bound { R.size out.new
+        ≤ R.size out.old + length name.now + value_length (value_of value.entry) + 4 }
+    ensures capacity { R.capacity out.old ≤ R.capacity out.new }
 {
     if let Some(value) = value {
         write_line(out, name, value);
@@ -80,27 +71,29 @@ pub(crate) fn write_optional(out: &mut Reply, name: &str, value: Option<&[u8]>)
 
 /// Appends the line with the text in double quotes, where there is one.
 #[tactic(auto, unfolding(crate::specs::Lines::print_lines))]
-pub(crate) fn write_quoted(out: &mut Reply, name: &str, text: Option<&[u8]>)
-    requires { array_vec_len out.old + length name.now + value_length (value_of text) + 6 ≤ 4096 }
-    ensures items { out.new.items ≡ out.old.items
+pub(crate) fn write_quoted<R: Room>(out: &mut R, name: &str, text: Option<&[u8]>)
+    requires { R.size out.old + length name.now + value_length (value_of text) + 6 ≤ R.capacity out.old }
+    ensures items { R.written out.new ≡ R.written out.old
         ++ print_lines (optional name.now (option_map quoted (value_of text.entry))) }
-    ensures bound { array_vec_len out.new
-        ≤ array_vec_len out.old + length name.now + value_length (value_of text.entry) + 6 }
+    ensures bound { R.size out.new
+        ≤ R.size out.old + length name.now + value_length (value_of text.entry) + 6 }
+    ensures capacity { R.capacity out.old ≤ R.capacity out.new }
 {
     if let Some(text) = text {
-        write(out, name.as_bytes());
-        write(out, b": \"");
-        write(out, text);
-        write(out, b"\"\r\n");
+        out.write(name.as_bytes());
+        out.write(b": \"");
+        out.write(text);
+        out.write(b"\"\r\n");
     }
 }
 
 /// Appends the line with the number, where the test holds.
-pub(crate) fn write_number(out: &mut Reply, name: &str, number: u64, test: bool)
-    requires { array_vec_len out.old + length name.now + 24 ≤ 4096 }
-    ensures items { out.new.items
-        ≡ out.old.items ++ print_lines (flag name.now (decimal number) test) }
-    ensures bound { array_vec_len out.new ≤ array_vec_len out.old + length name.now + 24 }
+pub(crate) fn write_number<R: Room>(out: &mut R, name: &str, number: u64, test: bool)
+    requires { R.size out.old + length name.now + 24 ≤ R.capacity out.old }
+    ensures items { R.written out.new
+        ≡ R.written out.old ++ print_lines (flag name.now (decimal number) test) }
+    ensures bound { R.size out.new ≤ R.size out.old + length name.now + 24 }
+    ensures capacity { R.capacity out.old ≤ R.capacity out.new }
 {
     let mut digits = Buffer::new();
     write_flag(out, name, digits.format(number), test);
@@ -108,26 +101,28 @@ pub(crate) fn write_number(out: &mut Reply, name: &str, number: u64, test: bool)
 
 /// Appends the line of an entry of metadata.
 #[tactic(auto, unfolding(crate::specs::Lines::print_lines))]
-fn write_entry(out: &mut Reply, entry: &MetadataEntry)
-    requires { array_vec_len out.old + length entry.now.name + length entry.now.value + 15 ≤ 4096 }
-    ensures items { out.new.items ≡ out.old.items ++ print_lines (metadata_line entry.now ∷ []) }
-    ensures len { array_vec_len out.new
-        ≡ array_vec_len out.old + length entry.now.name + length entry.now.value + 15 }
+fn write_entry<R: Room>(out: &mut R, entry: &MetadataEntry)
+    requires { R.size out.old + length entry.now.name + length entry.now.value + 15 ≤ R.capacity out.old }
+    ensures items { R.written out.new ≡ R.written out.old ++ print_lines (metadata_line entry.now ∷ []) }
+    ensures len { R.size out.new
+        ≡ R.size out.old + length entry.now.name + length entry.now.value + 15 }
+    ensures capacity { R.capacity out.old ≤ R.capacity out.new }
 {
-    write(out, b"x-amz-meta-");
-    write(out, entry.name());
-    write(out, b": ");
-    write(out, entry.value());
-    write(out, b"\r\n");
+    out.write(b"x-amz-meta-");
+    out.write(entry.name());
+    out.write(b": ");
+    out.write(entry.value());
+    out.write(b"\r\n");
 }
 
 /// Appends the lines of metadata.
 #[tactic(auto, unfolding(crate::specs::Lines::print_lines))]
-pub(crate) fn write_metadata(out: &mut Reply, metadata: &[MetadataEntry])
-    requires { array_vec_len out.old + metadata_size metadata.now + 15 * length metadata.now ≤ 4096 }
-    ensures items { out.new.items ≡ out.old.items ++ print_lines (map metadata_line metadata.now) }
-    ensures bound { array_vec_len out.new
-        ≤ array_vec_len out.old + metadata_size metadata.now + 15 * length metadata.now }
+pub(crate) fn write_metadata<R: Room>(out: &mut R, metadata: &[MetadataEntry])
+    requires { R.size out.old + metadata_size metadata.now + 15 * length metadata.now ≤ R.capacity out.old }
+    ensures items { R.written out.new ≡ R.written out.old ++ print_lines (map metadata_line metadata.now) }
+    ensures bound { R.size out.new
+        ≤ R.size out.old + metadata_size metadata.now + 15 * length metadata.now }
+    ensures capacity { R.capacity out.old ≤ R.capacity out.new }
 {
     if let [entry, rest @ ..] = metadata {
         write_entry(out, entry);

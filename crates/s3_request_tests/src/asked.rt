@@ -31,6 +31,11 @@ pub(crate) enum Asked {
     Refused(Code),
     /// It asks for an operation.
     Routed,
+    /// It asks for the operation of this name (Amazon S3 API Reference), of the bucket `pail` and its key `k` where it is
+    /// about them, and of no version.
+    Asks(&'static [u8]),
+    /// The same of the version of this id.
+    AsksOf(&'static [u8], &'static [u8]),
     /// It asks to put this key in this bucket.
     Puts(&'static [u8], &'static [u8]),
     /// It asks to get this key from this bucket.

@@ -7,7 +7,13 @@ mod asked;
 #[cfg(test)]
 mod canonical;
 #[cfg(test)]
+mod commands;
+#[cfg(test)]
+mod entries;
+#[cfg(test)]
 mod heads;
+#[cfg(test)]
+mod plans;
 #[cfg(test)]
 mod replies;
 #[cfg(test)]
@@ -16,6 +22,8 @@ mod routing;
 mod search;
 #[cfg(test)]
 mod store;
+#[cfg(test)]
+mod store_commands;
 #[cfg(test)]
 mod targets;
 #[cfg(test)]

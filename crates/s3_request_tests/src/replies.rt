@@ -1,15 +1,16 @@
 //! The exact bytes of printed replies.
-use crate::store::metadata_of_one;
+use crate::store_commands::metadata_of_one;
 use s3_calendar::Moment;
-use s3_names::Tag;
+use s3_machine::{Answer, BucketList, Found, Outcome};
+use s3_names::{BucketName, Tag, VersionId};
+use s3_records::ListedBucket;
 use s3_replies::{
-    Context, INTERNAL_ERROR, head_of, internal_error_reply, refusal, refusals_are_unique,
+    Context, INTERNAL_ERROR, body_of, head_of, internal_error_reply, refusal, refusals_are_unique,
     replies_are_unique, replies_show_what_came,
 };
 use s3_segments::Body;
-use s3_store::{Answer, Object, Outcome};
-use s3_terms::Code;
-use s3_versions::ContentType;
+use s3_terms::{Code, NoMemory};
+use s3_versions::{ContentType, Data, Versioning};
 use std::alloc::Global;
 
 /// 2013-05-24T00:00:00Z.
@@ -75,16 +76,100 @@ static STATUSES: [(&str, &[Code]); 10] = [
     ("501 Not Implemented", &[Code::NotImplemented]),
 ];
 
+const MADE_REPLY: &[u8] = b"HTTP/1.1 200 OK\r\n\
+    Date: Fri, 24 May 2013 00:00:00 GMT\r\n\
+    x-amz-request-id: 0000000000000001\r\n\
+    Location: /pail\r\n\
+    Content-Length: 0\r\n\
+    \r\n";
+
+const DONE_REPLY: &[u8] = b"HTTP/1.1 200 OK\r\n\
+    Date: Fri, 24 May 2013 00:00:00 GMT\r\n\
+    x-amz-request-id: 0000000000000001\r\n\
+    Content-Length: 0\r\n\
+    \r\n";
+
+const DROPPED_REPLY: &[u8] = b"HTTP/1.1 204 No Content\r\n\
+    Date: Fri, 24 May 2013 00:00:00 GMT\r\n\
+    x-amz-request-id: 0000000000000001\r\n\
+    \r\n";
+
+const UNVERSIONED_REPLY: &[u8] = b"HTTP/1.1 200 OK\r\n\
+    Date: Fri, 24 May 2013 00:00:00 GMT\r\n\
+    x-amz-request-id: 0000000000000001\r\n\
+    Content-Type: application/json\r\n\
+    Content-Length: 2\r\n\
+    \r\n\
+    {}";
+
+const ENABLED_REPLY: &[u8] = b"HTTP/1.1 200 OK\r\n\
+    Date: Fri, 24 May 2013 00:00:00 GMT\r\n\
+    x-amz-request-id: 0000000000000001\r\n\
+    Content-Type: application/json\r\n\
+    Content-Length: 20\r\n\
+    \r\n\
+    {\"Status\":\"Enabled\"}";
+
+const SUSPENDED_REPLY: &[u8] = b"HTTP/1.1 200 OK\r\n\
+    Date: Fri, 24 May 2013 00:00:00 GMT\r\n\
+    x-amz-request-id: 0000000000000001\r\n\
+    Content-Type: application/json\r\n\
+    Content-Length: 22\r\n\
+    \r\n\
+    {\"Status\":\"Suspended\"}";
+
+const LIST_REPLY: &[u8] = b"HTTP/1.1 200 OK\r\n\
+    Date: Fri, 24 May 2013 00:00:00 GMT\r\n\
+    x-amz-request-id: 0000000000000001\r\n\
+    Content-Type: application/json\r\n\
+    Content-Length: 71\r\n\
+    \r\n\
+    {\"Buckets\":[{\"CreationDate\":\"2013-05-24T00:00:00.000Z\",\"Name\":\"pail\"}]}";
+
+const LIST_HEAD_REPLY: &[u8] = b"HTTP/1.1 200 OK\r\n\
+    Date: Fri, 24 May 2013 00:00:00 GMT\r\n\
+    x-amz-request-id: 0000000000000001\r\n\
+    Content-Type: application/json\r\n\
+    Content-Length: 71\r\n\
+    \r\n";
+
 const PUT_REPLY: &[u8] = b"HTTP/1.1 200 OK\r\n\
     Date: Fri, 24 May 2013 00:00:00 GMT\r\n\
-    x-amz-request-id: 0000000000000000\r\n\
+    x-amz-request-id: 0000000000000001\r\n\
     ETag: \"5d41402abc4b2a76b9719d911017c592\"\r\n\
     Content-Length: 0\r\n\
+    \r\n";
+
+const PUT_VERSION_REPLY: &[u8] = b"HTTP/1.1 200 OK\r\n\
+    Date: Fri, 24 May 2013 00:00:00 GMT\r\n\
+    x-amz-request-id: 0000000000000001\r\n\
+    x-amz-version-id: v0000000000000001\r\n\
+    ETag: \"5d41402abc4b2a76b9719d911017c592\"\r\n\
+    Content-Length: 0\r\n\
+    \r\n";
+
+const DELETED_REPLY: &[u8] = b"HTTP/1.1 204 No Content\r\n\
+    Date: Fri, 24 May 2013 00:00:00 GMT\r\n\
+    x-amz-request-id: 0000000000000001\r\n\
+    \r\n";
+
+const DELETED_VERSION_REPLY: &[u8] = b"HTTP/1.1 204 No Content\r\n\
+    Date: Fri, 24 May 2013 00:00:00 GMT\r\n\
+    x-amz-request-id: 0000000000000001\r\n\
+    x-amz-version-id: v00000000000000ff\r\n\
+    \r\n";
+
+const MARKER_REPLY: &[u8] = b"HTTP/1.1 204 No Content\r\n\
+    Date: Fri, 24 May 2013 00:00:00 GMT\r\n\
+    x-amz-request-id: 0000000000000001\r\n\
+    x-amz-version-id: null\r\n\
+    x-amz-delete-marker: true\r\n\
     \r\n";
 
 const GET_REPLY: &[u8] = b"HTTP/1.1 200 OK\r\n\
     Date: Fri, 24 May 2013 00:00:00 GMT\r\n\
     x-amz-request-id: 0000000000000001\r\n\
+    x-amz-version-id: v0000000000000000\r\n\
     ETag: \"5d41402abc4b2a76b9719d911017c592\"\r\n\
     Last-Modified: Fri, 24 May 2013 00:00:00 GMT\r\n\
     Accept-Ranges: bytes\r\n\
@@ -93,6 +178,18 @@ const GET_REPLY: &[u8] = b"HTTP/1.1 200 OK\r\n\
     Content-Length: 5\r\n\
     \r\n\
     hello";
+
+const HEAD_REPLY: &[u8] = b"HTTP/1.1 200 OK\r\n\
+    Date: Fri, 24 May 2013 00:00:00 GMT\r\n\
+    x-amz-request-id: 0000000000000001\r\n\
+    x-amz-version-id: v0000000000000000\r\n\
+    ETag: \"5d41402abc4b2a76b9719d911017c592\"\r\n\
+    Last-Modified: Fri, 24 May 2013 00:00:00 GMT\r\n\
+    Accept-Ranges: bytes\r\n\
+    Content-Type: text/plain\r\n\
+    x-amz-meta-colour: red\r\n\
+    Content-Length: 5\r\n\
+    \r\n";
 
 /// The moment, whether the message is a HEAD that ends its connection, whether a delete marker stands
 /// under the key, and the refusal of a missing key.
@@ -149,78 +246,204 @@ fn context_at(moment: u64, head_only: bool, closes: bool) -> Option<Context> {
     }
 }
 
-/// The bytes of an object, which are sent behind the head.
-fn body_of(outcome: &Outcome) -> &[u8] {
-    match outcome {
-        Outcome::Got { object } => object.body.as_slice(),
-        Outcome::Put { .. } | Outcome::Refused { .. } => b"",
+/// Whether a body, where there is one, has these bytes.
+fn has_bytes(body: Option<Body>, bytes: &[u8]) -> bool {
+    match body {
+        Some(body) => body.as_slice() == bytes,
+        None => bytes.is_empty(),
     }
 }
 
-/// Whether an answer is sent as these bytes: its head, and behind it the bytes of an object.
-fn is_sent(answer: &Answer, context: &Context, bytes: &[u8]) -> bool {
-    let head = head_of(answer, context);
+/// Whether an answer is sent as these bytes: its head, and behind it what stands there.
+fn is_sent(alloc: Global, answer: Answer, context: &Context, bytes: &[u8]) -> bool {
+    let Ok(mut head) = Vec::with_capacity(alloc, 4096) else {
+        return false;
+    };
+    head_of(&answer, context, &mut head);
     match bytes.strip_prefix(head.as_slice()) {
-        Some(rest) => rest == body_of(&answer.outcome),
+        Some(rest) => has_bytes(body_of(answer, context), rest),
         None => false,
     }
 }
 
-fn put_of_hello() -> Outcome {
+/// Whether this is sent as the outcome of command 1, to a message that is a HEAD or none.
+fn is_told(alloc: Global, outcome: Outcome, is_head: bool, bytes: &[u8]) -> bool {
+    let answer = Answer { number: 1, outcome };
+    match context_at(MOMENT, is_head, false) {
+        Some(context) => is_sent(alloc, answer, &context, bytes),
+        None => false,
+    }
+}
+
+/// The number of a row, the outcome that it stands for, and how that is sent.
+fn plain_outcome(row: usize) -> (Outcome, &'static [u8]) {
+    match row {
+        0 => (Outcome::BucketFound, DONE_REPLY),
+        1 => (Outcome::VersioningSet, DONE_REPLY),
+        2 => (Outcome::BucketDropped, DROPPED_REPLY),
+        3 => (versioning_of(Versioning::Unversioned), UNVERSIONED_REPLY),
+        4 => (versioning_of(Versioning::Enabled), ENABLED_REPLY),
+        5 => (versioning_of(Versioning::Suspended), SUSPENDED_REPLY),
+        6 => (put_of_hello(None), PUT_REPLY),
+        7 => (put_of_hello(Some(VersionId::of(1))), PUT_VERSION_REPLY),
+        8 => (deleted(None, false), DELETED_REPLY),
+        9 => (
+            deleted(Some(VersionId::of(255)), false),
+            DELETED_VERSION_REPLY,
+        ),
+        _ => (deleted(Some(VersionId::Null), true), MARKER_REPLY),
+    }
+}
+
+fn versioning_of(versioning: Versioning) -> Outcome {
+    Outcome::BucketVersioning { versioning }
+}
+
+fn put_of_hello(shown: Option<VersionId>) -> Outcome {
     let tag = Tag::of_digest(HELLO);
-    Outcome::Put { tag }
+    Outcome::Put { tag, shown }
+}
+
+fn deleted(shown: Option<VersionId>, is_delete_marker: bool) -> Outcome {
+    Outcome::Deleted {
+        shown,
+        is_delete_marker,
+    }
+}
+
+fn is_row_told(alloc: Global, row: usize) -> bool {
+    let (outcome, bytes) = plain_outcome(row);
+    is_told(alloc, outcome, false, bytes)
+}
+
+fn are_rows_told(alloc: Global) -> bool {
+    for row in 0..11 {
+        if !is_row_told(alloc, row) {
+            return false;
+        }
+    }
+    true
+}
+
+#[test]
+fn answers_without_memory(rt: HostRuntime) {
+    assert!(rt; are_rows_told(rt.alloc()));
+}
+
+fn pail(alloc: Global) -> Result<BucketName, Code> {
+    BucketName::read(alloc, b"pail")
+}
+
+fn made_pail(alloc: Global) -> Result<Outcome, Code> {
+    let name = pail(alloc)?;
+    Ok(Outcome::BucketMade { name })
+}
+
+fn row_of_pail(alloc: Global, made: Moment) -> Result<ListedBucket, Code> {
+    let name = pail(alloc)?;
+    Ok(ListedBucket { name, made })
+}
+
+fn listed(alloc: Global, row: ListedBucket) -> Result<BucketList, NoMemory> {
+    let mut rows = Vec::new(alloc);
+    rows.push(row)?;
+    BucketList::new(alloc, rows)
+}
+
+fn list_of_pail(alloc: Global, made: Moment) -> Result<Outcome, Code> {
+    let row = row_of_pail(alloc, made)?;
+    match listed(alloc, row) {
+        Ok(buckets) => Ok(Outcome::Buckets { buckets }),
+        Err(_) => Err(Code::InternalError),
+    }
+}
+
+/// What a put of `hello` stored, with this for the bytes.
+fn hello<B: Drop>(alloc: Global, body: B) -> Result<Data<B>, Code> {
+    let content_type = ContentType::read(alloc, b"text/plain")?;
+    let metadata = metadata_of_one(alloc)?;
+    Ok(Data {
+        tag: Tag::of_digest(HELLO),
+        content_type,
+        metadata,
+        size: 5,
+        body,
+    })
+}
+
+fn found_hello<B>(stored: Data<B>, moment: Moment) -> Found<B> {
+    Found {
+        shown: Some(VersionId::of(0)),
+        moment,
+        stored,
+    }
 }
 
 fn get_of_hello(alloc: Global, moment: Moment) -> Result<Outcome, Code> {
-    let content_type = ContentType::read(alloc, b"text/plain")?;
-    let metadata = metadata_of_one(alloc)?;
     let body = Body::new(b"hello".to_vec(alloc)?);
-    let object = Object {
-        tag: Tag::of_digest(HELLO),
-        moment,
-        content_type,
-        metadata,
-        body,
-    };
-    Ok(Outcome::Got { object })
+    let found = found_hello(hello(alloc, body)?, moment);
+    Ok(Outcome::Got { found })
 }
 
-fn is_put_sent(context: &Context) -> bool {
-    let answer = Answer {
-        number: 0,
-        outcome: put_of_hello(),
-    };
-    is_sent(&answer, context, PUT_REPLY)
+fn head_of_hello(alloc: Global, moment: Moment) -> Result<Outcome, Code> {
+    let found = found_hello(hello(alloc, ())?, moment);
+    Ok(Outcome::HeadGot { found })
 }
 
-fn is_got_sent(outcome: Outcome, context: &Context) -> bool {
-    let answer = Answer { number: 1, outcome };
-    is_sent(&answer, context, GET_REPLY)
+/// The number of a row, the outcome that it stands for, at this moment.
+fn outcome_with_memory(alloc: Global, row: usize, moment: Moment) -> Result<Outcome, Code> {
+    match row {
+        0 => made_pail(alloc),
+        1 | 2 => list_of_pail(alloc, moment),
+        3 | 4 => get_of_hello(alloc, moment),
+        _ => head_of_hello(alloc, moment),
+    }
 }
 
-fn is_get_sent(alloc: Global, context: &Context) -> bool {
-    match get_of_hello(alloc, context.moment) {
-        Ok(outcome) => is_got_sent(outcome, context),
+/// Whether the message of the row is a HEAD, and how its outcome is sent.
+fn reply_of_row(row: usize) -> (bool, &'static [u8]) {
+    match row {
+        0 => (false, MADE_REPLY),
+        1 => (false, LIST_REPLY),
+        2 => (true, LIST_HEAD_REPLY),
+        3 => (false, GET_REPLY),
+        _ => (true, HEAD_REPLY),
+    }
+}
+
+fn is_row_with_memory_told(alloc: Global, row: usize, moment: Moment) -> bool {
+    let (is_head, bytes) = reply_of_row(row);
+    match outcome_with_memory(alloc, row, moment) {
+        Ok(outcome) => is_told(alloc, outcome, is_head, bytes),
         Err(_) => false,
     }
 }
 
-/// Whether the answers to a put and a get of `hello` are sent so.
-fn are_sent(alloc: Global) -> bool {
-    match context_at(MOMENT, false, false) {
-        Some(context) => is_put_sent(&context) && is_get_sent(alloc, &context),
+fn are_rows_with_memory_told(alloc: Global, moment: Moment) -> bool {
+    for row in 0..6 {
+        if !is_row_with_memory_told(alloc, row, moment) {
+            return false;
+        }
+    }
+    true
+}
+
+fn are_told(alloc: Global) -> bool {
+    match Moment::new(MOMENT) {
+        Some(moment) => are_rows_with_memory_told(alloc, moment),
         None => false,
     }
 }
 
+// The bucket that was made, the list of it, and `hello`, the last two also to a HEAD.
 #[test]
-fn put_and_get_hello(rt: HostRuntime) {
-    assert!(rt; are_sent(rt.alloc()));
+fn answers_with_memory(rt: HostRuntime) {
+    assert!(rt; are_told(rt.alloc()));
 }
 
 /// Whether a missing key, or one with a delete marker, is refused at this moment, to a HEAD that ends its
 /// connection or to another message that does not, with these bytes.
-fn is_refused(case: &Refused) -> bool {
+fn is_refused(alloc: Global, case: &Refused) -> bool {
     let (moment, is_last_head, is_delete_marker, bytes) = case;
     let answer = Answer {
         number: 255,
@@ -230,14 +453,14 @@ fn is_refused(case: &Refused) -> bool {
         },
     };
     match context_at(*moment, *is_last_head, *is_last_head) {
-        Some(context) => is_sent(&answer, &context, bytes),
+        Some(context) => is_sent(alloc, answer, &context, bytes),
         None => false,
     }
 }
 
-fn are_all_refused(cases: &[Refused]) -> bool {
+fn are_all_refused(alloc: Global, cases: &[Refused]) -> bool {
     for case in cases {
-        if !is_refused(case) {
+        if !is_refused(alloc, case) {
             return false;
         }
     }
@@ -245,8 +468,8 @@ fn are_all_refused(cases: &[Refused]) -> bool {
 }
 
 #[test]
-fn refusals_of_the_store(rt: HostRuntime) {
-    assert!(rt; are_all_refused(&REFUSALS));
+fn refusals_of_the_machine(rt: HostRuntime) {
+    assert!(rt; are_all_refused(rt.alloc(), &REFUSALS));
 }
 
 const MALFORMED: &[u8] = b"HTTP/1.1 400 Bad Request\r\n\

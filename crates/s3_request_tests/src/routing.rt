@@ -1,59 +1,10 @@
 //! Which operation a head asks for, and which refusal it gets where it asks for none.
-use crate::asked::{Asked, Long, Row, are_so, is_long_so, is_same, is_so_at};
-use crate::targets::Pair;
+use crate::asked::{Asked, Long, Row, are_so, is_long_so, is_so_at};
+use crate::plans::is_plan;
 use s3_http_heads::Head;
-use s3_requests::{KeyPlan, Plan, route};
+use s3_requests::route;
 use s3_terms::Code;
-use s3_versions::Metadata;
 use std::alloc::Global;
-
-// Whether these are the names of a bucket and a key.
-fn are_names(names: (&[u8], &[u8]), bucket: &[u8], key: &[u8]) -> bool {
-    is_same(names.0, bucket) && is_same(names.1, key)
-}
-
-// Whether this is the metadata.
-fn is_metadata(metadata: &Metadata, pairs: &[Pair]) -> bool {
-    let entries = metadata.entries();
-    if entries.len() != pairs.len() {
-        return false;
-    }
-    for index in 0..entries.len() {
-        let pair = (entries[index].name(), entries[index].value());
-        if !are_names(pair, pairs[index].0, pairs[index].1) {
-            return false;
-        }
-    }
-    true
-}
-
-// Whether what is asked of this key is wanted.
-fn is_asked(plan: &KeyPlan, names: (&[u8], &[u8]), asked: &Asked) -> bool {
-    match (plan, asked) {
-        (_, Asked::Routed) => true,
-        (KeyPlan::Put { .. }, Asked::Puts(bucket, key)) => are_names(names, bucket, key),
-        (KeyPlan::Get, Asked::Gets(bucket, key)) => are_names(names, bucket, key),
-        (
-            KeyPlan::Put {
-                content_type,
-                metadata,
-            },
-            Asked::Stores(kind, pairs),
-        ) => is_same(content_type.as_bytes(), kind) && is_metadata(metadata, pairs),
-        _ => false,
-    }
-}
-
-// Whether the plan is asked for.
-fn is_plan(plan: &Plan, asked: &Asked) -> bool {
-    match plan {
-        Plan::Key {
-            bucket,
-            key,
-            asked: plan,
-        } => is_asked(plan, (bucket.as_bytes(), key.as_bytes()), asked),
-    }
-}
 
 // Whether the refusal of the route is the one that is wanted.
 fn is_refused(code: Code, asked: &Asked) -> bool {
@@ -92,35 +43,51 @@ const PUTS: Asked = Asked::Puts(b"pail", b"k");
 
 const GETS: Asked = Asked::Gets(b"pail", b"k");
 
+const LISTS: Asked = Asked::Asks(b"ListBuckets");
+
+const CREATES: Asked = Asked::Asks(b"CreateBucket");
+
+const HEADS_BUCKET: Asked = Asked::Asks(b"HeadBucket");
+
+const DROPS: Asked = Asked::Asks(b"DeleteBucket");
+
+const SETS_VERSIONING: Asked = Asked::Asks(b"PutBucketVersioning");
+
+const GETS_VERSIONING: Asked = Asked::Asks(b"GetBucketVersioning");
+
+const HEADS: Asked = Asked::Asks(b"HeadObject");
+
+const DELETES: Asked = Asked::Asks(b"DeleteObject");
+
 // Every method on the service, a bucket and a key.
 static METHODS: [Case; 20] = [
-    (b"GET", b"/", LACKS),
+    (b"GET", b"/", LISTS),
     (b"GET", b"/pail", LACKS),
     (b"GET", b"/pail/k", GETS),
     (b"HEAD", b"/", NEVER),
-    (b"HEAD", b"/pail", LACKS),
-    (b"HEAD", b"/pail/k", LACKS),
+    (b"HEAD", b"/pail", HEADS_BUCKET),
+    (b"HEAD", b"/pail/k", HEADS),
     (b"PUT", b"/", NEVER),
-    (b"PUT", b"/pail", LACKS),
+    (b"PUT", b"/pail", CREATES),
     (b"PUT", b"/pail/k", PUTS),
     (b"POST", b"/", NEVER),
     (b"POST", b"/pail", LACKS),
     (b"POST", b"/pail/k", NEVER),
     (b"DELETE", b"/", NEVER),
-    (b"DELETE", b"/pail", LACKS),
-    (b"DELETE", b"/pail/k", LACKS),
+    (b"DELETE", b"/pail", DROPS),
+    (b"DELETE", b"/pail/k", DELETES),
     (b"OPTIONS", b"/", NEVER),
     (b"OPTIONS", b"/pail", NEVER),
     (b"OPTIONS", b"/pail/k", NEVER),
     (b"get", b"/pail/k", NEVER),
-    (b"DELETE", b"/pail/", LACKS),
+    (b"DELETE", b"/pail/", DROPS),
 ];
 
 // The rows of the table that a parameter tells apart, and parameters that tell nothing.
-static ROWS: [Case; 32] = [
-    (b"GET", b"/?list-type=2", LACKS),
-    (b"PUT", b"/pail?versioning", LACKS),
-    (b"GET", b"/pail?versioning", LACKS),
+static ROWS: [Case; 46] = [
+    (b"GET", b"/?list-type=2", LISTS),
+    (b"PUT", b"/pail?versioning", SETS_VERSIONING),
+    (b"GET", b"/pail?versioning", GETS_VERSIONING),
     (b"GET", b"/pail?uploads", LACKS),
     (b"GET", b"/pail?versions", LACKS),
     (b"GET", b"/pail?list-type=2", LACKS),
@@ -136,7 +103,7 @@ static ROWS: [Case; 32] = [
     (b"GET", b"/pail/k?uploadId=u0000000000000000", LACKS),
     (b"GET", b"/pail/k?partNumber=1", LACKS),
     (b"HEAD", b"/pail/k?partNumber=1", LACKS),
-    (b"HEAD", b"/pail/k?uploadId=u0000000000000000", LACKS),
+    (b"HEAD", b"/pail/k?uploadId=u0000000000000000", HEADS),
     (b"DELETE", b"/pail/k?uploadId=u0000000000000000", LACKS),
     (b"POST", b"/pail/k?uploads", LACKS),
     (b"POST", b"/pail/k?uploadId=u0000000000000000", LACKS),
@@ -160,12 +127,50 @@ static ROWS: [Case; 32] = [
     (b"GET", b"/pail/k?versionId=", WRONG),
     (b"GET", b"/pail/k?versionId=v000000000000000A", WRONG),
     (b"GET", b"/pail/k?versionId=NULL&versionId=null", WRONG),
-    (b"GET", b"/pail/k?versionId=null&versionId=NULL", LACKS),
-    (b"GET", b"/pail/k?%76ersionId=v00000000000000ff", LACKS),
+    (
+        b"GET",
+        b"/pail/k?versionId=null&versionId=NULL",
+        Asked::AsksOf(b"GetObject", b"null"),
+    ),
+    (
+        b"GET",
+        b"/pail/k?%76ersionId=v00000000000000ff",
+        Asked::AsksOf(b"GetObject", b"v00000000000000ff"),
+    ),
+    (
+        b"HEAD",
+        b"/pail/k?versionId=vffffffffffffffff",
+        Asked::AsksOf(b"HeadObject", b"vffffffffffffffff"),
+    ),
+    (
+        b"DELETE",
+        b"/pail/k?versionId=null",
+        Asked::AsksOf(b"DeleteObject", b"null"),
+    ),
+    (b"HEAD", b"/pail/k?versionId=", WRONG),
+    (b"DELETE", b"/pail/k?versionId=u00000000000000ff", WRONG),
+    (b"DELETE", b"/pail/k?versionId", WRONG),
+    (b"DELETE", b"/pail/k?partNumber=1", DELETES),
+    (b"GET", b"/?versionId=&uploads&versioning", LISTS),
+    (b"PUT", b"/?versioning", NEVER),
+    (b"PUT", b"/pail?versionId=&uploads&list-type=2", CREATES),
+    (
+        b"PUT",
+        b"/pail?uploads&versioning=&versionId=",
+        SETS_VERSIONING,
+    ),
+    (
+        b"GET",
+        b"/pail?uploads&versioning&versionId=",
+        GETS_VERSIONING,
+    ),
+    (b"HEAD", b"/pail?versioning&versionId=", HEADS_BUCKET),
+    (b"DELETE", b"/pail?versioning&versionId=&uploadId", DROPS),
+    (b"POST", b"/pail?versioning", LACKS),
 ];
 
 // Where two things are wrong, the first one refuses.
-static FAULTS: [Case; 14] = [
+static FAULTS: [Case; 20] = [
     (b"GET", b"pail/k?acl", Asked::Refused(Code::InvalidURI)),
     (b"PUT", b"/?acl", LACKS),
     (b"GET", b"/Pail/%ff?acl", LACKS),
@@ -196,6 +201,16 @@ static FAULTS: [Case; 14] = [
     ),
     (b"GET", b"/pail/k?uploadId&versionId=", LACKS),
     (b"GET", b"/pail/k?partNumber=1&versionId=", LACKS),
+    (b"HEAD", b"/pail/k?partNumber=1&versionId=", LACKS),
+    (b"DELETE", b"/pail/k?uploadId&versionId=", LACKS),
+    (b"PUT", b"/pail?versioning&policy", LACKS),
+    (b"GET", b"/?acl", LACKS),
+    (b"DELETE", b"/Pail", Asked::Refused(Code::InvalidBucketName)),
+    (
+        b"DELETE",
+        b"/pail/%ff?versionId=",
+        Asked::Refused(Code::InvalidURI),
+    ),
 ];
 
 // Whether all cases come to that.
@@ -270,7 +285,7 @@ fn the_table_of_operations(rt: HostRuntime) {
 
 // Keys of 1,024 and of 1,025 bytes, and what comes before and behind a key that is too long; media types and
 // metadata at their limits.
-static LIMITS: [Long; 16] = [
+static LIMITS: [Long; 18] = [
     (
         b"GET /pail/",
         b"k",
@@ -369,6 +384,20 @@ static LIMITS: [Long; 16] = [
         b"\r\n\r\n",
         GETS,
     ),
+    (
+        b"PUT /pail HTTP/1.1\r\ncontent-type: ",
+        b"t",
+        256,
+        b"\r\n\r\n",
+        CREATES,
+    ),
+    (
+        b"HEAD /pail/k HTTP/1.1\r\nx-amz-meta-a: ",
+        b"v",
+        2_048,
+        b"\r\n\r\n",
+        HEADS,
+    ),
     // The type and the metadata are too long.
     (
         b"PUT /pail/k HTTP/1.1\r\nContent-Type: tttttttttttttttttttttttttttttttttttttttttttttttttttttttttttttttttttttttttttttttttttttttttttttttttttttttttttttttttttttttttttttttttttttttttttttttttttttttttttttttttttttttttttttttttttttttttttttttttttttttttttttttttttttttttttttttttttttttttttttttttttttttttttttttt",
@@ -401,7 +430,8 @@ fn limits(rt: HostRuntime) {
     assert!(rt; are_long_so(rt.alloc(), &LIMITS));
 }
 
-static ESCAPES: [Row; 2] = [
+static ESCAPES: [Row; 3] = [
+    (b"HEAD /p%61il/? HTTP/1.1\r\n\r\n", HEADS_BUCKET),
     (
         b"GET /pail/a%2Fb/c+%20 HTTP/1.1\r\n\r\n",
         Asked::Gets(b"pail", b"a/b/c+ "),
@@ -423,7 +453,7 @@ static COPIES: [Row; 4] = [
     ),
     (
         b"PUT /pail HTTP/1.1\r\nX-Amz-Copy-Source: /pail/j\r\n\r\n",
-        LACKS,
+        CREATES,
     ),
     (
         b"GET /pail/k HTTP/1.1\r\nX-Amz-Copy-Source: /pail/j\r\n\r\n",

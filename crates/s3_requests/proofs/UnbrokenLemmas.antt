@@ -1,6 +1,6 @@
 -- What a head asks to be stored beside a body has no carriage return in it.
 use Rattle.std.proofs.Common.{◌≡◌, inl, inr, ℕ, ◌+◌, Bool, true, false, not, ◌&&◌, List, [], ◌∷◌, ◌++◌, map, filter, take, drop, refl, sym, ap, subst, ◌∙◌, arith, Option, Some, None, Result, Ok, Err, if◌then◌else◌, slice_get, take-append-drop}
-use Rattle.std.specs.Prelude.{◌==◌, nat_lt, length, not, ok_or, is_some, codes, ⊤}
+use Rattle.std.specs.Prelude.{◌==◌, nat_lt, length, not, ok_or, codes}
 use Rattle.std.specs.Char.{to_ascii_lowercase}
 use Rattle.std.specs.List.{list_all, cons_option, filter_map, dedup, dedup_from, join_with_byte}
 use Rattle.std.specs.Str.{bytes_eq, str_to_ascii_lowercase}
@@ -12,23 +12,24 @@ use Rattle.s3_text.specs.Order.{byte_order}
 use Rattle.s3_text.specs.Sorting.{insert_by, sorted_by}
 use Rattle.s3_terms.specs.Fault.{refuse, ◌>>◌, ◌>>=◌}
 use Rattle.s3_terms.specs.declared.code.Code.{Code}
-use Rattle.s3_terms.specs.declared.code.Code.TheVariants.{NotImplemented, MethodNotAllowed, InvalidBucketName}
+use Rattle.s3_terms.specs.declared.code.Code.TheVariants.{MethodNotAllowed}
 use Rattle.s3_http_heads.specs.Head.{HeadParts, LinesAreWhole, is_named, is_unbroken, is_whole_line, values_of}
 use Rattle.s3_http_heads.specs.Target.{TargetParts}
 use Rattle.s3_versions.specs.ContentType.{content_type}
 use Rattle.s3_versions.specs.Metadata.{Entry, metadata, metadata_size}
 use Rattle.s3_requests.specs.declared.commands.Plan.{Plan}
 use Rattle.s3_requests.specs.declared.commands.Plan.TheVariants as plans
+use Rattle.s3_requests.specs.declared.commands.BucketPlan.{BucketPlan}
 use Rattle.s3_requests.specs.declared.commands.KeyPlan.{KeyPlan}
 use Rattle.s3_requests.specs.declared.commands.KeyPlan.TheVariants as key_plans
 use Rattle.s3_requests.specs.declared.operations.Operation.{Operation}
 use Rattle.s3_requests.specs.declared.operations.Operation.TheVariants as operations
-use Rattle.s3_names.specs.Names.{is_bucket_name}
+use Rattle.s3_names.specs.Names.{object_key}
 use Rattle.s3_names.specs.declared.ids.VersionId.{VersionId}
 use Rattle.s3_requests.specs.Arguments.{version_argument}
-use Rattle.s3_requests.specs.Operations.{method_of, key_operation}
+use Rattle.s3_requests.specs.Operations.{method_of, service_operation, key_operation}
 use Rattle.s3_requests.specs.Description.{type_sent, content_type_of, front, name_in, names_of, entry_of, metadata_of}
-use Rattle.s3_requests.specs.Routing.{address_at, key_at, plan_for, put_plan, get_plan, key_plan, route_of}
+use Rattle.s3_requests.specs.Routing.{is_service, address_at, service_plan_for, service_plan, bucket_named, bucket_plan, put_plan, version_plan, key_plan_for, key_plan, plan_of_bucket, plan_of_key, named_plan, route_of}
 use Rattle.s3_requests.specs.Laws.{is_unbroken_entry, IsUnbrokenAsk, IsUnbrokenPlan, PlansAreUnbroken}
 
 both : (a b : Bool) → (a && b) ≡ true → (a ≡ true) × (b ≡ true)
@@ -155,9 +156,16 @@ bound : {A B : Type 0} (r : Result A Code) (next : A → Result B Code) (y : B) 
 bound (Ok x) next y is = (x, refl, is)
 bound (Err code) next y is = absurd (cc)
 
-followed : {B : Type 0} (r : Result ⊤ Code) (next : Result B Code) (y : B) → (r >> next) ≡ Ok y → next ≡ Ok y
-followed (Ok done) next y is = is
-followed (Err code) next y is = absurd (cc)
+either : {A : Type 0} (test : Bool) (x y : Result Plan Code) (plan : Plan) → ◌≡◌ {A = Result Plan Code} (if test then x else y) (Ok plan)
+    → (x ≡ Ok plan → A) → (y ≡ Ok plan → A) → A
+either true x y plan is first second = first is
+either false x y plan is first second = second is
+
+service_planned : (operation : Operation) (plan : Plan) → service_plan_for operation ≡ Ok plan → IsUnbrokenPlan plan
+service_planned operations.ListBuckets plan is =
+    let same : plans.ListBuckets ≡ plan = cc in
+    subst IsUnbrokenPlan same tt
+service_planned _ plan is = absurd (cc)
 
 type_unbroken : (values : List (List ℕ)) → list_all is_unbroken values ≡ true → is_unbroken (type_sent (slice_get values 0)) ≡ true
 type_unbroken [] all = refl
@@ -185,34 +193,57 @@ module _ (head : HeadParts) (lines : list_all is_whole_line head.headers ≡ tru
       let same : key_plans.Put one.0 two.0 ≡ asked = cc in
       subst IsUnbrokenAsk same (content_type_unbroken one.0 one.1, metadata_unbroken two.0 two.1)
 
-  get_unbroken : (target : TargetParts) (asked : KeyPlan) → get_plan target ≡ Ok asked → IsUnbrokenAsk asked
-  unfolding get_plan
-  get_unbroken target asked is =
-      let one = bound (version_argument target) (λ (version : Option VersionId). refuse (is_some version) NotImplemented >> Ok key_plans.Get) asked is in
-      let same : key_plans.Get ≡ asked = passed (is_some one.0) NotImplemented key_plans.Get asked one.2 in
-      subst IsUnbrokenAsk same tt
+  version_unbroken : (plan : Option VersionId → KeyPlan) → ((version : Option VersionId) → IsUnbrokenAsk (plan version))
+      → (target : TargetParts) (asked : KeyPlan) → version_plan plan target ≡ Ok asked → IsUnbrokenAsk asked
+  version_unbroken plan none target asked is =
+      let one = bound (version_argument target) (λ (version : Option VersionId). Ok (plan version)) asked is in
+      let same : plan one.0 ≡ asked = cc in
+      subst IsUnbrokenAsk same (none one.0)
 
-  planned_unbroken : (operation : Operation) (target : TargetParts) (asked : KeyPlan) → plan_for operation head target ≡ Ok asked → IsUnbrokenAsk asked
+  planned_unbroken : (operation : Operation) (target : TargetParts) (asked : KeyPlan) → key_plan_for operation head target ≡ Ok asked → IsUnbrokenAsk asked
   planned_unbroken operations.PutObject target asked is = put_unbroken asked is
-  planned_unbroken operations.GetObject target asked is = get_unbroken target asked is
+  planned_unbroken operations.GetObject target asked is = version_unbroken key_plans.Get (λ version. tt) target asked is
+  planned_unbroken operations.HeadObject target asked is = version_unbroken key_plans.Head (λ version. tt) target asked is
+  planned_unbroken operations.DeleteObject target asked is = version_unbroken key_plans.Delete (λ version. tt) target asked is
   planned_unbroken _ target asked is = absurd (cc)
 
   asked_unbroken : (target : TargetParts) (asked : KeyPlan) → key_plan head target ≡ Ok asked → IsUnbrokenAsk asked
   unfolding key_plan
   asked_unbroken target asked is =
-      let one = bound (ok_or (key_operation (method_of head.method) head target) MethodNotAllowed) (λ (operation : Operation). plan_for operation head target) asked is in
+      let one = bound (ok_or (key_operation (method_of head.method) head target) MethodNotAllowed) (λ (operation : Operation). key_plan_for operation head target) asked is in
       planned_unbroken one.0 target asked one.2
+
+  service_unbroken : (plan : Plan) → service_plan head ≡ Ok plan → IsUnbrokenPlan plan
+  unfolding service_plan
+  service_unbroken plan is =
+      let one = bound (ok_or (service_operation (method_of head.method)) MethodNotAllowed) service_plan_for plan is in
+      service_planned one.0 plan one.2
+
+  bucket_unbroken : (name : List ℕ) (target : TargetParts) (plan : Plan) → plan_of_bucket name head target ≡ Ok plan → IsUnbrokenPlan plan
+  bucket_unbroken name target plan is =
+      let one = bound (bucket_plan head target) (λ (asked : BucketPlan). Ok (plans.Bucket name asked)) plan is in
+      let same : plans.Bucket name one.0 ≡ plan = cc in
+      subst IsUnbrokenPlan same tt
+
+  key_unbroken : (name : List ℕ) (target : TargetParts) (plan : Plan) → plan_of_key name head target ≡ Ok plan → IsUnbrokenPlan plan
+  key_unbroken name target plan is =
+      let key = bound (object_key target.key) (λ (k : List ℕ). key_plan head target >>= (λ (a : KeyPlan). Ok (plans.Key name k a))) plan is in
+      let asked = bound (key_plan head target) (λ (a : KeyPlan). Ok (plans.Key name key.0 a)) plan key.2 in
+      let same : plans.Key name key.0 asked.0 ≡ plan = cc in
+      subst IsUnbrokenPlan same (asked_unbroken target asked.0 asked.1)
+
+  named_unbroken : (target : TargetParts) (plan : Plan) → named_plan head target ≡ Ok plan → IsUnbrokenPlan plan
+  unfolding named_plan
+  named_unbroken target plan is =
+      let name = bound (bucket_named target) (λ (name : List ℕ). if length target.key == 0 then plan_of_bucket name head target else plan_of_key name head target) plan is in
+      either (length target.key == 0) (plan_of_bucket name.0 head target) (plan_of_key name.0 head target) plan name.2
+      (bucket_unbroken name.0 target plan) (key_unbroken name.0 target plan)
 
   route_unbroken : (plan : Plan) → route_of head ≡ Ok plan → IsUnbrokenPlan plan
   unfolding route_of
   route_unbroken plan is =
-      let target = bound (address_at head) (λ (t : TargetParts). refuse (not (is_bucket_name t.bucket)) InvalidBucketName >> (key_at head t >>= (λ (k : List ℕ). key_plan head t >>= (λ (a : KeyPlan). Ok (plans.Key t.bucket k a))))) plan is in
-      let t = target.0 in
-      let named = followed (refuse (not (is_bucket_name t.bucket)) InvalidBucketName) (key_at head t >>= (λ (k : List ℕ). key_plan head t >>= (λ (a : KeyPlan). Ok (plans.Key t.bucket k a)))) plan target.2 in
-      let key = bound (key_at head t) (λ (k : List ℕ). key_plan head t >>= (λ (a : KeyPlan). Ok (plans.Key t.bucket k a))) plan named in
-      let asked = bound (key_plan head t) (λ (a : KeyPlan). Ok (plans.Key t.bucket key.0 a)) plan key.2 in
-      let same : plans.Key t.bucket key.0 asked.0 ≡ plan = cc in
-      subst IsUnbrokenPlan same (asked_unbroken t asked.0 asked.1)
+      let target = bound (address_at head) (λ (t : TargetParts). if is_service t then service_plan head else named_plan head t) plan is in
+      either (is_service target.0) (service_plan head) (named_plan head target.0) plan target.2 (service_unbroken plan) (named_unbroken target.0 plan)
 
 pub plans_are_unbroken : LinesAreWhole → PlansAreUnbroken
 plans_are_unbroken whole text head plan says is = route_unbroken head (whole text head says) plan is

@@ -17,10 +17,11 @@ is_unbroken_entry entry = is_unbroken entry.name && is_unbroken entry.value
 abbrev pub IsUnbrokenAsk : KeyPlan → Type 0
 IsUnbrokenAsk (key_plans.Put content_type metadata) =
     (is_unbroken content_type ≡ true) × (list_all is_unbroken_entry metadata ≡ true)
-IsUnbrokenAsk key_plans.Get = Unit {0}
+IsUnbrokenAsk other = Unit {0}
 
 abbrev pub IsUnbrokenPlan : Plan → Type 0
 IsUnbrokenPlan (plans.Key bucket key asked) = IsUnbrokenAsk asked
+IsUnbrokenPlan other = Unit {0}
 
 -- what a head asks for has none there
 abbrev pub PlansAreUnbroken : Type 0

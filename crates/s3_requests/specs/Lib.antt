@@ -12,3 +12,4 @@ pub use Rattle.s3_names.specs.Ids
 pub use Rattle.s3_names.specs.Names
 pub use Rattle.s3_versions.specs.ContentType
 pub use Rattle.s3_versions.specs.Metadata
+pub use Rattle.s3_documents.specs.Versioning

@@ -1,26 +1,32 @@
 -- What a head asks for, and of which bucket and which key (addresses are path-style: Amazon S3 User Guide,
 -- "Path-style requests"), and the faults of routing in their order.
-use Rattle.std.specs.Prelude.{ℕ, Bool, not, ◌==◌, List, length, codes, Option, Some, None, is_some, ok_or, Result, Ok, Err}
+use Rattle.std.specs.Prelude.{ℕ, Bool, true, false, ◌==◌, if◌then◌else◌, List, length, codes, Option, ok_or, Result, Ok, Err}
 use Rattle.std.specs.List.{list_any}
 use Rattle.std.specs.Str.{bytes_eq}
 use Rattle.s3_text.specs.Characters.{space}
 use Rattle.s3_text.specs.Cut.{parts_at}
-use Rattle.s3_names.specs.Names.{is_bucket_name, object_key}
+use Rattle.s3_names.specs.Names.{bucket_name, object_key}
+use Rattle.s3_names.specs.declared.ids.VersionId.{VersionId}
 use Rattle.s3_terms.specs.Fault.{refuse, ◌>>◌, ◌>>=◌}
 use Rattle.s3_terms.specs.declared.code.Code.{Code}
-use Rattle.s3_terms.specs.declared.code.Code.TheVariants.{NotImplemented, MethodNotAllowed, InvalidBucketName}
+use Rattle.s3_terms.specs.declared.code.Code.TheVariants.{NotImplemented, MethodNotAllowed}
 use Rattle.s3_http_heads.specs.Head.{HeadParts}
 use Rattle.s3_http_heads.specs.Target.{TargetParts, target_of, has_parameter}
 use Rattle.s3_requests.specs.declared.operations.Operation.{Operation}
 use Rattle.s3_requests.specs.declared.operations.Operation.TheVariants as operations
 use Rattle.s3_requests.specs.declared.commands.Plan.{Plan}
 use Rattle.s3_requests.specs.declared.commands.Plan.TheVariants as plans
+use Rattle.s3_requests.specs.declared.commands.BucketPlan.{BucketPlan}
+use Rattle.s3_requests.specs.declared.commands.BucketPlan.TheVariants as bucket_plans
 use Rattle.s3_requests.specs.declared.commands.KeyPlan.{KeyPlan}
 use Rattle.s3_requests.specs.declared.commands.KeyPlan.TheVariants as key_plans
-use Rattle.s3_requests.specs.declared.commands.Command.{Command}
-use Rattle.s3_requests.specs.declared.commands.Command.TheVariants as commands
-use Rattle.s3_requests.specs.declared.commands.KeyCommand.{KeyCommand}
-use Rattle.s3_requests.specs.declared.commands.KeyCommand.TheVariants as key_commands
+use Rattle.s3_machine.specs.declared.command.Command.{Command}
+use Rattle.s3_machine.specs.declared.command.Command.TheVariants as commands
+use Rattle.s3_machine.specs.declared.command.BucketCommand.{BucketCommand}
+use Rattle.s3_machine.specs.declared.command.BucketCommand.TheVariants as bucket_commands
+use Rattle.s3_machine.specs.declared.command.KeyCommand.{KeyCommand}
+use Rattle.s3_machine.specs.declared.command.KeyCommand.TheVariants as key_commands
+use Rattle.s3_documents.specs.Versioning.{versioning_read}
 use Rattle.s3_requests.specs.Arguments.{version_argument}
 use Rattle.s3_requests.specs.Description.{content_type_of, metadata_of}
 use Rattle.s3_requests.specs.Operations.{method_of, service_operation, bucket_operation, key_operation}
@@ -38,24 +44,42 @@ names_lacking target = list_any (λ name. has_parameter name target) lacking
 abbrev pub is_service : TargetParts → Bool
 is_service target = bytes_eq target.path (codes "/")
 
--- what refuses an operation on the service or on a bucket, of which this server has none
-abbrev pub refusal_of : Option Operation → Code
-refusal_of None = MethodNotAllowed
-refusal_of (Some operation) = NotImplemented
-
--- the target of a head, which names no sub-resource that isn't there and doesn't mean the service
+-- the target of a head, which names no sub-resource that isn't there
 unfoldable pub address_at : HeadParts → Result TargetParts Code
 address_at head = do
   target ← target_of head.target
   refuse (names_lacking target) NotImplemented
-  refuse (is_service target) (refusal_of (service_operation (method_of head.method)))
   Ok target
 
--- the key of a target; where that is empty, the bucket is meant
-unfoldable pub key_at : HeadParts → TargetParts → Result (List ℕ) Code
-key_at head target = do
-  refuse (length target.key == 0) (refusal_of (bucket_operation (method_of head.method) target))
-  object_key target.key
+-- the service's operations, with their arguments
+abbrev pub service_plan_for : Operation → Result Plan Code
+service_plan_for operations.ListBuckets = Ok plans.ListBuckets
+service_plan_for other = Err NotImplemented
+
+-- what is asked of the service
+unfoldable pub service_plan : HeadParts → Result Plan Code
+service_plan head = do
+  operation ← ok_or (service_operation (method_of head.method)) MethodNotAllowed
+  service_plan_for operation
+
+-- the name of the bucket that a target names
+abbrev pub bucket_named : TargetParts → Result (List ℕ) Code
+bucket_named target = bucket_name target.bucket
+
+-- an operation on a bucket, if this server has it
+abbrev pub bucket_plan_for : Operation → Result BucketPlan Code
+bucket_plan_for operations.CreateBucket = Ok bucket_plans.Create
+bucket_plan_for operations.HeadBucket = Ok bucket_plans.Head
+bucket_plan_for operations.DeleteBucket = Ok bucket_plans.Delete
+bucket_plan_for operations.PutBucketVersioning = Ok bucket_plans.PutVersioning
+bucket_plan_for operations.GetBucketVersioning = Ok bucket_plans.GetVersioning
+bucket_plan_for other = Err NotImplemented
+
+-- what is asked of a bucket
+unfoldable pub bucket_plan : HeadParts → TargetParts → Result BucketPlan Code
+bucket_plan head target = do
+  operation ← ok_or (bucket_operation (method_of head.method) target) MethodNotAllowed
+  bucket_plan_for operation
 
 -- PutObject, with what the head says of the object
 unfoldable pub put_plan : HeadParts → Result KeyPlan Code
@@ -64,39 +88,92 @@ put_plan head = do
   metadata ← metadata_of head
   Ok (key_plans.Put content_type metadata)
 
--- GetObject, of the current version alone
-unfoldable pub get_plan : TargetParts → Result KeyPlan Code
-get_plan target = do
+-- an operation of the version that is asked for
+abbrev pub version_plan : (Option VersionId → KeyPlan) → TargetParts → Result KeyPlan Code
+version_plan plan target = do
   version ← version_argument target
-  refuse (is_some version) NotImplemented
-  Ok key_plans.Get
+  Ok (plan version)
 
 -- an operation on a key with its arguments, if this server has it
-abbrev pub plan_for : Operation → HeadParts → TargetParts → Result KeyPlan Code
-plan_for operations.PutObject head target = put_plan head
-plan_for operations.GetObject head target = get_plan target
-plan_for other head target = Err NotImplemented
+abbrev pub key_plan_for : Operation → HeadParts → TargetParts → Result KeyPlan Code
+key_plan_for operations.PutObject head target = put_plan head
+key_plan_for operations.GetObject head target = version_plan key_plans.Get target
+key_plan_for operations.HeadObject head target = version_plan key_plans.Head target
+key_plan_for operations.DeleteObject head target = version_plan key_plans.Delete target
+key_plan_for other head target = Err NotImplemented
 
 -- what is asked of a key
 unfoldable pub key_plan : HeadParts → TargetParts → Result KeyPlan Code
 key_plan head target = do
   operation ← ok_or (key_operation (method_of head.method) head target) MethodNotAllowed
-  plan_for operation head target
+  key_plan_for operation head target
+
+-- what is asked of the bucket of this name
+abbrev pub plan_of_bucket : List ℕ → HeadParts → TargetParts → Result Plan Code
+plan_of_bucket name head target = do
+  asked ← bucket_plan head target
+  Ok (plans.Bucket name asked)
+
+-- what is asked of a key in the bucket of this name
+abbrev pub plan_of_key : List ℕ → HeadParts → TargetParts → Result Plan Code
+plan_of_key name head target = do
+  key ← object_key target.key
+  asked ← key_plan head target
+  Ok (plans.Key name key asked)
+
+-- what is asked of a bucket, or of a key in it; where the key is empty, the bucket is meant
+unfoldable pub named_plan : HeadParts → TargetParts → Result Plan Code
+named_plan head target = do
+  name ← bucket_named target
+  if length target.key == 0 then plan_of_bucket name head target else plan_of_key name head target
 
 -- what the head asks for
 unfoldable pub route_of : HeadParts → Result Plan Code
 route_of head = do
   target ← address_at head
-  refuse (not (is_bucket_name target.bucket)) InvalidBucketName
-  key ← key_at head target
-  asked ← key_plan head target
-  Ok (plans.Key target.bucket key asked)
+  if is_service target then service_plan head else named_plan head target
 
--- what is asked of a key, with the body that came; a body that an operation has no use for is left out
+-- the name of the bucket that a head addresses; the service has none
+unfoldable pub bucket_at : HeadParts → Result (List ℕ) Code
+bucket_at head = do
+  target ← address_at head
+  bucket_named target
+
+-- PutBucketVersioning, with the status that the body names
+abbrev pub versioning_command_of : List ℕ → Result BucketCommand Code
+versioning_command_of body = do
+  status ← versioning_read body
+  Ok (bucket_commands.PutVersioning status)
+
+-- what is asked of a bucket, with the body that came; a body that an operation has no use for is left out
+abbrev pub bucket_command_of : BucketPlan → List ℕ → Result BucketCommand Code
+bucket_command_of bucket_plans.Create body = Ok bucket_commands.Create
+bucket_command_of bucket_plans.Head body = Ok bucket_commands.Head
+bucket_command_of bucket_plans.Delete body = Ok bucket_commands.Delete
+bucket_command_of bucket_plans.PutVersioning body = versioning_command_of body
+bucket_command_of bucket_plans.GetVersioning body = Ok bucket_commands.GetVersioning
+
+-- the same of a key
 abbrev pub key_command_of : KeyPlan → List ℕ → KeyCommand
 key_command_of (key_plans.Put content_type metadata) body = key_commands.Put content_type metadata body
-key_command_of key_plans.Get body = key_commands.Get
+key_command_of (key_plans.Get version) body = key_commands.Get version
+key_command_of (key_plans.Head version) body = key_commands.Head version
+key_command_of (key_plans.Delete version) body = key_commands.Delete version
 
--- the operation with the body that came
-abbrev pub command_of : Plan → List ℕ → Command
-command_of (plans.Key bucket key asked) body = commands.Key bucket key (key_command_of asked body)
+-- the operation with the body that came, if it can use the body
+unfoldable pub command_of : Plan → List ℕ → Result Command Code
+command_of plans.ListBuckets body = Ok commands.ListBuckets
+command_of (plans.Bucket name asked) body = do
+  command ← bucket_command_of asked body
+  Ok (commands.Bucket name command)
+command_of (plans.Key bucket key asked) body = Ok (commands.Key bucket key (key_command_of asked body))
+
+-- the bucket's versioning is to be set
+abbrev pub is_versioning_set : BucketPlan → Bool
+is_versioning_set bucket_plans.PutVersioning = true
+is_versioning_set other = false
+
+-- the operation reads a document from its body: a PutBucketVersioning
+abbrev pub reads_body : Plan → Bool
+reads_body (plans.Bucket name asked) = is_versioning_set asked
+reads_body other = false

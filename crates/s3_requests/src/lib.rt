@@ -9,6 +9,7 @@ mod laws;
 mod operations;
 mod routing;
 
-pub use commands::{Command, KeyCommand, KeyPlan, Plan};
+pub use commands::{BucketPlan, KeyPlan, Plan};
 pub use laws::plans_are_unbroken;
 pub use routing::{command, route};
+pub use s3_machine::{BucketCommand, Command, KeyCommand};

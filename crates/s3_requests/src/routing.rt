@@ -1,5 +1,5 @@
 //! From a verified head to the operation that it asks for, and on to a command.
-ghost use Rattle.std.specs.Prelude.{◌≡◌, Ok, Err, IfOk, IfErr};
+ghost use Rattle.std.specs.Prelude.{◌≡◌, ◌<◌, true, length, Ok, Err, IfOk, IfErr};
 ghost use Rattle.std.specs.List.{list_any};
 ghost use Rattle.s3_terms.specs.Fault.{Follows, FollowsPast};
 ghost use Rattle.s3_text.specs.Characters.{space};
@@ -8,10 +8,12 @@ ghost use Rattle.s3_http_heads.specs.Target.{has_parameter};
 ghost use Rattle.s3_requests.specs.Routing as rules;
 
 use crate::arguments::version_argument;
-use crate::commands::{Command, KeyCommand, KeyPlan, Plan};
+use crate::commands::{BucketPlan, KeyPlan, Plan};
 use crate::description::{content_type_of, metadata_of};
 use crate::operations::{Method, Operation, bucket_operation, key_operation, service_operation};
+use s3_documents::read_versioning;
 use s3_http_heads::{Head, Target};
+use s3_machine::{BucketCommand, Command, KeyCommand};
 use s3_names::{BucketName, Key};
 use s3_segments::Payload;
 use s3_terms::Code;
@@ -24,29 +26,67 @@ const LACKING: &[u8] =
 /// The operation that a verified head asks for, with its bucket, its key and its arguments (Amazon S3 User
 /// Guide, "Path-style requests"). A refusal is the first fault of routing in the order of
 /// `docs/PROTOCOL.md`; `InternalError` says that there was no memory for the names and for what a put says of
-/// its object, of an address that may have them: without a sub-resource that this server lacks, and not the
-/// service. The cost is linear in the names and the query, and in the header lines times the names of metadata.
-#[tactic(auto, unfolding(crate::specs::Routing::route_of))]
+/// its object, of an address that may have them: without a sub-resource that this server lacks, and with the
+/// name of a bucket. The cost is linear in the names and the query, and in the header lines times the names of
+/// metadata.
+#[tactic(auto, unfolding(crate::specs::Routing::route_of, crate::specs::Routing::bucket_at))]
 pub fn route(alloc: Global, head: &Head) -> Result<Plan, Code>
-    ensures { FollowsPast (rules.address_at head.now) result (rules.route_of head.now) }
+    ensures { FollowsPast (rules.bucket_at head.now) result (rules.route_of head.now) }
 {
     let target = address_at(head)?;
-    let bucket = BucketName::read(alloc, target.bucket())?;
-    let key = key_at(alloc, head, target)?;
-    let asked = key_plan(alloc, head, target)?;
-    Ok(Plan::Key { bucket, key, asked })
+    if is_service(target) {
+        return service_plan(head);
+    }
+    named_plan(alloc, head, target)
 }
 
-/// The command of an operation and the body that came with its message. A body that the operation has
-/// no use for is dropped. This takes no memory.
-pub fn command(plan: Plan, payload: Payload) -> Command
-    ensures { result ≡ rules.command_of plan payload }
+/// The command of an operation and the body that came with its message, where the operation can use the body:
+/// `MalformedBody` where it can't. A body that the operation has no use for is dropped. Memory is taken for
+/// the document of a PutBucketVersioning alone, of a body that isn't empty; `InternalError` says that there was
+/// none.
+#[tactic(auto, unfolding(crate::specs::Routing::command_of))]
+pub fn command(alloc: Global, plan: Plan, payload: Payload) -> Result<Command, Code>
+    ensures rule { Follows result (rules.command_of plan payload) }
+    ensures memory { IfErr result (λ code. code ≡ Code.InternalError
+        → (rules.reads_body plan ≡ true) × (0 < length payload)) }
 {
     match plan {
+        Plan::ListBuckets => Ok(Command::ListBuckets),
+        Plan::Bucket { name, asked } => match bucket_command(alloc, asked, payload) {
+            Ok(asked) => Ok(Command::Bucket { name, asked }),
+            Err(code) => Err(code),
+        },
         Plan::Key { bucket, key, asked } => {
             let asked = key_command(asked, payload);
-            Command::Key { bucket, key, asked }
+            Ok(Command::Key { bucket, key, asked })
         }
+    }
+}
+
+// What is asked of a bucket, with the body.
+fn bucket_command(alloc: Global, asked: BucketPlan, payload: Payload) -> Result<BucketCommand, Code>
+    ensures rule { Follows result (rules.bucket_command_of asked payload) }
+    ensures memory { IfErr result (λ code. code ≡ Code.InternalError
+        → (rules.is_versioning_set asked ≡ true) × (0 < length payload)) }
+{
+    match asked {
+        BucketPlan::Create => Ok(BucketCommand::Create),
+        BucketPlan::Head => Ok(BucketCommand::Head),
+        BucketPlan::Delete => Ok(BucketCommand::Delete),
+        BucketPlan::PutVersioning => versioning_command(alloc, payload),
+        BucketPlan::GetVersioning => Ok(BucketCommand::GetVersioning),
+    }
+}
+
+// PutBucketVersioning, with the status that the body names.
+fn versioning_command(alloc: Global, payload: Payload) -> Result<BucketCommand, Code>
+    ensures rule { Follows result (rules.versioning_command_of payload) }
+    ensures memory { IfErr result (λ code. code ≡ Code.InternalError → 0 < length payload) }
+{
+    let body = payload.into_body();
+    match read_versioning(alloc, body.as_slice()) {
+        Ok(status) => Ok(BucketCommand::PutVersioning { status }),
+        Err(code) => Err(code),
     }
 }
 
@@ -63,11 +103,13 @@ fn key_command(asked: KeyPlan, payload: Payload) -> KeyCommand
             metadata,
             payload,
         },
-        KeyPlan::Get => KeyCommand::Get,
+        KeyPlan::Get { version } => KeyCommand::Get { version },
+        KeyPlan::Head { version } => KeyCommand::Head { version },
+        KeyPlan::Delete { version } => KeyCommand::Delete { version },
     }
 }
 
-// What the target says, unless it names a sub-resource that isn't there, or means the service.
+// What the target says, unless it names a sub-resource that isn't there.
 #[tactic(auto, unfolding(crate::specs::Routing::address_at))]
 fn address_at(head: &Head) -> Result<&Target, Code>
     ensures ok { IfOk result (λ target. rules.address_at head.now ≡ Ok target.now) }
@@ -76,10 +118,6 @@ fn address_at(head: &Head) -> Result<&Target, Code>
     let target = head.decoded_target()?;
     if names_lacking(target) {
         return Err(Code::NotImplemented);
-    }
-    if target.path() == b"/".as_slice() {
-        let method = Method::read(head.method());
-        return Err(refusal_of(service_operation(method)));
     }
     Ok(target)
 }
@@ -100,16 +138,58 @@ fn names_one_of(target: &Target, names: &[u8]) -> bool
         .any(|name| target.has_parameter(name))
 }
 
-// The key of the target; where it is empty, the bucket is meant.
-#[tactic(auto, unfolding(crate::specs::Routing::key_at))]
-fn key_at(alloc: Global, head: &Head, target: &Target) -> Result<Key, Code>
-    ensures { Follows result (rules.key_at head.now target.now) }
+// Whether the service is meant.
+fn is_service(target: &Target) -> bool
+    ensures { result ≡ rules.is_service target.now }
 {
-    if target.key().is_empty() {
-        let method = Method::read(head.method());
-        return Err(refusal_of(bucket_operation(method, target)));
+    target.path() == b"/".as_slice()
+}
+
+// What is asked of the service.
+#[tactic(auto, unfolding(crate::specs::Routing::service_plan))]
+fn service_plan(head: &Head) -> Result<Plan, Code>
+    ensures { result ≡ rules.service_plan head.now }
+{
+    match service_operation(Method::read(head.method())) {
+        Some(Operation::ListBuckets) => Ok(Plan::ListBuckets),
+        Some(_) => Err(Code::NotImplemented),
+        None => Err(Code::MethodNotAllowed),
     }
-    Key::read(alloc, target.key())
+}
+
+// What is asked of a bucket, or of a key in it.
+#[tactic(auto, unfolding(crate::specs::Routing::named_plan))]
+fn named_plan(alloc: Global, head: &Head, target: &Target) -> Result<Plan, Code>
+    ensures { FollowsPast (rules.bucket_named target.now) result (rules.named_plan head.now target.now) }
+{
+    let name = BucketName::read(alloc, target.bucket())?;
+    if target.key().is_empty() {
+        let asked = bucket_plan(head, target)?;
+        return Ok(Plan::Bucket { name, asked });
+    }
+    let key = Key::read(alloc, target.key())?;
+    let asked = key_plan(alloc, head, target)?;
+    Ok(Plan::Key {
+        bucket: name,
+        key,
+        asked,
+    })
+}
+
+// What is asked of a bucket.
+#[tactic(auto, unfolding(crate::specs::Routing::bucket_plan))]
+fn bucket_plan(head: &Head, target: &Target) -> Result<BucketPlan, Code>
+    ensures { result ≡ rules.bucket_plan head.now target.now }
+{
+    match bucket_operation(Method::read(head.method()), target) {
+        Some(Operation::CreateBucket) => Ok(BucketPlan::Create),
+        Some(Operation::HeadBucket) => Ok(BucketPlan::Head),
+        Some(Operation::DeleteBucket) => Ok(BucketPlan::Delete),
+        Some(Operation::PutBucketVersioning) => Ok(BucketPlan::PutVersioning),
+        Some(Operation::GetBucketVersioning) => Ok(BucketPlan::GetVersioning),
+        Some(_) => Err(Code::NotImplemented),
+        None => Err(Code::MethodNotAllowed),
+    }
 }
 
 // What is asked of a key.
@@ -119,7 +199,18 @@ fn key_plan(alloc: Global, head: &Head, target: &Target) -> Result<KeyPlan, Code
 {
     match key_operation(Method::read(head.method()), head, target) {
         Some(Operation::PutObject) => put_plan(alloc, head),
-        Some(Operation::GetObject) => get_plan(target),
+        Some(Operation::GetObject) => {
+            let version = version_argument(target)?;
+            Ok(KeyPlan::Get { version })
+        }
+        Some(Operation::HeadObject) => {
+            let version = version_argument(target)?;
+            Ok(KeyPlan::Head { version })
+        }
+        Some(Operation::DeleteObject) => {
+            let version = version_argument(target)?;
+            Ok(KeyPlan::Delete { version })
+        }
         Some(_) => Err(Code::NotImplemented),
         None => Err(Code::MethodNotAllowed),
     }
@@ -136,26 +227,4 @@ fn put_plan(alloc: Global, head: &Head) -> Result<KeyPlan, Code>
         content_type,
         metadata,
     })
-}
-
-// GetObject, of the current version alone.
-#[tactic(auto, unfolding(crate::specs::Routing::get_plan))]
-fn get_plan(target: &Target) -> Result<KeyPlan, Code>
-    ensures { result ≡ rules.get_plan target.now }
-{
-    let version = version_argument(target)?;
-    if version.is_some() {
-        return Err(Code::NotImplemented);
-    }
-    Ok(KeyPlan::Get)
-}
-
-// What refuses an operation on the service or on a bucket, of which this server has none.
-fn refusal_of(operation: Option<Operation>) -> Code
-    ensures { result ≡ rules.refusal_of operation }
-{
-    match operation {
-        Some(_) => Code::NotImplemented,
-        None => Code::MethodNotAllowed,
-    }
 }

@@ -1,26 +1,32 @@
 -- Where a whole head text stands: at a sound message, and, once no more bytes come, only where something is decided.
-use Rattle.std.proofs.Common.{◌≡◌, ℕ, Bool, true, List, Result, Ok, Err, refl, ap, subst, inl, inr}
+use Rattle.std.proofs.Common.{◌≡◌, ℕ, Bool, true, List, Result, Ok, Err, drop, refl, ap, subst, inl, inr}
 use Rattle.s3_config.specs.Settings.{Settings}
 use Rattle.s3_terms.specs.declared.code.Code.{Code}
 use Rattle.s3_http_heads.specs.Find.{found_in}
 use Rattle.s3_http_heads.specs.declared.find.Found.{Found}
 use Rattle.s3_http_heads.specs.declared.find.Found.TheVariants as found
 use Rattle.s3_http_heads.specs.Head.{HeadParts}
-use Rattle.s3_requests.specs.declared.commands.Command.{Command}
+use Rattle.s3_machine.specs.declared.command.Command.{Command}
+use Rattle.s3_requests.specs.Routing.{command_of}
 use Rattle.s3_replies.specs.declared.context.Context.{Context}
 use Rattle.s3_session.specs.Verdict as verdicts
 use Rattle.s3_aws_chunked.specs.Verdict as bodies
 use Rattle.s3_payloads.specs.Laws.{EndsDecide}
 use Rattle.s3_session.specs.Admission.{Asked, admission_of}
-use Rattle.s3_session.specs.Decision.{Decision, Judges, AskedJudged, TextJudged, FoundJudged, text_at, behind_text, open_yet}
+use Rattle.s3_session.specs.Decision.{Decision, Judges, AskedJudged, TextJudged, FoundJudged, commanded, text_at, behind_text, open_yet}
 use Rattle.s3_session.specs.Output.{HasText}
 
 -- where a head text stands and no more bytes come, something is decided
+commanded_decided : (head : HeadParts) (moment : ℕ) (behind : List ℕ) (rule : Result Command Code) → ¬ (open_yet ≡ commanded head moment behind rule)
+commanded_decided head moment behind (Ok command) is = let same = ap (λ (d : Decision). d.0) is in absurd (cc)
+commanded_decided head moment behind (Err code) is = let same = ap (λ (d : Decision). d.0) is in absurd (cc)
+
 module _ (decide : EndsDecide) (settings : Settings) (moment : ℕ) (bytes : List ℕ) where
   asked_decided : (head : HeadParts) (behind : List ℕ) (rule : Result Asked Code) → ¬ (AskedJudged head moment true behind rule open_yet)
   asked_decided head behind (Err code) is = let same = ap (λ (d : Decision). d.0) is in absurd (cc)
   asked_decided head behind (Ok asked) (bodies.Open held, judged, is) = decide asked.announced behind (bodies.Open held) judged
-  asked_decided head behind (Ok asked) (bodies.Accepted payload, judged, is) = let same = ap (λ (d : Decision). d.0) is in absurd (cc)
+  asked_decided head behind (Ok asked) (bodies.Accepted payload, judged, is) =
+      commanded_decided head moment (drop asked.announced.length behind) (command_of asked.plan payload) is
   asked_decided head behind (Ok asked) (bodies.Refused place code, judged, is) = let same = ap (λ (d : Decision). d.0) is in absurd (cc)
 
   text_decided : (text behind : List ℕ) → ¬ (TextJudged settings moment true text behind open_yet)

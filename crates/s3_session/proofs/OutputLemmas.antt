@@ -6,13 +6,14 @@ use Rattle.s3_config.specs.Settings.{Settings}
 use Rattle.s3_http_heads.specs.Find.{found_in}
 use Rattle.s3_http_heads.specs.declared.find.Found.{Found}
 use Rattle.s3_http_heads.specs.declared.find.Found.TheVariants as found
-use Rattle.s3_store.specs.Store.{State, opening, step}
-use Rattle.s3_store.specs.History.{Entry, Legal, IsAnswer, after_entry}
-use Rattle.s3_store.specs.declared.answer.Answer.{Answer}
+use Rattle.s3_records.specs.Catalogue.{opening}
+use Rattle.s3_machine.specs.Step.{State, step}
+use Rattle.s3_machine.specs.History.{Entry, Legal, IsAnswer, after_entry}
+use Rattle.s3_machine.specs.declared.outcome.Answer.{Answer}
 use Rattle.s3_replies.specs.declared.context.Context.{Context}
 use Rattle.s3_replies.specs.Replies.{Prints, PrintsRefusal}
 use Rattle.s3_replies.specs.Laws.{RepliesAreUnique, RefusalsAreUnique}
-use Rattle.s3_requests.specs.declared.commands.Command.{Command}
+use Rattle.s3_machine.specs.declared.command.Command.{Command}
 use Rattle.s3_session.specs.declared.turn.Turn.{Turn}
 use Rattle.s3_session.specs.Verdict.{Verdict}
 use Rattle.s3_session.specs.Verdict as verdicts

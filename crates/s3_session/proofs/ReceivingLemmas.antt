@@ -13,7 +13,7 @@ use Rattle.s3_http_heads.specs.Head.{HeadParts, HasNoHead, Says, asks_head_only}
 use Rattle.s3_http_heads.specs.Search as search
 use Rattle.s3_http_heads.specs.declared.search.HeadSearch.{HeadSearch}
 use Rattle.s3_payloads.specs.Laws.{PayloadsStayWithin}
-use Rattle.s3_requests.specs.declared.commands.Command.{Command}
+use Rattle.s3_machine.specs.declared.command.Command.{Command}
 use Rattle.s3_replies.specs.declared.context.Context.{Context}
 use Rattle.s3_replies.specs.Replies.{PrintsRefusal, continue_line, internal_error}
 use Rattle.s3_session.specs.Verdict as verdicts

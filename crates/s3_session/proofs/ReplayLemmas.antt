@@ -1,5 +1,5 @@
 -- What is known of a replay, and that one in which nothing is decided writes nothing.
-use Rattle.std.proofs.Common.{◌≡◌, ◌≢◌, ◌⊎◌, ◌<◌, arith, inr, length, Result, Ok, Err, OnErr, ℕ, true, false, List, [], ◌∷◌, ◌++◌, map, Option, Some, ap, subst, ◌∙◌, refl}
+use Rattle.std.proofs.Common.{◌≡◌, ◌≢◌, ◌⊎◌, ◌<◌, arith, inr, length, Result, Ok, Err, IfOk, OnErr, ℕ, true, false, List, [], ◌∷◌, ◌++◌, map, Option, Some, ap, subst, sym, ◌∙◌, refl}
 use Rattle.std.specs.List.{AllByRecursion, flat_map}
 use Rattle.s3_config.specs.Settings.{Settings}
 use Rattle.s3_terms.specs.declared.memory.NoMemory.{NoMemory}
@@ -7,8 +7,8 @@ use Rattle.s3_http_heads.specs.Find.{found_in}
 use Rattle.s3_http_heads.specs.declared.find.Found.{Found}
 use Rattle.s3_http_heads.specs.declared.find.Found.TheVariants as found
 use Rattle.s3_payloads.specs.Laws.{EndsDecide}
-use Rattle.s3_store.specs.Store.{opening}
-use Rattle.s3_store.specs.History.{Legal}
+use Rattle.s3_records.specs.Catalogue.{opening}
+use Rattle.s3_machine.specs.History.{Legal}
 use Rattle.s3_session.specs.declared.turn.Turn.{Turn}
 use Rattle.s3_session.specs.Verdict as verdicts
 use Rattle.s3_session.specs.Decision.{Decision, Judges, open_yet}
@@ -83,10 +83,20 @@ module _ (one : OneVerdict) (decide : EndsDecide) (settings : Settings) (moment 
       w.serves.joined ∙ ap (λ (es : List Exchange). flat_map written_for es ++ w.last) none.0
       ∙ nothing_behind p w.late w.waiting w.last idle behind all.1
 
+-- a copy of what was written is the output as well, and where there was no memory for one, something was written
+module _ {X E : Type 0} (settings : Settings) (moment : ℕ) (bytes out : List ℕ) (replays : Replays settings moment bytes out) where
+  pub copied : (items : X → List ℕ) (result : Result X E) → IfOk result (λ x. items x ≡ out) → IfOk result (λ x. Replays settings moment bytes (items x))
+  copied items (Ok x) is = subst (Replays settings moment bytes) (sym is) replays
+  copied items (Err e) is = tt
+
+  pub uncopied : (result : Result X E) → OnErr result (0 < length out) → OnErr result ((o : List ℕ) × Replays settings moment bytes o × (0 < length o))
+  uncopied (Ok x) memory = tt
+  uncopied (Err e) memory = (out, replays, memory)
+
 -- where there was no memory for what was written, something is decided
-pub written_decided : {X : Type 0} → OneVerdict → EndsDecide → (settings : Settings) (moment : ℕ) (bytes out : List ℕ) → Replays settings moment bytes out
-    → (result : Result X NoMemory) → OnErr result (0 < length out)
+pub written_decided : {X : Type 0} → OneVerdict → EndsDecide → (settings : Settings) (moment : ℕ) (bytes : List ℕ)
+    → (result : Result X NoMemory) → OnErr result ((out : List ℕ) × Replays settings moment bytes out × (0 < length out))
     → OnErr result ((settings.buckets ≢ []) ⊎ ¬ (Judges settings moment true bytes open_yet))
-written_decided one decide settings moment bytes out replays (Ok x) memory = tt
-written_decided one decide settings moment bytes out replays (Err e) memory =
-    inr (λ undecided. (let none = ap length (open_writes_nothing one decide settings moment bytes undecided out replays) in absurd (omega (arith, none, memory))))
+written_decided one decide settings moment bytes (Ok x) memory = tt
+written_decided one decide settings moment bytes (Err e) memory =
+    inr (λ undecided. (let none = ap length (open_writes_nothing one decide settings moment bytes undecided memory.0 memory.1) in absurd (omega (arith, none, memory.2))))

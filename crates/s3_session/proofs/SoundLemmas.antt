@@ -13,7 +13,7 @@ use Rattle.s3_http_heads.specs.Head.{HeadParts, Says, is_sent}
 use Rattle.s3_http_heads.specs.BodyLength.{framing_of, length_lines, announced, needs_length}
 use Rattle.s3_http_heads.specs.Message.{IsMessage}
 use Rattle.s3_signing.specs.Verdict.{Proved, head_verdict}
-use Rattle.s3_requests.specs.declared.commands.Command.{Command}
+use Rattle.s3_machine.specs.declared.command.Command.{Command}
 use Rattle.s3_requests.specs.Routing.{command_of, route_of}
 use Rattle.s3_replies.specs.declared.context.Context.{Context}
 use Rattle.s3_session.specs.Verdict as verdicts
@@ -23,7 +23,7 @@ use Rattle.s3_payloads.specs.Verdict as payloads
 use Rattle.s3_payloads.specs.Laws.{AcceptedAreWhole}
 use Rattle.s3_payloads.specs.Laws.{VerdictsStay as BodiesStay}
 use Rattle.s3_session.specs.Admission.{Asked, admission_of}
-use Rattle.s3_session.specs.Decision.{Decision, Judges, AskedJudged, FoundJudged, HeadJudged, TextJudged, text_at, behind_text, context_of}
+use Rattle.s3_session.specs.Decision.{Decision, Judges, AskedJudged, FoundJudged, HeadJudged, TextJudged, commanded, text_at, behind_text, context_of}
 use Rattle.s3_session.specs.Laws.{IsSound, SoundMessages, SoundIsJudged}
 use Rattle.s3_terms.proofs.FaultLemmas.{one_value, stage_ok, test_ok}
 use Rattle.s3_session.proofs.StayLemmas.{IsExact}
@@ -94,25 +94,32 @@ record IsSoundHead (settings : Settings) (moment : ℕ) (head : HeadParts) (ende
   admitted : admission_of settings head moment ≡ Ok asks
   accepted : payloads.Judges asks.announced bytes ended (bodies.Accepted payload)
   replied : context ≡ context_of head moment
-  asked : command ≡ command_of asks.plan payload
+  asked : command_of asks.plan payload ≡ Ok command
   left : rest ≡ drop asks.announced.length bytes
 
 module _ (settings : Settings) (moment : ℕ) (ended : Bool) (head : HeadParts) (bytes : List ℕ) (context : Context) (command : Command) (rest : List ℕ) where
+  -- a command that is sound is the one that the message makes
+  commanded_sound : (behind : List ℕ) (rule : Result Command Code) → sound context command rest ≡ commanded head moment behind rule
+      → (context ≡ context_of head moment) × (rule ≡ Ok command) × (rest ≡ behind)
+  commanded_sound behind (Ok made) is =
+      let same = ap (λ (d : Decision). d.0) is in (cc, cc, ap (λ (d : Decision). d.1) is)
+  commanded_sound behind (Err code) is = let same = ap (λ (d : Decision). d.0) is in absurd (cc)
+
   rule_sound : (rule : Result Asked Code) → admission_of settings head moment ≡ rule
       → AskedJudged head moment ended bytes rule (sound context command rest) → IsSoundHead settings moment head ended bytes context command rest
   rule_sound (Err code) at is = let same = ap (λ (d : Decision). d.0) is in absurd (cc)
   rule_sound (Ok asks) at (bodies.Open held, judged, is) = let same = ap (λ (d : Decision). d.0) is in absurd (cc)
   rule_sound (Ok asks) at (bodies.Refused place code, judged, is) = let same = ap (λ (d : Decision). d.0) is in absurd (cc)
   rule_sound (Ok asks) at (bodies.Accepted payload, judged, is) =
-      let same = ap (λ (d : Decision). d.0) is in
+      let told = commanded_sound (drop asks.announced.length bytes) (command_of asks.plan payload) is in
       record {
         asks = asks;
         payload = payload;
         admitted = at;
         accepted = judged;
-        replied = cc;
-        asked = cc;
-        left = ap (λ (d : Decision). d.1) is;
+        replied = told.0;
+        asked = told.1;
+        left = told.2;
       }
 
   head_sound : HeadJudged settings moment ended head bytes (sound context command rest) → IsSoundHead settings moment head ended bytes context command rest
@@ -167,13 +174,15 @@ sound_is_message exact whole settings moment ended bytes rest context command is
 -- ---- what a sound message is judged
 
 -- a body that is accepted is sound, whatever follows
-head_judged : BodiesStay → (settings : Settings) (moment : ℕ) (ended : Bool) (head : HeadParts) (body rest payload : List ℕ) (asks : Asked)
+head_judged : BodiesStay → (settings : Settings) (moment : ℕ) (ended : Bool) (head : HeadParts) (body rest payload : List ℕ) (asks : Asked) (command : Command)
     → admission_of settings head moment ≡ Ok asks → length body ≡ asks.announced.length → payloads.Judges asks.announced body false (bodies.Accepted payload)
-    → HeadJudged settings moment ended head (body ++ rest) (sound (context_of head moment) (command_of asks.plan payload) rest)
-head_judged stay settings moment ended head body rest payload asks admitted size accepted =
+    → command_of asks.plan payload ≡ Ok command
+    → HeadJudged settings moment ended head (body ++ rest) (sound (context_of head moment) command rest)
+head_judged stay settings moment ended head body rest payload asks command admitted size accepted asked =
     let judged = stay asks.announced body rest ended (bodies.Accepted payload) accepted tt in
     let behind : rest ≡ drop asks.announced.length (body ++ rest) = sym (drop_at body rest asks.announced.length size) in
-    let end = ap (sound (context_of head moment) (command_of asks.plan payload)) behind in
+    let end : sound (context_of head moment) command rest ≡ commanded head moment (drop asks.announced.length (body ++ rest)) (command_of asks.plan payload) =
+    rw asked (ap (sound (context_of head moment) command) behind) in
     rw admitted (bodies.Accepted payload, judged, end)
 
 text_judged : BodiesStay → (settings : Settings) (moment : ℕ) (ended : Bool) (bytes rest : List ℕ) (context : Context) (command : Command)
@@ -181,8 +190,8 @@ text_judged : BodiesStay → (settings : Settings) (moment : ℕ) (ended : Bool)
     → TextJudged settings moment ended s.message.text (s.body ++ rest) (sound context command rest)
 text_judged stay settings moment ended bytes rest context command s =
     let frames = admitted_length settings s.head moment s.asks s.admitted in
-    let one = head_judged stay settings moment ended s.head s.body rest s.payload s.asks s.admitted (one_count _ _ (sym s.message.whole ∙ frames)) s.accepted in
-    let asks : sound context command rest ≡ sound (context_of s.head moment) (command_of s.asks.plan s.payload) rest = rw (s.replied, s.asked) refl in
+    let one = head_judged stay settings moment ended s.head s.body rest s.payload s.asks command s.admitted (one_count _ _ (sym s.message.whole ∙ frames)) s.accepted s.asked in
+    let asks : sound context command rest ≡ sound (context_of s.head moment) command rest = rw s.replied refl in
     inr (s.head, s.message.says, subst (HeadJudged settings moment ended s.head (s.body ++ rest)) (sym asks) one)
 
 pub message_is_sound : BodiesStay → SoundIsJudged

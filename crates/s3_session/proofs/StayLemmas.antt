@@ -8,6 +8,8 @@ use Rattle.s3_http_heads.specs.Find.{found_in, skip_pairs, IsHeadText}
 use Rattle.s3_http_heads.specs.declared.find.Found.{Found}
 use Rattle.s3_http_heads.specs.declared.find.Found.TheVariants as found
 use Rattle.s3_http_heads.specs.Head.{HeadParts, asks_head_only}
+use Rattle.s3_machine.specs.declared.command.Command.{Command}
+use Rattle.s3_requests.specs.Routing.{command_of}
 use Rattle.s3_session.specs.Verdict as verdicts
 use Rattle.s3_aws_chunked.specs.Verdict as bodies
 use Rattle.s3_aws_chunked.specs.Finality.{IsDecided}
@@ -15,7 +17,7 @@ use Rattle.s3_payloads.specs.Verdict as payloads
 use Rattle.s3_payloads.specs.Laws.{AcceptedAreWhole}
 use Rattle.s3_payloads.specs.Laws.{VerdictsStay as BodiesStay}
 use Rattle.s3_session.specs.Admission.{Asked, admission_of}
-use Rattle.s3_session.specs.Decision.{Decision, Judges, AskedJudged, FoundJudged, TextJudged, open_yet, refused_message, concluded, text_at, behind_text}
+use Rattle.s3_session.specs.Decision.{Decision, Judges, AskedJudged, FoundJudged, TextJudged, open_yet, refused_message, commanded, concluded, text_at, behind_text}
 use Rattle.s3_session.specs.Laws.{rest_with, VerdictsStay}
 
 -- the decision where more bytes follow
@@ -31,6 +33,12 @@ refusal_stays more code head_only d is = ap (with_more more) is
 not_open : (d : Decision) (P : Type 0) → d ≡ open_yet → d.0 ≢ verdicts.Open → P
 not_open d P is decided = absurd (decided (ap (λ (e : Decision). e.0) is))
 
+-- what stands behind a sound message stands in front of what follows
+commanded_stays : (head : HeadParts) (moment : ℕ) (behind more : List ℕ) (rule : Result Command Code)
+    → with_more more (commanded head moment behind rule) ≡ commanded head moment (behind ++ more) rule
+commanded_stays head moment behind more (Ok command) = refl
+commanded_stays head moment behind more (Err code) = refl
+
 -- what a body was accepted with stands in front of what follows
 concluded_stays : AcceptedAreWhole → (head : HeadParts) (moment : ℕ) (bytes more : List ℕ) (asked : Asked) (verdict : bodies.Verdict)
     → payloads.Judges asked.announced bytes false verdict → (concluded head moment asked bytes verdict).0 ≢ verdicts.Open
@@ -40,7 +48,8 @@ concluded_stays whole head moment bytes more asked (bodies.Refused place code) j
 concluded_stays whole head moment bytes more asked (bodies.Accepted payload) judged decided =
     let size = asked.announced.length in
     let back : drop size (bytes ++ more) ≡ drop size bytes ++ more = drop-append-le size bytes more (whole asked.announced bytes false payload judged).0 in
-    (tt, rw back refl)
+    let rule = command_of asked.plan payload in
+    (tt, commanded_stays head moment (drop size bytes) more rule ∙ ap (λ (behind : List ℕ). commanded head moment behind rule) (sym back))
 
 asked_stays : BodiesStay → AcceptedAreWhole → (head : HeadParts) (moment : ℕ) (ended : Bool) (bytes more : List ℕ) (rule : Result Asked Code) (d : Decision)
     → AskedJudged head moment false bytes rule d → d.0 ≢ verdicts.Open

@@ -10,6 +10,7 @@ use Rattle.s3_http_heads.specs.declared.find.Found.TheVariants as found
 use Rattle.s3_http_heads.specs.Head.{HeadParts, Says, HasNoHead, closes, asks_head_only}
 use Rattle.s3_aws_chunked.specs.Verdict as bodies
 use Rattle.s3_payloads.specs.Verdict as payloads
+use Rattle.s3_machine.specs.declared.command.Command.{Command}
 use Rattle.s3_requests.specs.Routing.{command_of}
 use Rattle.s3_replies.specs.declared.context.Context.{Context}
 use Rattle.s3_session.specs.Verdict.{Verdict}
@@ -32,11 +33,16 @@ open_yet = (verdicts.Open, [])
 abbrev pub refused_message : Code → Bool → Decision
 refused_message code head_only = (verdicts.Refused code head_only, [])
 
+-- what comes of a message whose body is whole and right, by its command or by what that refuses, and what stands behind it
+abbrev pub commanded : HeadParts → ℕ → List ℕ → Result Command Code → Decision
+commanded head moment behind (Ok command) = (verdicts.Sound (context_of head moment) command, behind)
+commanded head moment behind (Err code) = refused_message code (asks_head_only head)
+
 -- what comes of a message whose head asks for this, by what is known of its body
 abbrev pub concluded : HeadParts → ℕ → Asked → List ℕ → bodies.Verdict → Decision
 concluded head moment asked bytes (bodies.Open held) = open_yet
 concluded head moment asked bytes (bodies.Accepted payload) =
-    (verdicts.Sound (context_of head moment) (command_of asked.plan payload), drop asked.announced.length bytes)
+    commanded head moment (drop asked.announced.length bytes) (command_of asked.plan payload)
 concluded head moment asked bytes (bodies.Refused place code) = refused_message code (asks_head_only head)
 
 -- the verdict by what the head asks for and the bytes behind it, or by the first fault of the head

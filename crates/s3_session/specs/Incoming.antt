@@ -9,6 +9,7 @@ use Rattle.s3_http_heads.specs.declared.find.Found.TheVariants as found
 use Rattle.s3_http_heads.specs.Head.{HeadParts, Says, HasNoHead, asks_head_only}
 use Rattle.s3_aws_chunked.specs.Verdict as bodies
 use Rattle.s3_payloads.specs.Reader as payloads
+use Rattle.s3_machine.specs.declared.command.Command.{Command}
 use Rattle.s3_requests.specs.Routing.{command_of}
 use Rattle.s3_replies.specs.declared.context.Context.{Context}
 use Rattle.s3_session.specs.Verdict as verdicts
@@ -84,13 +85,19 @@ is_open (progress.Whole command) = false
 is_open (progress.Refused code) = false
 is_open progress.Died = false
 
--- what becomes of a message by what its reader says
+-- what becomes of a message with its command, or with what that refuses
+abbrev pub settled_as : Result Command Code → Progress
+settled_as (Ok command) = progress.Whole command
+settled_as (Err code) = progress.Refused code
+
+-- what becomes of a message by what its reader says; at its whole body memory may run out
 abbrev pub Settles : Incoming → bodies.Verdict → Progress → Type 0
 Settles incoming (bodies.Open held) settled = settled ≡ progress.Open incoming
-Settles incoming (bodies.Accepted payload) settled = settled ≡ progress.Whole (command_of incoming.admission.plan payload)
+Settles incoming (bodies.Accepted payload) settled =
+    (settled ≡ progress.Died) ⊎ (settled ≡ settled_as (command_of incoming.admission.plan payload))
 Settles incoming (bodies.Refused place code) settled = Unit {0}
 
--- a refusal by the reader: want of memory is none of the message
+-- a refusal by the reader or by the operation: want of memory is none of the message
 abbrev pub IsRefusedBy : Code → Progress → Type 0
 IsRefusedBy code settled = ((code ≡ InternalError) × (settled ≡ progress.Died)) ⊎ ((code ≢ InternalError) × (settled ≡ progress.Refused code))
 

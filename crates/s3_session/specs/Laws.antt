@@ -8,7 +8,7 @@ use Rattle.s3_http_heads.specs.Head.{HeadParts}
 use Rattle.s3_http_heads.specs.Message.{IsMessage}
 use Rattle.s3_aws_chunked.specs.Verdict.{Accepted}
 use Rattle.s3_payloads.specs.Verdict as payloads
-use Rattle.s3_requests.specs.declared.commands.Command.{Command}
+use Rattle.s3_machine.specs.declared.command.Command.{Command}
 use Rattle.s3_requests.specs.Routing.{command_of}
 use Rattle.s3_replies.specs.declared.context.Context.{Context}
 use Rattle.s3_session.specs.Verdict.{Verdict}
@@ -62,7 +62,7 @@ InvitationsStay =
     → Invites settings moment bytes text → Invites settings moment (bytes ++ more) text
 
 -- at the front of the bytes stands a whole message, and then the rest: its head asks for this, its body is accepted
--- with this payload, and the context and the command are what they ask for
+-- with this payload, the context is what the head says of the reply, and the operation makes this command of the payload
 pub record IsSound (settings : Settings) (moment : ℕ) (bytes : List ℕ) (context : Context) (command : Command) (rest : List ℕ) : Type 0 where
   pub head : HeadParts
   pub body : List ℕ
@@ -72,7 +72,7 @@ pub record IsSound (settings : Settings) (moment : ℕ) (bytes : List ℕ) (cont
   pub admitted : admission_of settings head moment ≡ Ok asks
   pub accepted : payloads.Judges asks.announced body false (Accepted payload)
   pub replied : context ≡ context_of head moment
-  pub asked : command ≡ command_of asks.plan payload
+  pub asked : command_of asks.plan payload ≡ Ok command
 
 -- a sound verdict is about a sound message at the front of the bytes
 abbrev pub SoundMessages : Type 0

@@ -7,6 +7,7 @@ pub mod Laws
 pub mod Output
 pub mod ReadBack
 pub mod Replay
+pub mod Replaying
 pub mod Session
 pub mod Verdict
 pub mod Walk
@@ -17,6 +18,6 @@ pub use Rattle.s3_signing.specs.Verdict as Signing
 pub use Rattle.s3_payloads.specs.Form
 pub use Rattle.s3_payloads.specs.Verdict as Payloads
 pub use Rattle.s3_requests.specs.Routing
-pub use Rattle.s3_store.specs.Store
-pub use Rattle.s3_store.specs.History
+pub use Rattle.s3_machine.specs.Step
+pub use Rattle.s3_machine.specs.History
 pub use Rattle.s3_replies.specs.Replies

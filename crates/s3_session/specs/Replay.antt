@@ -3,9 +3,9 @@
 use Rattle.std.specs.Prelude.{◌≡◌, ℕ, true, false, List, [], ◌∷◌}
 use Rattle.std.specs.List.{AllByRecursion}
 use Rattle.s3_config.specs.Settings.{Settings}
-use Rattle.s3_store.specs.Store.{opening}
-use Rattle.s3_store.specs.History.{Entry, Legal}
-use Rattle.s3_store.specs.declared.answer.Answer.{Answer}
+use Rattle.s3_records.specs.Catalogue.{opening}
+use Rattle.s3_machine.specs.History.{Entry, Legal}
+use Rattle.s3_machine.specs.declared.outcome.Answer.{Answer}
 use Rattle.s3_session.specs.declared.turn.Turn.{Turn}
 use Rattle.s3_session.specs.Output.{Past, Standing, Writes, is_dead, is_waiting}
 

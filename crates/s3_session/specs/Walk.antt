@@ -1,7 +1,7 @@
 -- The messages of a connection, one after another.
 use Rattle.std.specs.Prelude.{◌≡◌, ℕ, Bool, MatchBool, List, [], ◌∷◌, Option, Some, None}
 use Rattle.s3_config.specs.Settings.{Settings}
-use Rattle.s3_requests.specs.declared.commands.Command.{Command}
+use Rattle.s3_machine.specs.declared.command.Command.{Command}
 use Rattle.s3_replies.specs.declared.context.Context.{Context}
 use Rattle.s3_session.specs.Verdict as verdicts
 use Rattle.s3_session.specs.Decision.{Judges}

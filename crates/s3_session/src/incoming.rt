@@ -1,20 +1,24 @@
 //! The body of a message whose head was admitted, as it comes.
 
-ghost use Rattle.std.specs.Prelude.{◌≡◌, ◌≢◌, ◌<◌, ◌≤◌, ◌-◌, ℕ, Bool, true, false, List, ◌++◌, length, take};
+ghost use Rattle.std.specs.Prelude.{◌≡◌, ◌≢◌, ◌⊎◌, ◌<◌, ◌≤◌, ◌-◌, ℕ, Bool, true, false, List, ◌++◌, length, take};
 ghost use Rattle.s3_config.specs.Settings.{Settings};
 ghost use Rattle.s3_payloads.specs.Form.{Announced};
 ghost use Rattle.s3_payloads.specs.Reader.{Stands, taken_of, verdict_of};
+ghost use Rattle.s3_requests.specs.Routing.{command_of};
 ghost use Rattle.s3_session.specs.Decision.{Judges, open_yet};
 ghost use Rattle.s3_session.specs.Incoming as rules;
 
 use crate::admission::Admission;
+use s3_machine::Command;
 use s3_payloads::{
     accepted_bodies_are_whole, open_bodies_are_short, payloads_are_judged, refusals_stand,
     verdicts_are_final,
 };
 use s3_replies::Context;
-use s3_requests::{Command, command};
+use s3_requests::{Plan, command};
+use s3_segments::Payload;
 use s3_terms::Code;
+use std::alloc::Global;
 
 // A message whose head was admitted: what it asks for, with the reader of its body, and what its reply takes from it.
 #[derive(Drop)]
@@ -39,7 +43,7 @@ pub(crate) enum Progress {
 impl Incoming {
     // Takes as much of the piece as is the body's: how many bytes those are, up to the one at which the body is refused,
     // and what became of the message with them.
-    pub(crate) fn read(mut self, piece: &[u8]) -> (usize, Progress)
+    pub(crate) fn read(mut self, alloc: Global, piece: &[u8]) -> (usize, Progress)
         ensures within { result.0 ≤ length piece.now }
         ensures read { (settings : Settings) (rest : List ℕ) → rules.IsIncoming settings self rest
             → rules.Progresses settings self.context (rest ++ take result.0 piece.now) result.1 }
@@ -58,7 +62,7 @@ impl Incoming {
         s3_http_heads::verdicts_stay();
         let before = self.admission.reader.taken();
         match self.admission.reader.feed(piece) {
-            Ok(len) => (len, self.settled()),
+            Ok(len) => (len, self.settled(alloc)),
             Err(code) => (self.taken_since(before), refused(code)),
         }
     }
@@ -81,7 +85,7 @@ impl Incoming {
     }
 
     // What became of it with the bytes so far, where nothing refuses them.
-    fn settled(self) -> Progress
+    fn settled(self, alloc: Global) -> Progress
         ensures settles { (announced : Announced) (bytes : List ℕ) (ended : Bool)
             → Stands self.admission.reader announced bytes ended
             → rules.Settles self (verdict_of self.admission.reader) result }
@@ -92,13 +96,24 @@ impl Incoming {
         }
         let Admission { reader, plan } = self.admission;
         match reader.finish() {
-            Ok(payload) => Progress::Whole(command(plan, payload)),
+            Ok(payload) => commanded(alloc, plan, payload),
             Err(code) => Progress::Refused(code),
         }
     }
 }
 
-// What becomes of a message that its reader refuses.
+// What becomes of a message with its whole body.
+fn commanded(alloc: Global, plan: Plan, payload: Payload) -> Progress
+    ensures settles { (result ≡ Progress.Died) ⊎ (result ≡ rules.settled_as (command_of plan payload)) }
+    ensures kept { (context : Context) → rules.context_in context result ≡ context }
+{
+    match command(alloc, plan, payload) {
+        Ok(command) => Progress::Whole(command),
+        Err(code) => refused(code),
+    }
+}
+
+// What becomes of a message that its reader or its operation refuses.
 fn refused(code: Code) -> Progress
     ensures { rules.IsRefusedBy code result }
 {

@@ -1,13 +1,13 @@
 //! What is known of all connections: laws, with nothing to run.
 
-ghost use Rattle.s3_session.specs.ReadBack.{PutsAreReadBack, OnlyPutsAreReadBack, PayloadsAreBrought};
+ghost use Rattle.s3_session.specs.ReadBack.{PutsAreReadBack, VersionsAreReadBack, OnlyPutsAreReadBack, PayloadsAreBrought};
 ghost use Rattle.s3_session.specs.Laws.{InvitationsStay, OneInvitation, OneOutput, OneVerdict, OneWriting, VerdictsExist, VerdictsStay, SessionsWrite, SoundMessages, SoundIsJudged};
 
 use s3_http_heads::{texts_say_one_thing, verdict_is_exact};
+use s3_machine::{only_puts_are_given, puts_are_kept};
 use s3_payloads::{accepted_bodies_are_whole, payloads_are_judged, verdicts_are_final};
 use s3_replies::{refusals_are_unique, replies_are_unique, replies_show_what_came};
 use s3_requests::plans_are_unbroken;
-use s3_store::{only_puts_are_given, puts_are_kept};
 
 /// A law: a verdict, other than open, that is reached before the bytes have ended is the verdict on those
 /// bytes followed by anything, so that how a connection's bytes are cut into pieces decides nothing. There
@@ -38,8 +38,9 @@ pub fn verdicts_exist()
     verdicts_are_final();
 }
 
-/// A law: a sound verdict is about a whole message at the front of the bytes, whose head is admitted and whose
-/// body is accepted, and each such message has the sound verdict. There is nothing to run.
+/// A law: a sound verdict is about a whole message at the front of the bytes, whose head is admitted, whose body
+/// is accepted, and whose operation makes a command of it; and each such message has the sound verdict. There is
+/// nothing to run.
 pub fn sound_verdicts_are_exact()
     ensures message { SoundMessages }
     ensures judged { SoundIsJudged }
@@ -92,12 +93,14 @@ pub fn sessions_write()
     payloads_are_judged();
 }
 
-/// A law: in the output of a connection, the reply to a get carries the bytes that the last put to its
-/// bucket and key before it brought, of those whose reply tells of success; where there is no such put, its
-/// reply tells of none. What a put brings is the payload of its message: its body, or, where that is sent in
-/// signed chunks, the data in them. There is nothing to run.
+/// A law: in the output of a connection, the reply to a get carries the bytes that the last write to its bucket and key
+/// before it brought, of those whose reply tells of success, where that is a put; the reply to a get of a version those of
+/// the put that made it, until a message replaces or deletes it; and a reply that tells of success carries what such a put
+/// brought. What a put brings is the payload of its message: its body, or, where that is sent in signed chunks, the data
+/// in them. There is nothing to run.
 pub fn puts_are_read_back()
     ensures back { PutsAreReadBack }
+    ensures versions { VersionsAreReadBack }
     ensures only { OnlyPutsAreReadBack }
     ensures payloads { PayloadsAreBrought }
 {

@@ -1,4 +1,4 @@
-//! A connection as a machine (`Session`): what its bytes ask for, and what it writes. `replay_one` runs one over a
+//! A connection as a machine (`Session`): what its bytes ask for, and what it writes. `Replay` runs one over a
 //! store of its own; the laws say what all connections have in common.
 #![tactic(auto)]
 
@@ -8,6 +8,7 @@ mod incoming;
 mod laws;
 mod opening;
 mod replay;
+mod reply;
 mod session;
 mod turn;
 
@@ -17,6 +18,6 @@ pub use laws::{
     inputs_fix_outputs, invitations_are_final, outputs_are_one, puts_are_read_back, sessions_write,
     sound_verdicts_are_exact, verdicts_are_one, verdicts_exist, verdicts_stay,
 };
-pub use replay::replay_one;
+pub use replay::{Replay, replay_one};
 pub use session::{Need, Session};
 pub use turn::Turn;

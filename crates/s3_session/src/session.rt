@@ -4,8 +4,7 @@
 ghost use Rattle.std.specs.Prelude.{◌≡◌, ◌+◌, ◌<◌, ◌≤◌, ℕ, Bool, true, false, List, [], ◌∷◌, ◌++◌, length, take, drop, if◌then◌else◌, IfOk, OnOk, OnErr};
 ghost use Rattle.s3_config.specs.Settings.{Settings};
 ghost use Rattle.s3_http_heads.specs.Search.{Stands, Holds};
-ghost use Rattle.s3_outbox.specs.Pending.{bytes_of};
-ghost use Rattle.s3_replies.specs.Replies.{Prints, PrintsRefusal, body_of, continue_line, internal_error};
+ghost use Rattle.s3_replies.specs.Replies.{Prints, PrintsRefusal, continue_line, internal_error};
 ghost use Rattle.s3_session.specs.Incoming.{IsIncoming, IsInBody};
 ghost use Rattle.s3_session.specs.Invitation.{Invites};
 ghost use Rattle.s3_session.specs.Output.{HasText, Past, Reading, ReadsBody, is_dead, is_waiting, nothing_yet};
@@ -14,17 +13,16 @@ use crate::clock::Clock;
 use crate::incoming::{Incoming, Progress};
 use crate::laws::{inputs_fix_outputs, invitations_are_final, sessions_write, verdicts_stay};
 use crate::opening::{Opening, open_text};
+use crate::reply::AnswerTo;
 use crate::turn::Turn;
 use s3_calendar::Moment;
 use s3_config::Config;
 use s3_http_heads::{Found, HeadSearch, searches_find};
+use s3_machine::{Answer, Command};
 use s3_outbox::Outbox;
 use s3_payloads::payloads_are_judged;
-use s3_replies::{Context, continue_reply, head_of, internal_error_reply, refusal};
-use s3_requests::Command;
-use s3_segments::Body;
+use s3_replies::{Context, continue_reply, internal_error_reply, refusal};
 use s3_signing::KeptKey;
-use s3_store::{Answer, Outcome};
 use s3_terms::{Code, NoMemory};
 use std::alloc::Global;
 use std::marker::Model;
@@ -117,9 +115,9 @@ impl Session {
     /// The settings have to be the same at every call for a connection: its promises are about one.
     ///
     /// Takes time by the length of what it takes, and for each head that of `s3_signing::verify_head`; memory for the
-    /// bytes of a head, once that is verified for the data of the body that came, and for the Continue line and the
-    /// reply. Where memory runs out, the connection ends with the reply that says so; in the middle of a head it does
-    /// once that is whole (a head that is too large is refused all the same).
+    /// bytes of a head, once that is verified for the data of the body that came and for what its command reads in it,
+    /// and for the Continue line and the reply. Where memory runs out, the connection ends with the reply that says so;
+    /// in the middle of a head it does once that is whole (a head that is too large is refused all the same).
     pub fn feed<C: Clock>(
         &mut self,
         alloc: Global,
@@ -155,7 +153,7 @@ impl Session {
                 let Stage::Body(incoming) = mem::replace(&mut self.stage, Stage::Reading) else {
                     unreachable!()
                 };
-                self.read_body(incoming, piece)
+                self.read_body(alloc, incoming, piece)
             }
             Stage::Waiting(_) | Stage::Closed(_) => (0, Need::Close),
         }
@@ -214,7 +212,7 @@ impl Session {
         payloads_are_judged();
         match open_text(alloc, config, self.search.text(), moment, &mut self.kept) {
             Opening::Admitted(incoming, invited) => match self.invite(invited) {
-                Ok(()) => self.read_body(incoming, piece),
+                Ok(()) => self.read_body(alloc, incoming, piece),
                 Err(NoMemory) => {
                     self.die(moment);
                     (0, Need::Close)
@@ -247,7 +245,7 @@ impl Session {
     }
 
     // Takes as much of the piece as is the body's.
-    fn read_body(&mut self, incoming: Incoming, piece: &[u8]) -> (usize, Need)
+    fn read_body(&mut self, alloc: Global, incoming: Incoming, piece: &[u8]) -> (usize, Need)
         requires unended { self.old.outbox.is_ended ≡ false }
         ensures within { result.0 ≤ length piece.now }
         ensures fed { (settings : Settings) (rest last : List ℕ) → IsIncoming settings incoming rest
@@ -261,7 +259,7 @@ impl Session {
         invitations_are_final();
         s3_http_heads::verdicts_stay();
         let context = incoming.context;
-        let (len, progress) = incoming.read(piece);
+        let (len, progress) = incoming.read(alloc, piece);
         (len, self.go_on(context, progress))
     }
 
@@ -381,12 +379,12 @@ impl Session {
         ensures longer { rules.IsLonger (rules.unsent_of self.old) (rules.unsent_of self.new) }
         ensures end { self.new.is_ended ≡ self.old.is_ended }
     {
-        let head = head_of(&answer, context);
-        self.outbox.push(head.as_slice(), body_of(answer, context));
+        let context = *context;
+        self.outbox.print(AnswerTo { answer, context });
     }
 
-    /// Says that no more bytes come; what `feed` did not take has to be offered before. A message whose body isn't whole is refused with `IncompleteBody`; of a message
-    /// whose head isn't whole nothing is said. A command that waits goes on waiting. It takes no memory.
+    /// Says that no more bytes come; what `feed` did not take has to be offered before. A message whose body isn't whole
+    /// is refused with `IncompleteBody`; of a message whose head isn't whole nothing is said. A command that waits goes on waiting. It takes no memory.
     pub fn end(&mut self)
         ensures stands { (settings : Settings) (past : Past) (sent : List ℕ) → rules.Stands self.old settings past sent
             → rules.Stands self.new settings (record past { ended = true }) sent }
@@ -480,15 +478,5 @@ impl Session {
         ensures memory { OnErr result (0 < length (rules.unsent_of self.now)) }
     {
         self.outbox.all(alloc)
-    }
-}
-
-// The bytes of a reply that its head does not hold.
-fn body_of(answer: Answer, context: &Context) -> Option<Body>
-    ensures { bytes_of result ≡ body_of answer context.now }
-{
-    match answer.outcome {
-        Outcome::Got { object } if !context.head_only => Some(object.body),
-        _ => None,
     }
 }

@@ -18,7 +18,7 @@ const PUT: Step = (
 const STORED: Step = (Act::Answer, Then::Head, &["stored"]);
 
 // Messages behind one another.
-static MESSAGES: [Row; 5] = [
+static MESSAGES: [Row; 6] = [
     Row {
         name: "a piece with the end of a message and the next one",
         pace: 0,
@@ -51,6 +51,17 @@ static MESSAGES: [Row; 5] = [
             STORED,
             (Act::Feed(&["get"], &[]), Then::Turn, &[]),
             (Act::Answer, Then::Head, &["shown with its description"]),
+        ],
+    },
+    Row {
+        name: "a put, and a request for its head alone",
+        pace: 0,
+        asked: 2,
+        steps: &[
+            PUT,
+            STORED,
+            (Act::Feed(&["head"], &["get"]), Then::Turn, &[]),
+            (Act::Answer, Then::Head, &["shown to HEAD"]),
         ],
     },
     Row {

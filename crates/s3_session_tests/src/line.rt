@@ -4,6 +4,7 @@ ghost use Rattle.s3_session.specs.Output.{is_waiting};
 ghost use Rattle.s3_session.specs.Session.{standing_of};
 
 use s3_config::Config;
+use s3_records::MapRecords;
 use s3_session::{Clock, Need, Session, Turn};
 use s3_store::Store;
 use s3_terms::NoMemory;
@@ -30,9 +31,7 @@ pub(crate) struct Line {
     session: Session,
     waiting: Option<Turn>,
     has_ended: bool,
-    store: Store,
-    // How many commands were answered.
-    answered: u64,
+    store: Store<MapRecords>,
     ghost waits: { is_waiting (standing_of session) ≡ is_some waiting },
     ghost ends: { session.is_ended ≡ has_ended },
 }
@@ -46,7 +45,6 @@ impl Line {
             waiting: None,
             has_ended: false,
             store,
-            answered: 0,
         })
     }
 
@@ -94,10 +92,7 @@ impl Line {
     pub(crate) fn answer(&mut self, alloc: Global, config: &Config) {
         if let Some(turn) = self.waiting.take() {
             let least = config.min_part();
-            let answer = self
-                .store
-                .apply(alloc, least, turn.command, turn.moment, self.answered);
-            self.answered = self.answered.saturating_add(1);
+            let answer = self.store.apply(alloc, least, turn.command, turn.moment);
             self.session.answer(answer);
         }
     }

@@ -91,12 +91,12 @@ static REFUSED: [Row; 7] = [
         ],
     },
     Row {
-        name: "a request for a head alone",
+        name: "a request for the head of a part",
         pace: 0,
         asked: 1,
         steps: &[
             (
-                Act::Feed(&["head"], &["get"]),
+                Act::Feed(&["head of a part"], &["get"]),
                 Then::Closed,
                 &["NotImplemented to HEAD"],
             ),

@@ -2,7 +2,7 @@
 use crate::parts::Part;
 
 // Answers at 2013-05-24T00:00:00Z.
-static ANSWERS: [Part; 13] = [
+static ANSWERS: [Part; 14] = [
     // What tells a client to send the body (RFC 9110, section 10.1.1).
     (
         "continue",
@@ -52,7 +52,20 @@ static ANSWERS: [Part; 13] = [
         \r\n\
         hello",
     ),
-    // The same of an object with a media type, and of one with metadata too.
+    // The same to a request for its head alone (RFC 9110, section 9.3.2).
+    (
+        "shown to HEAD",
+        b"HTTP/1.1 200 OK\r\n\
+        Date: Fri, 24 May 2013 00:00:00 GMT\r\n\
+        x-amz-request-id: 0000000000000001\r\n\
+        ETag: \"5d41402abc4b2a76b9719d911017c592\"\r\n\
+        Last-Modified: Fri, 24 May 2013 00:00:00 GMT\r\n\
+        Accept-Ranges: bytes\r\n\
+        Content-Type: binary/octet-stream\r\n\
+        Content-Length: 5\r\n\
+        \r\n",
+    ),
+    // The same as to the get, of an object with a media type, and of one with metadata too.
     (
         "shown as text",
         b"HTTP/1.1 200 OK\r\n\

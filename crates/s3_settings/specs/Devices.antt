@@ -1,8 +1,13 @@
 -- What a device has taken of some bytes, over what it tells that it holds: `None` stands for a device
 -- that tells nothing.
-use Rattle.std.specs.Prelude.{ℕ, List, Option}
+use Rattle.std.specs.Prelude.{ℕ, List, Option, Some, None}
 use Rattle.std.specs.Io.{StartsWith}
 use Rattle.std.specs.Io.KnownBytes.{Appends}
+
+-- how many bytes a read gave: none at the end
+abbrev pub read_count : Option ℕ → ℕ
+read_count None = 0
+read_count (Some count) = count
 
 -- the device gained a beginning of the bytes
 pub record AppendsBeginning (before after : Option (List ℕ)) (bytes : List ℕ) : Type 0 where

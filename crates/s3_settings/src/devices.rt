@@ -1,9 +1,9 @@
-//! What is read and written: files and the input whole, and the output to its end or until it fails.
+//! What is read and written: files whole, the input in pieces, and the output to its end or until it fails.
 
-ghost use Rattle.std.specs.Prelude.{◌≡◌, ◌≢◌, ◌≤◌, ◌⊎◌, length, take, IfOk, OnOk, IfErr, OnErr, IfSome};
-ghost use Rattle.std.specs.Io.KnownBytes.{Appends, IsAtEnd, Keeps};
+ghost use Rattle.std.specs.Prelude.{◌≡◌, ◌≢◌, ◌<◌, ◌≤◌, ◌⊎◌, length, take, None, IfOk, OnOk, IfErr, OnErr, IfSome};
+ghost use Rattle.std.specs.Io.KnownBytes.{Appends, Consumes, IsAtEnd, Keeps};
 ghost use Rattle.std.specs.IoError.{error_kind};
-ghost use Rattle.s3_settings.specs.Devices.{AppendsBeginning};
+ghost use Rattle.s3_settings.specs.Devices.{AppendsBeginning, read_count};
 ghost use Rattle.s3_settings.specs.Fault.{IsReadFault};
 
 use crate::fault::Fault;
@@ -26,16 +26,24 @@ pub fn read_file<'a, F: Files>(
     }
 }
 
-/// All that the input has left.
-pub fn read_input<'a, R: Read>(alloc: Global, input: &mut R) -> Result<Vec<u8>, Fault<'a>>
-    ensures bytes { IfOk result (λ bytes. IfSome (R.remaining input.old) (λ left. bytes.items ≡ left)) }
-    ensures end { OnOk result (IsAtEnd (R.remaining input.new)) }
+/// Reads what the input gives next to the front of the buffer, which has some room, and answers how many bytes that
+/// are: 0 where the device was interrupted, and `None` at the end of the input.
+pub fn read_piece<'a, R: Read>(input: &mut R, buffer: &mut [u8]) -> Result<Option<usize>, Fault<'a>>
+    requires room { 0 < length buffer.old }
+    ensures within { IfOk result (λ read. IfSome read (λ count. count ≤ length buffer.new)) }
+    ensures taken { IfOk result (λ read. Consumes (R.remaining input.old) (R.remaining input.new) (take (read_count read) buffer.new)) }
+    ensures end { IfOk result (λ read. read ≡ None → IsAtEnd (R.remaining input.new)) }
     ensures refused { IfErr result (λ fault. (fault ≡ Fault.OutOfMemory) ⊎ (fault ≡ Fault.InputFailed)) }
 {
-    let mut bytes = Vec::new(alloc);
-    match input.read_to_end(&mut bytes) {
-        Ok(_) => Ok(bytes),
-        Err(error) => Err(fault_of(error, Fault::InputFailed)),
+    match input.read(buffer) {
+        Ok(0) => Ok(None),
+        Ok(count) => Ok(Some(count)),
+        Err(error) => {
+            if error.kind() == ErrorKind::Interrupted {
+                return Ok(Some(0));
+            }
+            Err(fault_of(error, Fault::InputFailed))
+        }
     }
 }
 

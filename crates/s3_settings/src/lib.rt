@@ -8,7 +8,7 @@ mod files;
 mod keys;
 mod settings;
 
-pub use devices::{read_file, read_input, write_output};
+pub use devices::{read_file, read_piece, write_output};
 pub use fault::Fault;
 pub use files::Files;
 pub use keys::read_keys;

@@ -1,6 +1,11 @@
-pub mod EffectLemmas
-pub mod HistoryLemmas
-pub mod KeptLemmas
-pub mod OpeningLemmas
-pub mod OriginLemmas
+pub mod ChangeLemmas
+pub mod KeepingLemmas
+pub mod NamingLemmas
+pub mod NumberLemmas
+pub mod PlaceLemmas
+pub mod ReadingLemmas
+pub mod TellingLemmas
 pub mod StepLemmas
+pub mod KeyStepLemmas
+pub mod ResultLemmas
+pub mod StandingLemmas

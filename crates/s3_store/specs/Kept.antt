@@ -1,81 +1,73 @@
--- What the store keeps: the bytes that were acknowledged, their media type and their metadata come back and
--- no others do, and what was refused or only read changes nothing.
-use Rattle.std.specs.Prelude.{◌≡◌, ℕ, true, false, not, List, ◌∷◌, ◌++◌, Some, is_some}
-use Rattle.std.specs.List.{AllByRecursion}
-use Rattle.s3_segments.specs.Payload.{tag_of}
-use Rattle.s3_store.specs.declared.object.Object.{Object}
-use Rattle.s3_store.specs.Store.{State, opening, put_object}
-use Rattle.s3_store.specs.Store.{Address, Contents, writes, contents_of, brings, reads, only_reads, is_refused, given, acknowledged}
-use Rattle.s3_store.specs.History.{Entry, IsAnswer, Legal, after_entry}
+-- The state as rows that name bodies by number, and the bodies under these numbers.
+use Rattle.std.specs.Prelude.{◌≡◌, refl, IsTrue, ℕ, ◌≤◌, List, [], length, Option, Some, None, option_map, option_and_then, is_some, find}
+use Rattle.std.specs.Option.{unwrap_or}
+use Rattle.std.specs.FinMap as map
+use Rattle.std.specs.Ordering.{nat_cmp}
+use Rattle.std.specs.Coded.{Coded, code_by, coded×, coded_ℕ}
+use Rattle.s3_names.specs.declared.ids.VersionId.{VersionId}
+use Rattle.s3_versions.specs.Codes.{coded_bytes}
+use Rattle.s3_versions.specs.declared.version.Data.{Data}
+use Rattle.s3_versions.specs.declared.version.Version.{Version}
+use Rattle.s3_versions.specs.Rules.{is_under, stored, is_new_number}
+use Rattle.s3_records.specs.Catalogue.{Catalogue, versions_of}
+use Rattle.s3_records.specs.Codes.{coded_catalogue}
+use Rattle.s3_records.specs.Filling.{filled_catalogue}
+use Rattle.s3_records.specs.Laws.{AreCatalogued}
+use Rattle.s3_machine.specs.Step.{State}
 
--- the entry, if it writes to the address, is refused
-abbrev pub Leaves : Address → Entry → Type 0
-Leaves address e = writes e.command ≡ Some address → is_refused e.answer.outcome ≡ true
+-- bodies by their numbers
+abbrev pub Numbered : Type 0
+Numbered = map.FinMap nat_cmp (List ℕ)
 
--- no entry that is not refused writes to the address
-abbrev pub LeavesKey : Address → List Entry → Type 0
-LeavesKey address entries = AllByRecursion (Leaves address) entries
+-- what is kept: rows that name bodies by number, the bodies by these numbers, and the number of the next body
+pub record Kept : Type 0 where
+  pub rows : Catalogue ℕ
+  pub bodies : Numbered
+  pub next : ℕ
 
--- the entry wrote to the address, was not refused, and brought the type, the metadata and the body that make
--- this object at its moment
-pub record Brought (address : Address) (object : Object) (e : Entry) : Type 0 where
-  pub contents : Contents
-  pub written : writes e.command ≡ Some address
-  pub accepted : is_refused e.answer.outcome ≡ false
-  pub brought : contents_of e.command ≡ Some contents
-  pub made : object ≡ put_object e.moment contents
+-- the body under a number
+abbrev pub body_under : Numbered → ℕ → List ℕ
+body_under bodies number = unwrap_or (map.get bodies number) []
 
--- in a legal history, a read answers the object that the last write to its address, among those that
--- were not refused, made of the type, the metadata and the body that it brought
-abbrev pub PutsAreKept : Type 0
-PutsAreKept =
-    (least : ℕ) (s : State) (n : ℕ) (before between later : List Entry) (put get : Entry) (address : Address) (object : Object)
-    → Legal least s n (before ++ put ∷ between ++ get ∷ later)
-    → Brought address object put
-    → LeavesKey address between
-    → reads get.command ≡ Some address
-    → given get.answer.outcome ≡ Some object
+-- the state that is kept: the rows, with the bodies in the place of their numbers
+abbrev pub state_of : Kept → State
+state_of k = filled_catalogue (body_under k.bodies) k.rows
 
--- a right answer that accepts a body is under the tag of that body
-abbrev pub TagsAreOfBodies : Type 0
-TagsAreOfBodies =
-    (least : ℕ) (s : State) (n : ℕ) (e : Entry) (body : List ℕ)
-    → IsAnswer least s n e → brings e.command ≡ Some body → is_refused e.answer.outcome ≡ false
-    → acknowledged e.answer.outcome ≡ Some (tag_of body)
+-- where a version is
+pub record Place : Type 0 where
+  pub bucket : List ℕ
+  pub key : List ℕ
+  pub id : VersionId
 
--- the last of the entries that wrote to the address and was not refused brought this object
-pub record LastBrought (address : Address) (object : Object) (entries : List Entry) : Type 0 where
-  pub before : List Entry
-  pub write : Entry
-  pub between : List Entry
-  pub parts : entries ≡ before ++ write ∷ between
-  pub brought : Brought address object write
-  pub leaves : LeavesKey address between
+-- what a put stored there: nothing where no version or a delete marker is
+abbrev pub stored_at : Catalogue ℕ → Place → Option (Data ℕ)
+stored_at rows p = option_and_then stored (find (is_under p.id) (versions_of rows p.bucket p.key))
 
--- in a legal history from the opening state, an object that a read answers was brought by the last
--- write to its address, among the entries before the read, that was not refused
-abbrev pub OnlyPutsAreGiven : Type 0
-OnlyPutsAreGiven =
-    (least : ℕ) (names : List (List ℕ)) (n : ℕ) (earlier later : List Entry) (get : Entry) (address : Address) (object : Object)
-    → Legal least (opening names) n (earlier ++ get ∷ later)
-    → reads get.command ≡ Some address
-    → given get.answer.outcome ≡ Some object
-    → LastBrought address object earlier
+-- each row names a body, and its size; no two name the same; and there is no body that none names
+pub record AreNamed (at : Place → Option (Data ℕ)) (bodies : Numbered) : Type 0 where
+  pub there : (p : Place) (d : Data ℕ) → at p ≡ Some d → option_map length (map.get bodies d.body) ≡ Some d.size
+  pub once : (p q : Place) (d e : Data ℕ) → at p ≡ Some d → at q ≡ Some e → d.body ≡ e.body → p ≡ q
+  pub no_others : (number : ℕ) → IsTrue (is_some (map.get bodies number)) → (p : Place) × ((d : Data ℕ) × ((at p ≡ Some d) × (d.body ≡ number)))
 
--- a right answer to a read hands out an object, or refuses
-abbrev pub ReadsGiveOrRefuse : Type 0
-ReadsGiveOrRefuse =
-    (least : ℕ) (s : State) (n : ℕ) (e : Entry) (address : Address)
-    → IsAnswer least s n e → reads e.command ≡ Some address
-    → is_some (given e.answer.outcome) ≡ not (is_refused e.answer.outcome)
+-- the bodies are those that rows name; and the numbers of the next body and of the next entry n are new
+pub record IsSound (k : Kept) (n : ℕ) : Type 0 where
+  pub in_order : AreCatalogued k.rows
+  pub newer : (bucket key : List ℕ) → IsTrue (is_new_number n (versions_of k.rows bucket key))
+  pub named : AreNamed (stored_at k.rows) k.bodies
+  pub above : (number : ℕ) → k.next ≤ number → map.get k.bodies number ≡ None
 
--- a right answer that refuses leaves the store as it was
-abbrev pub RefusalsChangeNothing : Type 0
-RefusalsChangeNothing =
-    (least : ℕ) (s : State) (n : ℕ) (e : Entry)
-    → IsAnswer least s n e → is_refused e.answer.outcome ≡ true → after_entry least s e ≡ s
+-- the bodies without that of a version that went
+abbrev pub without_body : Option (Data ℕ) → Numbered → Numbered
+without_body None bodies = bodies
+without_body (Some d) bodies = map.remove bodies d.body
 
--- a command that only reads leaves the store as it was, whatever it is answered
-abbrev pub ReadsChangeNothing : Type 0
-ReadsChangeNothing =
-    (least : ℕ) (s : State) (e : Entry) → only_reads e.command ≡ true → after_entry least s e ≡ s
+abbrev pub forgotten : Option (Version ℕ) → Numbered → Numbered
+forgotten gone bodies = without_body (option_and_then stored gone) bodies
+
+-- how std numbers it
+abbrev pub coded_kept : Coded Kept
+coded_kept =
+    code_by (Catalogue ℕ × (Numbered × ℕ)) (coded× (coded_catalogue coded_ℕ) (coded× (map.code coded_ℕ coded_bytes) coded_ℕ))
+    (λ k. (k.rows, (k.bodies, k.next)))
+    (λ p. record { rows = p.0; bodies = p.1.0; next = p.1.1 })
+    (λ _. refl)

@@ -1,6 +1,4 @@
-pub mod Store
-pub mod Encoding
-pub mod History
 pub mod Kept
-pub use Rattle.s3_segments.specs.Payload
-pub use Rattle.s3_terms.specs.Code
+pub mod Laws
+pub mod Steps
+pub use Rattle.s3_machine.specs.Step

@@ -1,13 +1,13 @@
-//! The store: one state of buckets and objects, and one step for each command, all or nothing.
+//! The store: the state of the machine, kept as the rows of a catalogue and the bodies that these name, with one step
+//! for each command. `specs/Kept.antt` says what is kept, and the machine's `step` what a command does.
 #![tactic(auto)]
 
-mod answer;
-mod history;
-mod object;
-mod objects;
+mod bucket_steps;
+mod kept;
+mod key_steps;
+mod laws;
+mod reading;
 mod store;
+mod take;
 
-pub use answer::{Answer, Outcome};
-pub use history::{one_more_entry, only_puts_are_given, puts_are_kept, refusals_change_nothing};
-pub use object::Object;
 pub use store::Store;

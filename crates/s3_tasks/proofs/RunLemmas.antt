@@ -1,6 +1,7 @@
 -- How a task ends.
-use Rattle.std.proofs.Common.{◌≡◌, ℕ, List, Option, Result, Ok, Err, inr}
+use Rattle.std.proofs.Common.{◌≡◌, ◌∙◌, ℕ, List, ◌++◌, Option, Some, None, IfSome, Result, Ok, Err, inr, ap, append-nil, subst, sym}
 use Rattle.std.specs.Prelude.{IfErr, OnErr}
+use Rattle.std.specs.Io.KnownBytes.{Consumes, IsAtEnd}
 use Rattle.s3_settings.specs.declared.fault.Fault.{Fault}
 use Rattle.s3_settings.specs.declared.fault.Fault.TheVariants.{OutputFailed}
 use Rattle.s3_settings.specs.Devices.{AppendsBeginning}
@@ -11,5 +12,16 @@ use Rattle.s3_tasks.specs.Run.{IsTaskText, IsTaskFault}
 pub cut_short : {T : Type 0} (known : List ℕ → Option (List ℕ)) (input before after : Option (List ℕ)) (task : Task) (text : List ℕ) (r : Result T Fault) → IsTaskText known input task text → IfErr r (λ fault. fault ≡ OutputFailed) → OnErr r (AppendsBeginning before after text) → IfErr r (IsTaskFault known input before after task)
 cut_short known input before after task text (Ok x) is failed part = tt
 cut_short known input before after task text (Err fault) is failed part = inr (failed, record { text = text; is = is; gained = part })
+
+-- what holds of all that a reader gave holds of what it had, at its end
+pub all_given : (P : List ℕ → Type 0) (before after : Option (List ℕ)) (done : List ℕ) → Consumes before after done → IsAtEnd after → P done → IfSome before P
+all_given P None after done given end h = tt
+all_given P (Some left) None done given end h = absurd given
+all_given P (Some left) (Some rest) done given end h = subst P (sym (given ∙ ap (λ (l : List ℕ). done ++ l) end ∙ append-nil done)) h
+
+-- what follows from it
+pub if_known : (P Q : List ℕ → Type 0) (known : Option (List ℕ)) → ((bytes : List ℕ) → P bytes → Q bytes) → IfSome known P → IfSome known Q
+if_known P Q None leads h = tt
+if_known P Q (Some bytes) leads h = leads bytes h
 
 pub ruleset runs = cut_short

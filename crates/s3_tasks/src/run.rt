@@ -1,7 +1,8 @@
 //! A run of the program, from its words to its status.
 
-ghost use Rattle.std.specs.Prelude.{◌≡◌, ◌≢◌, ◌≤◌, ◌⊎◌, IfOk, OnOk, IfErr, IfSome, IsTrue, map, true};
+ghost use Rattle.std.specs.Prelude.{◌≡◌, ◌≢◌, ◌≤◌, ◌⊎◌, ◌++◌, ℕ, List, IfOk, OnOk, IfErr, IfSome, IsTrue, map, true};
 ghost use Rattle.s3_session.specs.Replay.{Replays};
+ghost use Rattle.s3_session.specs.Replaying.{HasTaken};
 ghost use Rattle.s3_settings.specs.Devices.{AppendsBeginning};
 ghost use Rattle.s3_settings.specs.Fault.{line_of};
 ghost use Rattle.s3_tasks.specs.Run.{IsReplayed, IsReplayFault, IsDone, IsTaskText, IsTextFault, IsTaskDone, IsTaskFault, is_before_input, is_signing, IsRunFault, HasFailed};
@@ -12,11 +13,14 @@ use s3_calendar::Moment;
 use s3_command_line::{Task, WordsError, read_words};
 use s3_config::Config;
 use s3_options::Options;
-use s3_session::replay_one;
-use s3_settings::{Fault, Files, Setup, configure, read_input, write_output};
+use s3_session::Replay;
+use s3_settings::{Fault, Files, Setup, configure, read_piece, write_output};
 use std::alloc::Global;
 use std::convert::AsStr;
 use std::io::{Read, Write};
+
+// How many bytes of the input are read at once, at most.
+const PIECE: usize = 65_536;
 
 // The status of a run that did its work.
 const DONE: u8 = 0;
@@ -162,7 +166,30 @@ fn answers<'a, R: Read>(
     ensures value { IfOk result (λ text. IfSome (R.remaining input.old) (λ bytes. Replays config.now moment bytes text.items)) }
     ensures refused { IfErr result (λ fault. (fault ≡ Fault.OutOfMemory) ⊎ (fault ≡ Fault.InputFailed)) }
 {
-    let bytes = read_input(alloc, input)?;
-    let answers = replay_one(alloc, config, bytes.as_slice(), moment)?;
+    let mut replay = Replay::new(alloc, config)?;
+    feed_input(alloc, config, moment, &mut replay, input)?;
+    let answers = replay.written(alloc)?;
     Ok(answers)
+}
+
+// Feeds a replay with all that the input has left, in pieces as they are read.
+fn feed_input<'a, R: Read>(
+    alloc: Global,
+    config: &Config,
+    moment: Moment,
+    replay: &mut Replay,
+    input: &mut R,
+) -> Result<(), Fault<'a>>
+    ensures fed { (bytes : List ℕ) → HasTaken replay.old config.now moment bytes
+        → OnOk result (IfSome (R.remaining input.old) (λ left. HasTaken replay.new config.now moment (bytes ++ left))) }
+    ensures refused { IfErr result (λ fault. (fault ≡ Fault.OutOfMemory) ⊎ (fault ≡ Fault.InputFailed)) }
+{
+    let mut buffer = [0; PIECE];
+    for _ in 0..u64::MAX {
+        match read_piece(input, &mut buffer)? {
+            Some(count) => replay.feed(alloc, config, moment, &buffer[..count]),
+            None => return Ok(()),
+        }
+    }
+    Err(Fault::InputFailed)
 }

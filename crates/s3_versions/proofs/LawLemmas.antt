@@ -1,7 +1,7 @@
 -- The laws of the rules.
-use Rattle.std.proofs.Common.{◌≡◌, refl, ap, ◌≢◌, ℕ, ◌+◌, ◌<◌, ◌≤◌, arith, IsTrue, nat_lt, Bool, true, false, not, List, None, filter, find}
+use Rattle.std.proofs.Common.{◌≡◌, refl, sym, ap, ◌∙◌, ◌≢◌, ℕ, ◌+◌, ◌<◌, ◌≤◌, arith, IsTrue, nat_lt, Bool, true, false, not, cond, List, [], ◌∷◌, Some, None, filter, find}
 use Rattle.std.specs.List.{list_all}
-use Rattle.std.proofs.lemmas.Bool.{false_from_ne_true, and_from, lt-ltb, ltb-true}
+use Rattle.std.proofs.lemmas.Bool.{false_from_ne_true, and_from, and_parts, lt-ltb, ltb-true}
 use Rattle.std.proofs.lemmas.Bool.Decides.{nat_tests}
 use Rattle.std.proofs.lemmas.List.Filters.{sum_by-filter_both}
 use Rattle.s3_names.specs.declared.ids.VersionId.{VersionId}
@@ -11,8 +11,8 @@ use Rattle.s3_versions.specs.declared.version.Content.TheVariants.{DeleteMarker,
 use Rattle.s3_versions.specs.declared.version.Version.{Version}
 use Rattle.s3_versions.specs.declared.version.Versioning.{Versioning}
 use Rattle.s3_versions.specs.declared.version.Versioning.TheVariants.{Unversioned, Enabled, Suspended}
-use Rattle.s3_versions.specs.Rules.{is_under, made, after_adding, after_delete, without, is_new_number}
-use Rattle.s3_versions.specs.Laws.{OneUnderEachId, PutsLeaveVersions, DeletesLeaveVersions, DropsLeaveVersions, NextIsNew, OnlyNullGoes, OneVersionGoes, SumOfWhatGoes}
+use Rattle.s3_versions.specs.Rules.{is_under, made, new_id, after_adding, after_delete, without, replaced, is_new_number}
+use Rattle.s3_versions.specs.Laws.{OneUnderEachId, PutsLeaveVersions, DeletesLeaveVersions, DropsLeaveVersions, NextIsNew, OnlyNullGoes, OneVersionGoes, SumOfWhatGoes, OneIdChanges, AddsUnderNewId, DeletesUnderNewId, ReplacesUnderNewId}
 use Rattle.s3_versions.proofs.ListLemmas.{list_all-then, list_all-filter, length-filter_one, sum_by-filter_one, find-left, find-others}
 use Rattle.s3_versions.proofs.VersionLemmas.{at_most_one, without-valid, new_precedes, new_null_precedes}
 
@@ -109,3 +109,59 @@ only_null_goes Unversioned n t stored vs Null other named = absurd (named refl)
 only_null_goes Suspended n t stored vs Null other named = absurd (named refl)
 only_null_goes Unversioned n t stored vs (Numbered m) other named = (left_under Null vs (Numbered m) named, left_under Null vs (Numbered m) named)
 only_null_goes Suspended n t stored vs (Numbered m) other named = (left_under Null vs (Numbered m) named, left_under Null vs (Numbered m) named)
+
+-- a version that is under an id stands in front, and one that isn't
+found_first : {B : Type 0} (id : VersionId) (v : Version B) (vs : List (Version B)) → is_under id v ≡ true → find (is_under id) (v ∷ vs) ≡ Some v
+found_first id v vs is = ap (λ b. cond b (Some v) (find (is_under id) vs)) is
+
+passed : {B : Type 0} (id : VersionId) (v : Version B) (vs : List (Version B)) → is_under id v ≡ false → find (is_under id) (v ∷ vs) ≡ find (is_under id) vs
+passed id v vs other = ap (λ b. cond b (Some v) (find (is_under id) vs)) other
+
+-- what is made is under its new id, and under no other
+made_here : {B : Type 0} (b : Versioning) (n t : ℕ) (content : Content B) → is_under (new_id b n) (made b n t content) ≡ true
+made_here Unversioned n t content = refl
+made_here Suspended n t content = refl
+made_here Enabled n t content = grind (arith, nat_tests)
+
+made_elsewhere : {B : Type 0} (b : Versioning) (n t : ℕ) (content : Content B) (other : VersionId) → other ≢ new_id b n → is_under other (made b n t content) ≡ false
+made_elsewhere b n t content other differ = apart (new_id b n) other (made b n t content) differ (made_here b n t content)
+
+pub adds_under_new_id : {B : Type 0} → AddsUnderNewId B
+adds_under_new_id Enabled n t content vs = record {
+  here = found_first (Numbered n) (made Enabled n t content) vs (made_here Enabled n t content);
+  elsewhere = λ other differ. passed other (made Enabled n t content) vs (made_elsewhere Enabled n t content other differ);
+}
+adds_under_new_id Unversioned n t content vs = record {
+  here = found_first Null (made Unversioned n t content) (without Null vs) refl;
+  elsewhere = λ other differ.
+      passed other (made Unversioned n t content) (without Null vs) (made_elsewhere Unversioned n t content other differ) ∙ left_under Null vs other differ;
+}
+adds_under_new_id Suspended n t content vs = record {
+  here = found_first Null (made Suspended n t content) (without Null vs) refl;
+  elsewhere = λ other differ.
+      passed other (made Suspended n t content) (without Null vs) (made_elsewhere Suspended n t content other differ) ∙ left_under Null vs other differ;
+}
+
+pub deletes_under_new_id : {B : Type 0} → DeletesUnderNewId B
+deletes_under_new_id Enabled n t vs = adds_under_new_id Enabled n t DeleteMarker vs
+deletes_under_new_id Suspended n t vs = adds_under_new_id Suspended n t DeleteMarker vs
+deletes_under_new_id Unversioned n t vs = record { here = none_under Null vs; elsewhere = λ other differ. left_under Null vs other differ }
+
+-- no version has a number that is new
+not_numbered : {B : Type 0} (n : ℕ) (v : Version B) → nat_lt v.number n ≡ true → is_under (Numbered n) v ≡ false
+not_numbered n v below = false_from_ne_true (is_under (Numbered n) v) (λ is. grind (arith, nat_tests))
+
+none_numbered : {B : Type 0} (n : ℕ) (vs : List (Version B)) → list_all (λ v. nat_lt v.number n) vs ≡ true → find (is_under (Numbered n)) vs ≡ None
+none_numbered n [] new = refl
+none_numbered n (v ∷ vs) new =
+    let parts = and_parts (nat_lt v.number n) (list_all (λ w. nat_lt w.number n) vs) new in
+    passed (Numbered n) v vs (not_numbered n v parts.0) ∙ none_numbered n vs parts.1
+
+none_new : {B : Type 0} (n : ℕ) (vs : List (Version B)) → IsTrue (is_new_number n vs) → find (is_under (Numbered n)) vs ≡ None
+unfolding is_new_number
+none_new n vs new = none_numbered n vs new
+
+pub replaces_under_new_id : {B : Type 0} → ReplacesUnderNewId B
+replaces_under_new_id Enabled n vs new = sym (none_new n vs new)
+replaces_under_new_id Unversioned n vs new = refl
+replaces_under_new_id Suspended n vs new = refl

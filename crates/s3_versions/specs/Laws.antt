@@ -1,15 +1,16 @@
 -- What users rely on, of all lists of versions and all puts and deletes (Amazon S3 User Guide, "Using
 -- versioning in S3 buckets").
-use Rattle.std.specs.Prelude.{◌≡◌, ◌≤◌, ◌+◌, ◌≢◌, ℕ, true, IsTrue, List, length, filter, find, sum_by, Some, None, Ok, Err, unwrap_or, option_map}
+use Rattle.std.specs.Prelude.{◌≡◌, ◌≤◌, ◌+◌, ◌≢◌, ℕ, true, IsTrue, List, length, filter, find, sum_by, Option, Some, None, Ok, Err, unwrap_or, option_map}
 use Rattle.s3_terms.specs.declared.code.Code.TheVariants.{NoSuchKey}
 use Rattle.s3_names.specs.declared.ids.VersionId.{VersionId}
 use Rattle.s3_names.specs.declared.ids.VersionId.TheVariants.{Null, Numbered}
-use Rattle.s3_versions.specs.declared.version.Content.TheVariants.{Stored}
+use Rattle.s3_versions.specs.declared.version.Content.{Content}
+use Rattle.s3_versions.specs.declared.version.Content.TheVariants.{DeleteMarker, Stored}
 use Rattle.s3_versions.specs.declared.version.Data.{Data}
 use Rattle.s3_versions.specs.declared.version.Version.{Version}
 use Rattle.s3_versions.specs.declared.version.Versioning.{Versioning}
-use Rattle.s3_versions.specs.declared.version.Versioning.TheVariants.{Enabled, Suspended}
-use Rattle.s3_versions.specs.Rules.{id_of, is_under, current, asked_for, pick, made, after_put, after_delete, after_delete_version, are_versions, is_new_number}
+use Rattle.s3_versions.specs.declared.version.Versioning.TheVariants.{Unversioned, Enabled, Suspended}
+use Rattle.s3_versions.specs.Rules.{id_of, is_under, current, asked_for, pick, made, new_id, after_adding, after_put, after_delete, after_delete_version, replaced, are_versions, is_new_number}
 
 -- at most one version has an id
 abbrev pub OneUnderEachId : Type 0 → Type 0
@@ -89,3 +90,32 @@ abbrev pub SumOfWhatGoes : Type 0 → Type 0
 SumOfWhatGoes B =
     (f : Version B → ℕ) (vs : List (Version B)) (id : VersionId) → IsTrue (are_versions vs)
     → sum_by f (after_delete_version id vs) + unwrap_or (option_map f (find (is_under id) vs)) 0 ≡ sum_by f vs
+
+-- of some versions and others: under one id stands this, and under each other id what stood there
+pub record OneIdChanges {B : Type 0} (id : VersionId) (now : Option (Version B)) (before after : List (Version B)) : Type 0 where
+  pub here : asked_for (Some id) after ≡ now
+  pub elsewhere : (other : VersionId) → other ≢ id → asked_for (Some other) after ≡ asked_for (Some other) before
+
+-- what an entry adds stands under its new id
+abbrev pub AddsUnderNewId : Type 0 → Type 0
+AddsUnderNewId B =
+    (b : Versioning) (n t : ℕ) (content : Content B) (vs : List (Version B))
+    → OneIdChanges (new_id b n) (Some (made b n t content)) vs (after_adding b n t content vs)
+
+-- the delete marker that a DELETE makes which names no version, where it makes one
+abbrev pub marker_made : {B : Type 0} → Versioning → ℕ → ℕ → Option (Version B)
+marker_made Unversioned n t = None
+marker_made Enabled n t = Some (made Enabled n t DeleteMarker)
+marker_made Suspended n t = Some (made Suspended n t DeleteMarker)
+
+-- such a DELETE leaves it under its new id; where none is made, nothing
+abbrev pub DeletesUnderNewId : Type 0 → Type 0
+DeletesUnderNewId B =
+    (b : Versioning) (n t : ℕ) (vs : List (Version B))
+    → OneIdChanges (new_id b n) (marker_made b n t) vs (after_delete b n t vs)
+
+-- the version that a put or such a DELETE takes away is the one that stood under its new id
+abbrev pub ReplacesUnderNewId : Type 0 → Type 0
+ReplacesUnderNewId B =
+    (b : Versioning) (n : ℕ) (vs : List (Version B)) → IsTrue (is_new_number n vs)
+    → replaced b vs ≡ asked_for (Some (new_id b n)) vs

@@ -12,7 +12,8 @@ mod versions;
 
 pub use content_type::ContentType;
 pub use laws::{
-    ids_differ, markers_hide, one_version_goes, puts_are_current, rules_ignore_bytes, stay_versions,
+    ids_differ, markers_hide, one_id_changes, one_version_goes, puts_are_current,
+    rules_ignore_bytes, stay_versions,
 };
 pub use metadata::{Metadata, MetadataEntry};
 pub use picking::{Picked, Refusal, current, judge, pick, version_under};

@@ -1,4 +1,4 @@
-use Rattle.std.proofs.Common.{◌≡◌, length, arith, sym, subst}
+use Rattle.std.proofs.Common.{◌≡◌, [], length, arith, sym, subst}
 use Rattle.s3_session.specs.Replay.{Replays}
 use Rattle.s3_session.proofs.ReplayLemmas.{written_decided}
 use Rattle.s3_session.proofs.TurnsLemmas.{nothing_came}
@@ -11,6 +11,11 @@ returns-then-is_empty-clause-output c =
     let none : length bytes ≡ 0 = grind (arith, c.is_empty.ensures, c.if-is_empty.true) in
     subst (Replays settings c.args.moment bytes) (sym c.new.ensures.items) (nothing_came settings c.args.moment bytes none)
 
+pub returns-clause-output : goal.returns-clause-output
+returns-clause-output c =
+    c.written.ensures.output c.args.config.now c.args.moment c.args.bytes.now (c.feed.ensures.taken [] (c.in_ok-replay.ensures.begins c.args.moment))
+
 pub returns-clause-memory : goal.returns-clause-memory
 returns-clause-memory c =
-    written_decided c.verdicts_are_one.ensures c.verdicts_are_final.ensures.end c.args.config.now c.args.moment c.args.bytes.now _ c.take_turns.ensures c.all-2.result c.all-2.ensures.memory
+    written_decided c.verdicts_are_one.ensures c.verdicts_are_final.ensures.end c.args.config.now c.args.moment c.args.bytes.now c.written.result
+    (c.written.ensures.memory c.args.config.now c.args.moment c.args.bytes.now (c.feed.ensures.taken [] (c.in_ok-replay.ensures.begins c.args.moment)))

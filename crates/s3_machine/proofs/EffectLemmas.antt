@@ -1,0 +1,172 @@
+-- What one step does to the versions under keys.
+use Rattle.std.proofs.Common.{◌≡◌, ◌≢◌, refl, sym, ap, subst, ◌∙◌, Bool, true, false, not, ℕ, ◌⊎◌, inl, inr, IsTrue, List, Option, Some, None, is_some, Result, Ok, Err}
+use Rattle.std.proofs.lemmas.Bool.{false≢true}
+use Rattle.s3_terms.specs.declared.code.Code.{Code}
+use Rattle.s3_terms.specs.declared.code.Code.TheVariants.{NoSuchBucket, BucketAlreadyOwnedByYou, BucketNotEmpty}
+use Rattle.s3_names.specs.declared.ids.VersionId.{VersionId}
+use Rattle.s3_segments.specs.Payload.{tag_of}
+use Rattle.s3_versions.specs.Metadata.{Entry as MetadataEntry}
+use Rattle.s3_versions.specs.declared.picking.Refusal.{Refusal}
+use Rattle.s3_versions.specs.declared.version.Content.TheVariants.{Stored}
+use Rattle.s3_versions.specs.declared.version.Data.{Data}
+use Rattle.s3_versions.specs.declared.version.Version.{Version}
+use Rattle.s3_versions.specs.declared.version.Versioning.{Versioning}
+use Rattle.s3_versions.specs.declared.version.Versioning.TheVariants.{Unversioned, Enabled, Suspended}
+use Rattle.s3_versions.specs.Rules.{made, new_id, stored, pick, after_put}
+use Rattle.s3_versions.specs.Laws.{marker_made}
+use Rattle.s3_records.specs.Catalogue.{has_bucket, is_empty_bucket, versions_of, versioning_of}
+use Rattle.s3_records.specs.Changes.{bucket_added, bucket_dropped, versioning_changed, version_put, key_deleted, version_dropped}
+use Rattle.s3_records.specs.Laws.{ChangesFollowRules}
+use Rattle.s3_records.specs.Places.{SameVersions, OnePlaceChanges, ChangesAreByPlace}
+use Rattle.s3_machine.specs.declared.command.BucketCommand.{BucketCommand}
+use Rattle.s3_machine.specs.declared.command.BucketCommand.TheVariants as bucket_commands
+use Rattle.s3_machine.specs.declared.command.Command.{Command}
+use Rattle.s3_machine.specs.declared.command.Command.TheVariants as commands
+use Rattle.s3_machine.specs.declared.command.KeyCommand.{KeyCommand}
+use Rattle.s3_machine.specs.declared.command.KeyCommand.TheVariants as key_commands
+use Rattle.s3_machine.specs.declared.outcome.Outcome.{Outcome}
+use Rattle.s3_machine.specs.declared.outcome.Outcome.TheVariants as outcomes
+use Rattle.s3_machine.specs.Fault.{refuse, ◌>>◌, ◌>>=◌}
+use Rattle.s3_machine.specs.Laws.{is_refused}
+use Rattle.s3_machine.specs.Effects.{Address, Contents, data_from, writes, key_written, contents_of, key_contents, touched, key_touched, told}
+use Rattle.s3_machine.specs.Step.{State, Stepped, shown_in, makes_marker, is_marker_under, data_of, found_in, head_of, bucket_done, key_done, done, stepped, step}
+
+-- every key has the versions that it had, and a write was refused
+pub record Same (s : State) (command : Command) (st : Stepped) : Type 0 where
+  pub versions : SameVersions s st.0
+  pub refused : (a : Address) → writes command ≡ Some a → is_refused st.1 ≡ true
+
+-- what a write stored: what a put brought, in the version that is current now; or nothing
+abbrev pub Stores : State → ℕ → ℕ → Command → Stepped → Address → Option (Version (List ℕ)) → Type 0
+Stores s n t command st a now =
+    ((contents : Contents)
+    × (contents_of command ≡ Some contents)
+    × (now ≡ Some (made (versioning_of s a.bucket) n t (Stored (data_from contents))))
+    × (versions_of st.0 a.bucket a.key ≡ after_put (versioning_of s a.bucket) n t (data_from contents) (versions_of s a.bucket a.key)))
+    ⊎ ((contents_of command ≡ None) × ((v : Version (List ℕ)) → now ≡ Some v → stored v ≡ None))
+
+-- a write was accepted, and changed what stands at one place
+pub record Changes (s : State) (n t : ℕ) (command : Command) (st : Stepped) : Type 0 where
+  pub address : Address
+  pub written : writes command ≡ Some address
+  pub accepted : is_refused st.1 ≡ false
+  pub id : VersionId
+  pub touches : touched command st.1 ≡ Some id
+  pub now : Option (Version (List ℕ))
+  pub place : OnePlaceChanges s st.0 address.bucket address.key id now
+  pub stores : Stores s n t command st address now
+
+abbrev pub Does : State → ℕ → ℕ → Command → Stepped → Type 0
+Does s n t command st = Same s command st ⊎ Changes s n t command st
+
+-- a rule whose first line may refuse
+pub after_line : (P : Stepped → Type 0) (s : State) (fault : Bool) (code : Code) (next : Result Stepped Refusal) → P (s, outcomes.Refused code false) → (fault ≡ false → P (stepped s next)) → P (stepped s (refuse fault code >> next))
+after_line P s true code next refused goes = refused
+after_line P s false code next refused goes = goes refl
+
+no_write : (command : Command) (outcome : Outcome) → writes command ≡ None → (a : Address) → writes command ≡ Some a → is_refused outcome ≡ true
+no_write command outcome none a is = absurd (cc)
+
+untouched : (s : State) (n t : ℕ) (command : Command) (outcome : Outcome) → ((a : Address) → writes command ≡ Some a → is_refused outcome ≡ true) → Does s n t command (s, outcome)
+untouched s n t command outcome refused = inl (record { versions = λ name key. refl; refused = refused })
+
+-- a command that writes nothing leaves the state, or has the versions that it had
+unwritten : {outcome : Outcome} (s : State) (n t : ℕ) (command : Command) → writes command ≡ None → Does s n t command (s, outcome)
+unwritten {outcome} s n t command none = untouched s n t command outcome (no_write command outcome none)
+
+same_versions : {outcome : Outcome} (s after : State) (n t : ℕ) (command : Command) → writes command ≡ None → SameVersions s after → Does s n t command (after, outcome)
+same_versions {outcome} s after n t command none same = inl (record { versions = same; refused = no_write command outcome none })
+
+pub not_false : (b : Bool) → not b ≡ false → b ≡ true
+not_false true is = refl
+not_false false is = absurd (false≢true (sym is))
+
+told_new : (b : Versioning) (n : ℕ) → told (shown_in b (new_id b n)) ≡ new_id b n
+told_new Unversioned n = refl
+told_new Enabled n = refl
+told_new Suspended n = refl
+
+nothing_stored : (b : Versioning) (n t : ℕ) (v : Version (List ℕ)) → marker_made b n t ≡ Some v → stored v ≡ None
+nothing_stored Unversioned n t v is = absurd (cc)
+nothing_stored Enabled n t v is = cc
+nothing_stored Suspended n t v is = cc
+
+module _ (places : ChangesAreByPlace (List ℕ)) (rules : ChangesFollowRules (List ℕ)) where
+  bucket_does : (s : State) (n t : ℕ) (name : List ℕ) (asked : BucketCommand) → Does s n t (commands.Bucket name asked) (stepped s (bucket_done s t name asked))
+  unfolding bucket_done
+  bucket_does s n t name bucket_commands.Create =
+      let command = commands.Bucket name bucket_commands.Create in
+      after_line (Does s n t command) s (has_bucket s name) BucketAlreadyOwnedByYou _ (unwritten s n t command refl)
+      (λ none. same_versions s (bucket_added s name t) n t command refl ((places s name).added t none))
+  bucket_does s n t name bucket_commands.Head =
+      let command = commands.Bucket name bucket_commands.Head in
+      after_line (Does s n t command) s (not (has_bucket s name)) NoSuchBucket _ (unwritten s n t command refl)
+      (λ there. unwritten s n t command refl)
+  bucket_does s n t name bucket_commands.Delete =
+      let command = commands.Bucket name bucket_commands.Delete in
+      after_line (Does s n t command) s (not (has_bucket s name)) NoSuchBucket _ (unwritten s n t command refl)
+      (λ there. after_line (Does s n t command) s (not (is_empty_bucket s name)) BucketNotEmpty _ (unwritten s n t command refl)
+      (λ empty. same_versions s (bucket_dropped s name) n t command refl ((places s name).dropped (not_false (is_empty_bucket s name) empty))))
+  bucket_does s n t name (bucket_commands.PutVersioning status) =
+      let command = commands.Bucket name (bucket_commands.PutVersioning status) in
+      after_line (Does s n t command) s (not (has_bucket s name)) NoSuchBucket _ (unwritten s n t command refl)
+      (λ there. same_versions s (versioning_changed s name status) n t command refl ((places s name).switched status))
+  bucket_does s n t name bucket_commands.GetVersioning =
+      let command = commands.Bucket name bucket_commands.GetVersioning in
+      after_line (Does s n t command) s (not (has_bucket s name)) NoSuchBucket _ (unwritten s n t command refl)
+      (λ there. unwritten s n t command refl)
+
+  -- a rule that only reads changes nothing
+  reading : (s : State) (n t : ℕ) (command : Command) (read : Result (Version (List ℕ) × Data (List ℕ)) Refusal) (out : Version (List ℕ) × Data (List ℕ) → Outcome) → writes command ≡ None → Does s n t command (stepped s (read >>= (λ r. Ok (s, out r))))
+  reading s n t command (Ok r) out none = unwritten s n t command none
+  reading s n t command (Err refusal) out none = unwritten s n t command none
+
+  key_does : (s : State) (n t : ℕ) (name key : List ℕ) (asked : KeyCommand) → IsTrue (has_bucket s name) → Does s n t (commands.Key name key asked) (stepped s (key_done s n t name key asked))
+  unfolding key_done
+  key_does s n t name key (key_commands.Put content_type metadata payload) there =
+      let contents : Contents = record { content_type = content_type; metadata = metadata; body = payload } in
+      inr (record {
+        address = record { bucket = name; key = key };
+        written = refl;
+        accepted = refl;
+        id = new_id (versioning_of s name) n;
+        touches = ap Some (told_new (versioning_of s name) n);
+        now = Some (made (versioning_of s name) n t (Stored (data_from contents)));
+        place = (places s name).put there key n t (data_from contents);
+        stores = inl (contents, refl, refl, (rules s name key there).put n t (data_from contents));
+      })
+  key_does s n t name key (key_commands.Get asked) there =
+      reading s n t (commands.Key name key (key_commands.Get asked)) (pick asked (versions_of s name key)) (λ read. outcomes.Got (found_in (versioning_of s name) read)) refl
+  key_does s n t name key (key_commands.Head asked) there =
+      reading s n t (commands.Key name key (key_commands.Head asked)) (pick asked (versions_of s name key)) (λ read. outcomes.HeadGot (head_of (found_in (versioning_of s name) read))) refl
+  key_does s n t name key (key_commands.Delete None) there =
+      inr (record {
+        address = record { bucket = name; key = key };
+        written = refl;
+        accepted = refl;
+        id = new_id (versioning_of s name) n;
+        touches = ap Some (told_new (versioning_of s name) n);
+        now = marker_made (versioning_of s name) n t;
+        place = (places s name).deleted there key n t;
+        stores = inr (refl, λ v is. nothing_stored (versioning_of s name) n t v is);
+      })
+  key_does s n t name key (key_commands.Delete (Some id)) there =
+      inr (record {
+        address = record { bucket = name; key = key };
+        written = refl;
+        accepted = refl;
+        id = id;
+        touches = refl;
+        now = None;
+        place = (places s name).version_gone there key id;
+        stores = inr (refl, λ v is. absurd (cc));
+      })
+
+  pub step_does : (least : ℕ) (s : State) (n t : ℕ) (command : Command) → Does s n t command (step least s n t command)
+  unfolding done
+  step_does least s n t commands.ListBuckets = unwritten s n t commands.ListBuckets refl
+  step_does least s n t (commands.Bucket name asked) = bucket_does s n t name asked
+  step_does least s n t (commands.Key name key asked) =
+      after_line (Does s n t (commands.Key name key asked)) s (not (has_bucket s name)) NoSuchBucket (key_done s n t name key asked)
+      (untouched s n t (commands.Key name key asked) _ (λ a is. refl))
+      (λ there. key_does s n t name key asked (not_false (has_bucket s name) there))

@@ -1,8 +1,0 @@
-use Rattle.s3_store.proofs.HistoryLemmas.{Legal-push, after-push}
-use Rattle.s3_store.proofs.history.one_more_entry.Goals as goal
-
-pub returns-clause-legal : goal.returns-clause-legal
-returns-clause-legal c = Legal-push
-
-pub returns-clause-leaves : goal.returns-clause-leaves
-returns-clause-leaves c = after-push
