@@ -4,7 +4,7 @@ use Rattle.clap.specs.Words.{Row, Text, subcommand_rows_of, subcommand_name_of}
 use Rattle.clap.specs.declared.parser.matches.ArgMatches.{ArgMatches}
 use Rattle.s3_command_line.specs.declared.task.Task.{Task}
 use Rattle.s3_command_line.specs.declared.task.Task.TheVariants.{Replay, Sign}
-use Rattle.s3_command_line.specs.Words.{HasOptions, HasSignOptions}
+use Rattle.s3_command_line.specs.Words.{HasReplayOptions, HasSignOptions}
 
 -- the matches have this subcommand, and this holds of those that it has
 pub record Have (m : ArgMatches) (name : Text) (Holds : List Row → Type 0) : Type 0 where
@@ -15,7 +15,7 @@ pub record Have (m : ArgMatches) (name : Text) (Holds : List Row → Type 0) : T
 
 -- the matches ask for the task
 abbrev pub AskFor : ArgMatches → Task → Type 0
-AskFor m (Replay options) = Have m (codes "replay") (λ rows. HasOptions rows options)
+AskFor m (Replay options) = Have m (codes "replay") (λ rows. HasReplayOptions rows options)
 AskFor m (Sign options) = Have m (codes "sign") (λ rows. HasSignOptions rows options)
 
 -- the matches have neither subcommand

@@ -1,9 +1,10 @@
 -- The command line of the program, as `clap` reads it: its `fault_of` says what is wrong with some
 -- words, and its `subcommand_of` what they give.
-use Rattle.std.specs.Prelude.{◌≡◌, ◌⊎◌, true, List, [], ◌∷◌, map, codes, Some, option_map, unwrap_or}
+use Rattle.std.specs.Prelude.{◌≡◌, ◌⊎◌, Bool, true, false, List, [], ◌∷◌, map, codes, Option, Some, None, option_map, unwrap_or, bytes_eq}
 use Rattle.clap.specs.Words.{App, Row, Rule, Text, new_app, new_rule, with_rule, with_subcommand, subcommand_of, first_of, all_of, fault_of}
-use Rattle.clap.specs.declared.builder.action.ArgAction.TheVariants.{Append}
+use Rattle.clap.specs.declared.builder.action.ArgAction.TheVariants.{Append, SetTrue}
 use Rattle.s3_options.specs.declared.options.Options.{Options}
+use Rattle.s3_options.specs.declared.options.ReplayOptions.{ReplayOptions}
 use Rattle.s3_options.specs.declared.options.SignOptions.{SignOptions}
 use Rattle.s3_command_line.specs.declared.task.Task.{Task}
 use Rattle.s3_command_line.specs.declared.task.Task.TheVariants.{Replay, Sign}
@@ -19,6 +20,10 @@ required_rule name = record (option_rule name) { required = true }
 -- an option that has a value also where it is not there
 abbrev pub default_rule : Text → Text → Rule
 default_rule name value = record (option_rule name) { defaults = value ∷ [] }
+
+-- an option `--name` without a value
+abbrev pub flag_rule : Text → Rule
+flag_rule name = record (new_rule name) { long = Some name; action = Some SetTrue }
 
 -- words without a name, as many as there are
 abbrev pub words_rule : Text → Rule
@@ -46,7 +51,10 @@ with_settings a =
 
 -- `s3d replay`
 abbrev pub replay_app : App
-replay_app = with_rule (with_settings (new_app (codes "replay"))) (option_rule (codes "moment"))
+replay_app =
+    with_rule (with_rule (with_settings (new_app (codes "replay")))
+    (option_rule (codes "moment")))
+    (flag_rule (codes "events"))
 
 -- `s3d sign`
 abbrev pub sign_app : App
@@ -95,11 +103,22 @@ pub record HasOptions (rows : List Row) (o : Options) : Type 0 where
   pub min_part : o.min_part.now ≡ unwrap_or (first_of (codes "min-part") rows) default_min_part
   pub body_limit : o.body_limit.now ≡ unwrap_or (first_of (codes "body-limit") rows) default_body_limit
   pub bucket : option_map (λ text. text.now) o.bucket ≡ first_of (codes "bucket") rows
+
+-- the value that a flag has is that of one that is there
+abbrev pub is_set : Option Text → Bool
+is_set None = false
+is_set (Some text) = bytes_eq text (codes "true")
+
+-- the options of a replay are those of some matches
+pub record HasReplayOptions (rows : List Row) (o : ReplayOptions) : Type 0 where
+  pub common : HasOptions rows o.common
   pub moment : option_map (λ text. text.now) o.moment ≡ first_of (codes "moment") rows
+  pub events : o.events ≡ is_set (first_of (codes "events") rows)
 
 -- the options of a signing are those of some matches
 pub record HasSignOptions (rows : List Row) (o : SignOptions) : Type 0 where
   pub common : HasOptions rows o.common
+  pub moment : option_map (λ text. text.now) o.moment ≡ first_of (codes "moment") rows
   pub id : option_map (λ text. text.now) o.id ≡ first_of (codes "id") rows
   pub method : option_map (λ text. text.now) o.method ≡ first_of (codes "method") rows
   pub target : option_map (λ text. text.now) o.target ≡ first_of (codes "target") rows
@@ -117,5 +136,5 @@ pub record Give (words : List Text) (name : Text) (Holds : List Row → Type 0) 
 
 -- the task is the one that the words ask for
 abbrev pub IsReadFrom : List Text → Task → Type 0
-IsReadFrom words (Replay options) = Give words (codes "replay") (λ rows. HasOptions rows options)
+IsReadFrom words (Replay options) = Give words (codes "replay") (λ rows. HasReplayOptions rows options)
 IsReadFrom words (Sign options) = Give words (codes "sign") (λ rows. HasSignOptions rows options)

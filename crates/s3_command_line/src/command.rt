@@ -22,7 +22,7 @@ pub(crate) const BODY_LIMIT: &str = "67108864";
 #[derive(Clone, Copy)]
 struct Argument<'a> {
     name: &'a str,
-    /// What help calls its value.
+    /// What help calls its value, where it has one.
     value: &'a str,
     help: &'a str,
     kind: Kind<'a>,
@@ -37,6 +37,8 @@ enum Kind<'a> {
     Required,
     /// As `--name VALUE`, or not at all, and then it has this value.
     Defaulted(&'a str),
+    /// As `--name` alone, or not at all.
+    Flag,
     /// As words without a name, as many as there are.
     Words,
 }
@@ -75,13 +77,21 @@ static SETTINGS: [Argument; 5] = [
     },
 ];
 
-// The further option of `s3d replay`.
-static REPLAYING: [Argument; 1] = [Argument {
-    name: "moment",
-    value: "T",
-    help: "The moment of every message, in seconds since 1970",
-    kind: Kind::Optional,
-}];
+// The further options of `s3d replay`.
+static REPLAYING: [Argument; 2] = [
+    Argument {
+        name: "moment",
+        value: "T",
+        help: "The moment of every message, in seconds since 1970",
+        kind: Kind::Optional,
+    },
+    Argument {
+        name: "events",
+        value: "",
+        help: "Reads event lines of several connections, each with moments of its own",
+        kind: Kind::Flag,
+    },
+];
 
 // The further arguments of `s3d sign`.
 static SIGNING: [Argument; 8] = [
@@ -139,7 +149,7 @@ static SIGNING: [Argument; 8] = [
 pub(crate) fn command<'a>(alloc: Global) -> Result<Command<'a>, AllocError>
     ensures app { IfOk result (λ command. app_of command ≡ s3d_app) }
 {
-    let about = "Reads one connection from standard input and writes what it is answered";
+    let about = "Reads connections from standard input and writes what they are answered";
     let replay = subcommand(alloc, "replay", about, &REPLAYING)?;
     let command = bare_command(alloc).subcommand(replay)?;
     with_signing(alloc, command)
@@ -202,14 +212,16 @@ impl<'a> Argument<'a> {
         ensures local { result.global ≡ false }
         ensures told { IsTold self.now result }
     {
-        let arg = Arg::new(alloc, self.name)
-            .value_name(self.value)
-            .help(self.help);
+        let arg = Arg::new(alloc, self.name).help(self.help);
         match self.kind {
-            Kind::Optional => arg.long(self.name),
-            Kind::Required => arg.long(self.name).required(true),
-            Kind::Defaulted(value) => arg.long(self.name).default_value(value),
-            Kind::Words => arg.action(ArgAction::Append),
+            Kind::Optional => arg.value_name(self.value).long(self.name),
+            Kind::Required => arg.value_name(self.value).long(self.name).required(true),
+            Kind::Defaulted(value) => arg
+                .value_name(self.value)
+                .long(self.name)
+                .default_value(value),
+            Kind::Flag => arg.long(self.name).action(ArgAction::SetTrue),
+            Kind::Words => arg.value_name(self.value).action(ArgAction::Append),
         }
     }
 }

@@ -1,20 +1,20 @@
 //! What the words of a command line ask for, by the matches of `clap`.
 
-ghost use Rattle.std.specs.Prelude.{◌≡◌, IfOk, MatchOption, [], map, unwrap_or};
+ghost use Rattle.std.specs.Prelude.{◌≡◌, IfOk, MatchOption, [], map, option_map, unwrap_or};
 ghost use Rattle.clap.specs.Words.{all_of, found_of, rows_of};
-ghost use Rattle.s3_command_line.specs.Words.{HasOptions, HasSignOptions};
+ghost use Rattle.s3_command_line.specs.Words.{HasOptions, HasReplayOptions, HasSignOptions, is_set};
 ghost use Rattle.s3_command_line.specs.Task.{AskFor, AskForNothing};
 
 use crate::command::{BODY_LIMIT, MIN_PART, REGION};
 use clap::ArgMatches;
-use s3_options::{Options, SignOptions};
+use s3_options::{Options, ReplayOptions, SignOptions};
 use std::alloc::{AllocError, Global};
 
 /// What the words of a command line ask for.
 #[derive(Drop)]
 pub enum Task<'a> {
-    /// To answer one connection.
-    Replay(Options<'a>),
+    /// To answer one connection, or several.
+    Replay(ReplayOptions<'a>),
     /// To write one signed request.
     Sign(SignOptions<'a>),
 }
@@ -28,7 +28,7 @@ impl<'a> Task<'a> {
         ensures { IfOk result (λ task. MatchOption task (AskForNothing matches.now) (AskFor matches.now)) }
     {
         if let Some(options) = matches.subcommand_matches("replay") {
-            return Ok(Some(Task::Replay(common_options(options))));
+            return Ok(Some(Task::Replay(replay_options(options))));
         }
         match matches.subcommand_matches("sign") {
             Some(options) => {
@@ -51,7 +51,28 @@ fn common_options<'a>(matches: &ArgMatches<'a>) -> Options<'a>
         min_part: matches.get_str("min-part").unwrap_or(MIN_PART),
         body_limit: matches.get_str("body-limit").unwrap_or(BODY_LIMIT),
         bucket: matches.get_str("bucket"),
+    }
+}
+
+// The options of a replay.
+#[tactic(auto, using(crate::proofs::WordsLemmas::rows))]
+fn replay_options<'a>(matches: &ArgMatches<'a>) -> ReplayOptions<'a>
+    ensures { HasReplayOptions (rows_of (found_of matches.now)) result }
+{
+    ReplayOptions {
+        common: common_options(matches),
         moment: matches.get_str("moment"),
+        events: is_set(matches.get_str("events")),
+    }
+}
+
+// Whether the value of a flag says that it is there.
+fn is_set(value: Option<&str>) -> bool
+    ensures { result ≡ is_set (option_map (λ text. text.now) value.entry) }
+{
+    match value {
+        Some(text) => text == "true",
+        None => false,
     }
 }
 
@@ -63,6 +84,7 @@ fn sign_options<'a>(alloc: Global, matches: &ArgMatches<'a>) -> Result<SignOptio
     let headers = all_values(alloc, matches, "header")?;
     Ok(SignOptions {
         common: common_options(matches),
+        moment: matches.get_str("moment"),
         id: matches.get_str("id"),
         method: matches.get_str("method"),
         target: matches.get_str("target"),

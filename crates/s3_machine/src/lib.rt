@@ -7,6 +7,7 @@ mod command;
 mod history;
 mod laws;
 mod outcome;
+mod turn;
 
 pub use bucket_list::BucketList;
 pub use command::{BucketCommand, Command, KeyCommand};
@@ -15,3 +16,4 @@ pub use history::{
 };
 pub use laws::nothing_changes;
 pub use outcome::{Answer, Found, Outcome};
+pub use turn::Turn;

@@ -1,6 +1,7 @@
 //! The options of the subcommands.
 
-/// The options that settings are made of. `Setup::read` of `s3_settings` says which texts are of their form.
+/// The options that each subcommand has, of which settings are made. `Setup::read` of `s3_settings` says which texts
+/// are of their form.
 #[derive(Clone, Copy)]
 pub struct Options<'a> {
     /// The path of the keys file.
@@ -13,8 +14,17 @@ pub struct Options<'a> {
     pub body_limit: &'a str,
     /// The name of the bucket that is there from the start.
     pub bucket: Option<&'a str>,
+}
+
+/// The options of `s3d replay`.
+#[derive(Clone, Copy)]
+pub struct ReplayOptions<'a> {
+    /// Those that each subcommand has.
+    pub common: Options<'a>,
     /// The moment of every message, in seconds since 1970.
     pub moment: Option<&'a str>,
+    /// Whether the input is event lines.
+    pub events: bool,
 }
 
 /// The options of `s3d sign`.
@@ -22,6 +32,8 @@ pub struct Options<'a> {
 pub struct SignOptions<'a> {
     /// Those that each subcommand has.
     pub common: Options<'a>,
+    /// When it is signed, in seconds since 1970.
+    pub moment: Option<&'a str>,
     /// The id of the access key that signs.
     pub id: Option<&'a str>,
     /// The method of the request.

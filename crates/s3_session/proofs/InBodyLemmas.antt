@@ -1,5 +1,5 @@
 -- Which connections read a body.
-use Rattle.std.proofs.Common.{◌≡◌, ℕ, ◌+◌, true, false, List, ◌++◌, map, take, drop, length, refl, sym, ap, subst, ◌∙◌, arith, length-append, Option}
+use Rattle.std.proofs.Common.{◌≡◌, ℕ, ◌+◌, true, false, List, ◌++◌, map, take, drop, length, refl, sym, ap, subst, ◌∙◌, arith, append-nil, length-append, [], Option}
 use Rattle.std.proofs.lemmas.List.{drop_at, length-map, take_at}
 use Rattle.s3_config.specs.Settings.{Settings}
 use Rattle.s3_http_heads.specs.Head.{Says}
@@ -13,7 +13,7 @@ use Rattle.s3_session.specs.declared.incoming.Incoming.{Incoming}
 use Rattle.s3_session.specs.declared.session.Stage.{Stage}
 use Rattle.s3_session.specs.declared.session.Stage.TheVariants as stages
 use Rattle.s3_session.specs.declared.session.Closing.TheVariants as closings
-use Rattle.s3_session.specs.declared.turn.Turn.{Turn}
+use Rattle.s3_machine.specs.declared.turn.Turn.{Turn}
 use Rattle.s3_session.specs.Incoming.{IsInBody}
 use Rattle.s3_session.specs.Session.{Connection, Stands, is_in_body, moment_at, standing_at, standing_of, unsent_of}
 use Rattle.s3_session.proofs.StandsLemmas.{body_in, receiving_at, stands_behind}
@@ -83,5 +83,6 @@ module _ (settings : Settings) (session : Connection) (past : Past) (sent : List
   -- and where memory did not run out, no other
   pub only_in_body : SessionsWrite → OneWriting → is_dead (standing_of session) ≡ false → ReadsBody settings past → is_in_body session.stage ≡ true
   only_in_body write one lives r =
-      let same = one settings (standing_of session) Reading past past (sent ++ unsent_of session) r.out lives refl refl refl refl refl (write session settings past sent h) r.writes in
-      reads_only session.stage refl same.2 r
+      let same = one settings (standing_of session) Reading past past past.moments (sent ++ unsent_of session) r.out lives refl refl refl
+      ([], append-nil past.moments) ([], append-nil past.moments) refl (write session settings past sent h) r.writes in
+      reads_only session.stage refl same.3 r

@@ -1,5 +1,6 @@
 -- What went into a connection fixes what it writes.
-use Rattle.std.proofs.Common.{◌≡◌, ℕ, suc, Bool, true, false, List, [], ◌∷◌, ◌++◌, map, MatchBool, Option, Some, None, refl, sym, ap, subst, ◌∙◌, append-nil, inl, inr}
+use Rattle.std.proofs.Common.{◌≡◌, ℕ, suc, Bool, true, false, List, [], ◌∷◌, ◌++◌, map, MatchBool, Option, Some, None, refl, sym, ap, subst, ◌∙◌, append-nil, append_assoc, inl, inr}
+use mathlib.Core.List.{IsPrefix}
 use Rattle.std.specs.List.{AllByRecursion, flat_map}
 use Rattle.std.proofs.lemmas.Bool.{cases_Bool, MatchBool-at_true, MatchBool-at_false}
 use Rattle.s3_config.specs.Settings.{Settings}
@@ -14,7 +15,7 @@ use Rattle.s3_replies.specs.declared.context.Context.{Context}
 use Rattle.s3_replies.specs.Replies.{Prints, PrintsRefusal}
 use Rattle.s3_replies.specs.Laws.{RepliesAreUnique, RefusalsAreUnique}
 use Rattle.s3_machine.specs.declared.command.Command.{Command}
-use Rattle.s3_session.specs.declared.turn.Turn.{Turn}
+use Rattle.s3_machine.specs.declared.turn.Turn.{Turn}
 use Rattle.s3_session.specs.Verdict.{Verdict}
 use Rattle.s3_session.specs.Verdict as verdicts
 use Rattle.s3_session.specs.Decision.{Decision, Judges, FoundJudged, open_yet}
@@ -59,6 +60,20 @@ record Told (standing : Standing) (settings : Settings) (ended : Bool) (rest : L
 abbrev Agrees : ℕ → List ℕ → Type 0
 Agrees moment [] = Unit {0}
 Agrees moment (m ∷ later) = m ≡ moment
+
+-- two clocks that agree on a moment gave the same, where both gave one
+given_once : (moment m n : ℕ) (late later : List ℕ) → late ≡ m ∷ [] → later ≡ n ∷ [] → Agrees moment late → Agrees moment later → late ≡ later
+given_once moment m n late later gave also agrees here =
+    let mine : m ≡ moment = subst (Agrees moment) gave agrees in
+    let its : n ≡ moment = subst (Agrees moment) also here in
+    gave ∙ ap (λ (t : ℕ). t ∷ []) (mine ∙ sym its) ∙ sym also
+
+-- and where both were asked for what was found
+asked_once : (f : Found) (moment m n : ℕ) (late later : List ℕ) → late ≡ asked_of_clock f m → later ≡ asked_of_clock f n
+    → Agrees moment late → Agrees moment later → late ≡ later
+asked_once found.NeedMore moment m n late later asked also agrees here = asked ∙ sym also
+asked_once found.TooLarge moment m n late later asked also agrees here = given_once moment m n late later asked also agrees here
+asked_once (found.Head size) moment m n late later asked also agrees here = given_once moment m n late later asked also agrees here
 
 -- what doesn't depend on the moment before a head has come holds at this moment
 by_clock : (P : ℕ → Type 0) (f : Found) (moment m : ℕ) (late : List ℕ) → late ≡ asked_of_clock f m → Agrees moment late
@@ -195,6 +210,19 @@ module _ (one : OneVerdict) (invited : OneInvitation) (replies : RepliesAreUniqu
       let its = closed settings ended [] later moment other end q also y in
       (mine.2 ∙ sym its.2, mine.1 ∙ sym its.1, mine.0 ∙ sym its.0)
 
+  -- the clock was asked for the same behind them
+  late_once : (left : Option (List ℕ)) (p : Standing) (moment : ℕ) (late later : List ℕ) (waiting other : List Turn) (last end : List ℕ)
+      → is_dead p ≡ false → Behind p settings ended left late waiting last → Behind p settings ended left later other end
+      → Agrees moment late → Agrees moment later → late ≡ later
+  late_once (Some rest) Reading moment late later waiting other last end live x y agrees here = asked_once (found_in rest) moment x.moment y.moment late later x.asked y.asked agrees here
+  late_once (Some rest) Waiting moment late later waiting other last end live x y agrees here = given_once moment x.context.moment y.context.moment late later x.asked y.asked agrees here
+  late_once (Some rest) Over moment late later waiting other last end live x y agrees here = given_once moment x.moment y.moment late later x.asked y.asked agrees here
+  late_once (Some rest) Dead moment late later waiting other last end live x y agrees here = let never = live in absurd (cc)
+  late_once None Reading moment late later waiting other last end live x y agrees here = absurd x
+  late_once None Waiting moment late later waiting other last end live x y agrees here = absurd x
+  late_once None Over moment late later waiting other last end live x y agrees here = x.0 ∙ sym y.0
+  late_once None Dead moment late later waiting other last end live x y agrees here = absurd x
+
   -- the exchanges of the same bytes with the same moments and answers are the same, and leave the same
   exchanges_once : (xs ys : List Exchange) (bytes : List ℕ) (left other : Option (List ℕ))
       → Walks settings ended bytes (map message_of xs) left → Walks settings ended bytes (map message_of ys) other
@@ -235,7 +263,7 @@ module _ (one : OneVerdict) (invited : OneInvitation) (replies : RepliesAreUniqu
   written_once : (p q : Standing) (a b : Past) (x y : List ℕ) (moment : ℕ) → is_dead p ≡ false → is_dead q ≡ false → (v : Writes p settings a x) → (w : Writes q settings b y)
       → a.ended ≡ ended → b.ended ≡ ended → a.bytes ≡ b.bytes
       → moments_of v.serves.exchanges ≡ moments_of w.serves.exchanges → answers_of v.serves.exchanges ≡ answers_of w.serves.exchanges
-      → Agrees moment v.late → Agrees moment w.late → (x ≡ y) × (a.turns ≡ b.turns) × (p ≡ q)
+      → Agrees moment v.late → Agrees moment w.late → (x ≡ y) × (a.turns ≡ b.turns) × (a.moments ≡ b.moments) × (p ≡ q)
   written_once p q a b x y moment live also v w ends ends_too bytes moments answers agrees here =
       let xs = v.serves.exchanges in
       let ys = w.serves.exchanges in
@@ -245,12 +273,15 @@ module _ (one : OneVerdict) (invited : OneInvitation) (replies : RepliesAreUniqu
       let same = exchanges_once xs ys b.bytes v.left w.left mine its moments answers v.serves.replied w.serves.replied in
       let behind = subst (λ (left : Option (List ℕ)). Behind p settings ended left v.late v.waiting v.last) same.1
       (subst (λ e. Behind p settings e v.left v.late v.waiting v.last) ends v.behind) in
-      let rest = behind_once w.left p q moment v.late w.late v.waiting w.waiting v.last w.last live also behind
-      (subst (λ e. Behind q settings e w.left w.late w.waiting w.last) ends_too w.behind) agrees here in (
+      let its_behind = subst (λ e. Behind q settings e w.left w.late w.waiting w.last) ends_too w.behind in
+      let rest = behind_once w.left p q moment v.late w.late v.waiting w.waiting v.last w.last live also behind its_behind agrees here in
+      let lates = late_once w.left q moment v.late w.late v.waiting w.waiting v.last w.last also
+      (subst (λ (r : Standing). Behind r settings ended w.left v.late v.waiting v.last) rest.2 behind) its_behind agrees here in (
         v.serves.joined ∙ ap (λ (es : List Exchange). flat_map written_for es ++ v.last) same.0
             ∙ ap (λ (t : List ℕ). flat_map written_for ys ++ t) rest.0 ∙ sym w.serves.joined,
         v.serves.turns ∙ ap (λ (es : List Exchange). map turn_of es ++ v.waiting) same.0
             ∙ ap (λ (t : List Turn). map turn_of ys ++ t) rest.1 ∙ sym w.serves.turns,
+        v.serves.moments ∙ ap (λ (ms : List ℕ). ms ++ v.late) moments ∙ ap (λ (ms : List ℕ). moments_of ys ++ ms) lates ∙ sym w.serves.moments,
         rest.2,
       )
 
@@ -312,10 +343,6 @@ abbrev first_moment : List ℕ → ℕ
 first_moment [] = 0
 first_moment (m ∷ later) = m
 
-agrees_first : (late : List ℕ) → Agrees (first_moment late) late
-agrees_first [] = tt
-agrees_first (m ∷ later) = refl
-
 agrees_all : (moment : ℕ) (late : List ℕ) → AllByRecursion (λ (m : ℕ). m ≡ moment) late → Agrees moment late
 agrees_all moment [] all = tt
 agrees_all moment (m ∷ later) all = all.0
@@ -331,12 +358,26 @@ moments_apart (x ∷ xs) (y ∷ ys) late later answers moments =
     let more = moments_apart xs ys late later (cc) (cc) in
     (ap (λ (t : ℕ). t ∷ moments_of xs) first ∙ ap (λ (ts : List ℕ). y.context.moment ∷ ts) more.0, more.1)
 
+-- the first of some moments is that of each of their beginnings
+agrees_front : (late more : List ℕ) → Agrees (first_moment (late ++ more)) late
+agrees_front [] more = tt
+agrees_front (m ∷ late) more = refl
+
+-- the moments of some exchanges and those behind them, in a list that they begin
+moments_in : (xs : List Exchange) (late given moments : List ℕ) → given ≡ moments_of xs ++ late → (front : IsPrefix given moments)
+    → moments_of xs ++ (late ++ front.0) ≡ moments
+moments_in xs late given moments is front =
+    sym (append_assoc (moments_of xs) late front.0) ∙ ap (λ (ms : List ℕ). ms ++ front.0) (sym is) ∙ front.1
+
 pub one_writing : OneVerdict → OneInvitation → RepliesAreUnique → RefusalsAreUnique → OneWriting
-one_writing one invited replies refusals settings p q a b x y live also bytes ends moments answers v w =
+one_writing one invited replies refusals settings p q a b moments x y live also bytes ends mine its answers v w =
     let answered = sym v.serves.answers ∙ answers ∙ w.serves.answers in
-    let parts = moments_apart v.serves.exchanges w.serves.exchanges v.late w.late answered (sym v.serves.moments ∙ moments ∙ w.serves.moments) in
-    written_once one invited replies refusals settings a.ended p q a b x y (first_moment v.late) live also v w refl (sym ends) bytes parts.0 answered
-    (agrees_first v.late) (subst (Agrees (first_moment v.late)) parts.1 (agrees_first v.late))
+    let parts = moments_apart v.serves.exchanges w.serves.exchanges (v.late ++ mine.0) (w.late ++ its.0) answered
+    (moments_in v.serves.exchanges v.late a.moments moments v.serves.moments mine ∙ sym (moments_in w.serves.exchanges w.late b.moments moments w.serves.moments its)) in
+    let agrees = agrees_front v.late mine.0 in
+    let here = subst (λ (ms : List ℕ). Agrees (first_moment ms) w.late) (sym parts.1) (agrees_front w.late its.0) in
+    written_once one invited replies refusals settings a.ended p q a b x y (first_moment (v.late ++ mine.0)) live also v w refl (sym ends) bytes parts.0 answered
+    agrees here
 
 pub one_output : OneVerdict → OneInvitation → RepliesAreUnique → RefusalsAreUnique → OneOutput
 one_output one invited replies refusals settings moment bytes a b ((p, idle, r), live) ((q, waits, s), also) =

@@ -23,7 +23,7 @@ use Rattle.s3_session.specs.Decision.{Judges, FoundJudged, AskedJudged, context_
 use Rattle.s3_session.specs.Invitation.{Invites, FoundInvites, invitation, may_be_invited}
 use Rattle.s3_session.specs.Output.{HasText, IsDead}
 use Rattle.s3_session.specs.Laws.{InvitationsStay}
-use Rattle.s3_session.specs.declared.turn.Turn.{Turn}
+use Rattle.s3_machine.specs.declared.turn.Turn.{Turn}
 use Rattle.s3_session.specs.declared.incoming.Incoming.{Incoming}
 use Rattle.s3_session.specs.declared.incoming.Progress.{Progress}
 use Rattle.s3_session.specs.declared.incoming.Progress.TheVariants as progress

@@ -18,9 +18,9 @@ use Rattle.s3_session.specs.Verdict as verdicts
 use Rattle.s3_session.specs.Decision.{Decision, Judges, FoundJudged}
 use Rattle.s3_session.specs.Invitation.{Invites, FoundInvites}
 use Rattle.s3_session.specs.Walk.{Message, Walks}
-use Rattle.s3_session.specs.Output.{Behind, Exchange, IsDead, IsRefused, IsReplied, IsWaiting, Past, Serves, message_of, nothing_yet, turn_of, written_for}
-use Rattle.s3_session.specs.Laws.{InvitationsStay, SessionsWrite, VerdictsStay}
-use Rattle.s3_session.specs.declared.turn.Turn.{Turn}
+use Rattle.s3_session.specs.Output.{Behind, Exchange, IsDead, IsRefused, IsReplied, IsWaiting, Past, Serves, Standing, Reading, Waiting, Over, Dead, message_of, nothing_yet, turn_of, written_for}
+use Rattle.s3_session.specs.Laws.{InvitationsStay, OutputsStay, SessionsWrite, VerdictsStay}
+use Rattle.s3_machine.specs.declared.turn.Turn.{Turn}
 use Rattle.s3_session.specs.declared.incoming.Incoming.{Incoming}
 use Rattle.s3_session.specs.declared.session.Need.{Need}
 use Rattle.s3_session.specs.declared.session.Stage.{Stage}
@@ -149,6 +149,29 @@ module _ (stay : VerdictsStay) (invited : InvitationsStay) (settings : Settings)
     invites = elim d.invites [ inl none ↦ inl none | inr told ↦ inr (invited settings d.moment rest more d.before (text_found rest d.whole) told) ];
     joined = d.joined;
   }
+
+-- where a command waits or no more is read, more bytes and their end change nothing
+behind_stays : VerdictsStay → InvitationsStay → HeadsStay → (settings : Settings) (more : List ℕ) (ended : Bool) (standing : Standing) (left : Option (List ℕ)) (late : List ℕ) (waiting : List Turn) (last : List ℕ)
+    → standing ≢ Reading → Behind standing settings false left late waiting last
+    → Behind standing settings ended (option_map (λ (rest : List ℕ). rest ++ more) left) late waiting last
+behind_stays stay invited heads settings more ended Reading left late waiting last over b = absurd (over refl)
+behind_stays stay invited heads settings more ended Waiting None late waiting last over b = absurd b
+behind_stays stay invited heads settings more ended Waiting (Some rest) late waiting last over b = waiting_more stay invited settings ended more rest late waiting last b
+behind_stays stay invited heads settings more ended Over None late waiting last over b = b
+behind_stays stay invited heads settings more ended Over (Some rest) late waiting last over b = refused_more stay invited settings ended more rest late waiting last b
+behind_stays stay invited heads settings more ended Dead None late waiting last over b = absurd b
+behind_stays stay invited heads settings more ended Dead (Some rest) late waiting last over b = dead_more stay invited settings ended more heads rest late waiting last b
+
+pub writes_stay : VerdictsStay → InvitationsStay → HeadsStay → OutputsStay
+writes_stay stay invited heads settings standing past out more ended over unended w = record {
+  left = option_map (λ (rest : List ℕ). rest ++ more) w.left;
+  late = w.late;
+  waiting = w.waiting;
+  last = w.last;
+  serves = serves_more stay invited settings ended more past out w.left w.late w.waiting w.last unended w.serves;
+  behind = behind_stays stay invited heads settings more ended standing w.left w.late w.waiting w.last over
+      (subst (λ e. Behind standing settings e w.left w.late w.waiting w.last) unended w.behind);
+}
 
 -- ---- a piece
 

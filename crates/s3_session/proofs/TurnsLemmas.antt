@@ -1,5 +1,5 @@
 -- A replay after some turns, and how it ends.
-use Rattle.std.proofs.Common.{◌≡◌, ◌≢◌, ℕ, ◌+◌, ◌≤◌, true, false, List, [], ◌∷◌, ◌++◌, take, drop, length, refl, sym, ap, subst, ◌∙◌, arith, append-nil, append_assoc, zero-add, Option, Some, None, is_some, option_map, Ok, Err}
+use Rattle.std.proofs.Common.{◌≡◌, ◌≢◌, ℕ, ◌+◌, ◌≤◌, true, false, List, [], ◌∷◌, ◌++◌, take, drop, length, refl, sym, ap, subst, ◌∙◌, arith, append-nil, append_assoc, zero-add, Option, Some, None, is_some, Ok, Err}
 use Rattle.std.specs.List.{AllByRecursion}
 use Rattle.std.proofs.lemmas.List.{take-append-drop, take-append-le, length-append, length-drop, length_push, nil_from_length}
 use Rattle.s3_config.specs.Settings.{Settings}
@@ -10,19 +10,19 @@ use Rattle.s3_machine.specs.Step.{State, step}
 use Rattle.s3_store.specs.Steps.{Standing as Stored}
 use Rattle.s3_machine.specs.History.{Entry, Legal, IsAnswer, after, after_entry}
 use Rattle.s3_machine.specs.declared.outcome.Answer.{Answer}
-use Rattle.s3_session.specs.Output.{Behind, Past, Standing, Reading, Waiting, Over, Dead, nothing_yet, is_waiting}
+use Rattle.s3_session.specs.Output.{Past, Standing, Reading, Waiting, Over, Dead, nothing_yet, is_waiting}
 use Rattle.s3_session.specs.Laws.{InvitationsStay, VerdictsStay}
 use Rattle.s3_session.specs.Replay.{Replays, entries_of}
 use Rattle.s3_session.specs.Replaying.{TakesTurns, TookTurns}
 use Rattle.std.proofs.Math.Seq.{drop-append-add, take-length}
 use Rattle.s3_session.specs.declared.clock.Still.{Still}
-use Rattle.s3_session.specs.declared.turn.Turn.{Turn}
+use Rattle.s3_machine.specs.declared.turn.Turn.{Turn}
 use Rattle.s3_session.specs.declared.session.Need.{Need}
 use Rattle.s3_session.specs.declared.session.Need.TheVariants as needs
 use Rattle.s3_session.specs.Session.{Connection, IsAnsweredTo, IsClockAsked, Needs, Stands, answered, fed, gave_between, standing_of, turns_of, unsent_of}
 use Rattle.s3_session.proofs.StayLemmas.{HeadsStay}
 use Rattle.s3_session.proofs.UndecidedLemmas.{take_on}
-use Rattle.s3_session.proofs.StandsLemmas.{dead_more, nothing_found, empty_found, refused_more, serves_more, sessions_write}
+use Rattle.s3_session.proofs.StandsLemmas.{nothing_found, empty_found, sessions_write, writes_stay}
 
 -- the laws of the history, as the machine states them
 abbrev pub StaysLegal : Type 0
@@ -150,41 +150,21 @@ replays_ended judge settings moment bytes session past stands came moments legal
   },
 )
 
--- no more is read
-closed_behind : VerdictsStay → InvitationsStay → HeadsStay → (settings : Settings) (more : List ℕ) (standing : Standing) (left : Option (List ℕ)) (late : List ℕ) (waiting : List Turn) (last : List ℕ)
-    → is_waiting standing ≡ false → standing ≢ Reading → Behind standing settings false left late waiting last
-    → Behind standing settings true (option_map (λ (rest : List ℕ). rest ++ more) left) late waiting last
-closed_behind stay invited heads settings more Reading left late waiting last idle over b = absurd (over refl)
-closed_behind stay invited heads settings more Waiting left late waiting last idle over b = let never = idle in absurd (cc)
-closed_behind stay invited heads settings more Over None late waiting last idle over b = b
-closed_behind stay invited heads settings more Over (Some rest) late waiting last idle over b = refused_more stay invited settings true more rest late waiting last b
-closed_behind stay invited heads settings more Dead None late waiting last idle over b = b
-closed_behind stay invited heads settings more Dead (Some rest) late waiting last idle over b = dead_more stay invited settings true more heads rest late waiting last b
-
 pub replays_closed : VerdictsStay → InvitationsStay → HeadsStay → PayloadsJudge → (settings : Settings) (moment : ℕ) (bytes : List ℕ) (taken : ℕ) (session : Connection) (past : Past)
     → Stands session settings past [] → past.bytes ≡ take taken bytes → past.ended ≡ false → AllByRecursion (λ (m : ℕ). m ≡ moment) past.moments
     → Legal settings.min_part (opening settings.buckets) 0 (entries_of past.turns past.answers)
     → is_waiting (standing_of session) ≡ false → standing_of session ≢ Reading → Replays settings moment bytes (unsent_of session)
 replays_closed stay invited heads judge settings moment bytes taken session past stands came unended moments legal idle over =
     let more = drop taken bytes in
-    let w = sessions_write judge session settings past [] stands in
-    let all : Past = record past { bytes = past.bytes ++ more; ended = true } in
-    let behind = subst (λ e. Behind (standing_of session) settings e w.left w.late w.waiting w.last) unended w.behind in (
+    let writes = sessions_write judge session settings past [] stands in (
       standing_of session,
       idle,
       record {
-        past = all;
+        past = record past { bytes = past.bytes ++ more; ended = true };
         came = ap (λ (b : List ℕ). b ++ more) came ∙ take-append-drop taken bytes;
         ended = refl;
         moments = moments;
-        writes = record {
-          left = option_map (λ (rest : List ℕ). rest ++ more) w.left;
-          late = w.late;
-          waiting = w.waiting;
-          last = w.last;
-          serves = serves_more stay invited settings true more past (unsent_of session) w.left w.late w.waiting w.last unended w.serves;
-          behind = closed_behind stay invited heads settings more (standing_of session) w.left w.late w.waiting w.last idle over behind;
-        };
+        writes = writes_stay stay invited heads settings (standing_of session) past (unsent_of session) more true over unended writes;
         legal = legal;
       },
     )

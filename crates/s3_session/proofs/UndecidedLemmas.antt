@@ -14,7 +14,7 @@ use Rattle.s3_session.specs.Invitation.{Invites}
 use Rattle.s3_session.specs.Walk.{Walks}
 use Rattle.s3_session.specs.Output.{Exchange, IsOpen, Past, Reading, Writes, asked_of_clock, message_of, turn_of, written_for, is_dead}
 use Rattle.s3_session.specs.Laws.{InvitationsStay, VerdictsStay}
-use Rattle.s3_session.specs.declared.turn.Turn.{Turn}
+use Rattle.s3_machine.specs.declared.turn.Turn.{Turn}
 use Rattle.s3_session.specs.declared.incoming.Incoming.{Incoming}
 use Rattle.s3_session.specs.declared.incoming.Progress.{Progress}
 use Rattle.s3_session.specs.declared.incoming.Progress.TheVariants as progress

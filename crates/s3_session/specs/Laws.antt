@@ -1,6 +1,7 @@
 -- What a verdict on a connection's bytes says of them (RFC 9112, sections 2.1 and 6.2), and that the
 -- bytes fix what is written.
 use Rattle.std.specs.Prelude.{◌≡◌, ◌≢◌, ℕ, Bool, false, List, ◌++◌, Ok}
+use mathlib.Core.List.{IsPrefix}
 use Rattle.s3_config.specs.Settings.{Settings}
 use Rattle.s3_http_heads.specs.Find.{found_in}
 use Rattle.s3_http_heads.specs.declared.find.Found.TheVariants as found
@@ -16,7 +17,7 @@ use Rattle.s3_session.specs.Verdict as verdicts
 use Rattle.s3_session.specs.Admission.{Asked, admission_of}
 use Rattle.s3_session.specs.Decision.{Decision, Judges, context_of}
 use Rattle.s3_session.specs.Invitation.{Invites}
-use Rattle.s3_session.specs.Output.{Past, Standing, Writes, is_dead}
+use Rattle.s3_session.specs.Output.{Past, Standing, Reading, Writes, is_dead}
 use Rattle.s3_session.specs.Replay.{LiveReplays}
 use Rattle.s3_session.specs.Session.{Connection, Stands, standing_of, unsent_of}
 
@@ -88,16 +89,24 @@ SoundIsJudged =
     → IsSound settings moment bytes context command rest
     → Judges settings moment ended bytes (verdicts.Sound context command, rest)
 
--- Two connections under the same settings, whose bytes are the same, of which both or neither have ended, to which
--- the same moments and the same answers were given, and in which memory did not run out, have written the same, wait
--- for the same turns and stand alike: however their bytes were cut into pieces.
+-- Two connections under the same settings, whose bytes are the same, of which both or neither have ended, whose clocks
+-- gave beginnings of one list of moments, to which the same answers were given, and in which memory did not run out, have
+-- written the same, wait for the same turns, were given the same moments and stand alike: however their bytes were cut into
+-- pieces.
 abbrev pub OneWriting : Type 0
 OneWriting =
-    (settings : Settings) (p q : Standing) (a b : Past) (x y : List ℕ)
+    (settings : Settings) (p q : Standing) (a b : Past) (moments x y : List ℕ)
     → is_dead p ≡ false → is_dead q ≡ false
-    → a.bytes ≡ b.bytes → a.ended ≡ b.ended → a.moments ≡ b.moments → a.answers ≡ b.answers
+    → a.bytes ≡ b.bytes → a.ended ≡ b.ended → IsPrefix a.moments moments → IsPrefix b.moments moments → a.answers ≡ b.answers
     → Writes p settings a x → Writes q settings b y
-    → (x ≡ y) × (a.turns ≡ b.turns) × (p ≡ q)
+    → (x ≡ y) × (a.turns ≡ b.turns) × (a.moments ≡ b.moments) × (p ≡ q)
+
+-- where a command waits or nothing more is read, the bytes that follow, and their end, change nothing
+abbrev pub OutputsStay : Type 0
+OutputsStay =
+    (settings : Settings) (standing : Standing) (past : Past) (out more : List ℕ) (ended : Bool)
+    → standing ≢ Reading → past.ended ≡ false → Writes standing settings past out
+    → Writes standing settings (record past { bytes = past.bytes ++ more; ended = ended }) out
 
 -- two replays of the same bytes under the same settings at the same moment, in which memory does not
 -- run out, write the same

@@ -11,7 +11,7 @@ use Rattle.s3_machine.specs.declared.command.Command.{Command}
 use Rattle.s3_replies.specs.declared.context.Context.{Context}
 use Rattle.s3_replies.specs.Replies.{Prints, PrintsRefusal, internal_error}
 use Rattle.s3_session.specs.Verdict as verdicts
-use Rattle.s3_session.specs.declared.turn.Turn.{Turn}
+use Rattle.s3_machine.specs.declared.turn.Turn.{Turn}
 use Rattle.s3_session.specs.Decision.{AwaitsBody, Judges, open_yet, refused_message}
 use Rattle.s3_session.specs.Invitation.{Invites}
 use Rattle.s3_session.specs.Walk.{Message, Walks}

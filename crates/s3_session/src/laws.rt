@@ -1,7 +1,7 @@
 //! What is known of all connections: laws, with nothing to run.
 
 ghost use Rattle.s3_session.specs.ReadBack.{PutsAreReadBack, VersionsAreReadBack, OnlyPutsAreReadBack, PayloadsAreBrought};
-ghost use Rattle.s3_session.specs.Laws.{InvitationsStay, OneInvitation, OneOutput, OneVerdict, OneWriting, VerdictsExist, VerdictsStay, SessionsWrite, SoundMessages, SoundIsJudged};
+ghost use Rattle.s3_session.specs.Laws.{InvitationsStay, OneInvitation, OneOutput, OneVerdict, OneWriting, OutputsStay, VerdictsExist, VerdictsStay, SessionsWrite, SoundMessages, SoundIsJudged};
 
 use s3_http_heads::{texts_say_one_thing, verdict_is_exact};
 use s3_machine::{only_puts_are_given, puts_are_kept};
@@ -61,9 +61,10 @@ pub fn invitations_are_final()
     verdict_is_exact();
 }
 
-/// A law: settings, the bytes of a connection, whether they have ended, the moments that its clock gave and the answers
-/// to its commands fix what it writes, the turns that its commands wait for, and how it stands, as long as memory does not run
-/// out: so how the bytes are cut into pieces decides nothing. There is nothing to run.
+/// A law: settings, the bytes of a connection, whether they have ended, the moments that its clock has to give and the
+/// answers to its commands fix what it writes, the turns that its commands wait for, how many moments it was given, and how
+/// it stands, as long as memory does not run out: so how the bytes are cut into pieces decides nothing. There is nothing to
+/// run.
 pub fn inputs_fix_outputs()
     ensures { OneWriting }
 {
@@ -71,6 +72,16 @@ pub fn inputs_fix_outputs()
     invitations_are_final();
     replies_are_unique();
     refusals_are_unique();
+}
+
+/// A law: where a command of a connection waits or nothing more is read, the bytes that follow, and their end, change
+/// nothing of what it has written, nor of how it stands. There is nothing to run.
+pub fn outputs_stay()
+    ensures { OutputsStay }
+{
+    verdicts_stay();
+    invitations_are_final();
+    s3_http_heads::verdicts_stay();
 }
 
 /// A law: settings, moment and the bytes of a connection fix what a replay writes, as long as memory

@@ -10,14 +10,12 @@ mod opening;
 mod replay;
 mod reply;
 mod session;
-mod turn;
 
 pub use admission::{Admission, admit};
 pub use clock::{Clock, Still};
 pub use laws::{
-    inputs_fix_outputs, invitations_are_final, outputs_are_one, puts_are_read_back, sessions_write,
-    sound_verdicts_are_exact, verdicts_are_one, verdicts_exist, verdicts_stay,
+    inputs_fix_outputs, invitations_are_final, outputs_are_one, outputs_stay, puts_are_read_back,
+    sessions_write, sound_verdicts_are_exact, verdicts_are_one, verdicts_exist, verdicts_stay,
 };
 pub use replay::{Replay, replay_one};
 pub use session::{Need, Session};
-pub use turn::Turn;

@@ -4,8 +4,9 @@ ghost use Rattle.s3_session.specs.Output.{is_waiting};
 ghost use Rattle.s3_session.specs.Session.{standing_of};
 
 use s3_config::Config;
+use s3_machine::Turn;
 use s3_records::MapRecords;
-use s3_session::{Clock, Need, Session, Turn};
+use s3_session::{Clock, Need, Session};
 use s3_store::Store;
 use s3_terms::NoMemory;
 use std::alloc::Global;

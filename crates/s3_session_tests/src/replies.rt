@@ -264,8 +264,19 @@ pub(crate) fn refusals() -> &'static [Part] {
     &REFUSALS
 }
 
-// The same some seconds later.
-static LATER: [Part; 4] = [
+// The same some seconds later, and one of them at moment 0.
+static LATER: [Part; 5] = [
+    (
+        "MalformedHead in 1970",
+        b"HTTP/1.1 400 Bad Request\r\n\
+        Date: Thu, 01 Jan 1970 00:00:00 GMT\r\n\
+        Connection: close\r\n\
+        x-amz-request-id: 0000000000000000\r\n\
+        Content-Type: application/json\r\n\
+        Content-Length: 59\r\n\
+        \r\n\
+        {\"Code\":\"MalformedHead\",\"Message\":\"The head is malformed.\"}",
+    ),
     (
         "MalformedHead at 2",
         b"HTTP/1.1 400 Bad Request\r\n\

@@ -12,10 +12,11 @@ use Rattle.std.proofs.lemmas.Bool.Decides.{nat_tests}
 use Rattle.std.proofs.lemmas.Bool.{eqb-true}
 use Rattle.std.proofs.lemmas.List.{map-append, length-map, take-map, take-append-le}
 use Rattle.s3_config.specs.Settings.{Credentials, are_credentials, all_different}
+use Rattle.s3_text.specs.Lines.{lines_of, IsFirstBadLine}
 use Rattle.s3_settings.specs.declared.fault.Fault.{Fault}
 use Rattle.s3_settings.specs.declared.fault.Fault.TheVariants.{BadKeysLine, OutOfMemory}
 use Rattle.s3_settings.specs.Fault.{MemoryOr}
-use Rattle.s3_settings.specs.Keys.{without_empty_end, lines_of, is_space, parts_at, valid_key, key_of_line, ids_of, SayKeys, IsFirstBadLine, AsksRoom, IsKeysFault, has_id, new_key, line_of_key}
+use Rattle.s3_settings.specs.Keys.{is_space, parts_at, valid_key, key_of_line, ids_of, SayKeys, AreKeyLines, AsksRoom, IsKeysFault, has_id, new_key, line_of_key}
 
 -- a place that was found is the first of its kind
 place_found : (p : ℕ → Bool) (xs : List ℕ) (b : Bool) (place : ℕ) → nat_lt (position_or_len p xs) (length xs) ≡ b → cond b (Some (position_or_len p xs)) None ≡ Some place → (position_or_len p xs < length xs) × (place ≡ position_or_len p xs)
@@ -24,47 +25,6 @@ place_found p xs false place h e = absurd cc
 
 pub position_some : (p : ℕ → Bool) (xs : List ℕ) (place : ℕ) → position p xs ≡ Some place → (position_or_len p xs < length xs) × (place ≡ position_or_len p xs)
 position_some p xs place e = place_found p xs (nat_lt (position_or_len p xs) (length xs)) place refl e
-
-no_place : (p : ℕ → Bool) (xs : List ℕ) (b : Bool) → nat_lt (position_or_len p xs) (length xs) ≡ b → cond b (Some (position_or_len p xs)) None ≡ None → length xs ≤ position_or_len p xs
-no_place p xs true h e = absurd cc
-no_place p xs false h e = grind (arith, nat_tests)
-
-position_none : (p : ℕ → Bool) (xs : List ℕ) → position p xs ≡ None → All (λ x. p x ≡ false) xs
-position_none p xs e =
-    let far : length xs ≤ position_or_len p xs = no_place p xs (nat_lt (position_or_len p xs) (length xs)) refl e in
-    All-from_get_or (λ x. p x ≡ false) xs 0 (λ k within. fails_before_first p xs k 0 (omega arith))
-
--- a part before others stays
-without_empty_end-cons : (part : List ℕ) (parts : List (List ℕ)) → 0 < length parts → without_empty_end (part ∷ parts) ≡ part ∷ without_empty_end parts
-without_empty_end-cons part [] lt = absurd (omega arith)
-without_empty_end-cons part (next ∷ parts) lt = refl
-
--- a text that is not empty stays as the only part
-stays_alone : (part : List ℕ) (b : Bool) → (length part == 0) ≡ b → 0 < length part → (if b then [] else part ∷ []) ≡ part ∷ []
-stays_alone part true h lt = absurd (grind (arith, nat_tests))
-stays_alone part false h lt = refl
-
-without_empty_end-one : (part : List ℕ) → 0 < length part → without_empty_end (part ∷ []) ≡ part ∷ []
-without_empty_end-one part lt = stays_alone part (length part == 0) refl lt
-
--- a text is cut at its first line end
-pub lines_cut : (text : List ℕ) (place : ℕ) → position (λ b. b == 10) text ≡ Some place → lines_of text ≡ take place text ∷ lines_of (drop (place + 1) text)
-unfolding lines_of
-lines_cut text place h =
-    let p = λ (b : ℕ). b == 10 in
-    let found = position_some p text place h in
-    let first = slice_split_first p text 0 found.0 in
-    let some : 0 < length (slice_split p (drop (position_or_len p text + 1) text)) = omega (arith, length-slice_split p (drop (position_or_len p text + 1) text)) in
-    rw found.1 (ap without_empty_end first ∙ without_empty_end-cons _ _ some)
-
--- a text without a line end is one line
-pub lines_whole : (text : List ℕ) → 0 < length text → position (λ b. b == 10) text ≡ None → lines_of text ≡ text ∷ []
-unfolding lines_of
-lines_whole text lt h =
-    let p = λ (b : ℕ). b == 10 in
-    ap without_empty_end (slice_split_none p text (position_none p text h)) ∙ without_empty_end-one text lt
-
-pub ruleset lines = (lines_cut, lines_whole)
 
 -- a credential that a line says spells the line
 valid_key-spelled : (key found : Credentials) (b : Bool) → (if b then Some key else None) ≡ Some found → key ≡ found
@@ -238,7 +198,7 @@ beginning_said count lines keys says = record {
 }
 
 -- the next line is the first bad one
-bad_line : (keys : List Credentials) (lines rest all : List (List ℕ)) (line : List ℕ) (number : ℕ) → map line_of_key keys ++ lines ≡ all → SayKeys (map line_of_key keys) keys → lines ≡ line ∷ rest → new_key keys line ≡ None → number ≡ length keys + 1 → IsFirstBadLine all number
+bad_line : (keys : List Credentials) (lines rest all : List (List ℕ)) (line : List ℕ) (number : ℕ) → map line_of_key keys ++ lines ≡ all → SayKeys (map line_of_key keys) keys → lines ≡ line ∷ rest → new_key keys line ≡ None → number ≡ length keys + 1 → IsFirstBadLine AreKeyLines all number
 bad_line keys lines rest all line number before says next new is =
     let front = map line_of_key keys in
     let size : length front ≡ length keys = length-map keys line_of_key in
@@ -288,7 +248,7 @@ key_fault keys slice lines rest text line fault before says next same why asks =
       | inr bad ↦
           let new : new_key keys line ≡ None = cc (bad.1) in
           let size : length slice + 1 ≡ length keys + 1 = ap (λ (ks : List Credentials). length ks + 1) same in
-          let found : IsFirstBadLine (lines_of text) (length slice + 1) = bad_line keys lines rest (lines_of text) line (length slice + 1) before says next new size in
+          let found : IsFirstBadLine AreKeyLines (lines_of text) (length slice + 1) = bad_line keys lines rest (lines_of text) line (length slice + 1) before says next new size in
           subst (IsKeysFault text) (sym bad.0) found
     ]
 

@@ -1,22 +1,13 @@
 -- What a keys file says: one credential a line, which is an id, one space, and as the secret
 -- everything up to the line's end (LF), which the last line may lack. No id stands on two lines.
-use Rattle.std.specs.Prelude.{◌≡◌, ℕ, ◌+◌, ◌<◌, Bool, true, ◌==◌, if◌then◌else◌, List, [], ◌∷◌, ◌++◌, length, map, take, drop, Option, Some, None, is_some, option_and_then, position}
-use Rattle.std.specs.List.{list_any, slice_split}
+use Rattle.std.specs.Prelude.{◌≡◌, ℕ, ◌+◌, Bool, true, ◌==◌, if◌then◌else◌, List, [], ◌∷◌, ◌++◌, map, take, drop, Option, Some, None, is_some, option_and_then, position}
+use Rattle.std.specs.List.{list_any}
 use Rattle.std.specs.Str.{bytes_eq}
 use Rattle.s3_config.specs.Settings.{Credentials, are_credentials, all_different}
-use Rattle.s3_text.specs.Characters.{line_feed, space}
+use Rattle.s3_text.specs.Characters.{space}
+use Rattle.s3_text.specs.Lines.{lines_of, IsFirstBadLine}
 use Rattle.s3_settings.specs.declared.fault.Fault.{Fault}
 use Rattle.s3_settings.specs.declared.fault.Fault.TheVariants.{BadKeysLine, OutOfMemory}
-
--- what stands between line ends, without an empty text at the end
-abbrev pub without_empty_end : List (List ℕ) → List (List ℕ)
-without_empty_end [] = []
-without_empty_end (part ∷ []) = if length part == 0 then [] else part ∷ []
-without_empty_end (part ∷ next ∷ parts) = part ∷ without_empty_end (next ∷ parts)
-
--- the lines of a text, each without its end, which the last may lack
-unfoldable pub lines_of : List ℕ → List (List ℕ)
-lines_of text = without_empty_end (slice_split (λ b. b == line_feed) text)
 
 abbrev pub is_space : ℕ → Bool
 is_space b = b == space
@@ -46,11 +37,6 @@ pub record SayKeys (lines : List (List ℕ)) (keys : List Credentials) : Type 0 
 abbrev pub AreKeyLines : List (List ℕ) → Type 0
 AreKeyLines lines = (keys : List Credentials) × SayKeys lines keys
 
--- the first bad line has this number, from 1: the lines up to it are no key lines, and any fewer are
-pub record IsFirstBadLine (lines : List (List ℕ)) (number : ℕ) : Type 0 where
-  pub bad : ¬ AreKeyLines (take number lines)
-  pub before : (count : ℕ) → count < number → AreKeyLines (take count lines)
-
 -- the line of a credential
 abbrev pub line_of_key : Credentials → List ℕ
 line_of_key key = key.id ++ space ∷ key.secret
@@ -74,6 +60,6 @@ AsksRoom (line ∷ lines) = is_some (position is_space line) ≡ true
 -- a fault says why a file of this text gives no keys: its first bad line, or out of memory for a line that
 -- may say one
 abbrev pub IsKeysFault : List ℕ → Fault → Type 0
-IsKeysFault text (BadKeysLine number) = IsFirstBadLine (lines_of text) number
+IsKeysFault text (BadKeysLine number) = IsFirstBadLine AreKeyLines (lines_of text) number
 IsKeysFault text OutOfMemory = AsksRoom (lines_of text)
 IsKeysFault text _ = ⊥

@@ -1,14 +1,18 @@
 -- What the options on the settings say, and the settings that they and the keys file make.
 use Rattle.std.specs.Prelude.{◌≡◌, ⊤, ℕ, Bool, true, false, IsTrue, ◌&&◌, nat_le, if◌then◌else◌, List, Option, Some, None, is_some, IfSome, option_map, option_to_list}
 use Rattle.s3_text.specs.Digits.{decimal_number}
+use Rattle.s3_text.specs.Lines.{lines_of, IsFirstBadLine}
 use Rattle.s3_names.specs.Names.{is_bucket_name}
 use Rattle.s3_calendar.specs.Moment.{last_moment}
 use Rattle.s3_config.specs.Settings.{Settings, Credentials, are_settings}
 use Rattle.s3_settings.specs.declared.fault.Fault.{Fault}
 use Rattle.s3_settings.specs.declared.fault.Fault.TheVariants.{CannotRead, BadKeysLine, BadSetting, OutOfMemory}
 use Rattle.s3_options.specs.declared.options.Options.{Options}
+use Rattle.s3_options.specs.declared.options.ReplayOptions.{ReplayOptions}
 use Rattle.s3_settings.specs.declared.settings.Setup.{Setup}
-use Rattle.s3_settings.specs.Keys.{lines_of, SayKeys, IsFirstBadLine}
+use Rattle.s3_settings.specs.declared.mode.ReplayMode.{ReplayMode}
+use Rattle.s3_settings.specs.declared.mode.ReplayMode.TheVariants.{AtMoment, Events}
+use Rattle.s3_settings.specs.Keys.{SayKeys, AreKeyLines}
 
 -- the number that 1 to 12 decimal digits spell
 abbrev pub option_number : List ℕ → Option ℕ
@@ -29,11 +33,10 @@ abbrev pub is_bucket_option : Option (List ℕ) → Bool
 is_bucket_option None = true
 is_bucket_option (Some name) = is_bucket_name name
 
--- each option is of its form
+-- each option on the settings is of its form
 unfoldable pub are_options : Options → Bool
 are_options o =
     is_some o.keys && is_some (option_number o.min_part.now) && is_some (option_number o.body_limit.now)
-    && is_some (option_moment (option_map (λ text. text.now) o.moment))
     && is_bucket_option (option_map (λ name. name.now) o.bucket)
 
 -- the options are of their forms, and a setup has what they say
@@ -43,8 +46,17 @@ pub record IsSetupOf (o : Options) (s : Setup) : Type 0 where
   pub region : s.region.now ≡ o.region.now
   pub min_part : option_number o.min_part.now ≡ Some s.min_part
   pub body_limit : option_number o.body_limit.now ≡ Some s.body_limit
-  pub moment : option_moment (option_map (λ text. text.now) o.moment) ≡ Some s.moment
   pub bucket : option_map (λ name. name.now) o.bucket ≡ s.bucket
+
+-- what a replay's own options ask for: one moment for everything, or events; both or neither asks for nothing
+abbrev pub mode_of : Option (List ℕ) → Bool → Option ReplayMode
+mode_of (Some text) false = option_map AtMoment (option_moment (Some text))
+mode_of None true = Some Events
+mode_of moment events = None
+
+-- the same of the options
+abbrev pub replay_mode : ReplayOptions → Option ReplayMode
+replay_mode o = mode_of (option_map (λ text. text.now) o.moment) o.events
 
 -- the settings that a setup and some keys make
 abbrev pub settings_of : Setup → List Credentials → Settings
@@ -69,7 +81,7 @@ pub record IsConfigured (file : Option (List ℕ)) (setup : Setup) (settings : S
 -- why there are no settings
 abbrev pub IsConfigFault : Option (List ℕ) → Setup → Fault → Type 0
 IsConfigFault file setup (CannotRead path) = (path.now ≡ setup.keys.now) × (file ≡ None)
-IsConfigFault file setup (BadKeysLine number) = IfSome file (λ text. IsFirstBadLine (lines_of text) number)
+IsConfigFault file setup (BadKeysLine number) = IfSome file (λ text. IsFirstBadLine AreKeyLines (lines_of text) number)
 IsConfigFault file setup BadSetting =
     (keys : List Credentials) × HasKeys file keys × (are_settings (settings_of setup keys) ≡ false)
 IsConfigFault file setup OutOfMemory = ⊤

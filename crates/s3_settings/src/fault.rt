@@ -21,6 +21,8 @@ pub enum Fault<'a> {
     CannotRead(&'a str),
     /// The line of the keys file with this number, from 1, is no credential.
     BadKeysLine(usize),
+    /// The event line with this number, from 1, is wrong.
+    BadEventLine(usize),
     /// An option is out of its form, or the settings are none that a server accepts.
     BadSetting,
     /// The standard input could not be read.
@@ -41,6 +43,7 @@ impl<'a> Fault<'a> {
         match self {
             Fault::CannotRead(path) => ("cannot read ", path),
             Fault::BadKeysLine(number) => ("bad keys line ", digits.format(*number)),
+            Fault::BadEventLine(number) => ("bad event line ", digits.format(*number)),
             Fault::BadSetting => ("bad setting", ""),
             Fault::InputFailed => ("input failed", ""),
             Fault::OutputFailed => ("output failed", ""),

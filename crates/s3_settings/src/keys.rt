@@ -1,12 +1,14 @@
 //! The keys file.
 
-ghost use Rattle.std.specs.Prelude.{◌≡◌, ◌+◌, ◌<◌, ◌==◌, ◌∷◌, [], length, map, position, is_some, true, Some, None, IfOk, IfErr, OnErr, IsErrOf, IfSome, MatchOption};
-ghost use Rattle.s3_settings.specs.Keys.{lines_of, is_space, key_of_line, has_id, new_key, line_of_key, SayKeys, IsKeysFault};
+ghost use Rattle.std.specs.Prelude.{◌≡◌, ◌+◌, ◌==◌, length, map, position, is_some, true, Some, None, IfOk, IfErr, OnErr, IsErrOf};
+ghost use Rattle.s3_text.specs.Lines.{lines_of};
+ghost use Rattle.s3_settings.specs.Keys.{is_space, key_of_line, has_id, new_key, line_of_key, SayKeys, IsKeysFault};
 ghost use Rattle.s3_settings.specs.Fault.{MemoryOr};
 ghost use Rattle.s3_settings.specs.declared.fault.Fault.TheVariants.{BadKeysLine};
 
 use crate::fault::Fault;
 use s3_config::Credential;
+use s3_text::next_line;
 use std::alloc::{AllocError, Global};
 
 /// The credentials that a keys file of this text says, in its order. A line is an id, one space, and
@@ -29,21 +31,6 @@ pub fn read_keys<'a>(alloc: Global, text: &[u8]) -> Result<Vec<Credential>, Faul
         left = rest;
     }
     Ok(keys)
-}
-
-// The first line of a text without its end, and what follows it; `None` where there is no line.
-#[tactic(auto, using(crate::proofs::KeysLemmas::lines), unfolding(crate::specs::Keys::lines_of))]
-fn next_line(text: &[u8]) -> Option<(&[u8], &[u8])>
-    ensures value { MatchOption result (lines_of text.now ≡ []) (λ parts. lines_of text.now ≡ parts.0.now ∷ lines_of parts.1.now) }
-    ensures smaller { IfSome result (λ parts. length parts.1.now < length text.now) }
-{
-    if text.is_empty() {
-        return None;
-    }
-    match first_place(text, b'\n') {
-        Some(at) => Some((&text[..at], &text[at + 1..])),
-        None => Some((text, &text[text.len()..])),
-    }
 }
 
 // The credential that a line says after those that say `keys`; `BadKeysLine` where it says none, or one

@@ -6,10 +6,12 @@ mod devices;
 mod fault;
 mod files;
 mod keys;
+mod mode;
 mod settings;
 
 pub use devices::{read_file, read_piece, write_output};
 pub use fault::Fault;
 pub use files::Files;
 pub use keys::read_keys;
-pub use settings::{Setup, configure, option_number};
+pub use mode::ReplayMode;
+pub use settings::{Setup, configure, option_moment, option_number};

@@ -20,7 +20,7 @@ use std::alloc::{AllocError, Global};
 // The most digits of a number.
 const DIGITS_MAX: usize = 12;
 
-/// What the options of a subcommand set up.
+/// What the options that each subcommand has set up.
 #[derive(Drop)]
 pub struct Setup<'a> {
     /// The path of the keys file.
@@ -33,8 +33,6 @@ pub struct Setup<'a> {
     pub body_limit: u64,
     /// The bucket that is there from the start.
     pub bucket: Option<BucketName>,
-    /// The moment at which everything happens.
-    pub moment: Moment,
 }
 
 impl<'a> Setup<'a> {
@@ -58,7 +56,6 @@ impl<'a> Setup<'a> {
             min_part: parts.min_part,
             body_limit: parts.body_limit,
             bucket,
-            moment: parts.moment,
         })
     }
 
@@ -102,7 +99,6 @@ struct FixedParts<'a> {
     keys: &'a str,
     min_part: u64,
     body_limit: u64,
-    moment: Moment,
 }
 
 // The parts that options say and that take no memory, if each of these options is there and of its form.
@@ -110,15 +106,13 @@ struct FixedParts<'a> {
 fn fixed_parts<'a>(options: &Options<'a>) -> Option<FixedParts<'a>>
     ensures value { IfSome result (λ parts. (option_map (λ path. path.now) options.now.keys ≡ Some parts.keys.now)
         × (option_number options.now.min_part.now ≡ Some parts.min_part)
-        × (option_number options.now.body_limit.now ≡ Some parts.body_limit)
-        × (option_moment (option_map (λ text. text.now) options.now.moment) ≡ Some parts.moment)) }
+        × (option_number options.now.body_limit.now ≡ Some parts.body_limit)) }
     ensures refused { result ≡ None → are_options options.now ≡ false }
 {
     Some(FixedParts {
         keys: options.keys?,
         min_part: option_number(options.min_part)?,
         body_limit: option_number(options.body_limit)?,
-        moment: moment(options.moment)?,
     })
 }
 
@@ -143,8 +137,8 @@ pub fn option_number(text: &str) -> Option<u64>
     decimal_number(text.as_bytes(), DIGITS_MAX)
 }
 
-// The moment that an option says.
-fn moment(option: Option<&str>) -> Option<Moment>
+/// The moment that an option says in 1 to 12 decimal digits; `None` where it says none, and where it isn't there.
+pub fn option_moment(option: Option<&str>) -> Option<Moment>
     ensures { result ≡ option_moment (option_map (λ text. text.now) option.entry) }
 {
     Moment::new(option_number(option?)?)

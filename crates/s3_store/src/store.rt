@@ -53,6 +53,13 @@ impl Store<MapRecords> {
 }
 
 impl<R: Records + Drop> Store<R> {
+    /// The number of the next entry: how many commands the store has answered.
+    pub fn number(&self) -> u64
+        ensures { result ≡ self.now.number }
+    {
+        self.number
+    }
+
     /// Takes one step: does what the command asks for at this moment, and answers it under its number. `least_part` is the
     /// least size of a part that is not the last. A put moves the bytes and copies none, a get copies those of the version.
     ///

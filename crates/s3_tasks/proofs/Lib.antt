@@ -1,2 +1,3 @@
+pub mod EventsLemmas
 pub mod RunLemmas
 pub mod SignLemmas

@@ -8,12 +8,12 @@ use Rattle.s3_config.specs.Settings.{Settings, secret_of}
 use Rattle.s3_signer.specs.Request.{HeaderLine, IsSignable, given_lines, request_text}
 use Rattle.s3_signer.specs.Chunked.{IsChunkedText, IsSignableInChunks, greatest_chunk}
 use Rattle.s3_settings.specs.declared.fault.Fault.{Fault}
-use Rattle.s3_settings.specs.declared.fault.Fault.TheVariants.{CannotRead, BadKeysLine, BadSetting, InputFailed, OutputFailed, OutOfMemory}
+use Rattle.s3_settings.specs.declared.fault.Fault.TheVariants.{CannotRead, BadKeysLine, BadEventLine, BadSetting, InputFailed, OutputFailed, OutOfMemory}
 use Rattle.s3_settings.specs.declared.settings.Setup.{Setup}
 use Rattle.s3_tasks.specs.declared.sign.Draft.{Draft}
 use Rattle.s3_options.specs.declared.options.SignOptions.{SignOptions}
 use Rattle.s3_settings.specs.Fault.{IsReadFault}
-use Rattle.s3_settings.specs.Settings.{option_number, are_options, IsSetupOf, IsConfigured, IsConfigFault, HasConfigFault}
+use Rattle.s3_settings.specs.Settings.{option_number, option_moment, are_options, IsSetupOf, IsConfigured, IsConfigFault, HasConfigFault}
 
 -- the texts behind references
 abbrev pub texts_of : List (Bor (List ℕ)) → List (List ℕ)
@@ -47,6 +47,14 @@ chunk_of (Some bytes) = if nat_le 1 bytes && nat_le bytes greatest_chunk then So
 abbrev pub chunk_asked : Option (List ℕ) → Option (Option ℕ)
 chunk_asked None = Some None
 chunk_asked (Some text) = option_map Some (chunk_of (option_number text))
+
+-- the moment at which the options say that the request is signed
+abbrev pub moment_of_signing : SignOptions → Option ℕ
+moment_of_signing o = option_moment (option_map (λ text. text.now) o.moment)
+
+-- the moment and the options on the settings are of their forms
+abbrev pub are_first_options : SignOptions → Bool
+are_first_options o = is_some (moment_of_signing o) && are_options o.common
 
 -- the options that a request needs are there, that of the chunks says a size of theirs, and each further word is
 -- a header line
@@ -127,11 +135,13 @@ IsStampOf moment stamp = IsTrue (is_stamp stamp) × (stamp_seconds stamp ≡ mom
 
 -- what the options ask for, the settings that they and the keys file make, and the stamp of the moment
 pub record IsPrepared (known : List ℕ → Option (List ℕ)) (o : SignOptions) (draft : Draft) (settings : Settings) (stamp : List ℕ) : Type 0 where
+  pub moment : ℕ
   pub setup : Setup
+  pub timed : moment_of_signing o ≡ Some moment
   pub asked : IsSetupOf o.common setup
   pub drafted : IsDraftOf o draft
   pub configured : IsConfigured (known setup.keys.now) setup settings
-  pub stamped : IsStampOf setup.moment stamp
+  pub stamped : IsStampOf moment stamp
 
 -- the text is the signed request that the options describe
 pub record IsTextOf (known : List ℕ → Option (List ℕ)) (o : SignOptions) (text : List ℕ) : Type 0 where
@@ -143,7 +153,8 @@ pub record IsTextOf (known : List ℕ → Option (List ℕ)) (o : SignOptions) (
 
 -- the options are right, and there are no settings for this reason
 abbrev pub HasDraftAndConfigFault : (List ℕ → Option (List ℕ)) → SignOptions → Fault → Type 0
-HasDraftAndConfigFault known o fault = (draft : Draft) × IsDraftOf o draft × HasConfigFault known o.common fault
+HasDraftAndConfigFault known o fault =
+    (draft : Draft) × (is_some (moment_of_signing o) ≡ true) × IsDraftOf o draft × HasConfigFault known o.common fault
 
 -- there are settings, and there is no request for this reason
 abbrev pub HasRequestFault : (List ℕ → Option (List ℕ)) → SignOptions → Fault → Type 0
@@ -152,34 +163,35 @@ HasRequestFault known o fault =
     × IsPrepared known o draft settings stamp × IsRequestFault known settings draft stamp fault
 
 -- why a signing has no such text, each fault only where none that comes before it is there; memory runs out
--- only where the options on the settings are of their forms
+-- only where the moment and the options on the settings are of their forms
 abbrev pub IsSignFault : (List ℕ → Option (List ℕ)) → SignOptions → Fault → Type 0
 IsSignFault known o BadSetting =
-    ((are_options o.common && are_sign_options o) ≡ false)
+    ((are_first_options o && are_sign_options o) ≡ false)
     ⊎ (HasDraftAndConfigFault known o BadSetting ⊎ HasRequestFault known o BadSetting)
 IsSignFault known o (CannotRead path) =
     HasDraftAndConfigFault known o (CannotRead path) ⊎ HasRequestFault known o (CannotRead path)
 IsSignFault known o (BadKeysLine number) = HasDraftAndConfigFault known o (BadKeysLine number)
+IsSignFault known o (BadEventLine number) = ⊥
 IsSignFault known o InputFailed = ⊥
 IsSignFault known o OutputFailed = ⊥
-IsSignFault known o OutOfMemory = are_options o.common ≡ true
+IsSignFault known o OutOfMemory = are_first_options o ≡ true
 
 -- The rest serves clauses of private functions alone.
 
--- the settings are those of a setup and its keys file, and the stamp is that of its moment
-pub record IsReady (known : List ℕ → Option (List ℕ)) (setup : Setup) (settings : Settings) (stamp : List ℕ) : Type 0 where
+-- the settings are those of a setup and its keys file, and the stamp is that of the moment
+pub record IsReady (known : List ℕ → Option (List ℕ)) (setup : Setup) (moment : ℕ) (settings : Settings) (stamp : List ℕ) : Type 0 where
   pub configured : IsConfigured (known setup.keys.now) setup settings
-  pub stamped : IsStampOf setup.moment stamp
+  pub stamped : IsStampOf moment stamp
 
--- the text is the signed request of a draft under a setup
-abbrev pub IsDraftText : (List ℕ → Option (List ℕ)) → Setup → Draft → List ℕ → Type 0
-IsDraftText known setup draft text =
+-- the text is the signed request of a draft under a setup, at a moment
+abbrev pub IsDraftText : (List ℕ → Option (List ℕ)) → Setup → ℕ → Draft → List ℕ → Type 0
+IsDraftText known setup moment draft text =
     (settings : Settings) × (stamp : List ℕ)
-    × IsReady known setup settings stamp × IsRequestOf known settings draft stamp text
+    × IsReady known setup moment settings stamp × IsRequestOf known settings draft stamp text
 
 -- why there is none
-abbrev pub IsDraftFault : (List ℕ → Option (List ℕ)) → Setup → Draft → Fault → Type 0
-IsDraftFault known setup draft fault =
+abbrev pub IsDraftFault : (List ℕ → Option (List ℕ)) → Setup → ℕ → Draft → Fault → Type 0
+IsDraftFault known setup moment draft fault =
     IsConfigFault (known setup.keys.now) setup fault
     ⊎ ((settings : Settings) × (stamp : List ℕ)
-    × IsReady known setup settings stamp × IsRequestFault known settings draft stamp fault)
+    × IsReady known setup moment settings stamp × IsRequestFault known settings draft stamp fault)

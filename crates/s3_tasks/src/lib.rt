@@ -1,7 +1,8 @@
-//! What the program does: it reads the words of its command line, and answers one connection or signs one
-//! request, over any files and devices.
+//! What the program does: it reads the words of its command line, and answers one connection, answers event
+//! lines of several or signs one request, over any files and devices.
 #![tactic(auto)]
 
+mod events;
 mod run;
 mod sign;
 

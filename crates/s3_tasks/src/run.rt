@@ -5,22 +5,23 @@ ghost use Rattle.s3_session.specs.Replay.{Replays};
 ghost use Rattle.s3_session.specs.Replaying.{HasTaken};
 ghost use Rattle.s3_settings.specs.Devices.{AppendsBeginning};
 ghost use Rattle.s3_settings.specs.Fault.{line_of};
-ghost use Rattle.s3_tasks.specs.Run.{IsReplayed, IsReplayFault, IsDone, IsTaskText, IsTextFault, IsTaskDone, IsTaskFault, is_before_input, is_signing, IsRunFault, HasFailed};
+ghost use Rattle.s3_tasks.specs.Run.{IsAnswered, IsAnswerFault, IsReplayed, IsReplayFault, IsDone, IsTaskText, IsTextFault, IsTaskDone, IsTaskFault, is_before_input, is_signing, IsRunFault, HasFailed};
 ghost use Rattle.s3_command_line.specs.Words.{AreRightWords, AreSignWords};
 
+use crate::events::events_answered;
 use crate::sign::signed_text;
 use s3_calendar::Moment;
 use s3_command_line::{Task, WordsError, read_words};
 use s3_config::Config;
-use s3_options::Options;
+use s3_options::ReplayOptions;
 use s3_session::Replay;
-use s3_settings::{Fault, Files, Setup, configure, read_piece, write_output};
+use s3_settings::{Fault, Files, ReplayMode, Setup, configure, read_piece, write_output};
 use std::alloc::Global;
 use std::convert::AsStr;
 use std::io::{Read, Write};
 
 // How many bytes of the input are read at once, at most.
-const PIECE: usize = 65_536;
+pub(crate) const PIECE: usize = 65_536;
 
 // The status of a run that did its work.
 const DONE: u8 = 0;
@@ -129,7 +130,7 @@ fn task_text<'a, F: Files, R: Read>(
     input: &mut R,
 ) -> Result<Vec<u8>, Fault<'a>>
     ensures value { IfOk result (λ text. IsTaskText (F.known files.now) (R.remaining input.old) task.now text.items) }
-    ensures refused { IfErr result (IsTextFault (F.known files.now) task.now) }
+    ensures refused { IfErr result (IsTextFault (F.known files.now) (R.remaining input.old) task.now) }
     ensures unread { IfErr result (λ fault. IsTrue (is_before_input fault) → input.new ≡ input.old) }
     ensures input { is_signing task.now ≡ true → input.new ≡ input.old }
 {
@@ -139,21 +140,37 @@ fn task_text<'a, F: Files, R: Read>(
     }
 }
 
-// What the one connection is answered whose bytes are `input`.
+// What all the input is answered, read as the options say.
 fn replay<'a, F: Files, R: Read>(
     alloc: Global,
-    options: &Options<'a>,
+    options: &ReplayOptions<'a>,
     files: &F,
     input: &mut R,
 ) -> Result<Vec<u8>, Fault<'a>>
     ensures value { IfOk result (λ text. IsReplayed (F.known files.now) (R.remaining input.old) options.now text.items) }
-    ensures refused { IfErr result (IsReplayFault (F.known files.now) options.now) }
+    ensures refused { IfErr result (IsReplayFault (F.known files.now) (R.remaining input.old) options.now) }
     ensures unread { IfErr result (λ fault. IsTrue (is_before_input fault) → input.new ≡ input.old) }
 {
-    let setup = Setup::read(alloc, options)?;
-    let moment = setup.moment;
+    let mode = ReplayMode::read(options)?;
+    let setup = Setup::read(alloc, &options.common)?;
     let config = configure(alloc, setup, files)?;
-    answers(alloc, &config, moment, input)
+    answered(alloc, &config, mode, input)
+}
+
+// What all the input is answered, read in a mode and under some settings.
+fn answered<'a, R: Read>(
+    alloc: Global,
+    config: &Config,
+    mode: ReplayMode,
+    input: &mut R,
+) -> Result<Vec<u8>, Fault<'a>>
+    ensures value { IfOk result (λ text. IfSome (R.remaining input.old) (λ bytes. IsAnswered config.now mode bytes text.items)) }
+    ensures refused { IfErr result (IsAnswerFault mode (R.remaining input.old)) }
+{
+    match mode {
+        ReplayMode::AtMoment(moment) => answers(alloc, config, moment, input),
+        ReplayMode::Events => events_answered(alloc, config, input),
+    }
 }
 
 // What the connection of all the input is answered, under some settings at a moment.

@@ -7,10 +7,10 @@ ghost use Rattle.s3_settings.specs.Fault.{MemoryOr};
 ghost use Rattle.s3_settings.specs.Settings.{option_number};
 ghost use Rattle.s3_tasks.specs.Sign.{texts_of, is_colon, has_colon, line_of_word, header_lines, are_sign_options, chunk_asked, chunk_of, IsSignableDraft, IsSignedDraft, IsDraftOf, IsBodyOf, IsBodyFault, IsRequestOf, IsRequestFault, IsTextOf, IsSignFault, IsDraftText, IsDraftFault};
 
-use s3_calendar::Stamp;
+use s3_calendar::{Moment, Stamp};
 use s3_config::Config;
 use s3_options::SignOptions;
-use s3_settings::{Fault, Files, Setup, configure, option_number, read_file};
+use s3_settings::{Fault, Files, Setup, configure, option_moment, option_number, read_file};
 use s3_signer::{ChunkSize, Unsigned, chunked_request, signed_request};
 use std::alloc::Global;
 
@@ -141,22 +141,26 @@ pub fn signed_text<'a, F: Files>(
     ensures value { IfOk result (λ text. IsTextOf (F.known files.now) options.now text.items) }
     ensures refused { IfErr result (IsSignFault (F.known files.now) options.now) }
 {
+    let Some(moment) = option_moment(options.moment) else {
+        return Err(Fault::BadSetting);
+    };
     let setup = Setup::read(alloc, &options.common)?;
     let draft = Draft::read(alloc, options)?;
-    signed_draft(alloc, setup, &draft, files)
+    signed_draft(alloc, setup, moment, &draft, files)
 }
 
-// The signed request of a draft, by the settings of a setup and at its moment.
+// The signed request of a draft, by the settings of a setup and at a moment.
 fn signed_draft<'a, F: Files>(
     alloc: Global,
     setup: Setup<'a>,
+    moment: Moment,
     draft: &Draft<'a>,
     files: &F,
 ) -> Result<Vec<u8>, Fault<'a>>
-    ensures value { IfOk result (λ text. IsDraftText (F.known files.now) setup.entry draft.now text.items) }
-    ensures refused { IfErr result (IsDraftFault (F.known files.now) setup.entry draft.now) }
+    ensures value { IfOk result (λ text. IsDraftText (F.known files.now) setup.entry moment draft.now text.items) }
+    ensures refused { IfErr result (IsDraftFault (F.known files.now) setup.entry moment draft.now) }
 {
-    let stamp = Stamp::at(setup.moment);
+    let stamp = Stamp::at(moment);
     let config = configure(alloc, setup, files)?;
     request(alloc, &config, draft, files, stamp)
 }

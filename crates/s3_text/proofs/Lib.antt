@@ -3,6 +3,7 @@ pub mod CutLemmas
 pub mod DigestLemmas
 pub mod DigitLemmas
 pub mod JoinLemmas
+pub mod LineLemmas
 pub mod ListLemmas
 pub mod OptionLemmas
 pub mod SortingLemmas

@@ -5,7 +5,7 @@ ghost use Rattle.std.specs.List.{before_first, after_first};
 ghost use Rattle.s3_text.specs.Cut.{parts_at};
 
 // The first place of the byte.
-fn first_place(text: &[u8], byte: u8) -> Option<usize>
+pub(crate) fn first_place(text: &[u8], byte: u8) -> Option<usize>
     ensures { result ≡ position (λ b. b == byte) text.now }
 {
     text.iter().position(|b| *b == byte)

@@ -1,5 +1,6 @@
 //! The program `s3d`, which answers and signs requests of the Amazon S3 REST API. `s3d replay` answers
-//! one connection that stands whole on the standard input, and `s3d sign` writes one signed request.
+//! one connection that stands whole on the standard input, or many whose events do, and `s3d sign` writes one
+//! signed request.
 //! `s3_tasks::run_words` does the work over any devices.
 #![tactic(auto)]
 

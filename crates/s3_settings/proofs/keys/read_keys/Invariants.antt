@@ -1,5 +1,6 @@
 use Rattle.std.proofs.Common.{◌≡◌, ◌+◌, ◌++◌, ◌≤◌, length, map, vec_len}
-use Rattle.s3_settings.specs.Keys.{lines_of, line_of_key, SayKeys}
+use Rattle.s3_text.specs.Lines.{lines_of}
+use Rattle.s3_settings.specs.Keys.{line_of_key, SayKeys}
 use Rattle.s3_settings.proofs.keys.read_keys.Given as goal
 
 abbrev pub invariant-loop-line : goal.invariant-loop-line

@@ -1,7 +1,7 @@
 //! What a command waits for.
 
+use crate::Command;
 use s3_calendar::Moment;
-use s3_machine::Command;
 
 /// What a command waits for: to be applied at this moment, that of its message.
 #[derive(Drop)]

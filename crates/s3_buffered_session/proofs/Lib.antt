@@ -1,0 +1,3 @@
+pub mod HoldsLemmas
+pub mod MomentsLemmas
+pub mod OutputsLemmas

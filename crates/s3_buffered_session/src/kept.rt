@@ -1,0 +1,87 @@
+//! Bytes that are kept until they are taken.
+
+ghost use Rattle.std.specs.Prelude.{◌≡◌, ◌+◌, ◌≤◌, List, [], ◌++◌, drop, length, if◌then◌else◌, OnOk, OnErr};
+ghost use Rattle.std.specs.Vec.{vec_capacity};
+
+use s3_terms::NoMemory;
+use std::alloc::Global;
+use std::marker::Model;
+
+/// Bytes, of which those in front are taken first. Of the bytes that it holds at most half were taken, and where all were, it
+/// holds no memory. Contracts see the bytes that are left.
+#[derive(Drop)]
+pub(crate) struct Kept {
+    bytes: Vec<u8>,
+    at: usize,
+}
+
+impl Model for Kept {
+    ghost use Rattle.std.specs.Prelude.{ℕ, ◌≤◌, List, drop, length};
+
+    ghost Value = { List ℕ };
+
+    ghost view = { λ k. drop k.at k.bytes.items };
+
+    ghost invariant = { λ k. k.at ≤ length k.bytes.items };
+}
+
+impl Kept {
+    // No bytes, without memory.
+    pub(crate) fn new(alloc: Global) -> Kept
+        ensures { result ≡ [] }
+    {
+        Kept {
+            bytes: Vec::new(alloc),
+            at: 0,
+        }
+    }
+
+    // What is left, in one piece.
+    pub(crate) fn as_slice(&self) -> &[u8]
+        ensures { result.now ≡ self.now }
+    {
+        &self.bytes[self.at..]
+    }
+
+    // Keeps these bytes too, behind the others.
+    pub(crate) fn add(&mut self, piece: &[u8]) -> Result<(), NoMemory>
+        ensures added { OnOk result (self.new ≡ self.old ++ piece.now) }
+        ensures same { OnErr result (self.new ≡ self.old) }
+    {
+        self.bytes.extend_from_slice(piece)?;
+        Ok(())
+    }
+
+    // Drops so many bytes in front.
+    pub(crate) fn skip(&mut self, alloc: Global, count: usize)
+        requires within { count ≤ length self.old }
+        ensures { self.new ≡ drop count self.old }
+    {
+        self.at += count;
+        let left = self.bytes.len() - self.at;
+        if left == 0 {
+            self.bytes = Vec::new(alloc);
+            self.at = 0;
+        } else if self.at > left {
+            self.bytes.rotate_left(self.at);
+            self.bytes.truncate(left);
+            self.at = 0;
+        }
+    }
+}
+
+// Keeps these bytes in memory that has room for them, where they have to be kept.
+pub(crate) fn keep(alloc: Global, is_kept: bool, room: Vec<u8>, bytes: &[u8]) -> Kept
+    requires room { length room.items + length bytes.now ≤ vec_capacity room }
+    requires empty { room.items ≡ [] }
+    ensures { result ≡ (if is_kept then bytes.now else []) }
+{
+    if !is_kept {
+        return Kept::new(alloc);
+    }
+    let mut kept = room;
+    let Ok(()) = kept.extend_from_slice(bytes) else {
+        unreachable!()
+    };
+    Kept { bytes: kept, at: 0 }
+}

@@ -1,0 +1,5 @@
+pub mod FieldLemmas
+pub mod PrintingLemmas
+pub mod SaidLemmas
+pub mod ReadingLemmas
+pub mod ScriptLemmas

@@ -1,0 +1,4 @@
+pub mod Lines
+pub mod Printing
+pub mod Reading
+pub mod Script

@@ -1,0 +1,18 @@
+-- How the outputs of connections are printed: a line each, with the connection's number, a space and the output in hexadecimal
+-- digits.
+use Rattle.std.specs.Prelude.{ℕ, ◌+◌, List, [], ◌∷◌, ◌++◌, decimal}
+use Rattle.hex.specs.Hex.{encode_lower}
+use Rattle.s3_text.specs.Characters.{line_feed, space}
+
+-- the line of a connection and its output
+abbrev pub output_line : ℕ → List ℕ → List ℕ
+output_line connection output = decimal connection ++ space ∷ encode_lower output ++ line_feed ∷ []
+
+-- the lines of outputs, of which the first is that of the connection with this number
+abbrev pub outputs_from : ℕ → List (List ℕ) → List ℕ
+outputs_from connection [] = []
+outputs_from connection (output ∷ outputs) = output_line connection output ++ outputs_from (connection + 1) outputs
+
+-- the lines of the outputs of connections, from 0 on
+abbrev pub outputs_text : List (List ℕ) → List ℕ
+outputs_text outputs = outputs_from 0 outputs

@@ -1,0 +1,18 @@
+//! Events of several connections: the lines that spell them, and the lines that tell what each connection was
+//! answered.
+#![tactic(auto)]
+
+mod checked;
+mod error;
+mod event;
+mod printing;
+mod reading;
+mod script;
+#[cfg(test)]
+mod tests;
+
+pub use error::EventsError;
+pub use event::Event;
+pub use printing::print_output;
+pub use reading::read_events;
+pub use script::Script;

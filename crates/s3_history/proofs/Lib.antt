@@ -1,0 +1,4 @@
+pub mod CellLemmas
+pub mod LineLemmas
+pub mod StepLemmas
+pub mod RunLemmas

@@ -1,0 +1,2 @@
+pub mod Log
+pub mod Runs

@@ -1,0 +1,81 @@
+//! A machine with the history of what it answered.
+ghost use Rattle.std.specs.Prelude.{◌≡◌, ◌++◌, ◌∷◌, [], IfOk, OnErr};
+ghost use Rattle.s3_history.specs.Runs.{Run};
+
+use crate::machine::{Answered, AsEntry, Entry, Machine};
+use crate::recorder::Recorder;
+use std::alloc::AllocError;
+use std::marker::Model;
+use std::snapshot::Snapshot;
+
+/// A machine, and the history of what it answered, which no memory holds. Contracts see which history it is, the machine
+/// as it was at the opening, the entries since then, and the machine as it is. Its type keeps that the entries lead from
+/// the one to the other.
+#[derive(Drop)]
+pub struct Book<M: Machine> {
+    machine: M,
+    recorder: Recorder<Entry<M::Command, M::Answer>>,
+    opening: Snapshot<M>,
+}
+
+impl<M: Machine> Model for Book<M> {
+    ghost use Rattle.s3_history.specs.Runs.{Account, Run};
+
+    ghost Value = { Account M M.Command M.Answer };
+
+    ghost view = { λ book. record { origin = book.recorder.origin; opening = book.opening.value; entries = book.recorder.entries; machine = book.machine } };
+
+    ghost invariant = { λ book. Run M.step M.reply book.opening.value book.recorder.entries book.machine };
+}
+
+impl<M: Machine> Book<M> {
+    /// A book that opens with this machine, with no entry. The error never comes, though no contract can say so.
+    pub fn new(machine: M) -> Result<Book<M>, AllocError>
+        ensures opening { IfOk result (λ book. book.opening ≡ machine) }
+        ensures entries { IfOk result (λ book. book.entries ≡ []) }
+        ensures machine { IfOk result (λ book. book.machine ≡ machine) }
+    {
+        let Some(recorder) = Recorder::new() else {
+            return Err(AllocError);
+        };
+        let opening = Snapshot::of(&machine);
+        Ok(Book {
+            machine,
+            recorder,
+            opening,
+        })
+    }
+
+    /// Answers a command for a seat, which is one entry more; or memory is lacking, and all is as it was. Nothing is copied
+    /// or stored for the entry.
+    #[tactic(auto, using(crate::proofs::RunLemmas::run_with_one_more))]
+    pub fn apply(&mut self, seat: u64, command: M::Command) -> Result<M::Answer, AllocError>
+        ensures entry { IfOk result (λ answer. self.new.entries
+            ≡ self.old.entries ++ record { seat = seat; command = command; answer = answer } ∷ []) }
+        ensures machine { IfOk result (λ answer. self.new.machine ≡ M.step self.old.machine command) }
+        ensures answer { IfOk result (λ answer. M.reply self.old.machine command answer) }
+        ensures opening { self.new.opening ≡ self.old.opening }
+        ensures origin { self.new.origin ≡ self.old.origin }
+        ensures err { OnErr result (self.new ≡ self.old) }
+        ensures memory { OnErr result (M.lacks self.old.machine command) }
+    {
+        let asked = Snapshot::of(&command);
+        let answer = self.machine.apply(command)?;
+        let told = Answered {
+            seat,
+            command: asked,
+            answer: Snapshot::of(&answer),
+        };
+        self.recorder
+            .record::<Answered<M::Command, M::Answer>, AsEntry>(&told);
+        Ok(answer)
+    }
+
+    /// The machine as it is. The entries lead there from the opening.
+    pub fn machine(&self) -> &M
+        ensures value { result.now ≡ self.now.machine }
+        ensures run { Run M.step M.reply self.now.opening self.now.entries self.now.machine }
+    {
+        &self.machine
+    }
+}

@@ -1,0 +1,2 @@
+pub mod RunLemmas
+pub mod SplitLemmas

@@ -1,0 +1,13 @@
+//! The book: a store with the history of the commands that it answered, which stands in the proofs alone. What a book is
+//! and what its history is stands in `specs/Book.antt`, and what every book promises in `specs/Laws.antt`.
+#![tactic(auto)]
+
+mod book;
+mod keeper;
+mod laws;
+
+pub use book::Book;
+pub use laws::books_keep_promises;
+
+#[cfg(test)]
+mod tests;

@@ -1,0 +1,35 @@
+//! What a replay's own options ask for.
+
+ghost use Rattle.std.specs.Prelude.{◌≡◌, None, IfOk, IfErr, Some};
+ghost use Rattle.s3_settings.specs.Settings.{replay_mode};
+ghost use Rattle.s3_settings.specs.declared.fault.Fault.TheVariants.{BadSetting};
+
+use crate::fault::Fault;
+use crate::settings::option_moment;
+use s3_calendar::Moment;
+use s3_options::ReplayOptions;
+
+/// How a replay reads its input, and when everything happens.
+#[derive(Clone, Copy)]
+pub enum ReplayMode {
+    /// The input is the bytes of one connection, and everything happens at this moment.
+    AtMoment(Moment),
+    /// The input is event lines.
+    Events,
+}
+
+impl ReplayMode {
+    /// What the options ask for; `BadSetting` where they ask for both or neither, or for a moment out of its form.
+    pub fn read<'a>(options: &ReplayOptions<'a>) -> Result<ReplayMode, Fault<'a>>
+        ensures value { IfOk result (λ mode. replay_mode options.now ≡ Some mode) }
+        ensures refused { IfErr result (λ fault. (fault ≡ BadSetting) × (replay_mode options.now ≡ None)) }
+    {
+        if options.moment.is_none() && options.events {
+            return Ok(ReplayMode::Events);
+        }
+        match option_moment(options.moment) {
+            Some(moment) if !options.events => Ok(ReplayMode::AtMoment(moment)),
+            _ => Err(Fault::BadSetting),
+        }
+    }
+}

@@ -1,0 +1,129 @@
+//! The events of several connections, which the input spells line by line, are run, and what the connections wrote is
+//! printed.
+
+ghost use Rattle.std.specs.Prelude.{◌≡◌, ◌⊎◌, ◌<◌, ◌+◌, ◌++◌, length, take, IfOk, OnOk, IfErr, IfSome};
+ghost use Rattle.s3_text.specs.Lines.{lines_of};
+ghost use Rattle.s3_events.specs.Printing.{outputs_text};
+ghost use Rattle.s3_events.specs.Script.{IsScriptOf};
+ghost use Rattle.s3_settings.specs.declared.mode.ReplayMode.TheVariants.{Events as InEvents};
+ghost use Rattle.s3_world.specs.Run.{Runs};
+ghost use Rattle.s3_world.specs.World.{each_moments, unsent_of_all};
+ghost use Rattle.s3_tasks.specs.Run.{IsAnswerFault, IsEventsAnswered, IsLinesFault, IsScriptAnswered};
+
+use crate::run::PIECE;
+use s3_config::Config;
+use s3_events::{EventsError, Script, print_output, read_events};
+use s3_records::MapRecords;
+use s3_settings::{Fault, read_piece};
+use s3_store::Store;
+use s3_terms::NoMemory;
+use s3_world::{World, run};
+use std::alloc::Global;
+use std::io::Read;
+
+/// What the connections are answered whose events all the input spells, under some settings: a line each, in the order of
+/// their numbers. All lines are read before the first event happens.
+///
+/// # Errors
+///
+/// `InputFailed` where the input could not be read, `BadEventLine` with the number of its first bad line, and
+/// `OutOfMemory`.
+pub fn events_answered<'a, R: Read>(
+    alloc: Global,
+    config: &Config,
+    input: &mut R,
+) -> Result<Vec<u8>, Fault<'a>>
+    ensures value { IfOk result (λ text. IfSome (R.remaining input.old) (λ bytes. IsEventsAnswered config.now bytes text.items)) }
+    ensures refused { IfErr result (IsAnswerFault InEvents (R.remaining input.old)) }
+{
+    let mut text = Vec::new(alloc);
+    read_all(&mut text, input)?;
+    lines_answered(alloc, config, text.as_slice())
+}
+
+// Adds all that the input has left to a text, in pieces as they are read.
+fn read_all<'a, R: Read>(text: &mut Vec<u8>, input: &mut R) -> Result<(), Fault<'a>>
+    ensures all { OnOk result (IfSome (R.remaining input.old) (λ left. text.new.items ≡ text.old.items ++ left)) }
+    ensures refused { IfErr result (λ fault. (fault ≡ Fault.OutOfMemory) ⊎ (fault ≡ Fault.InputFailed)) }
+{
+    let mut buffer = [0; PIECE];
+    for _ in 0..u64::MAX {
+        match read_piece(input, &mut buffer)? {
+            Some(count) => text.extend_from_slice(&buffer[..count])?,
+            None => return Ok(()),
+        }
+    }
+    Err(Fault::InputFailed)
+}
+
+// What event lines are answered.
+fn lines_answered<'a>(alloc: Global, config: &Config, text: &[u8]) -> Result<Vec<u8>, Fault<'a>>
+    ensures value { IfOk result (λ out. IsEventsAnswered config.now text.now out.items) }
+    ensures refused { IfErr result (IsLinesFault text.now) }
+{
+    let script = script_of(alloc, text)?;
+    let out = script_answered(alloc, config, &script)?;
+    Ok(out)
+}
+
+// The script that event lines make.
+fn script_of<'a>(alloc: Global, text: &[u8]) -> Result<Script, Fault<'a>>
+    ensures value { IfOk result (IsScriptOf (lines_of text.now)) }
+    ensures refused { IfErr result (IsLinesFault text.now) }
+{
+    match read_events(alloc, text) {
+        Ok(script) => Ok(script),
+        Err(EventsError::BadLine(number)) => Err(Fault::BadEventLine(number)),
+        Err(EventsError::OutOfMemory) => Err(Fault::OutOfMemory),
+    }
+}
+
+// What a script is answered.
+fn script_answered(alloc: Global, config: &Config, script: &Script) -> Result<Vec<u8>, NoMemory>
+    ensures { IfOk result (λ out. IsScriptAnswered config.now script.now out.items) }
+{
+    let world = world_of(alloc, config, script)?;
+    printed(alloc, &world)
+}
+
+// The world after the events of a script, over a store of its own.
+fn world_of<'a>(
+    alloc: Global,
+    config: &'a Config,
+    script: &'a Script,
+) -> Result<World<'a, MapRecords>, NoMemory>
+    ensures { IfOk result (λ world. Runs config.now (each_moments script.now.moments.items) script.now.events.items
+        (unsent_of_all world.connections) world.book.entries) }
+{
+    let store = Store::open(alloc, config.buckets())?;
+    let (moments, events) = (script.moments.as_slice(), script.events.as_slice());
+    run(alloc, config, store, moments, events)
+}
+
+// The lines of what the connections wrote.
+fn printed(alloc: Global, world: &World<'_, MapRecords>) -> Result<Vec<u8>, NoMemory>
+    ensures { IfOk result (λ text. text.items ≡ outputs_text (unsent_of_all world.now.connections)) }
+{
+    let Ok(count) = u32::try_from(world.connections()) else {
+        return Err(NoMemory);
+    };
+    let mut text = Vec::new(alloc);
+    for connection in 0..count {
+        print_one(&mut text, world, connection)?;
+    }
+    Ok(text)
+}
+
+// Adds the line of what a connection wrote behind those of the connections before it.
+fn print_one(
+    text: &mut Vec<u8>,
+    world: &World<'_, MapRecords>,
+    connection: u32,
+) -> Result<(), NoMemory>
+    requires { connection < length world.now.connections }
+    ensures { text.old.items ≡ outputs_text (take connection (unsent_of_all world.now.connections))
+        → OnOk result (text.new.items ≡ outputs_text (take (connection + 1) (unsent_of_all world.now.connections))) }
+{
+    let output = world.out(connection)?;
+    print_output(text, connection, output.as_slice())
+}

@@ -1,0 +1,45 @@
+-- The entries of one connection, and a legal history with one entry more.
+use Rattle.std.proofs.Common.{◌≡◌, ◌≢◌, ℕ, suc, ◌+◌, cond, eqb, Bool, List, [], ◌∷◌, ◌++◌, length, filter, ap, subst, ◌∙◌, append-nil, eq-eqb, arith, inl, inr}
+use Rattle.std.proofs.lemmas.Bool.Decides.{eqb_tells}
+use Rattle.std.proofs.lemmas.List.{map-append}
+use Rattle.std.proofs.lemmas.List.Elements.{filter-append}
+use Rattle.s3_machine.specs.Step.{State}
+use Rattle.s3_machine.specs.History.{Entry, IsAnswer, Legal, after, after_entry}
+use Rattle.s3_journal.specs.Book.{Recorded, entries_of_seat, history_of}
+
+is_of : ℕ → Recorded → Bool
+is_of seat r = eqb r.seat seat
+
+-- the entries of one, with one entry more
+seat_more : (seat : ℕ) (entries : List Recorded) (r : Recorded)
+    → entries_of_seat seat (entries ++ r ∷ []) ≡ entries_of_seat seat entries ++ history_of (cond (eqb r.seat seat) (r ∷ []) [])
+seat_more seat entries r =
+    ap history_of (filter-append (λ (x : Recorded). eqb x.seat seat) entries (r ∷ []))
+    ∙ map-append (λ (x : Recorded). x.entry) (filter (λ (x : Recorded). eqb x.seat seat) entries) (cond (eqb r.seat seat) (r ∷ []) [])
+
+-- it is its own
+pub seat_own : (seat : ℕ) (entries : List Recorded) (r : Recorded) → r.seat ≡ seat
+    → entries_of_seat seat (entries ++ r ∷ []) ≡ entries_of_seat seat entries ++ r.entry ∷ []
+seat_own seat entries r own =
+    seat_more seat entries r ∙ ap (λ (b : Bool). entries_of_seat seat entries ++ history_of (cond b (r ∷ []) [])) (eq-eqb r.seat seat own)
+
+-- it is another's
+pub seat_others : (seat : ℕ) (entries : List Recorded) (r : Recorded) → r.seat ≢ seat
+    → entries_of_seat seat (entries ++ r ∷ []) ≡ entries_of_seat seat entries
+seat_others seat entries r others =
+    seat_more seat entries r
+    ∙ elim (eqb_tells r.seat seat) [
+      | inl same ↦ absurd (others same.1)
+      | inr other ↦ ap (λ (b : Bool). entries_of_seat seat entries ++ history_of (cond b (r ∷ []) [])) other.0 ∙ append-nil (entries_of_seat seat entries)
+    ]
+
+-- the history, with more entries
+pub history_more : (entries more : List Recorded) → history_of (entries ++ more) ≡ history_of entries ++ history_of more
+history_more entries more = map-append (λ (x : Recorded). x.entry) entries more
+
+-- an entry of a legal history has the answer of the state that the entries before it leave
+pub answer_there : (least : ℕ) (s : State) (n : ℕ) (es : List Entry) (e : Entry) (more : List Entry)
+    → Legal least s n (es ++ e ∷ more) → IsAnswer least (after least s es) (n + length es) e
+answer_there least s n [] e more legal = subst (λ (k : ℕ). IsAnswer least s k e) (omega arith) legal.0
+answer_there least s n (x ∷ es) e more legal =
+    subst (λ (k : ℕ). IsAnswer least (after least (after_entry least s x) es) k e) (omega arith) (answer_there least (after_entry least s x) (suc n) es e more legal.1)

@@ -1,0 +1,60 @@
+-- Connections of which nothing came.
+use Rattle.std.proofs.Common.{◌≡◌, ◌<◌, ◌+◌, ◌⊎◌, ℕ, zero, suc, Option, Some, None, List, [], ◌∷◌, ◌++◌, length, get_or, refl, sym, ap, subst, ◌∙◌, arith, inl, inr}
+use Rattle.std.proofs.lemmas.List.{length_push}
+use Rattle.std.specs.Global.{Vec}
+use Rattle.std.specs.List.{slice_get}
+use Rattle.s3_buffered_session.specs.Buffered.{Buffered, unsent_of}
+use Rattle.s3_world.specs.Run.{moments_of}
+use Rattle.s3_world.specs.World.{AreFresh, IsFresh, each_moments, unsent_at, unsent_in}
+
+-- an element of a list with one more is the last, or was there before
+get_push : {X : Type 0} (xs : List X) (x y : X) (c : ℕ) → slice_get (xs ++ x ∷ []) c ≡ Some y → (slice_get xs c ≡ Some y) ⊎ ((c ≡ length xs) × (y ≡ x))
+get_push [] x y zero is = inr (refl, (cc))
+get_push [] x y (suc c) is = absurd (cc)
+get_push (z ∷ xs) x y zero is = inl is
+get_push (z ∷ xs) x y (suc c) is = elim (get_push xs x y c is) [
+  | inl before ↦ inl before
+  | inr last ↦ inr (ap suc last.0, last.1)
+]
+
+pub moments_at : (given : List (Vec ℕ)) (c : ℕ) (d : Vec ℕ) → c < length given → moments_of c (each_moments given) ≡ (get_or given c d).items
+moments_at [] c d less = absurd (omega arith)
+moments_at (v ∷ given) zero d less = refl
+moments_at (v ∷ given) (suc c) d less = moments_at given c d (omega arith)
+
+pub fresh_none : (moments : List (List ℕ)) → AreFresh [] moments 0
+fresh_none moments = record { count = refl; fresh = λ c b is. absurd (cc) }
+
+-- one more
+pub fresh_more : (made : List Buffered) (moments : List (List ℕ)) (n : ℕ) (b : Buffered) → AreFresh made moments n → IsFresh b (moments_of n moments)
+    → AreFresh (made ++ b ∷ []) moments (n + 1)
+fresh_more made moments n b before one = record {
+  count = length_push made b ∙ ap (λ (k : ℕ). k + 1) before.count;
+  fresh = λ c d is.
+      elim (get_push made b d c is) [
+        | inl earlier ↦ before.fresh c d earlier
+        | inr last ↦
+            (let place : c ≡ n = last.0 ∙ before.count in
+            subst (λ (x : Buffered). IsFresh x (moments_of c moments)) (sym last.1) (subst (λ (k : ℕ). IsFresh b (moments_of k moments)) (sym place) one))
+      ];
+}
+
+-- nothing is unsent of it
+abbrev pub IsSilent : List Buffered → Type 0
+IsSilent made = (c : ℕ) (b : Buffered) → slice_get made c ≡ Some b → unsent_of b ≡ []
+
+pub silent_none : IsSilent []
+silent_none c b is = absurd (cc)
+
+pub silent_more : (made : List Buffered) (b : Buffered) → IsSilent made → unsent_of b ≡ [] → IsSilent (made ++ b ∷ [])
+silent_more made b before one c d is = elim (get_push made b d c is) [
+  | inl earlier ↦ before c d earlier
+  | inr last ↦ ap unsent_of last.1 ∙ one
+]
+
+silent_in : (x : Option Buffered) → ((b : Buffered) → x ≡ Some b → unsent_of b ≡ []) → unsent_in x ≡ []
+silent_in None silent = refl
+silent_in (Some b) silent = silent b refl
+
+pub silent_all : (made : List Buffered) → IsSilent made → (c : ℕ) → unsent_at made c ≡ []
+silent_all made silent c = silent_in (slice_get made c) (silent c)

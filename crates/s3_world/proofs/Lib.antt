@@ -1,0 +1,10 @@
+pub mod AlikeLemmas
+pub mod ChangeLemmas
+pub mod DeathLemmas
+pub mod EntryLemmas
+pub mod EventLemmas
+pub mod FreshLemmas
+pub mod OneRunLemmas
+pub mod RunLemmas
+pub mod TakenLemmas
+pub mod WorldLemmas

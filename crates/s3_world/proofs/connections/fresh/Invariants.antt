@@ -1,0 +1,6 @@
+use Rattle.s3_world.specs.World.{AreFresh, each_moments}
+use Rattle.s3_world.proofs.FreshLemmas.{IsSilent}
+use Rattle.s3_world.proofs.connections.fresh.Given as goal
+
+abbrev pub invariant-loop-number : goal.invariant-loop-number
+invariant-loop-number l = record { fresh : AreFresh l.made.items (each_moments l.moments) l.number; silent : IsSilent l.made.items }

@@ -1,0 +1,160 @@
+//! What an event does to one of several connections.
+
+ghost use Rattle.std.specs.Prelude.{◌≡◌, ◌≢◌, ◌<◌, ◌≤◌, ℕ, true, [], length, take, IfOk, OnOk, OnErr};
+ghost use Rattle.s3_config.specs.Settings.{Settings};
+ghost use Rattle.s3_session.specs.Output.{is_waiting};
+ghost use Rattle.s3_buffered_session.specs.Buffered as sessions;
+ghost use Rattle.s3_world.specs.World.{AreFresh, HasTaken, IsChangedAt, IsEntered, IsFedWith, IsSentOn, each_moments, standing_at, unsent_at, waiting_at};
+
+use s3_buffered_session::BufferedSession;
+use s3_calendar::Moment;
+use s3_config::Config;
+use s3_journal::Book;
+use s3_records::Records;
+use s3_terms::NoMemory;
+use std::alloc::Global;
+
+/// Connections of which nothing came, one for each list of moments.
+///
+/// # Errors
+///
+/// `NoMemory` where there is no memory for them.
+pub(crate) fn fresh<'a>(
+    alloc: Global,
+    moments: &'a [Vec<Moment>],
+) -> Result<Vec<BufferedSession<'a>>, NoMemory>
+    ensures fresh { IfOk result (λ made. AreFresh made.items (each_moments moments.now) (length moments.now)) }
+    ensures nothing { IfOk result (λ made. (c : ℕ) → unsent_at made.items c ≡ []) }
+{
+    let mut made = Vec::new(alloc);
+    for number in 0..moments.len() {
+        made.push(BufferedSession::new(alloc, moments[number].as_slice()))?;
+    }
+    Ok(made)
+}
+
+/// Whether a command of the connection of this number waits for its turn.
+pub(crate) fn is_one_waiting(connections: &[BufferedSession<'_>], number: usize) -> bool
+    ensures { result ≡ is_waiting (standing_at connections.now number) }
+{
+    number < connections.len() && connections[number].is_waiting()
+}
+
+/// A beginning of what the connection of this number wrote and has not sent.
+pub(crate) fn unsent_of_one<'a>(connections: &'a [BufferedSession<'_>], number: usize) -> &'a [u8]
+    ensures beginning { take (length result.now) (unsent_at connections.now number) ≡ result.now }
+    ensures empty { result.now ≡ [] → unsent_at connections.now number ≡ [] }
+{
+    if number < connections.len() {
+        connections[number].out()
+    } else {
+        &[]
+    }
+}
+
+/// A copy of all that the connection of this number wrote and has not sent.
+///
+/// # Errors
+///
+/// `NoMemory` where something is unsent and memory runs out.
+pub(crate) fn all_of_one(
+    alloc: Global,
+    connections: &[BufferedSession<'_>],
+    number: usize,
+) -> Result<Vec<u8>, NoMemory>
+    ensures all { IfOk result (λ all. all.items ≡ unsent_at connections.now number) }
+    ensures memory { OnErr result (unsent_at connections.now number ≢ []) }
+{
+    if number < connections.len() {
+        connections[number].all(alloc)
+    } else {
+        Ok(Vec::new(alloc))
+    }
+}
+
+/// Gives a piece to the connection of this number, if it is there.
+pub(crate) fn feed_one(
+    alloc: Global,
+    config: &Config,
+    connections: &mut [BufferedSession<'_>],
+    number: usize,
+    piece: &[u8],
+) -> Result<(), NoMemory>
+    ensures fed { OnOk result (IsChangedAt number connections.old connections.new (Unit {0})
+        (IsFedWith config.now (λ input. sessions.received input piece.now))) }
+    ensures same { OnErr result (connections.new ≡ connections.old) }
+    ensures memory { OnErr result (piece.now ≢ []) }
+    ensures there { OnErr result (number < length connections.old) }
+{
+    if number < connections.len() {
+        connections[number].feed(alloc, config, piece)
+    } else {
+        Ok(())
+    }
+}
+
+/// Says to the connection of this number, if it is there, that no more bytes come.
+pub(crate) fn end_one(connections: &mut [BufferedSession<'_>], number: usize)
+    ensures ended { (settings : Settings) → IsChangedAt number connections.old connections.new (Unit {0})
+        (IsFedWith settings (λ input. record input { ended = true })) }
+{
+    if number < connections.len() {
+        connections[number].end();
+    }
+}
+
+/// Says that so many bytes in front of what the connection of this number wrote were sent.
+pub(crate) fn sent_one(connections: &mut [BufferedSession<'_>], number: usize, count: usize)
+    requires within { count ≤ length (unsent_at connections.old number) }
+    ensures sent { IsChangedAt number connections.old connections.new (Unit {0}) (IsSentOn count) }
+{
+    if number < connections.len() {
+        connections[number].sent(count);
+    }
+}
+
+/// Gives the command of a connection, if one waits, its turn at the book: it is answered as an entry of this seat, or,
+/// where memory runs out at it, as the connection says so.
+pub(crate) fn take_turn<R: Records + Drop>(
+    alloc: Global,
+    config: &Config,
+    connection: &mut BufferedSession<'_>,
+    book: &mut Book<R>,
+    seat: u64,
+)
+    ensures taken { HasTaken config.now seat book.old book.new connection.old connection.new }
+    ensures entered { IsEntered R.is_in_memory book.old book.new (sessions.turn_of connection.old) }
+    ensures least { book.new.least ≡ book.old.least }
+    ensures opening { book.new.opening ≡ book.old.opening }
+{
+    if let Some(turn) = connection.take_turn() {
+        let answered = book.apply(seat, turn);
+        connection.answer(alloc, config, answered);
+    }
+}
+
+/// Gives the command of the connection of this number, if it is there and one waits, its turn at the book.
+pub(crate) fn turn_one<R: Records + Drop>(
+    alloc: Global,
+    config: &Config,
+    connections: &mut [BufferedSession<'_>],
+    book: &mut Book<R>,
+    number: u32,
+)
+    ensures taken { IsChangedAt number connections.old connections.new (book.new.entries ≡ book.old.entries)
+        (HasTaken config.now number book.old book.new) }
+    ensures entered { IsEntered R.is_in_memory book.old book.new (waiting_at connections.old number) }
+    ensures least { book.new.least ≡ book.old.least }
+    ensures opening { book.new.opening ≡ book.old.opening }
+{
+    let place = number as usize;
+    if place < connections.len() {
+        take_turn(
+            alloc,
+            config,
+            &mut connections[place],
+            book,
+            u64::from(number),
+        );
+    }
+}

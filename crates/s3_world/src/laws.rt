@@ -1,0 +1,22 @@
+//! What is known of all worlds: laws, with nothing to run.
+
+ghost use Rattle.s3_world.specs.Laws.{OneRun, WorldsRun};
+
+use s3_buffered_session::{buffered_sessions_write, outputs_are_one};
+
+/// A law: a world that stands after some events, with so much sent, has made a run of them, whose outputs are what was sent
+/// and what is unsent. There is nothing to run.
+pub fn worlds_run()
+    ensures { WorldsRun }
+{
+    buffered_sessions_write();
+}
+
+/// A law: settings, moments and events fix each entry of a run and each output, as long as memory does not run out in a
+/// connection; and events that bring the same to each connection up to each turn, in the same order of turns, leave the
+/// same ones. There is nothing to run.
+pub fn runs_are_one()
+    ensures { OneRun }
+{
+    outputs_are_one();
+}

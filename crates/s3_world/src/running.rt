@@ -1,0 +1,52 @@
+//! A whole run: events, one after another.
+
+ghost use Rattle.std.specs.Prelude.{◌≡◌, ℕ, List, [], IfOk, OnOk};
+ghost use Rattle.s3_records.specs.Catalogue.{opening};
+ghost use Rattle.s3_store.specs.Steps.{opened};
+ghost use Rattle.s3_world.specs.Run.{Runs};
+ghost use Rattle.s3_world.specs.World.{StandsAfter, each_moments, nothing_sent, unsent_of_all};
+
+use crate::laws::worlds_run;
+use crate::world::World;
+use s3_calendar::Moment;
+use s3_config::Config;
+use s3_events::Event;
+use s3_records::Records;
+use s3_store::Store;
+use s3_terms::NoMemory;
+use std::alloc::Global;
+
+/// The world after these events, one after another, of connections over a store that holds the opening buckets: its history
+/// and what the connections wrote, all of it unsent, are a run of the events.
+///
+/// # Errors
+///
+/// `NoMemory` where there is no memory for the connections, or for bytes that may have to be kept.
+pub fn run<'a, R: Records + Drop>(
+    alloc: Global,
+    config: &'a Config,
+    store: Store<R>,
+    moments: &'a [Vec<Moment>],
+    events: &[Event],
+) -> Result<World<'a, R>, NoMemory>
+    requires opening { store ≡ opened (opening config.now.buckets) }
+    ensures runs { IfOk result (λ world.
+        Runs config.now (each_moments moments.now) events.now (unsent_of_all world.connections) world.book.entries) }
+{
+    worlds_run();
+    let mut world = World::new(alloc, config, store, moments)?;
+    step_all(&mut world, events)?;
+    Ok(world)
+}
+
+// Does what events say, one after another.
+fn step_all<R: Records + Drop>(world: &mut World<'_, R>, events: &[Event]) -> Result<(), NoMemory>
+    ensures stands { (moments : List (List ℕ)) → StandsAfter world.old moments [] nothing_sent
+        → OnOk result (StandsAfter world.new moments events.now nothing_sent) }
+    ensures settings { world.new.settings ≡ world.old.settings }
+{
+    for number in 0..events.len() {
+        world.step(&events[number])?;
+    }
+    Ok(())
+}
