@@ -98,7 +98,7 @@ IsFit stages.Reading session kept ended =
 IsFit (stages.Waiting turn) session kept ended = (sessions.standing_of session ≡ standings.Waiting) × (session.is_ended ≡ false)
 IsFit stages.HandedOut session kept ended = (sessions.standing_of session ≡ standings.Waiting) × (session.is_ended ≡ false)
 IsFit stages.Done session kept ended =
-    (is_waiting (sessions.standing_of session) ≡ false) × (is_closed (sessions.standing_of session) ≡ false → ended ≡ true)
+    (is_waiting (sessions.standing_of session) ≡ false) × (is_closed (sessions.standing_of session) ≡ false → ended ≡ true) × (kept ≡ [])
 
 -- the connection of a buffered session after all that it was fed with: its moments are those of the list, the commands of
 -- the entries were answered so, and these turns wait

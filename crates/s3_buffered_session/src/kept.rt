@@ -7,10 +7,10 @@ use s3_terms::NoMemory;
 use std::alloc::Global;
 use std::marker::Model;
 
-/// Bytes, of which those in front are taken first. Of the bytes that it holds at most half were taken, and where all were, it
-/// holds no memory. Contracts see the bytes that are left.
+/// Bytes that came and are to be taken later, of which those in front are taken first. Of the bytes that it holds at most half
+/// were taken, and where all were, it holds no memory. Contracts see the bytes that are left.
 #[derive(Drop)]
-pub(crate) struct Kept {
+pub struct Kept {
     bytes: Vec<u8>,
     at: usize,
 }
@@ -26,8 +26,8 @@ impl Model for Kept {
 }
 
 impl Kept {
-    // No bytes, without memory.
-    pub(crate) fn new(alloc: Global) -> Kept
+    /// No bytes. It takes no memory.
+    pub fn new(alloc: Global) -> Kept
         ensures { result ≡ [] }
     {
         Kept {
@@ -36,15 +36,19 @@ impl Kept {
         }
     }
 
-    // What is left, in one piece.
-    pub(crate) fn as_slice(&self) -> &[u8]
+    /// What is left, in one piece.
+    pub fn as_slice(&self) -> &[u8]
         ensures { result.now ≡ self.now }
     {
         &self.bytes[self.at..]
     }
 
-    // Keeps these bytes too, behind the others.
-    pub(crate) fn add(&mut self, piece: &[u8]) -> Result<(), NoMemory>
+    /// Keeps these bytes too, behind the others.
+    ///
+    /// # Errors
+    ///
+    /// `NoMemory` where there is no memory for them.
+    pub fn add(&mut self, piece: &[u8]) -> Result<(), NoMemory>
         ensures added { OnOk result (self.new ≡ self.old ++ piece.now) }
         ensures same { OnErr result (self.new ≡ self.old) }
     {
@@ -52,8 +56,8 @@ impl Kept {
         Ok(())
     }
 
-    // Drops so many bytes in front.
-    pub(crate) fn skip(&mut self, alloc: Global, count: usize)
+    /// Drops so many bytes in front. It takes no memory; over all calls, time by the bytes that were kept.
+    pub fn skip(&mut self, alloc: Global, count: usize)
         requires within { count ≤ length self.old }
         ensures { self.new ≡ drop count self.old }
     {

@@ -10,5 +10,6 @@ mod reading;
 mod stage;
 
 pub use buffered::BufferedSession;
+pub use kept::Kept;
 pub use laws::{buffered_sessions_write, outputs_are_one};
 pub use moments::Moments;

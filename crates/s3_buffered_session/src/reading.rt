@@ -114,7 +114,7 @@ fn conclude(session: &mut Session, stage: Stage) -> Stage
         → input.bytes ≡ past.bytes ++ offered → input.ended ≡ true
         → Holds (record { session = session.new; moments = clock; kept = kept; stage = result; is_ended = true })
         settings list input entries [] sent }
-    ensures fit { (kept : List ℕ) → IsFit result session.new kept true }
+    ensures fit { (kept : List ℕ) → (is_some (turn_at stage) ≡ false → kept ≡ []) → IsFit result session.new kept true }
     ensures handed { is_handed_at result ≡ false }
 {
     let mut stage = stage;

@@ -7,9 +7,13 @@ use mathlib.Core.List.{IsPrefix}
 use Rattle.logbook.specs.Pages.{Cell, cell, Step, View, Book, Named, Nib, nib, may_write, may_make}
 use Rattle.s3_history.specs.declared.log.Line.{Line}
 
+-- which history it is
+abbrev pub Origin : Type 0
+Origin = Book
+
 -- what is known of a history: which one it is, and its entries
 pub record Trace (E : Type 0) : Type 0 where
-  pub origin : Book
+  pub origin : Origin
   pub entries : List E
 
 -- the word of this key is at home

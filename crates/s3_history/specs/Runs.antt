@@ -1,11 +1,11 @@
 -- Runs of a machine, and what a book is.
 use Rattle.std.specs.Prelude.{◌≡◌, List, [], ◌∷◌}
-use Rattle.logbook.specs.Pages.{Book}
 use Rattle.s3_history.specs.declared.machine.Entry.{Entry}
+use Rattle.s3_history.specs.Log.{Origin}
 
 -- a book: which history it is, the machine at its opening, the entries since then, and the machine as it is
 pub record Account (M C A : Type 0) : Type 0 where
-  pub origin : Book
+  pub origin : Origin
   pub opening : M
   pub entries : List (Entry C A)
   pub machine : M

@@ -1,9 +1,10 @@
 //! A machine with the history of what it answered.
 ghost use Rattle.std.specs.Prelude.{◌≡◌, ◌++◌, ◌∷◌, [], IfOk, OnErr};
+ghost use mathlib.Core.List.{IsPrefix};
 ghost use Rattle.s3_history.specs.Runs.{Run};
 
 use crate::machine::{Answered, AsEntry, Entry, Machine};
-use crate::recorder::Recorder;
+use crate::recorder::{Prefix, Recorder};
 use std::alloc::AllocError;
 use std::marker::Model;
 use std::snapshot::Snapshot;
@@ -77,5 +78,21 @@ impl<M: Machine> Book<M> {
         ensures run { Run M.step M.reply self.now.opening self.now.entries self.now.machine }
     {
         &self.machine
+    }
+
+    /// What is known of the history now: all of it.
+    pub fn prefix(&self) -> Prefix<Entry<M::Command, M::Answer>>
+        ensures { result ≡ record { origin = self.now.origin; entries = self.now.entries } }
+    {
+        self.recorder.prefix()
+    }
+
+    /// What is known of the history begins it.
+    pub fn check(&mut self, known: &Prefix<Entry<M::Command, M::Answer>>)
+        requires { known.now.origin ≡ self.old.origin }
+        ensures same { self.new ≡ self.old }
+        ensures begins { IsPrefix known.now.entries self.old.entries }
+    {
+        self.recorder.check(known);
     }
 }

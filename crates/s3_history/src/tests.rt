@@ -40,7 +40,9 @@ impl Describes<u64, u64> for Itself {
 fn answers(first: u64, second: u64) -> Result<(u64, u64, u64), AllocError> {
     let mut book = Book::new(Register { number: 3 })?;
     let one = book.apply(0, first)?;
+    let known = book.prefix();
     let two = book.apply(1, second)?;
+    book.check(&known);
     Ok((one, two, book.machine().number))
 }
 

@@ -1,2 +1,3 @@
+pub mod PrefixLemmas
 pub mod RunLemmas
 pub mod SplitLemmas

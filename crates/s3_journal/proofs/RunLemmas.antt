@@ -1,6 +1,7 @@
 -- Runs of a store as a machine are legal histories.
 use Rattle.std.proofs.Common.{◌≡◌, ◌+◌, suc, List, [], ◌∷◌, length, map, sym, ◌∙◌, ap, subst, arith}
 use Rattle.s3_history.specs.declared.machine.Entry.{Entry}
+use Rattle.s3_history.specs.Log.{Origin}
 use Rattle.s3_history.specs.Runs.{Run}
 use Rattle.s3_machine.specs.declared.outcome.Answer.{Answer}
 use Rattle.s3_machine.specs.declared.turn.Turn.{Turn}
@@ -33,8 +34,8 @@ pub run_counts : (k l : LimitedStore) (es : List (Entry Turn Answer)) → Run st
 run_counts k l [] run = let same = ap (λ (m : LimitedStore). m.store.number) run in omega (arith, same)
 run_counts k l (e ∷ es) run = let rest = run_counts (step_of k e.command) l es run.1 in omega (arith, rest)
 
-abbrev pub journal_of : LimitedStore → List (Entry Turn Answer) → LimitedStore → Journal
-journal_of k es l = record { least = k.least; opening = k.store; entries = map recorded_of es; store = l.store }
+abbrev pub journal_of : Origin → LimitedStore → List (Entry Turn Answer) → LimitedStore → Journal
+journal_of origin k es l = record { origin = origin; least = k.least; opening = k.store; entries = map recorded_of es; store = l.store }
 
-pub run_keeps : (k l : LimitedStore) (es : List (Entry Turn Answer)) → Run step_of Replies k es l → KeepsHistory (journal_of k es l)
-run_keeps k l es run = record { legal = run_legal k l es run; leaves = run_leaves k l es run; counts = run_counts k l es run }
+pub run_keeps : (origin : Origin) (k l : LimitedStore) (es : List (Entry Turn Answer)) → Run step_of Replies k es l → KeepsHistory (journal_of origin k es l)
+run_keeps origin k l es run = record { legal = run_legal k l es run; leaves = run_leaves k l es run; counts = run_counts k l es run }

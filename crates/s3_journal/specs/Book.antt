@@ -1,6 +1,7 @@
 -- What a book is: a store, and the history of the commands that it answered. No memory holds the history: only contracts
 -- and proofs speak of it.
 use Rattle.std.specs.Prelude.{◌≡◌, ◌==◌, ℕ, ◌+◌, List, map, filter, length}
+use Rattle.s3_history.specs.Log.{Origin}
 use Rattle.s3_machine.specs.History.{Entry, Legal, after}
 use Rattle.s3_store.specs.Steps.{Standing}
 
@@ -17,9 +18,10 @@ history_of entries = map (λ (r : Recorded). r.entry) entries
 abbrev pub entries_of_seat : ℕ → List Recorded → List Entry
 entries_of_seat seat entries = history_of (filter (λ (r : Recorded). r.seat == seat) entries)
 
--- a book: the least size of a part that is not the last, the store as it was when the book was opened, the entries since
--- then, and the store as it is
+-- a book: which history it is, the least size of a part that is not the last, the store as it was when the book was opened,
+-- the entries since then, and the store as it is
 pub record Journal : Type 0 where
+  pub origin : Origin
   pub least : ℕ
   pub opening : Standing
   pub entries : List Recorded

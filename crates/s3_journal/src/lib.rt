@@ -5,9 +5,11 @@
 mod book;
 mod keeper;
 mod laws;
+mod prefix;
 
 pub use book::Book;
 pub use laws::books_keep_promises;
+pub use prefix::Prefix;
 
 #[cfg(test)]
 mod tests;

@@ -3,7 +3,7 @@
 use crate::request::Request;
 use s3_calendar::Stamp;
 use s3_config::Config;
-use s3_session::replay_one;
+use s3_replay::replay_one;
 use s3_signer::Unsigned;
 use std::alloc::Global;
 

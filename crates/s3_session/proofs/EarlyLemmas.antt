@@ -1,5 +1,5 @@
 -- Where a whole head text stands: at a sound message, and, once no more bytes come, only where something is decided.
-use Rattle.std.proofs.Common.{◌≡◌, ℕ, Bool, true, List, Result, Ok, Err, drop, refl, ap, subst, inl, inr}
+use Rattle.std.proofs.Common.{◌≡◌, ◌≢◌, ℕ, Bool, true, List, Result, Ok, Err, drop, refl, ap, inl, inr}
 use Rattle.s3_config.specs.Settings.{Settings}
 use Rattle.s3_terms.specs.declared.code.Code.{Code}
 use Rattle.s3_http_heads.specs.Find.{found_in}
@@ -15,6 +15,7 @@ use Rattle.s3_payloads.specs.Laws.{EndsDecide}
 use Rattle.s3_session.specs.Admission.{Asked, admission_of}
 use Rattle.s3_session.specs.Decision.{Decision, Judges, AskedJudged, TextJudged, FoundJudged, commanded, text_at, behind_text, open_yet}
 use Rattle.s3_session.specs.Output.{HasText}
+use Rattle.s3_session.specs.Laws.{HeadsAreDecided}
 
 -- where a head text stands and no more bytes come, something is decided
 commanded_decided : (head : HeadParts) (moment : ℕ) (behind : List ℕ) (rule : Result Command Code) → ¬ (open_yet ≡ commanded head moment behind rule)
@@ -33,10 +34,14 @@ module _ (decide : EndsDecide) (settings : Settings) (moment : ℕ) (bytes : Lis
   text_decided text behind (inl unreadable) = let same = ap (λ (d : Decision). d.0) unreadable.1 in absurd (cc)
   text_decided text behind (inr said) = asked_decided said.0 behind (admission_of settings said.0 moment) said.2
 
-  pub head_decided : (n : ℕ) → found_in bytes ≡ found.Head n → ¬ (Judges settings moment true bytes open_yet)
-  unfolding Judges
-  head_decided n at is =
-      text_decided (text_at n bytes) (behind_text n bytes) (subst (λ (f : Found). FoundJudged settings moment true bytes f open_yet) at is)
+  found_decided : (f : Found) → f ≢ found.NeedMore → ¬ (FoundJudged settings moment true bytes f open_yet)
+  found_decided found.NeedMore some is = some refl
+  found_decided found.TooLarge some is = let same = ap (λ (d : Decision). d.0) is in absurd (cc)
+  found_decided (found.Head n) some is = text_decided (text_at n bytes) (behind_text n bytes) is
+
+pub heads_are_decided : EndsDecide → HeadsAreDecided
+unfolding Judges
+heads_are_decided decide settings moment bytes some is = found_decided decide settings moment bytes (found_in bytes) some is
 
 module _ (settings : Settings) (moment : ℕ) (ended : Bool) (bytes : List ℕ) (context : Context) (command : Command) (rest : List ℕ) where
   found_text : (f : Found) → found_in bytes ≡ f → FoundJudged settings moment ended bytes f (verdicts.Sound context command, rest) → HasText bytes

@@ -13,7 +13,6 @@ pub mod ShorterLemmas
 pub mod SoundLemmas
 pub mod StandsLemmas
 pub mod StayLemmas
-pub mod TurnsLemmas
 pub mod UndecidedLemmas
 pub mod VerdictLemmas
 pub mod WalkLemmas

@@ -237,7 +237,7 @@ asking_at settings session ended context None waiting last at h = let same = sym
 
 -- ---- an answer
 
-pub empty_found : found_in [] ≡ found.NeedMore
+empty_found : found_in [] ≡ found.NeedMore
 unfolding found_in skip_pairs text_length
 empty_found = refl
 
@@ -475,13 +475,6 @@ module _ (stay : VerdictsStay) (invited : InvitationsStay) (heads : HeadsStay) (
           here = here_or_end h.left h.waiting h.last other (subst (λ e. HereOr settings old e h.left h.waiting h.last) unended h.here);
           end = sym end;
         }
-
--- a second end changes nothing
-pub stands_ended : (settings : Settings) (session : Connection) (past : Past) (sent : List ℕ) → session.is_ended ≡ true
-    → Stands session settings past sent → Stands session settings (record past { ended = true }) sent
-stands_ended settings session past sent end h =
-    let is : past ≡ record past { ended = true } = rw (h.end ∙ end) refl in
-    subst (λ (p : Past). Stands session settings p sent) is h
 
 -- ---- a connection of which nothing came
 

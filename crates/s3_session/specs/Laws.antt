@@ -1,6 +1,6 @@
 -- What a verdict on a connection's bytes says of them (RFC 9112, sections 2.1 and 6.2), and that the
 -- bytes fix what is written.
-use Rattle.std.specs.Prelude.{◌≡◌, ◌≢◌, ℕ, Bool, false, List, ◌++◌, Ok}
+use Rattle.std.specs.Prelude.{◌≡◌, ◌≢◌, ℕ, Bool, true, false, List, [], ◌++◌, Ok}
 use mathlib.Core.List.{IsPrefix}
 use Rattle.s3_config.specs.Settings.{Settings}
 use Rattle.s3_http_heads.specs.Find.{found_in}
@@ -15,10 +15,10 @@ use Rattle.s3_replies.specs.declared.context.Context.{Context}
 use Rattle.s3_session.specs.Verdict.{Verdict}
 use Rattle.s3_session.specs.Verdict as verdicts
 use Rattle.s3_session.specs.Admission.{Asked, admission_of}
-use Rattle.s3_session.specs.Decision.{Decision, Judges, context_of}
+use Rattle.s3_session.specs.Decision.{Decision, Judges, context_of, open_yet}
 use Rattle.s3_session.specs.Invitation.{Invites}
 use Rattle.s3_session.specs.Output.{Past, Standing, Reading, Writes, is_dead}
-use Rattle.s3_session.specs.Replay.{LiveReplays}
+use Rattle.s3_session.specs.Replay.{LiveReplays, Replays}
 use Rattle.s3_session.specs.Session.{Connection, Stands, standing_of, unsent_of}
 
 -- settings, moment, bytes and whether they end leave at most one verdict, with one rest
@@ -107,6 +107,18 @@ OutputsStay =
     (settings : Settings) (standing : Standing) (past : Past) (out more : List ℕ) (ended : Bool)
     → standing ≢ Reading → past.ended ≡ false → Writes standing settings past out
     → Writes standing settings (record past { bytes = past.bytes ++ more; ended = ended }) out
+
+-- once no more bytes come, something is decided about a message where there is a head text or too many bytes without one
+abbrev pub HeadsAreDecided : Type 0
+HeadsAreDecided =
+    (settings : Settings) (moment : ℕ) (bytes : List ℕ)
+    → found_in bytes ≢ found.NeedMore → ¬ (Judges settings moment true bytes open_yet)
+
+-- and where there is neither, nothing is written
+abbrev pub HeadlessAreSilent : Type 0
+HeadlessAreSilent =
+    (settings : Settings) (moment : ℕ) (bytes : List ℕ)
+    → found_in bytes ≡ found.NeedMore → Replays settings moment bytes []
 
 -- two replays of the same bytes under the same settings at the same moment, in which memory does not
 -- run out, write the same

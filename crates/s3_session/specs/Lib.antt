@@ -7,7 +7,6 @@ pub mod Laws
 pub mod Output
 pub mod ReadBack
 pub mod Replay
-pub mod Replaying
 pub mod Session
 pub mod Verdict
 pub mod Walk

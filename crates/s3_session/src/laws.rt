@@ -1,7 +1,7 @@
 //! What is known of all connections: laws, with nothing to run.
 
 ghost use Rattle.s3_session.specs.ReadBack.{PutsAreReadBack, VersionsAreReadBack, OnlyPutsAreReadBack, PayloadsAreBrought};
-ghost use Rattle.s3_session.specs.Laws.{InvitationsStay, OneInvitation, OneOutput, OneVerdict, OneWriting, OutputsStay, VerdictsExist, VerdictsStay, SessionsWrite, SoundMessages, SoundIsJudged};
+ghost use Rattle.s3_session.specs.Laws.{HeadlessAreSilent, HeadsAreDecided, InvitationsStay, OneInvitation, OneOutput, OneVerdict, OneWriting, OutputsStay, VerdictsExist, VerdictsStay, SessionsWrite, SoundMessages, SoundIsJudged};
 
 use s3_http_heads::{texts_say_one_thing, verdict_is_exact};
 use s3_machine::{only_puts_are_given, puts_are_kept};
@@ -93,6 +93,15 @@ pub fn outputs_are_one()
     invitations_are_final();
     replies_are_unique();
     refusals_are_unique();
+}
+
+/// A law: once no more bytes come, something is decided about a message that has a head text, or too many bytes without
+/// one; and a connection whose bytes have neither writes nothing. There is nothing to run.
+pub fn heads_decide()
+    ensures decided { HeadsAreDecided }
+    ensures silent { HeadlessAreSilent }
+{
+    verdicts_are_final();
 }
 
 /// A law: a session that stands after some bytes, moments, turns and answers has written the output of the connection

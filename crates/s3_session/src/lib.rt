@@ -1,5 +1,5 @@
-//! A connection as a machine (`Session`): what its bytes ask for, and what it writes. `Replay` runs one over a
-//! store of its own; the laws say what all connections have in common.
+//! A connection as a machine (`Session`): what its bytes ask for, and what it writes. The laws say what all
+//! connections have in common.
 #![tactic(auto)]
 
 mod admission;
@@ -7,15 +7,14 @@ mod clock;
 mod incoming;
 mod laws;
 mod opening;
-mod replay;
 mod reply;
 mod session;
 
 pub use admission::{Admission, admit};
 pub use clock::{Clock, Still};
 pub use laws::{
-    inputs_fix_outputs, invitations_are_final, outputs_are_one, outputs_stay, puts_are_read_back,
-    sessions_write, sound_verdicts_are_exact, verdicts_are_one, verdicts_exist, verdicts_stay,
+    heads_decide, inputs_fix_outputs, invitations_are_final, outputs_are_one, outputs_stay,
+    puts_are_read_back, sessions_write, sound_verdicts_are_exact, verdicts_are_one, verdicts_exist,
+    verdicts_stay,
 };
-pub use replay::{Replay, replay_one};
 pub use session::{Need, Session};

@@ -1,4 +1,4 @@
-//! Tests of whole connections: at the level of `s3_session::replay_one`, bytes in, bytes out, and as machines, at the level
+//! Tests of whole connections: at the level of `s3_replay::replay_one`, bytes in, bytes out, and as machines, at the level
 //! of `s3_session::Session` and `s3_buffered_session::BufferedSession`: how they are fed, what they ask for, and what they
 //! write. What is sent is signed outside of this program; what is written is as `docs/PROTOCOL.md` says.
 #![tactic(auto)]

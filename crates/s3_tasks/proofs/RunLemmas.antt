@@ -1,6 +1,6 @@
 -- How a task ends.
 use Rattle.std.proofs.Common.{◌≡◌, ◌∙◌, ℕ, List, ◌++◌, Option, Some, None, IfSome, Result, Ok, Err, inr, ap, append-nil, subst, sym}
-use Rattle.std.specs.Prelude.{IfErr, OnErr}
+use Rattle.std.specs.Prelude.{IfErr, IfOk, OnErr}
 use Rattle.std.specs.Io.KnownBytes.{Consumes, IsAtEnd}
 use Rattle.s3_settings.specs.declared.fault.Fault.{Fault}
 use Rattle.s3_settings.specs.declared.fault.Fault.TheVariants.{OutputFailed}
@@ -19,9 +19,11 @@ all_given P None after done given end h = tt
 all_given P (Some left) None done given end h = absurd given
 all_given P (Some left) (Some rest) done given end h = subst P (sym (given ∙ ap (λ (l : List ℕ). done ++ l) end ∙ append-nil done)) h
 
--- what follows from it
-pub if_known : (P Q : List ℕ → Type 0) (known : Option (List ℕ)) → ((bytes : List ℕ) → P bytes → Q bytes) → IfSome known P → IfSome known Q
-if_known P Q None leads h = tt
-if_known P Q (Some bytes) leads h = leads bytes h
+-- what follows from it for what was made of it
+pub known_ok : {T E : Type 0} (P : List ℕ → Type 0) (Q : T → List ℕ → Type 0) (known : Option (List ℕ)) (r : Result T E)
+    → ((bytes : List ℕ) → P bytes → IfOk r (λ x. Q x bytes)) → IfSome known P → IfOk r (λ x. IfSome known (Q x))
+known_ok P Q known (Err e) leads h = tt
+known_ok P Q None (Ok x) leads h = tt
+known_ok P Q (Some bytes) (Ok x) leads h = leads bytes h
 
 pub ruleset runs = cut_short

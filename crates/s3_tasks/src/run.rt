@@ -1,8 +1,10 @@
 //! A run of the program, from its words to its status.
 
-ghost use Rattle.std.specs.Prelude.{◌≡◌, ◌≢◌, ◌≤◌, ◌⊎◌, ◌++◌, ℕ, List, IfOk, OnOk, IfErr, IfSome, IsTrue, map, true};
+ghost use Rattle.std.specs.Prelude.{◌≡◌, ◌≢◌, ◌≤◌, ◌⊎◌, ◌++◌, ℕ, List, [], IfOk, OnOk, IfErr, IfSome, IsTrue, map, true};
+ghost use Rattle.s3_config.specs.Settings.{Settings};
 ghost use Rattle.s3_session.specs.Replay.{Replays};
-ghost use Rattle.s3_session.specs.Replaying.{HasTaken};
+ghost use Rattle.s3_world.specs.World.{each_moments};
+ghost use Rattle.s3_replay.specs.Replaying.{HasTaken, all_at};
 ghost use Rattle.s3_settings.specs.Devices.{AppendsBeginning};
 ghost use Rattle.s3_settings.specs.Fault.{line_of};
 ghost use Rattle.s3_tasks.specs.Run.{IsAnswered, IsAnswerFault, IsReplayed, IsReplayFault, IsDone, IsTaskText, IsTextFault, IsTaskDone, IsTaskFault, is_before_input, is_signing, IsRunFault, HasFailed};
@@ -14,7 +16,7 @@ use s3_calendar::Moment;
 use s3_command_line::{Task, WordsError, read_words};
 use s3_config::Config;
 use s3_options::ReplayOptions;
-use s3_session::Replay;
+use s3_replay::{Replay, at_moment};
 use s3_settings::{Fault, Files, ReplayMode, Setup, configure, read_piece, write_output};
 use std::alloc::Global;
 use std::convert::AsStr;
@@ -183,28 +185,55 @@ fn answers<'a, R: Read>(
     ensures value { IfOk result (λ text. IfSome (R.remaining input.old) (λ bytes. Replays config.now moment bytes text.items)) }
     ensures refused { IfErr result (λ fault. (fault ≡ Fault.OutOfMemory) ⊎ (fault ≡ Fault.InputFailed)) }
 {
-    let mut replay = Replay::new(alloc, config)?;
-    feed_input(alloc, config, moment, &mut replay, input)?;
-    let answers = replay.written(alloc)?;
-    Ok(answers)
+    let moments = at_moment(alloc, moment)?;
+    answers_at(alloc, config, moments.as_slice(), input)
+}
+
+// The same, whose messages have the moments of a list.
+fn answers_at<'a, R: Read>(
+    alloc: Global,
+    config: &Config,
+    moments: &[Vec<Moment>],
+    input: &mut R,
+) -> Result<Vec<u8>, Fault<'a>>
+    ensures value { (moment : ℕ) → each_moments moments.now ≡ all_at moment
+        → IfOk result (λ text. IfSome (R.remaining input.old) (λ bytes. Replays config.now moment bytes text.items)) }
+    ensures refused { IfErr result (λ fault. (fault ≡ Fault.OutOfMemory) ⊎ (fault ≡ Fault.InputFailed)) }
+{
+    let replay = Replay::new(alloc, config, moments)?;
+    written_after(replay, input)
+}
+
+// What a replay writes that takes all that the input has left and then ends.
+fn written_after<'a, R: Read>(mut replay: Replay<'_>, input: &mut R) -> Result<Vec<u8>, Fault<'a>>
+    ensures value { (settings : Settings) (moment : ℕ) → HasTaken replay.entry settings moment []
+        → IfOk result (λ text. IfSome (R.remaining input.old) (λ bytes. Replays settings moment bytes text.items)) }
+    ensures refused { IfErr result (λ fault. (fault ≡ Fault.OutOfMemory) ⊎ (fault ≡ Fault.InputFailed)) }
+{
+    feed_input(&mut replay, input)?;
+    written(replay)
+}
+
+// What a replay writes that ends here.
+fn written<'a>(replay: Replay<'_>) -> Result<Vec<u8>, Fault<'a>>
+    ensures value { (settings : Settings) (moment : ℕ) (bytes : List ℕ) → HasTaken replay.entry settings moment bytes
+        → IfOk result (λ text. Replays settings moment bytes text.items) }
+    ensures refused { IfErr result (λ fault. fault ≡ Fault.OutOfMemory) }
+{
+    let text = replay.written()?;
+    Ok(text)
 }
 
 // Feeds a replay with all that the input has left, in pieces as they are read.
-fn feed_input<'a, R: Read>(
-    alloc: Global,
-    config: &Config,
-    moment: Moment,
-    replay: &mut Replay,
-    input: &mut R,
-) -> Result<(), Fault<'a>>
-    ensures fed { (bytes : List ℕ) → HasTaken replay.old config.now moment bytes
-        → OnOk result (IfSome (R.remaining input.old) (λ left. HasTaken replay.new config.now moment (bytes ++ left))) }
+fn feed_input<'a, R: Read>(replay: &mut Replay<'_>, input: &mut R) -> Result<(), Fault<'a>>
+    ensures fed { (settings : Settings) (moment : ℕ) (bytes : List ℕ) → HasTaken replay.old settings moment bytes
+        → OnOk result (IfSome (R.remaining input.old) (λ left. HasTaken replay.new settings moment (bytes ++ left))) }
     ensures refused { IfErr result (λ fault. (fault ≡ Fault.OutOfMemory) ⊎ (fault ≡ Fault.InputFailed)) }
 {
     let mut buffer = [0; PIECE];
     for _ in 0..u64::MAX {
         match read_piece(input, &mut buffer)? {
-            Some(count) => replay.feed(alloc, config, moment, &buffer[..count]),
+            Some(count) => replay.feed(&buffer[..count])?,
             None => return Ok(()),
         }
     }

@@ -18,7 +18,7 @@ use Rattle.s3_session.specs.Output as standings
 use Rattle.s3_session.specs.Session.{is_closed}
 use Rattle.s3_buffered_session.specs.Output.{Input}
 use Rattle.s3_buffered_session.specs.Buffered.{Buffered, Holds, entries_with, is_handed_out, standing_of, turn_of, unanswered}
-use Rattle.s3_world.specs.World.{HasTaken, IsChangedAt, IsChangedIn, IsEntered, IsFedWith, IsRecorded, IsTurnTaken, turn_in, waiting_at}
+use Rattle.s3_world.specs.World.{HasTaken, IsChangedAt, IsChangedIn, IsEntered, IsFedWith, IsRecorded, IsTurnTaken, standing_at, turn_in, waiting_at}
 
 -- ---- the list
 
@@ -33,6 +33,15 @@ get_set_same : {X : Type 0} (xs : List X) (c : ℕ) (d : X) → c < length xs �
 get_set_same [] c d less = absurd (omega arith)
 get_set_same (x ∷ xs) zero d less = refl
 get_set_same (x ∷ xs) (suc c) d less = get_set_same xs c d (omega arith)
+
+-- where the one that changed waits as it did, each does
+pub waiting_set : (old : List Buffered) (c : ℕ) (b d : Buffered) → c < length old → is_waiting (standing_of d) ≡ is_waiting (standing_of (get_or old c b))
+    → (k : ℕ) → is_waiting (standing_at (set old c d) k) ≡ is_waiting (standing_at old k)
+waiting_set [] c b d less same k = refl
+waiting_set (x ∷ old) zero b d less same zero = same
+waiting_set (x ∷ old) zero b d less same (suc k) = refl
+waiting_set (x ∷ old) (suc c) b d less same zero = refl
+waiting_set (x ∷ old) (suc c) b d less same (suc k) = waiting_set old c b d (omega arith) same k
 
 module _ (old : List Buffered) (c : ℕ) (Stays : Type 0) (Change : Buffered → Buffered → Type 0) where
   pub changed_set : (b d : Buffered) → c < length old → Change (get_or old c b) d → IsChangedAt c old (set old c d) Stays Change

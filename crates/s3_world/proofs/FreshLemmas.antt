@@ -3,9 +3,10 @@ use Rattle.std.proofs.Common.{◌≡◌, ◌<◌, ◌+◌, ◌⊎◌, ℕ, zero,
 use Rattle.std.proofs.lemmas.List.{length_push}
 use Rattle.std.specs.Global.{Vec}
 use Rattle.std.specs.List.{slice_get}
-use Rattle.s3_buffered_session.specs.Buffered.{Buffered, unsent_of}
+use Rattle.s3_session.specs.Output.{Reading}
+use Rattle.s3_buffered_session.specs.Buffered.{Buffered, standing_of, unsent_of}
 use Rattle.s3_world.specs.Run.{moments_of}
-use Rattle.s3_world.specs.World.{AreFresh, IsFresh, each_moments, unsent_at, unsent_in}
+use Rattle.s3_world.specs.World.{AreFresh, IsFresh, each_moments, standing_at, standing_in, unsent_at, unsent_in}
 
 -- an element of a list with one more is the last, or was there before
 get_push : {X : Type 0} (xs : List X) (x y : X) (c : ℕ) → slice_get (xs ++ x ∷ []) c ≡ Some y → (slice_get xs c ≡ Some y) ⊎ ((c ≡ length xs) × (y ≡ x))
@@ -58,3 +59,11 @@ silent_in (Some b) silent = silent b refl
 
 pub silent_all : (made : List Buffered) → IsSilent made → (c : ℕ) → unsent_at made c ≡ []
 silent_all made silent c = silent_in (slice_get made c) (silent c)
+
+-- it reads
+reads_in : (x : Option Buffered) → ((b : Buffered) → x ≡ Some b → standing_of b ≡ Reading) → standing_in x ≡ Reading
+reads_in None reads = refl
+reads_in (Some b) reads = reads b refl
+
+pub reads_all : (made : List Buffered) (moments : List (List ℕ)) (n : ℕ) → AreFresh made moments n → (c : ℕ) → standing_at made c ≡ Reading
+reads_all made moments n fresh c = reads_in (slice_get made c) (λ b is. (fresh.fresh c b is).reads)

@@ -27,7 +27,7 @@ use Rattle.s3_world.proofs.WorldLemmas.{lost_grows, one_was, same_or_not, there}
 -- connections of which nothing came
 pub begins : (settings : Settings) (connections : List Buffered) (book : Journal) (given : List (Vec ℕ))
     → AreFresh connections (each_moments given) (length given)
-    → book ≡ record { least = settings.min_part; opening = opened (opening settings.buckets); entries = []; store = opened (opening settings.buckets) }
+    → book ≡ record { origin = book.origin; least = settings.min_part; opening = opened (opening settings.buckets); entries = []; store = opened (opening settings.buckets) }
     → StandsAfter (record { settings = settings; connections = connections; book = book }) (each_moments given) [] nothing_sent
 begins settings connections book given fresh is =
     subst (λ (j : Journal). StandsAfter (record { settings = settings; connections = connections; book = j }) (each_moments given) [] nothing_sent) (sym is)

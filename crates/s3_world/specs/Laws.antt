@@ -1,10 +1,10 @@
 -- What holds of all runs.
-use Rattle.std.specs.Prelude.{◌≡◌, ◌<◌, ℕ, false, List, length}
+use Rattle.std.specs.Prelude.{◌≡◌, ◌<◌, ℕ, false, List, [], ◌∷◌, ◌++◌, length}
 use Rattle.s3_config.specs.Settings.{Settings}
 use Rattle.s3_journal.specs.Book.{Recorded}
 use Rattle.s3_session.specs.Output.{is_dead}
 use Rattle.s3_events.specs.declared.event.Event.{Event}
-use Rattle.s3_world.specs.Events.{received, turns_given}
+use Rattle.s3_world.specs.Events.{brought, is_end, received, turns_given}
 use Rattle.s3_world.specs.Run.{Runs}
 use Rattle.s3_world.specs.World.{AreOutputs, Serving, StandsAfter, standing_at}
 
@@ -36,3 +36,10 @@ WorldsRun =
     (world : Serving) (moments : List (List ℕ)) (happened : List Event) (sent : ℕ → List ℕ) (outs : List (List ℕ))
     → StandsAfter world moments happened sent → AreOutputs world.connections sent outs
     → (run : Runs world.settings moments happened outs world.book.entries) × ((c : ℕ) → run.standing c ≡ standing_at world.connections c)
+
+-- as long as its end has not come, a connection receives what each event brings it, and its end
+abbrev pub EventsBring : Type 0
+EventsBring =
+    (c : ℕ) (happened : List Event) (e : Event)
+    → (received c happened).ended ≡ false
+    → received c (happened ++ e ∷ []) ≡ record { bytes = (received c happened).bytes ++ brought c e; ended = is_end c e }

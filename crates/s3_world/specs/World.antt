@@ -115,6 +115,7 @@ pub record StandsAfter (world : Serving) (moments : List (List ℕ)) (happened :
 pub record IsFresh (b : Buffered) (moments : List ℕ) : Type 0 where
   pub holds : (settings : Settings) → Holds b settings moments nothing_received [] [] []
   pub idle : is_handed_out b ≡ false
+  pub reads : sessions.standing_of b ≡ Reading
 
 -- so many of these connections were made, each for its list of moments
 pub record AreFresh (connections : List Buffered) (moments : List (List ℕ)) (made : ℕ) : Type 0 where

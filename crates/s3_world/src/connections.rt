@@ -2,7 +2,7 @@
 
 ghost use Rattle.std.specs.Prelude.{◌≡◌, ◌≢◌, ◌<◌, ◌≤◌, ℕ, true, [], length, take, IfOk, OnOk, OnErr};
 ghost use Rattle.s3_config.specs.Settings.{Settings};
-ghost use Rattle.s3_session.specs.Output.{is_waiting};
+ghost use Rattle.s3_session.specs.Output.{Reading, is_waiting};
 ghost use Rattle.s3_buffered_session.specs.Buffered as sessions;
 ghost use Rattle.s3_world.specs.World.{AreFresh, HasTaken, IsChangedAt, IsEntered, IsFedWith, IsSentOn, each_moments, standing_at, unsent_at, waiting_at};
 
@@ -25,6 +25,7 @@ pub(crate) fn fresh<'a>(
 ) -> Result<Vec<BufferedSession<'a>>, NoMemory>
     ensures fresh { IfOk result (λ made. AreFresh made.items (each_moments moments.now) (length moments.now)) }
     ensures nothing { IfOk result (λ made. (c : ℕ) → unsent_at made.items c ≡ []) }
+    ensures reads { IfOk result (λ made. (c : ℕ) → standing_at made.items c ≡ Reading) }
 {
     let mut made = Vec::new(alloc);
     for number in 0..moments.len() {
@@ -43,6 +44,7 @@ pub(crate) fn is_one_waiting(connections: &[BufferedSession<'_>], number: usize)
 /// A beginning of what the connection of this number wrote and has not sent.
 pub(crate) fn unsent_of_one<'a>(connections: &'a [BufferedSession<'_>], number: usize) -> &'a [u8]
     ensures beginning { take (length result.now) (unsent_at connections.now number) ≡ result.now }
+    ensures within { length result.now ≤ length (unsent_at connections.now number) }
     ensures empty { result.now ≡ [] → unsent_at connections.now number ≡ [] }
 {
     if number < connections.len() {
@@ -97,6 +99,7 @@ pub(crate) fn feed_one(
 pub(crate) fn end_one(connections: &mut [BufferedSession<'_>], number: usize)
     ensures ended { (settings : Settings) → IsChangedAt number connections.old connections.new (Unit {0})
         (IsFedWith settings (λ input. record input { ended = true })) }
+    ensures waits { (c : ℕ) → is_waiting (standing_at connections.new c) ≡ is_waiting (standing_at connections.old c) }
 {
     if number < connections.len() {
         connections[number].end();

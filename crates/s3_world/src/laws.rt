@@ -1,6 +1,6 @@
 //! What is known of all worlds: laws, with nothing to run.
 
-ghost use Rattle.s3_world.specs.Laws.{OneRun, WorldsRun};
+ghost use Rattle.s3_world.specs.Laws.{EventsBring, OneRun, WorldsRun};
 
 use s3_buffered_session::{buffered_sessions_write, outputs_are_one};
 
@@ -20,3 +20,8 @@ pub fn runs_are_one()
 {
     outputs_are_one();
 }
+
+/// A law: what one event more brings to a connection. There is nothing to run.
+pub fn events_bring()
+    ensures { EventsBring }
+{}

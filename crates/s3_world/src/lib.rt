@@ -9,6 +9,6 @@ mod running;
 mod world;
 
 pub use alike::{cuts_and_moves_are_alike, deaths_show};
-pub use laws::{runs_are_one, worlds_run};
+pub use laws::{events_bring, runs_are_one, worlds_run};
 pub use running::run;
 pub use world::World;

@@ -4,7 +4,7 @@ ghost use Rattle.std.specs.Prelude.{◌≡◌, ◌≢◌, ◌++◌, ◌∷◌, �
 ghost use Rattle.std.specs.Global.{Vec as Bytes};
 ghost use Rattle.s3_records.specs.Catalogue.{opening};
 ghost use Rattle.s3_store.specs.Steps.{opened};
-ghost use Rattle.s3_session.specs.Output.{is_waiting};
+ghost use Rattle.s3_session.specs.Output.{Reading, is_waiting};
 ghost use Rattle.s3_events.specs.declared.event.Event.{Event as Happening};
 ghost use Rattle.s3_world.specs.Events.{brings_bytes};
 ghost use Rattle.s3_world.specs.World.{IsEntered, StandsAfter, each_moments, nothing_sent, sent_more, standing_at, turn_of_event, unsent_at, waiting_at};
@@ -67,6 +67,7 @@ impl<'a, R: Records + Drop> World<'a, R> {
         ensures begins { IfOk result (λ world. StandsAfter world (each_moments moments.now) [] nothing_sent) }
         ensures settings { IfOk result (λ world. world.settings ≡ config.now) }
         ensures nothing { IfOk result (λ world. (c : ℕ) → unsent_at world.connections c ≡ []) }
+        ensures reads { IfOk result (λ world. (c : ℕ) → standing_at world.connections c ≡ Reading) }
     {
         let connections = fresh(alloc, moments)?;
         let book = Book::new(alloc, config.min_part(), store)?;
@@ -104,11 +105,12 @@ impl<'a, R: Records + Drop> World<'a, R> {
     }
 
     /// Says that no more bytes of a connection come. A second end does nothing, nor does that of a connection that isn't
-    /// there. It takes no memory.
+    /// there. Whether a command waits stays as it is. It takes no memory.
     pub fn end(&mut self, connection: u32)
         ensures stands { (moments : List (List ℕ)) (happened : List Happening) (sent : ℕ → List ℕ)
             → StandsAfter self.old moments happened sent
             → StandsAfter self.new moments (happened ++ Event.End connection ∷ []) sent }
+        ensures waits { (c : ℕ) → is_waiting (standing_at self.new.connections c) ≡ is_waiting (standing_at self.old.connections c) }
         ensures settings { self.new.settings ≡ self.old.settings }
     {
         end_one(&mut self.connections, connection as usize);
@@ -190,6 +192,7 @@ impl<'a, R: Records + Drop> World<'a, R> {
     /// sent. It takes no memory.
     pub fn unsent(&self, connection: u32) -> &[u8]
         ensures beginning { take (length result.now) (unsent_at self.now.connections connection) ≡ result.now }
+        ensures within { length result.now ≤ length (unsent_at self.now.connections connection) }
         ensures empty { result.now ≡ [] → unsent_at self.now.connections connection ≡ [] }
     {
         unsent_of_one(&self.connections, connection as usize)

@@ -1,7 +1,7 @@
 use Rattle.std.proofs.Common.{true}
 use Rattle.s3_world.specs.World.{IsFedWith}
 use Rattle.s3_buffered_session.specs.Output.{Input}
-use Rattle.s3_world.proofs.ChangeLemmas.{changed_set, fed_with}
+use Rattle.s3_world.proofs.ChangeLemmas.{changed_set, fed_with, waiting_set}
 use Rattle.s3_world.proofs.connections.end_one.Goals as goal
 
 abbrev ended : Input → Input
@@ -13,4 +13,5 @@ returns-then-number-connections c = record {
       changed_set c.args.connections.now c.args.number (Unit {0}) (IsFedWith settings ended)
       c.index-connections-number.result c.end.new.self c.if-number-connections.true
       (fed_with settings ended _ c.end.new.self c.end.ensures.closed c.end.ensures.handed (c.end.ensures.holds settings));
+  waits = waiting_set c.args.connections.now c.args.number c.index-connections-number.result c.end.new.self c.if-number-connections.true c.end.ensures.waits;
 }

@@ -2,7 +2,7 @@ use Rattle.std.proofs.Common.{◌+◌, List, subst, sym, ap, ◌∙◌, ℕ, ari
 use Rattle.std.specs.Global.{Vec}
 use Rattle.s3_buffered_session.specs.Buffered.{Buffered}
 use Rattle.s3_world.specs.World.{AreFresh, IsFresh, each_moments}
-use Rattle.s3_world.proofs.FreshLemmas.{IsSilent, fresh_more, fresh_none, moments_at, silent_all, silent_more, silent_none}
+use Rattle.s3_world.proofs.FreshLemmas.{IsSilent, fresh_more, fresh_none, moments_at, reads_all, silent_all, silent_more, silent_none}
 use Rattle.s3_world.proofs.connections.fresh.Goals as goal
 
 pub loop-number-init : goal.loop-number-init
@@ -18,7 +18,7 @@ loop-number-preserved c =
     record {
       fresh = subst (λ (made : List Buffered). AreFresh made moments (c.loop-number.number + 1)) (sym c.in_ok-push.ensures.items)
           (fresh_more c.loop-number.made.items moments c.loop-number.number c.new.result c.loop-number.invariant.fresh
-          (subst (IsFresh c.new.result) (sym (rw c.as_slice.ensures.value there)) (record { holds = c.new.ensures.begins; idle = c.new.ensures.handed })));
+          (subst (IsFresh c.new.result) (sym (rw c.as_slice.ensures.value there)) (record { holds = c.new.ensures.begins; idle = c.new.ensures.handed; reads = c.new.ensures.standing })));
       silent = subst IsSilent (sym c.in_ok-push.ensures.items) (silent_more c.loop-number.made.items c.new.result c.loop-number.invariant.silent c.new.ensures.nothing);
     }
 
@@ -26,4 +26,5 @@ pub returns : goal.returns
 returns c = record {
   fresh = subst (AreFresh c.loop-number.made.items (each_moments c.args.moments.now)) (omega arith) c.loop-number.invariant.fresh;
   nothing = silent_all c.loop-number.made.items c.loop-number.invariant.silent;
+  reads = reads_all c.loop-number.made.items (each_moments c.args.moments.now) c.loop-number.number c.loop-number.invariant.fresh;
 }

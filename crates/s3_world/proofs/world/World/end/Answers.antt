@@ -1,7 +1,9 @@
-use Rattle.std.proofs.Common.{subst, sym, true, List}
+use Rattle.std.proofs.Common.{◌≡◌, subst, sym, true, List}
+use Rattle.std.specs.Vec.{with_items}
+use Rattle.s3_session.specs.Output.{is_waiting}
 use Rattle.s3_buffered_session.specs.Buffered.{Buffered}
 use Rattle.s3_events.specs.declared.event.Event.TheVariants as events
-use Rattle.s3_world.specs.World.{IsChangedAt, IsFedWith, Serving, StandsAfter}
+use Rattle.s3_world.specs.World.{IsChangedAt, IsFedWith, Serving, StandsAfter, standing_at}
 use Rattle.std.proofs.Common.{[], ◌∷◌, ◌++◌}
 use Rattle.s3_world.proofs.ChangeLemmas.{written_back}
 use Rattle.s3_world.proofs.WorldLemmas.{end_stands}
@@ -18,3 +20,11 @@ returns-clause-stands g c moments happened sent s =
     (subst (λ (old : List Buffered). IsChangedAt c.args.connection old c.end_one.new.connections (Unit {0}) (IsFedWith settings (λ input. record { bytes = input.bytes; ended = true })))
     c.deref_mut.ensures.value at)
     (subst (λ (w : Serving). StandsAfter w moments happened sent) (sym c.self.view_is) s)))
+
+pub returns-clause-waits : goal.returns-clause-waits
+returns-clause-waits g c k =
+    let at = c.end_one.ensures.ended c.self.inside.config.now in
+    subst (λ (w : Serving). is_waiting (standing_at (with_items c.self.inside.connections c.end_one.new.connections).items k) ≡ is_waiting (standing_at w.connections k)) c.self.view_is
+    (subst (λ (cs : List Buffered). is_waiting (standing_at cs k) ≡ is_waiting (standing_at c.self.inside.connections.items k))
+    (sym (written_back c.self.inside.connections c.deref_mut.result.now c.end_one.new.connections c.args.connection _ _ c.deref_mut.ensures.value at))
+    (subst (λ (old : List Buffered). is_waiting (standing_at c.end_one.new.connections k) ≡ is_waiting (standing_at old k)) c.deref_mut.ensures.value (c.end_one.ensures.waits k)))

@@ -1,0 +1,3 @@
+pub mod AmongLemmas
+pub mod PartLemmas
+pub mod CountLemmas

@@ -1,0 +1,2 @@
+pub mod OneLemmas
+pub mod TakenLemmas

@@ -1,0 +1,4 @@
+pub mod CarriesLemmas
+pub mod EndsLemmas
+pub mod RecordedLemmas
+pub mod ServedLemmas
