@@ -1,10 +1,13 @@
 //! Runs the examples: the event files of `data/`. Tells of each whether
-//! `s3d replay --events` answers it as its file of answers says.
+//! `s3d replay --events` answers it as its file of answers says, its pieces whole and byte by byte.
 //!
 //! `args` has three words for an example: the bucket that is there from the start, the file of its events, and that of
 //! its answers.
 #![tactic(auto)]
 
+mod cut;
+
+use cut::byte_by_byte;
 use s3_settings::Files;
 use s3_tasks::run_words;
 use std::alloc::Global;
@@ -64,11 +67,22 @@ fn are_answered(rt: &HostRuntime, bucket: &str, events: &[u8], answered: &[u8]) 
     }
 }
 
+// Whether these events are answered so, their pieces whole and byte by byte.
+fn are_answered_both_ways(rt: &HostRuntime, bucket: &str, events: &[u8], answered: &[u8]) -> bool {
+    match byte_by_byte(rt.alloc(), events) {
+        Ok(cut) => {
+            are_answered(rt, bucket, events, answered)
+                && are_answered(rt, bucket, cut.as_slice(), answered)
+        }
+        Err(_) => false,
+    }
+}
+
 // Whether the events of one file are answered as the other says.
 fn is_answered(rt: &HostRuntime, bucket: &str, events: &str, answered: &str) -> bool {
     match (fs::read(rt, events), fs::read(rt, answered)) {
         (Ok(events), Ok(answered)) => {
-            are_answered(rt, bucket, events.as_slice(), answered.as_slice())
+            are_answered_both_ways(rt, bucket, events.as_slice(), answered.as_slice())
         }
         _ => false,
     }
@@ -77,7 +91,11 @@ fn is_answered(rt: &HostRuntime, bucket: &str, events: &str, answered: &str) -> 
 // Tells of an example whether it is answered as it has to be; whether it is, and could be told.
 fn tell(rt: &HostRuntime, bucket: &str, events: &str, answered: &str) -> bool {
     let is_right = is_answered(rt, bucket, events, answered);
-    let word = if is_right { "as expected" } else { "otherwise" };
+    let word = if is_right {
+        "as expected, whole and byte by byte"
+    } else {
+        "otherwise"
+    };
     write!(rt.stdout(), "{events}: answered {word}\n").is_ok() && is_right
 }
 
