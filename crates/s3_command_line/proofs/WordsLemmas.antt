@@ -7,10 +7,11 @@ use Rattle.clap.specs.declared.parser.matches.ArgMatches.{ArgMatches}
 use Rattle.clap.specs.declared.parser.matches.ArgMatches.TheViews.{out-ArgMatches}
 use Rattle.clap.proofs.OnLiterals.{clap_on_literals}
 use Rattle.clap.proofs.WalkLemmas.{first_value-rows, raw_values-rows}
-use Rattle.s3_command_line.specs.declared.task.Task.{Task}
+use Rattle.s3_command_line.specs.declared.task.Asked.{Asked}
+use Rattle.s3_command_line.specs.declared.task.Asked.TheVariants.{Work, Server}
 use Rattle.s3_command_line.specs.declared.task.Task.TheVariants.{Replay, Sign}
 use Rattle.s3_command_line.specs.Task.{AskFor, AskForNothing, Have}
-use Rattle.s3_command_line.specs.Words.{s3d_app, AreReplayWords, AreSignWords, AreRightWords, Give, IsReadFrom}
+use Rattle.s3_command_line.specs.Words.{s3d_app, AreReplayWords, AreSignWords, AreServeWords, AreRightWords, Give, IsAskedBy}
 
 pub ruleset rows = (first_value-rows, raw_values-rows)
 
@@ -31,7 +32,9 @@ simple_and_free = refl
 
 -- right words have no fault
 no_fault : (words : List Text) → AreRightWords words → fault_of s3d_app words ≡ []
-no_fault words right = elim right [ inl replay ↦ replay.0 | inr sign ↦ sign.0 ]
+no_fault words (inl replay) = replay.0
+no_fault words (inr (inl sign)) = sign.0
+no_fault words (inr (inr serve)) = serve.0
 
 -- an error that is not out of memory says that the words are wrong
 pub words_refused : (a : App) (words : List Text) (e : Error) → a ≡ s3d_app → (is_simple_and_free a ≡ true → HasKind (fault_of a words) e) → kind_of e ≢ OutOfMemory → AreRightWords words → ⊥
@@ -55,11 +58,9 @@ name_is a words m same has =
 
 -- where the matches have neither subcommand the words are wrong
 pub words_unnamed : (a : App) (words : List Text) (m : ArgMatches) → a ≡ s3d_app → HasMatchesOf a words m → AskForNothing m → AreRightWords words → ⊥
-words_unnamed a words m same has nothing right =
-    elim right [
-      | inl replay ↦ nothing.no_replay (name_is a words m same has ∙ replay.1)
-      | inr sign ↦ nothing.no_sign (name_is a words m same has ∙ sign.1)
-    ]
+words_unnamed a words m same has nothing (inl replay) = nothing.no_task.no_replay (name_is a words m same has ∙ replay.1)
+words_unnamed a words m same has nothing (inr (inl sign)) = nothing.no_task.no_sign (name_is a words m same has ∙ sign.1)
+words_unnamed a words m same has nothing (inr (inr serve)) = nothing.no_serve (name_is a words m same has ∙ serve.1)
 
 -- what holds of the matches of the subcommand holds of those that the words give it
 given : (a : App) (words : List Text) (m : ArgMatches) (name : Text) (Holds : List Row → Type 0) → a ≡ s3d_app → HasMatchesOf a words m → (is_simple_and_free a ≡ true → fault_of a words ≡ []) → Have m name Holds → Give words name Holds
@@ -74,14 +75,19 @@ given a words m name Holds same has clean have = record {
 }
 
 -- what the matches ask for, the words ask for
-pub read_from : (a : App) (words : List Text) (m : ArgMatches) (task : Task) → a ≡ s3d_app → HasMatchesOf a words m → (is_simple_and_free a ≡ true → fault_of a words ≡ []) → AskFor m task → IsReadFrom words task
-read_from a words m (Replay options) same has clean asked = given a words m _ _ same has clean asked
-read_from a words m (Sign options) same has clean asked = given a words m _ _ same has clean asked
+pub asked_by : (a : App) (words : List Text) (m : ArgMatches) (asked : Asked) → a ≡ s3d_app → HasMatchesOf a words m → (is_simple_and_free a ≡ true → fault_of a words ≡ []) → AskFor m asked → IsAskedBy words asked
+asked_by a words m (Work (Replay options)) same has clean asked = given a words m _ _ same has clean asked
+asked_by a words m (Work (Sign options)) same has clean asked = given a words m _ _ same has clean asked
+asked_by a words m (Server options) same has clean asked = given a words m _ _ same has clean asked
 
 -- some words that are right
 right_replay_words : AreReplayWords (codes "s3d" ∷ codes "replay" ∷ codes "--keys" ∷ codes "keys" ∷ codes "--moment" ∷ codes "0" ∷ [])
 unfolding clap_on_literals
 right_replay_words = (refl, refl)
+
+right_serve_words : AreServeWords (codes "s3d" ∷ codes "serve" ∷ codes "--keys" ∷ codes "keys" ∷ codes "--listen" ∷ codes "127.0.0.1:0" ∷ codes "--connections" ∷ codes "3" ∷ [])
+unfolding clap_on_literals
+right_serve_words = (refl, refl)
 
 right_sign_words : AreSignWords (codes "s3d" ∷ codes "sign" ∷ codes "--keys" ∷ codes "keys" ∷ codes "--id" ∷ codes "id" ∷ codes "--moment" ∷ codes "0" ∷ codes "--method" ∷ codes "GET" ∷ codes "--target" ∷ codes "/" ∷ codes "--host" ∷ codes "h" ∷ codes "range:bytes=0-9" ∷ codes "a:b" ∷ [])
 unfolding clap_on_literals

@@ -5,7 +5,10 @@ use Rattle.clap.specs.Words.{App, Row, Rule, Text, new_app, new_rule, with_rule,
 use Rattle.clap.specs.declared.builder.action.ArgAction.TheVariants.{Append, SetTrue}
 use Rattle.s3_options.specs.declared.options.Options.{Options}
 use Rattle.s3_options.specs.declared.options.ReplayOptions.{ReplayOptions}
+use Rattle.s3_options.specs.declared.options.ServeOptions.{ServeOptions}
 use Rattle.s3_options.specs.declared.options.SignOptions.{SignOptions}
+use Rattle.s3_command_line.specs.declared.task.Asked.{Asked}
+use Rattle.s3_command_line.specs.declared.task.Asked.TheVariants.{Work, Server}
 use Rattle.s3_command_line.specs.declared.task.Task.{Task}
 use Rattle.s3_command_line.specs.declared.task.Task.TheVariants.{Replay, Sign}
 
@@ -39,6 +42,12 @@ default_min_part = codes "5242880"
 abbrev pub default_body_limit : Text
 default_body_limit = codes "67108864"
 
+abbrev pub default_workers : Text
+default_workers = codes "8"
+
+abbrev pub default_max_connections : Text
+default_max_connections = codes "1024"
+
 -- the options of each subcommand on the settings
 abbrev pub with_settings : App → App
 with_settings a =
@@ -69,15 +78,26 @@ sign_app =
     (option_rule (codes "chunk")))
     (words_rule (codes "header"))
 
+-- `s3d serve`
+abbrev pub serve_app : App
+serve_app =
+    with_rule (with_rule (with_rule (with_rule (with_settings (new_app (codes "serve")))
+    (required_rule (codes "listen")))
+    (default_rule (codes "workers") default_workers))
+    (default_rule (codes "max-connections") default_max_connections))
+    (option_rule (codes "connections"))
+
 -- `s3d` before it has a subcommand
 abbrev pub bare_app : App
 bare_app =
     let top = (new_app (codes "s3d")).top in
-    record (new_app (codes "s3d")) { top = record top { subcommand_required = true; arg_required_else_help = true } }
+    record (new_app (codes "s3d")) {
+      top = record top { has_version = true; subcommand_required = true; arg_required_else_help = true };
+    }
 
 -- `s3d`
 abbrev pub s3d_app : App
-s3d_app = with_subcommand (with_subcommand bare_app replay_app.top) sign_app.top
+s3d_app = with_subcommand (with_subcommand (with_subcommand bare_app replay_app.top) sign_app.top) serve_app.top
 
 -- the words are right and ask for no help, and they name this subcommand
 abbrev pub AreWordsOf : Text → List Text → Type 0
@@ -92,9 +112,13 @@ AreReplayWords words = AreWordsOf (codes "replay") words
 abbrev pub AreSignWords : List Text → Type 0
 AreSignWords words = AreWordsOf (codes "sign") words
 
+-- the words of a server
+abbrev pub AreServeWords : List Text → Type 0
+AreServeWords words = AreWordsOf (codes "serve") words
+
 -- the words of one of them
 abbrev pub AreRightWords : List Text → Type 0
-AreRightWords words = AreReplayWords words ⊎ AreSignWords words
+AreRightWords words = AreReplayWords words ⊎ (AreSignWords words ⊎ AreServeWords words)
 
 -- the options are those of some matches
 pub record HasOptions (rows : List Row) (o : Options) : Type 0 where
@@ -114,6 +138,14 @@ pub record HasReplayOptions (rows : List Row) (o : ReplayOptions) : Type 0 where
   pub common : HasOptions rows o.common
   pub moment : option_map (λ text. text.now) o.moment ≡ first_of (codes "moment") rows
   pub events : o.events ≡ is_set (first_of (codes "events") rows)
+
+-- the options of a server are those of some matches
+pub record HasServeOptions (rows : List Row) (o : ServeOptions) : Type 0 where
+  pub common : HasOptions rows o.common
+  pub listen : option_map (λ text. text.now) o.listen ≡ first_of (codes "listen") rows
+  pub workers : o.workers.now ≡ unwrap_or (first_of (codes "workers") rows) default_workers
+  pub max_connections : o.max_connections.now ≡ unwrap_or (first_of (codes "max-connections") rows) default_max_connections
+  pub connections : option_map (λ text. text.now) o.connections ≡ first_of (codes "connections") rows
 
 -- the options of a signing are those of some matches
 pub record HasSignOptions (rows : List Row) (o : SignOptions) : Type 0 where
@@ -138,3 +170,8 @@ pub record Give (words : List Text) (name : Text) (Holds : List Row → Type 0) 
 abbrev pub IsReadFrom : List Text → Task → Type 0
 IsReadFrom words (Replay options) = Give words (codes "replay") (λ rows. HasReplayOptions rows options)
 IsReadFrom words (Sign options) = Give words (codes "sign") (λ rows. HasSignOptions rows options)
+
+-- that is what the words ask for
+abbrev pub IsAskedBy : List Text → Asked → Type 0
+IsAskedBy words (Work task) = IsReadFrom words task
+IsAskedBy words (Server options) = Give words (codes "serve") (λ rows. HasServeOptions rows options)

@@ -3,7 +3,7 @@
 ghost use Rattle.std.specs.Prelude.{◌≡◌, IfOk, false};
 ghost use Rattle.clap.specs.Words.{app_of, new_app, rule_of, with_subcommand};
 ghost use Rattle.clap.specs.declared.builder.command.Command.TheViews.{out-Command as fields_of};
-ghost use Rattle.s3_command_line.specs.Words.{with_settings, sign_app, bare_app, s3d_app};
+ghost use Rattle.s3_command_line.specs.Words.{with_settings, sign_app, serve_app, bare_app, s3d_app};
 ghost use Rattle.s3_command_line.specs.Command.{rule_of_argument, with_arguments, IsTold};
 
 use clap::{Arg, ArgAction, Command};
@@ -17,6 +17,15 @@ pub(crate) const MIN_PART: &str = "5242880";
 
 /// The greatest size of a body, in bytes, where no option says another: 64 MiB.
 pub(crate) const BODY_LIMIT: &str = "67108864";
+
+/// How many threads serve connections where no option says another number.
+pub(crate) const WORKERS: &str = "8";
+
+/// How many connections are held at a time where no option says another number.
+pub(crate) const MAX_CONNECTIONS: &str = "1024";
+
+// What `s3d --version` says behind the name.
+const VERSION: &str = "0.1.0";
 
 // An argument of a command line.
 #[derive(Clone, Copy)]
@@ -145,6 +154,34 @@ static SIGNING: [Argument; 8] = [
     },
 ];
 
+// The further options of `s3d serve`.
+static SERVING: [Argument; 4] = [
+    Argument {
+        name: "listen",
+        value: "ADDR",
+        help: "The address to listen on: a host, a colon and a port, which is 0 for any that is free",
+        kind: Kind::Required,
+    },
+    Argument {
+        name: "workers",
+        value: "N",
+        help: "How many threads serve connections, at most 64",
+        kind: Kind::Defaulted(WORKERS),
+    },
+    Argument {
+        name: "max-connections",
+        value: "N",
+        help: "How many connections are held at a time, at most 65,536",
+        kind: Kind::Defaulted(MAX_CONNECTIONS),
+    },
+    Argument {
+        name: "connections",
+        value: "N",
+        help: "Ends after so many connections",
+        kind: Kind::Optional,
+    },
+];
+
 /// The command line of the program.
 pub(crate) fn command<'a>(alloc: Global) -> Result<Command<'a>, AllocError>
     ensures app { IfOk result (λ command. app_of command ≡ s3d_app) }
@@ -152,7 +189,8 @@ pub(crate) fn command<'a>(alloc: Global) -> Result<Command<'a>, AllocError>
     let about = "Reads connections from standard input and writes what they are answered";
     let replay = subcommand(alloc, "replay", about, &REPLAYING)?;
     let command = bare_command(alloc).subcommand(replay)?;
-    with_signing(alloc, command)
+    let command = with_signing(alloc, command)?;
+    with_serving(alloc, command)
 }
 
 // The program's command line before it has a subcommand.
@@ -160,6 +198,7 @@ fn bare_command<'a>(alloc: Global) -> Command<'a>
     ensures app { app_of result ≡ bare_app }
 {
     Command::new(alloc, "s3d")
+        .version(VERSION)
         .about("Answers and signs requests of the Amazon S3 REST API")
         .subcommand_required(true)
         .arg_required_else_help(true)
@@ -172,6 +211,15 @@ fn with_signing<'a>(alloc: Global, command: Command<'a>) -> Result<Command<'a>, 
     let about = "Writes one signed request to standard output";
     let sign = subcommand(alloc, "sign", about, &SIGNING)?;
     command.subcommand(sign)
+}
+
+// Adds `s3d serve` to a command line.
+fn with_serving<'a>(alloc: Global, command: Command<'a>) -> Result<Command<'a>, AllocError>
+    ensures app { IfOk result (λ with. app_of with ≡ with_subcommand (app_of command.entry) serve_app.top) }
+{
+    let about = "Listens on an address and answers the connections that come";
+    let serve = subcommand(alloc, "serve", about, &SERVING)?;
+    command.subcommand(serve)
 }
 
 // The command line of a subcommand of this name, with what help says of it and its further arguments.

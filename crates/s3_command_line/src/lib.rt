@@ -8,5 +8,5 @@ mod task;
 mod words;
 
 pub use error::{Usage, WordsError};
-pub use task::Task;
+pub use task::{Asked, Task};
 pub use words::read_words;

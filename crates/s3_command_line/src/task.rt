@@ -2,15 +2,24 @@
 
 ghost use Rattle.std.specs.Prelude.{◌≡◌, IfOk, MatchOption, [], map, option_map, unwrap_or};
 ghost use Rattle.clap.specs.Words.{all_of, found_of, rows_of};
-ghost use Rattle.s3_command_line.specs.Words.{HasOptions, HasReplayOptions, HasSignOptions, is_set};
-ghost use Rattle.s3_command_line.specs.Task.{AskFor, AskForNothing};
+ghost use Rattle.s3_command_line.specs.Words.{HasOptions, HasReplayOptions, HasServeOptions, HasSignOptions, is_set};
+ghost use Rattle.s3_command_line.specs.Task.{AskFor, AskForNothing, AskForNoTask, AskForTask};
 
-use crate::command::{BODY_LIMIT, MIN_PART, REGION};
+use crate::command::{BODY_LIMIT, MAX_CONNECTIONS, MIN_PART, REGION, WORKERS};
 use clap::ArgMatches;
-use s3_options::{Options, ReplayOptions, SignOptions};
+use s3_options::{Options, ReplayOptions, ServeOptions, SignOptions};
 use std::alloc::{AllocError, Global};
 
 /// What the words of a command line ask for.
+#[derive(Drop)]
+pub enum Asked<'a> {
+    /// One text on the standard output.
+    Work(Task<'a>),
+    /// A server that listens on a socket.
+    Server(ServeOptions<'a>),
+}
+
+/// What is written to the standard output.
 #[derive(Drop)]
 pub enum Task<'a> {
     /// To answer one connection, or several.
@@ -19,13 +28,28 @@ pub enum Task<'a> {
     Sign(SignOptions<'a>),
 }
 
-impl<'a> Task<'a> {
+impl<'a> Asked<'a> {
     /// What the matches of the program's command line ask for; `None` where they have no subcommand.
     pub(crate) fn of_matches(
         alloc: Global,
         matches: &ArgMatches<'a>,
-    ) -> Result<Option<Task<'a>>, AllocError>
-        ensures { IfOk result (λ task. MatchOption task (AskForNothing matches.now) (AskFor matches.now)) }
+    ) -> Result<Option<Asked<'a>>, AllocError>
+        ensures { IfOk result (λ asked. MatchOption asked (AskForNothing matches.now) (AskFor matches.now)) }
+    {
+        if let Some(options) = matches.subcommand_matches("serve") {
+            return Ok(Some(Asked::Server(serve_options(options))));
+        }
+        match Task::of_matches(alloc, matches)? {
+            Some(task) => Ok(Some(Asked::Work(task))),
+            None => Ok(None),
+        }
+    }
+}
+
+impl<'a> Task<'a> {
+    // The task that the matches ask for; `None` where they have the subcommand of none.
+    fn of_matches(alloc: Global, matches: &ArgMatches<'a>) -> Result<Option<Task<'a>>, AllocError>
+        ensures { IfOk result (λ task. MatchOption task (AskForNoTask matches.now) (AskForTask matches.now)) }
     {
         if let Some(options) = matches.subcommand_matches("replay") {
             return Ok(Some(Task::Replay(replay_options(options))));
@@ -73,6 +97,22 @@ fn is_set(value: Option<&str>) -> bool
     match value {
         Some(text) => text == "true",
         None => false,
+    }
+}
+
+// The options of a server.
+#[tactic(auto, using(crate::proofs::WordsLemmas::rows))]
+fn serve_options<'a>(matches: &ArgMatches<'a>) -> ServeOptions<'a>
+    ensures { HasServeOptions (rows_of (found_of matches.now)) result }
+{
+    ServeOptions {
+        common: common_options(matches),
+        listen: matches.get_str("listen"),
+        workers: matches.get_str("workers").unwrap_or(WORKERS),
+        max_connections: matches
+            .get_str("max-connections")
+            .unwrap_or(MAX_CONNECTIONS),
+        connections: matches.get_str("connections"),
     }
 }
 

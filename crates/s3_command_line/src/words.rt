@@ -3,11 +3,11 @@
 ghost use Rattle.std.specs.Prelude.{◌≡◌, ◌≢◌, IfOk, IfErr, map};
 ghost use Rattle.clap.specs.Words.{app_of, kind_of};
 ghost use Rattle.s3_command_line.specs.declared.error.WordsError.TheVariants.{OutOfMemory};
-ghost use Rattle.s3_command_line.specs.Words.{s3d_app, AreRightWords, IsReadFrom};
+ghost use Rattle.s3_command_line.specs.Words.{s3d_app, AreRightWords, IsAskedBy};
 
 use crate::command::command;
 use crate::error::WordsError;
-use crate::task::Task;
+use crate::task::Asked;
 use clap::error::ErrorKind;
 use clap::{Command, Error};
 use std::alloc::Global;
@@ -15,8 +15,8 @@ use std::convert::AsStr;
 
 /// Reads the words of a command line, of which the first is the program's name. Where they are wrong or
 /// ask for help the error has the text for the user.
-pub fn read_words<'a, S: AsStr>(alloc: Global, words: &'a [S]) -> Result<Task<'a>, WordsError>
-    ensures value { IfOk result (IsReadFrom (map S.text words.entry.now)) }
+pub fn read_words<'a, S: AsStr>(alloc: Global, words: &'a [S]) -> Result<Asked<'a>, WordsError>
+    ensures value { IfOk result (IsAskedBy (map S.text words.entry.now)) }
     ensures refused { IfErr result (λ error. error ≢ OutOfMemory → ¬ AreRightWords (map S.text words.entry.now)) }
 {
     let mut command = command(alloc)?;
@@ -28,17 +28,17 @@ fn parse<'a, S: AsStr>(
     alloc: Global,
     command: &mut Command<'a>,
     words: &'a [S],
-) -> Result<Task<'a>, WordsError>
+) -> Result<Asked<'a>, WordsError>
     requires { app_of command.old ≡ s3d_app }
-    ensures value { IfOk result (IsReadFrom (map S.text words.entry.now)) }
+    ensures value { IfOk result (IsAskedBy (map S.text words.entry.now)) }
     ensures refused { IfErr result (λ error. error ≢ OutOfMemory → ¬ AreRightWords (map S.text words.entry.now)) }
 {
     let matches = match command.try_get_matches_from_mut(words) {
         Ok(matches) => matches,
         Err(error) => return Err(WordsError::of_parse(error)),
     };
-    match Task::of_matches(alloc, &matches)? {
-        Some(task) => Ok(task),
+    match Asked::of_matches(alloc, &matches)? {
+        Some(asked) => Ok(asked),
         None => Err(WordsError::of_parse(no_subcommand(command))),
     }
 }

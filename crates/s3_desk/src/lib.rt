@@ -11,3 +11,6 @@ mod seat;
 pub use desk::Desk;
 pub use ground::{Ground, Start};
 pub use seat::Seat;
+
+#[cfg(test)]
+mod tests;

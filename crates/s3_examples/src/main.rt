@@ -8,11 +8,13 @@
 mod cut;
 
 use cut::byte_by_byte;
+use s3_devices::{Recorded, Streams};
 use s3_settings::Files;
-use s3_tasks::run_words;
+use s3_tasks::{Ran, run_words};
 use std::alloc::Global;
 use std::io::{self, Write};
 use std::process::ExitCode;
+use std::sync::Wait;
 use std::{env, fs};
 
 // The files of the system.
@@ -31,8 +33,8 @@ fn words(rt: &HostRuntime) -> io::Result<Vec<String>> {
     Ok(words)
 }
 
-// What these events are answered, where the program does its work.
-fn answers(rt: &HostRuntime, bucket: &str, mut events: &[u8]) -> Option<Vec<u8>> {
+// What these events are answered, where the program does its work, which may wait.
+fn answers<W: Wait>(waits: &W, rt: &HostRuntime, bucket: &str, events: &[u8]) -> Option<Vec<u8>> {
     let alloc = rt.alloc();
     let words = [
         "s3d",
@@ -45,52 +47,73 @@ fn answers(rt: &HostRuntime, bucket: &str, mut events: &[u8]) -> Option<Vec<u8>>
         "--bucket",
         bucket,
     ];
-    let mut output = Vec::new(alloc);
+    let mut device = Recorded::new(Streams {
+        input: events,
+        output: Vec::new(alloc),
+    })?;
     match run_words(
+        waits,
         alloc,
         &words,
         &SystemFiles(rt),
-        &mut events,
-        &mut output,
+        &mut device,
         &mut rt.stderr(),
     ) {
-        0 => Some(output),
+        Ran::Ended(0) => Some(device.into_stream().output),
         _ => None,
     }
 }
 
 // Whether these events are answered so.
-fn are_answered(rt: &HostRuntime, bucket: &str, events: &[u8], answered: &[u8]) -> bool {
-    match answers(rt, bucket, events) {
+fn are_answered<W: Wait>(
+    waits: &W,
+    rt: &HostRuntime,
+    bucket: &str,
+    events: &[u8],
+    answered: &[u8],
+) -> bool {
+    match answers(waits, rt, bucket, events) {
         Some(answers) => answers.as_slice() == answered,
         None => false,
     }
 }
 
 // Whether these events are answered so, their pieces whole and byte by byte.
-fn are_answered_both_ways(rt: &HostRuntime, bucket: &str, events: &[u8], answered: &[u8]) -> bool {
+fn are_answered_both_ways<W: Wait>(
+    waits: &W,
+    rt: &HostRuntime,
+    bucket: &str,
+    events: &[u8],
+    answered: &[u8],
+) -> bool {
     match byte_by_byte(rt.alloc(), events) {
         Ok(cut) => {
-            are_answered(rt, bucket, events, answered)
-                && are_answered(rt, bucket, cut.as_slice(), answered)
+            are_answered(waits, rt, bucket, events, answered)
+                && are_answered(waits, rt, bucket, cut.as_slice(), answered)
         }
         Err(_) => false,
     }
 }
 
 // Whether the events of one file are answered as the other says.
-fn is_answered(rt: &HostRuntime, bucket: &str, events: &str, answered: &str) -> bool {
+fn is_answered<W: Wait>(
+    waits: &W,
+    rt: &HostRuntime,
+    bucket: &str,
+    events: &str,
+    answered: &str,
+) -> bool {
     match (fs::read(rt, events), fs::read(rt, answered)) {
         (Ok(events), Ok(answered)) => {
-            are_answered_both_ways(rt, bucket, events.as_slice(), answered.as_slice())
+            are_answered_both_ways(waits, rt, bucket, events.as_slice(), answered.as_slice())
         }
         _ => false,
     }
 }
 
 // Tells of an example whether it is answered as it has to be; whether it is, and could be told.
-fn tell(rt: &HostRuntime, bucket: &str, events: &str, answered: &str) -> bool {
-    let is_right = is_answered(rt, bucket, events, answered);
+fn tell<W: Wait>(waits: &W, rt: &HostRuntime, bucket: &str, events: &str, answered: &str) -> bool {
+    let is_right = is_answered(waits, rt, bucket, events, answered);
     let word = if is_right {
         "as expected, whole and byte by byte"
     } else {
@@ -100,20 +123,27 @@ fn tell(rt: &HostRuntime, bucket: &str, events: &str, answered: &str) -> bool {
 }
 
 // Runs all examples; whether each was answered as it has to be.
-fn run_all(rt: &HostRuntime, words: &[String]) -> bool {
+fn run_all<W: Wait>(waits: &W, rt: &HostRuntime, words: &[String]) -> bool {
     let mut all = true;
     for number in 0..words.len() / 3 {
         let [bucket, events, answered] = &words[3 * number..3 * number + 3] else {
             return false;
         };
-        all = tell(rt, bucket.as_str(), events.as_str(), answered.as_str()) && all;
+        all = tell(
+            waits,
+            rt,
+            bucket.as_str(),
+            events.as_str(),
+            answered.as_str(),
+        ) && all;
     }
     all
 }
 
 fn main(rt: HostRuntime) -> ExitCode {
     match words(&rt) {
-        Ok(words) if run_all(&rt, words.as_slice().get(1..).unwrap_or(&[])) => ExitCode::SUCCESS,
+        Ok(words) if run_all(&rt, &rt, words.as_slice().get(1..).unwrap_or(&[])) =>
+            ExitCode::SUCCESS,
         _ => ExitCode::FAILURE,
     }
 }

@@ -10,6 +10,11 @@ pub record Account (M C A : Type 0) : Type 0 where
   pub entries : List (Entry C A)
   pub machine : M
 
+-- the machine that was told at the opening; if none was, this one
+abbrev pub told_or : {M : Type 0} → List M → M → M
+told_or [] machine = machine
+told_or (opening ∷ more) machine = opening
+
 module _ {S C A : Type 0} (step : S → C → S) (reply : S → C → A → Type 0) where
   -- the entries lead from one state to another: each has an answer that the state before it may give, and the next
   -- state is that after its command

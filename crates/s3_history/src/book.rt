@@ -3,30 +3,33 @@ ghost use Rattle.std.specs.Prelude.{◌≡◌, ◌++◌, ◌∷◌, [], IfOk, On
 ghost use mathlib.Core.List.{IsPrefix};
 ghost use Rattle.s3_history.specs.Runs.{Run};
 
-use crate::machine::{Answered, AsEntry, Entry, Machine};
+use crate::machine::{Answered, AsEntry, AsItself, Entry, Machine};
 use crate::recorder::{Prefix, Recorder};
 use std::alloc::AllocError;
 use std::marker::Model;
 use std::snapshot::Snapshot;
 
-/// A machine, and the history of what it answered, which no memory holds. Contracts see which history it is, the machine
+/// A machine, and the history of what it answered, which no memory holds; so is the machine at the opening, as the one entry
+/// of a history of its own. Contracts see which history it is, the machine
 /// as it was at the opening, the entries since then, and the machine as it is. Its type keeps that the entries lead from
 /// the one to the other.
 #[derive(Drop)]
 pub struct Book<M: Machine> {
     machine: M,
     recorder: Recorder<Entry<M::Command, M::Answer>>,
-    opening: Snapshot<M>,
+    opening: Prefix<M>,
 }
 
 impl<M: Machine> Model for Book<M> {
-    ghost use Rattle.s3_history.specs.Runs.{Account, Run};
+    ghost use Rattle.std.specs.Prelude.{◌≡◌, ◌∷◌, []};
+    ghost use Rattle.s3_history.specs.Runs.{Account, Run, told_or};
 
     ghost Value = { Account M M.Command M.Answer };
 
-    ghost view = { λ book. record { origin = book.recorder.origin; opening = book.opening.value; entries = book.recorder.entries; machine = book.machine } };
+    ghost view = { λ book. record { origin = book.recorder.origin; opening = told_or book.opening.entries book.machine; entries = book.recorder.entries; machine = book.machine } };
 
-    ghost invariant = { λ book. Run M.step M.reply book.opening.value book.recorder.entries book.machine };
+    ghost invariant = { λ book. (book.opening.entries ≡ told_or book.opening.entries book.machine ∷ [])
+        × Run M.step M.reply (told_or book.opening.entries book.machine) book.recorder.entries book.machine };
 }
 
 impl<M: Machine> Book<M> {
@@ -39,11 +42,14 @@ impl<M: Machine> Book<M> {
         let Some(recorder) = Recorder::new() else {
             return Err(AllocError);
         };
-        let opening = Snapshot::of(&machine);
+        let Some(mut opening) = Recorder::new() else {
+            return Err(AllocError);
+        };
+        opening.record::<M, AsItself>(&machine);
         Ok(Book {
             machine,
             recorder,
-            opening,
+            opening: opening.prefix(),
         })
     }
 

@@ -9,7 +9,7 @@ mod recorder;
 
 pub use book::Book;
 pub use log::Describes;
-pub use machine::{Answered, AsEntry, Entry, Machine};
+pub use machine::{Answered, AsEntry, AsItself, Entry, Machine};
 pub use recorder::{Prefix, Recorder};
 
 #[cfg(test)]

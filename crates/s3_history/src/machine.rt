@@ -49,3 +49,10 @@ pub struct AsEntry;
 impl<C, A> Describes<Answered<C, A>, Entry<C, A>> for AsEntry {
     ghost entry = { λ told. record { seat = told.seat; command = told.command.value; answer = told.answer.value } };
 }
+
+/// A value as it is.
+pub struct AsItself;
+
+impl<X> Describes<X, X> for AsItself {
+    ghost entry = { λ value. value };
+}

@@ -4,4 +4,4 @@
 
 mod options;
 
-pub use options::{Options, ReplayOptions, SignOptions};
+pub use options::{Options, ReplayOptions, ServeOptions, SignOptions};

@@ -27,6 +27,21 @@ pub struct ReplayOptions<'a> {
     pub events: bool,
 }
 
+/// The options of `s3d serve`.
+#[derive(Clone, Copy)]
+pub struct ServeOptions<'a> {
+    /// Those that each subcommand has.
+    pub common: Options<'a>,
+    /// The address that it listens on, a host and a port.
+    pub listen: Option<&'a str>,
+    /// How many threads serve connections.
+    pub workers: &'a str,
+    /// How many connections it holds at a time.
+    pub max_connections: &'a str,
+    /// After how many connections it ends.
+    pub connections: Option<&'a str>,
+}
+
 /// The options of `s3d sign`.
 #[derive(Drop)]
 pub struct SignOptions<'a> {

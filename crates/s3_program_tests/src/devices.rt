@@ -1,8 +1,10 @@
-//! The files and devices that the tests run the program over, and the runs.
+//! The files and streams that the tests run the program over, and the runs.
+use s3_devices::{Recorded, Streams};
 use s3_settings::Files;
-use s3_tasks::run_words;
+use s3_tasks::{Ran, run_words};
 use std::alloc::Global;
 use std::io::{self, ErrorKind, Read, Write};
+use std::sync::Wait;
 
 /// Files by their paths.
 #[derive(Clone, Copy)]
@@ -26,13 +28,17 @@ impl Files for Shelf<'_> {
     }
 }
 
-/// How a device does its work.
+/// How a stream does its work.
 #[derive(Clone, Copy)]
 pub enum Manner {
     /// It gives and takes as much as it can.
     Able,
     /// It gives and takes one byte a time, and is interrupted before each.
     Halting,
+    /// It gives and takes one byte a time, and would block before each.
+    Blocking,
+    /// It gives and takes as much as it can, and can't be flushed.
+    Unflushed,
     /// It gives and takes no byte.
     Unwilling,
     /// It fails.
@@ -41,49 +47,50 @@ pub enum Manner {
     Full,
 }
 
-/// A device: what it has left to give, and what it has taken.
+/// A stream: what it has left to give, and what it has taken.
 #[derive(Drop)]
-pub struct Device<'a> {
+pub struct Stream<'a> {
     manner: Manner,
     left: &'a [u8],
     pub taken: Vec<u8>,
-    // Whether it was interrupted just now.
-    was_interrupted: bool,
+    // Whether it was interrupted, or would have blocked, just now.
+    was_late: bool,
 }
 
-impl<'a> Device<'a> {
-    /// A device that has these bytes to give.
-    pub fn new(alloc: Global, manner: Manner, left: &'a [u8]) -> Device<'a> {
-        Device {
+impl<'a> Stream<'a> {
+    /// A stream that has these bytes to give.
+    pub fn new(alloc: Global, manner: Manner, left: &'a [u8]) -> Stream<'a> {
+        Stream {
             manner,
             left,
             taken: Vec::new(alloc),
-            was_interrupted: false,
+            was_late: false,
         }
     }
 
     // How many of so many bytes it moves now.
     fn moved(&mut self, most: usize) -> io::Result<usize> {
         match self.manner {
-            Manner::Able => Ok(most),
-            Manner::Halting => self.halting(most),
+            Manner::Able | Manner::Unflushed => Ok(most),
+            Manner::Halting => self.one_later(most, ErrorKind::Interrupted),
+            Manner::Blocking => self.one_later(most, ErrorKind::WouldBlock),
             Manner::Unwilling => Ok(0),
             Manner::Broken => Err(io::Error::from(ErrorKind::BrokenPipe)),
             Manner::Full => Err(io::Error::from(ErrorKind::OutOfMemory)),
         }
     }
 
-    // One of so many bytes, if it was interrupted just now; else it is.
-    fn halting(&mut self, most: usize) -> io::Result<usize> {
-        self.was_interrupted = !self.was_interrupted;
-        if self.was_interrupted {
-            return Err(io::Error::from(ErrorKind::Interrupted));
+    // One of so many bytes, if it answered this just now; else it does.
+    fn one_later(&mut self, most: usize, kind: ErrorKind) -> io::Result<usize> {
+        self.was_late = !self.was_late;
+        if self.was_late {
+            return Err(io::Error::from(kind));
         }
         Ok(most.min(1))
     }
 }
 
-impl Read for Device<'_> {
+impl Read for Stream<'_> {
     fn read(&mut self, buf: &mut [u8]) -> io::Result<usize> {
         let most = self.moved(buf.len())?;
         let Some(room) = buf.get_mut(..most) else {
@@ -93,7 +100,7 @@ impl Read for Device<'_> {
     }
 }
 
-impl Write for Device<'_> {
+impl Write for Stream<'_> {
     fn write(&mut self, buf: &[u8]) -> io::Result<usize> {
         let most = self.moved(buf.len())?;
         let Some(part) = buf.get(..most) else {
@@ -104,7 +111,7 @@ impl Write for Device<'_> {
 
     fn flush(&mut self) -> io::Result<()> {
         match self.manner {
-            Manner::Broken => Err(io::Error::from(ErrorKind::BrokenPipe)),
+            Manner::Broken | Manner::Unflushed => Err(io::Error::from(ErrorKind::BrokenPipe)),
             _ => Ok(()),
         }
     }
@@ -139,22 +146,47 @@ pub fn files<'a>(is_full: bool) -> Shelf<'a> {
     }
 }
 
-/// The status of a run on these files.
-pub fn run(
+/// The status of a run on these files, over a device of the input and the output; where the words ask for a server, 255.
+pub fn run<R: Wait>(
+    rt: &R,
     alloc: Global,
     words: &[&str],
-    input: &mut Device,
-    output: &mut Device,
-    errors: &mut Device,
+    input: &mut Stream,
+    output: &mut Stream,
+    errors: &mut Stream,
 ) -> u8 {
-    run_words(alloc, words, &files(false), input, output, errors)
+    run_on(rt, alloc, words, &files(false), input, output, errors)
+}
+
+/// The same on other files.
+pub fn run_on<R: Wait>(
+    rt: &R,
+    alloc: Global,
+    words: &[&str],
+    files: &Shelf,
+    input: &mut Stream,
+    output: &mut Stream,
+    errors: &mut Stream,
+) -> u8 {
+    match Recorded::new(Streams { input, output }) {
+        Some(mut device) => status(run_words(rt, alloc, words, files, &mut device, errors)),
+        None => u8::MAX,
+    }
+}
+
+// The status of a run; where its words ask for a server, 255.
+fn status(ran: Ran) -> u8 {
+    match ran {
+        Ran::Ended(status) => status,
+        Ran::Serve(_) => u8::MAX,
+    }
 }
 
 /// The status of a run on these files and no input, whose output is let go.
-pub fn run_on_nothing(alloc: Global, words: &[&str], errors: &mut Device) -> u8 {
-    let mut input = Device::new(alloc, Manner::Able, b"");
-    let mut output = Device::new(alloc, Manner::Able, b"");
-    run(alloc, words, &mut input, &mut output, errors)
+pub fn run_on_nothing<R: Wait>(rt: &R, alloc: Global, words: &[&str], errors: &mut Stream) -> u8 {
+    let mut input = Stream::new(alloc, Manner::Able, b"");
+    let mut output = Stream::new(alloc, Manner::Able, b"");
+    run(rt, alloc, words, &mut input, &mut output, errors)
 }
 
 /// Whether two texts are the same.

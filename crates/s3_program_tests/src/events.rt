@@ -1,6 +1,7 @@
 //! Event lines of several connections, and what is printed of what they were answered.
-use crate::devices::{Device, Manner, is_same, run};
+use crate::devices::{Manner, Stream, is_same, run};
 use std::alloc::Global;
+use std::sync::Wait;
 
 const WORDS: &[&str] = &["s3d", "replay", "--keys", "keys", "--events"];
 
@@ -81,11 +82,11 @@ static ROWS: [Row; 8] = [
 ];
 
 // The run comes to that.
-fn comes_to_that(alloc: Global, row: &Row) -> bool {
-    let mut input = Device::new(alloc, row.manner, row.lines.as_bytes());
-    let mut output = Device::new(alloc, Manner::Able, b"");
-    let mut errors = Device::new(alloc, Manner::Able, b"");
-    let status = run(alloc, WORDS, &mut input, &mut output, &mut errors);
+fn comes_to_that<R: Wait>(rt: &R, alloc: Global, row: &Row) -> bool {
+    let mut input = Stream::new(alloc, row.manner, row.lines.as_bytes());
+    let mut output = Stream::new(alloc, Manner::Able, b"");
+    let mut errors = Stream::new(alloc, Manner::Able, b"");
+    let status = run(rt, alloc, WORDS, &mut input, &mut output, &mut errors);
     status == row.status
         && is_same(output.taken.as_slice(), row.written.as_bytes())
         && is_same(errors.taken.as_slice(), row.said.as_bytes())
@@ -94,6 +95,6 @@ fn comes_to_that(alloc: Global, row: &Row) -> bool {
 #[test]
 fn event_lines(rt: HostRuntime) {
     for row in &ROWS {
-        assert!(rt; comes_to_that(rt.alloc(), row), "at {}", row.name);
+        assert!(rt; comes_to_that(&rt, rt.alloc(), row), "at {}", row.name);
     }
 }

@@ -1,8 +1,8 @@
 //! Wrong words, wrong settings and keys, and devices that fail or are slow.
-use crate::devices::{Device, Manner, files, is_same, run_on_nothing};
-use s3_tasks::run_words;
+use crate::devices::{Manner, Stream, files, is_same, run_on, run_on_nothing};
 use std::alloc::Global;
 use std::str;
+use std::sync::Wait;
 
 // The text has the part somewhere.
 fn holds(text: &[u8], part: &str) -> bool {
@@ -29,27 +29,27 @@ fn is_said(status: u8, text: &[u8], wanted: u8, told: &str) -> bool {
 }
 
 // A run on these words, and on no input, has this status and tells this.
-fn is_run(alloc: Global, words: &[&str], wanted: u8, told: &str) -> bool {
-    let mut errors = Device::new(alloc, Manner::Able, b"");
-    let status = run_on_nothing(alloc, words, &mut errors);
+fn is_run<R: Wait>(rt: &R, alloc: Global, words: &[&str], wanted: u8, told: &str) -> bool {
+    let mut errors = Stream::new(alloc, Manner::Able, b"");
+    let status = run_on_nothing(rt, alloc, words, &mut errors);
     is_said(status, errors.taken.as_slice(), wanted, told)
 }
 
 // The same of words with one space between two; an empty text has none.
-fn is_run_of(alloc: Global, words: &str, wanted: u8, told: &str) -> bool {
+fn is_run_of<R: Wait>(rt: &R, alloc: Global, words: &str, wanted: u8, told: &str) -> bool {
     if words.is_empty() {
-        return is_run(alloc, &[], wanted, told);
+        return is_run(rt, alloc, &[], wanted, told);
     }
     match words.split(' ').collect::<Vec<&str>>(alloc) {
-        Ok(words) => is_run(alloc, words.as_slice(), wanted, told),
+        Ok(words) => is_run(rt, alloc, words.as_slice(), wanted, told),
         Err(_) => false,
     }
 }
 
 // The same of a row: the words, a bar, and what is told.
-fn is_row(alloc: Global, row: &str, wanted: u8) -> bool {
+fn is_row<R: Wait>(rt: &R, alloc: Global, row: &str, wanted: u8) -> bool {
     match row.split_once('|') {
-        Some((words, told)) => is_run_of(alloc, words, wanted, told),
+        Some((words, told)) => is_run_of(rt, alloc, words, wanted, told),
         None => false,
     }
 }
@@ -66,12 +66,16 @@ const USAGES: &str = "\
     s3d replay --keys keys a:b|error: unexpected argument 'a:b' found\n;\
     s3d sign --help|--host <H> [NAME:VALUE]...\n;\
     s3d sign --keys keys --id id --moment 0 --method GET --target /|not provided:\n  --host <H>\n;\
-    s3d serve|error: unrecognized subcommand 'serve'\n";
+    s3d serve --help|Usage: s3d serve [OPTIONS] --keys <FILE> --listen <ADDR>\n;\
+    s3d serve --keys keys|not provided:\n  --listen <ADDR>\n;\
+    s3d serve --keys keys --listen localhost:0 --events|error: unexpected argument '--events' found\n;\
+    s3d --version|s3d 0.1.0\n;\
+    s3d remove|error: unrecognized subcommand 'remove'\n";
 
 #[test]
 fn usage_faults(rt: HostRuntime) {
     for row in USAGES.split(';') {
-        assert!(rt; is_row(rt.alloc(), row, 2), "at {row}");
+        assert!(rt; is_row(&rt, rt.alloc(), row, 2), "at {row}");
     }
 }
 
@@ -134,7 +138,7 @@ const FAULTS: &str = "\
 #[test]
 fn one_line_faults(rt: HostRuntime) {
     for row in FAULTS.split(';') {
-        assert!(rt; is_row(rt.alloc(), row, 1), "at {row}");
+        assert!(rt; is_row(&rt, rt.alloc(), row, 1), "at {row}");
     }
 }
 
@@ -213,12 +217,18 @@ const SIGN: &[&str] = &[
     "/", "--host", "h",
 ];
 
-static RUNS: [Run; 13] = [
+static RUNS: [Run; 15] = [
     ABLE,
     Run {
         name: "slow devices",
         input: Manner::Halting,
         output: Manner::Halting,
+        ..ABLE
+    },
+    Run {
+        name: "devices that would block",
+        input: Manner::Blocking,
+        output: Manner::Blocking,
         ..ABLE
     },
     // An empty connection.
@@ -258,15 +268,23 @@ static RUNS: [Run; 13] = [
         output: Manner::Unwilling,
         ..OUTPUT_FAILED
     },
+    // It has all of the answer, but may not send it on.
+    Run {
+        name: "an output that can't be flushed",
+        output: Manner::Unflushed,
+        written: MALFORMED_ANSWER,
+        ..OUTPUT_FAILED
+    },
     Run {
         name: "an output without memory",
         output: Manner::Full,
         ..OUTPUT_FAILED
     },
+    // Memory that the input lacks is a failure of the input.
     Run {
         name: "an input without memory",
         input: Manner::Full,
-        ..OUT_OF_MEMORY
+        ..INPUT_FAILED
     },
     Run {
         name: "files without memory",
@@ -276,12 +294,13 @@ static RUNS: [Run; 13] = [
 ];
 
 // The run comes to that.
-fn comes_to_that(alloc: Global, run: &Run) -> bool {
-    let mut input = Device::new(alloc, run.input, MALFORMED);
-    let mut output = Device::new(alloc, run.output, b"");
-    let mut errors = Device::new(alloc, run.errors, b"");
+fn comes_to_that<R: Wait>(rt: &R, alloc: Global, run: &Run) -> bool {
+    let mut input = Stream::new(alloc, run.input, MALFORMED);
+    let mut output = Stream::new(alloc, run.output, b"");
+    let mut errors = Stream::new(alloc, run.errors, b"");
     let files = files(run.is_full);
-    let status = run_words(
+    let status = run_on(
+        rt,
         alloc,
         run.words,
         &files,
@@ -297,6 +316,6 @@ fn comes_to_that(alloc: Global, run: &Run) -> bool {
 #[test]
 fn devices(rt: HostRuntime) {
     for run in &RUNS {
-        assert!(rt; comes_to_that(rt.alloc(), run), "at {}", run.name);
+        assert!(rt; comes_to_that(&rt, rt.alloc(), run), "at {}", run.name);
     }
 }

@@ -9,4 +9,6 @@ mod events;
 #[cfg(test)]
 mod faults;
 #[cfg(test)]
+mod serving;
+#[cfg(test)]
 mod signing;

@@ -1,19 +1,20 @@
 //! Signed requests: the published example, and what a replay answers to them.
-use crate::devices::{Device, Manner, is_same, run};
+use crate::devices::{Manner, Stream, is_same, run};
 use std::alloc::{AllocError, Global};
 use std::str;
+use std::sync::Wait;
 
 // The status of a signing, whose input cannot be read; what it writes is added to the output.
-fn sign(alloc: Global, words: &[&str], output: &mut Device) -> u8 {
-    let mut input = Device::new(alloc, Manner::Broken, b"");
-    let mut errors = Device::new(alloc, Manner::Broken, b"");
-    run(alloc, words, &mut input, output, &mut errors)
+fn sign<R: Wait>(rt: &R, alloc: Global, words: &[&str], output: &mut Stream) -> u8 {
+    let mut input = Stream::new(alloc, Manner::Broken, b"");
+    let mut errors = Stream::new(alloc, Manner::Broken, b"");
+    run(rt, alloc, words, &mut input, output, &mut errors)
 }
 
 // A signing has status 0 and writes this request.
-fn is_signed(alloc: Global, words: &[&str], request: &[u8]) -> bool {
-    let mut output = Device::new(alloc, Manner::Able, b"");
-    let status = sign(alloc, words, &mut output);
+fn is_signed<R: Wait>(rt: &R, alloc: Global, words: &[&str], request: &[u8]) -> bool {
+    let mut output = Stream::new(alloc, Manner::Able, b"");
+    let status = sign(rt, alloc, words, &mut output);
     status == 0 && is_same(output.taken.as_slice(), request)
 }
 
@@ -46,7 +47,7 @@ const PUBLISHED_TEXT: &[u8] = b"GET /test.txt HTTP/1.1\r\n\
 
 #[test]
 fn published_get(rt: HostRuntime) {
-    assert!(rt; is_signed(rt.alloc(), &PUBLISHED, PUBLISHED_TEXT));
+    assert!(rt; is_signed(&rt, rt.alloc(), &PUBLISHED, PUBLISHED_TEXT));
 }
 
 // A put of `hello` with a header whose value has spaces and a colon; its signature is that of AWS's
@@ -122,7 +123,7 @@ const CHUNKED_TEXT: &[u8] = b"PUT /pail/k HTTP/1.1\r\n\
 
 #[test]
 fn chunks_are_signed(rt: HostRuntime) {
-    assert!(rt; is_signed(rt.alloc(), &CHUNKED, CHUNKED_TEXT));
+    assert!(rt; is_signed(&rt, rt.alloc(), &CHUNKED, CHUNKED_TEXT));
 }
 
 static GET: [&str; 14] = [
@@ -155,25 +156,25 @@ static REPLAY: [&str; 8] = [
 ];
 
 // What a replay of these bytes over devices of this manner writes, where its status is 0.
-fn answers(alloc: Global, manner: Manner, bytes: &[u8]) -> Option<Vec<u8>> {
-    let mut input = Device::new(alloc, manner, bytes);
-    let mut output = Device::new(alloc, manner, b"");
-    let mut errors = Device::new(alloc, Manner::Broken, b"");
-    match run(alloc, &REPLAY, &mut input, &mut output, &mut errors) {
+fn answers<R: Wait>(rt: &R, alloc: Global, manner: Manner, bytes: &[u8]) -> Option<Vec<u8>> {
+    let mut input = Stream::new(alloc, manner, bytes);
+    let mut output = Stream::new(alloc, manner, b"");
+    let mut errors = Stream::new(alloc, Manner::Broken, b"");
+    match run(rt, alloc, &REPLAY, &mut input, &mut output, &mut errors) {
         0 => Some(output.taken),
         _ => None,
     }
 }
 
 // A replay of these bytes has status 0 and writes that, over able devices and over slow ones.
-fn is_replayed(alloc: Global, bytes: &[u8], wanted: &[u8]) -> bool {
-    is_written(alloc, Manner::Able, bytes, wanted)
-        && is_written(alloc, Manner::Halting, bytes, wanted)
+fn is_replayed<R: Wait>(rt: &R, alloc: Global, bytes: &[u8], wanted: &[u8]) -> bool {
+    is_written(rt, alloc, Manner::Able, bytes, wanted)
+        && is_written(rt, alloc, Manner::Halting, bytes, wanted)
 }
 
 // A replay of these bytes over devices of this manner has status 0 and writes that.
-fn is_written(alloc: Global, manner: Manner, bytes: &[u8], wanted: &[u8]) -> bool {
-    match answers(alloc, manner, bytes) {
+fn is_written<R: Wait>(rt: &R, alloc: Global, manner: Manner, bytes: &[u8], wanted: &[u8]) -> bool {
+    match answers(rt, alloc, manner, bytes) {
         Some(out) => is_same(&out, wanted),
         None => false,
     }
@@ -208,50 +209,50 @@ const INCOMPLETE: &[u8] = b"HTTP/1.1 400 Bad Request\r\n\
 
 // The put and the get are signed with status 0 and as text, and a replay of both, one after the other,
 // is answered.
-fn are_signed_and_answered(alloc: Global) -> bool {
-    let mut requests = Device::new(alloc, Manner::Able, b"");
-    let put = sign(alloc, &PUT, &mut requests);
-    let get = sign(alloc, &GET, &mut requests);
+fn are_signed_and_answered<R: Wait>(rt: &R, alloc: Global) -> bool {
+    let mut requests = Stream::new(alloc, Manner::Able, b"");
+    let put = sign(rt, alloc, &PUT, &mut requests);
+    let get = sign(rt, alloc, &GET, &mut requests);
     let bytes = requests.taken.as_slice();
     let are_signed = put == 0 && get == 0 && str::from_utf8(bytes).is_ok();
-    are_signed && is_replayed(alloc, bytes, PUT_AND_GOT)
+    are_signed && is_replayed(rt, alloc, bytes, PUT_AND_GOT)
 }
 
-fn is_put_signed_and_answered(alloc: Global) -> bool {
-    is_signed(alloc, &PUT, PUT_TEXT) && are_signed_and_answered(alloc)
+fn is_put_signed_and_answered<R: Wait>(rt: &R, alloc: Global) -> bool {
+    is_signed(rt, alloc, &PUT, PUT_TEXT) && are_signed_and_answered(rt, alloc)
 }
 
 #[test]
 fn signed_requests_are_answered(rt: HostRuntime) {
-    assert!(rt; is_put_signed_and_answered(rt.alloc()));
+    assert!(rt; is_put_signed_and_answered(&rt, rt.alloc()));
 }
 
 #[test]
 fn incomplete_body(rt: HostRuntime) {
     let part = &PUT_TEXT[..PUT_TEXT.len() - 1];
-    assert!(rt; is_replayed(rt.alloc(), part, INCOMPLETE));
+    assert!(rt; is_replayed(&rt, rt.alloc(), part, INCOMPLETE));
 }
 
 // The bytes of 25 gets of a key that nothing was put under.
-fn absent_gets(alloc: Global) -> Vec<u8> {
-    let mut requests = Device::new(alloc, Manner::Able, b"");
+fn absent_gets<R: Wait>(rt: &R, alloc: Global) -> Vec<u8> {
+    let mut requests = Stream::new(alloc, Manner::Able, b"");
     for _ in 0..25 {
-        sign(alloc, &GET, &mut requests);
+        sign(rt, alloc, &GET, &mut requests);
     }
     requests.taken
 }
 
 // Each answer has 207 bytes, also where devices move one byte a time and are interrupted before each.
-fn is_slowly_answered(alloc: Global) -> bool {
-    let bytes = absent_gets(alloc);
-    match answers(alloc, Manner::Able, bytes.as_slice()) {
+fn is_slowly_answered<R: Wait>(rt: &R, alloc: Global) -> bool {
+    let bytes = absent_gets(rt, alloc);
+    match answers(rt, alloc, Manner::Able, bytes.as_slice()) {
         Some(out) => out.len() == 5_175
-            && is_written(alloc, Manner::Halting, bytes.as_slice(), out.as_slice()),
+            && is_written(rt, alloc, Manner::Halting, bytes.as_slice(), out.as_slice()),
         None => false,
     }
 }
 
 #[test]
 fn one_byte_a_time(rt: HostRuntime) {
-    assert!(rt; is_slowly_answered(rt.alloc()));
+    assert!(rt; is_slowly_answered(&rt, rt.alloc()));
 }

@@ -1,2 +1,2 @@
-pub mod DeviceLemmas
 pub mod KeysLemmas
+pub mod WriterLemmas

@@ -3,7 +3,7 @@ use Rattle.std.specs.Prelude.{◌≡◌, ◌⊎◌, ⊤, ℕ, List, [], ◌∷�
 use Rattle.std.specs.Fmt.{decimal}
 use Rattle.s3_text.specs.Characters.{line_feed}
 use Rattle.s3_settings.specs.declared.fault.Fault.{Fault}
-use Rattle.s3_settings.specs.declared.fault.Fault.TheVariants.{CannotRead, BadKeysLine, BadEventLine, BadSetting, InputFailed, OutputFailed, OutOfMemory}
+use Rattle.s3_settings.specs.declared.fault.Fault.TheVariants.{CannotRead, BadKeysLine, BadEventLine, BadSetting, CannotListen, InputFailed, OutputFailed, OutOfMemory}
 
 -- the text of a fault
 abbrev pub text_of : Fault → List ℕ
@@ -11,6 +11,7 @@ text_of (CannotRead path) = codes "cannot read " ++ path.now
 text_of (BadKeysLine number) = codes "bad keys line " ++ decimal number
 text_of (BadEventLine number) = codes "bad event line " ++ decimal number
 text_of BadSetting = codes "bad setting"
+text_of (CannotListen address) = codes "cannot listen on " ++ address.now
 text_of InputFailed = codes "input failed"
 text_of OutputFailed = codes "output failed"
 text_of OutOfMemory = codes "out of memory"

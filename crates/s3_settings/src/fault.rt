@@ -6,7 +6,7 @@ ghost use Rattle.s3_settings.specs.Devices.{AppendsBeginning};
 ghost use Rattle.s3_settings.specs.Fault.{text_of, line_of};
 ghost use Rattle.s3_settings.specs.declared.fault.Fault.TheVariants.{OutOfMemory};
 
-use crate::devices::write_bytes;
+use crate::writers::write_bytes;
 use itoa::Buffer;
 use s3_terms::NoMemory;
 use std::alloc::{AllocError, AllocFailed};
@@ -25,6 +25,8 @@ pub enum Fault<'a> {
     BadEventLine(usize),
     /// An option is out of its form, or the settings are none that a server accepts.
     BadSetting,
+    /// This is no address of the system's, or not one that this program may listen on.
+    CannotListen(&'a str),
     /// The standard input could not be read.
     InputFailed,
     /// The standard output did not take everything.
@@ -45,6 +47,7 @@ impl<'a> Fault<'a> {
             Fault::BadKeysLine(number) => ("bad keys line ", digits.format(*number)),
             Fault::BadEventLine(number) => ("bad event line ", digits.format(*number)),
             Fault::BadSetting => ("bad setting", ""),
+            Fault::CannotListen(address) => ("cannot listen on ", address),
             Fault::InputFailed => ("input failed", ""),
             Fault::OutputFailed => ("output failed", ""),
             Fault::OutOfMemory => ("out of memory", ""),

@@ -7,11 +7,15 @@ mod fault;
 mod files;
 mod keys;
 mod mode;
+mod server;
 mod settings;
+mod writers;
 
-pub use devices::{read_file, read_piece, write_output};
+pub use devices::{read_piece, write_output};
 pub use fault::Fault;
-pub use files::Files;
+pub use files::{Files, read_file};
 pub use keys::read_keys;
 pub use mode::ReplayMode;
+pub use server::{ServeMode, server_settings};
 pub use settings::{Setup, configure, option_moment, option_number};
+pub use writers::write_flushed;

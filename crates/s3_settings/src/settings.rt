@@ -5,9 +5,8 @@ ghost use Rattle.s3_config.specs.Settings.{are_settings, is_region, is_region_by
 ghost use Rattle.s3_settings.specs.Fault.{MemoryOr};
 ghost use Rattle.s3_settings.specs.Settings.{option_number, option_moment, is_bucket_option, are_options, IsSetupOf, HasKeys, settings_of, IsConfigured, IsConfigFault};
 
-use crate::devices::read_file;
 use crate::fault::Fault;
-use crate::files::Files;
+use crate::files::{Files, read_file};
 use crate::keys::read_keys;
 use s3_calendar::Moment;
 use s3_config::{Config, Credential};

@@ -1,3 +1,4 @@
 pub mod EventsLemmas
+pub mod ReadingLemmas
 pub mod RunLemmas
 pub mod SignLemmas

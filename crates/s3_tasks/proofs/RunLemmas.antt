@@ -1,29 +1,40 @@
 -- How a task ends.
-use Rattle.std.proofs.Common.{◌≡◌, ◌∙◌, ℕ, List, ◌++◌, Option, Some, None, IfSome, Result, Ok, Err, inr, ap, append-nil, subst, sym}
-use Rattle.std.specs.Prelude.{IfErr, IfOk, OnErr}
-use Rattle.std.specs.Io.KnownBytes.{Consumes, IsAtEnd}
+use Rattle.std.proofs.Common.{◌≡◌, ℕ, List, Option, Result, Ok, Err, inr, refl, subst, sym}
+use Rattle.std.specs.Prelude.{IfErr, OnOk}
+use Rattle.s3_devices.specs.Device.{Traffic}
 use Rattle.s3_settings.specs.declared.fault.Fault.{Fault}
 use Rattle.s3_settings.specs.declared.fault.Fault.TheVariants.{OutputFailed}
-use Rattle.s3_settings.specs.Devices.{AppendsBeginning}
+use Rattle.s3_settings.specs.Devices.{IsUnread, Takes, TakesBeginning}
 use Rattle.s3_command_line.specs.declared.task.Task.{Task}
-use Rattle.s3_tasks.specs.Run.{IsTaskText, IsTaskFault}
+use Rattle.s3_tasks.specs.Run.{IsTaskDone, IsTaskFault, IsTaskText}
 
--- the output took a beginning of a task's text
-pub cut_short : {T : Type 0} (known : List ℕ → Option (List ℕ)) (input before after : Option (List ℕ)) (task : Task) (text : List ℕ) (r : Result T Fault) → IsTaskText known input task text → IfErr r (λ fault. fault ≡ OutputFailed) → OnErr r (AppendsBeginning before after text) → IfErr r (IsTaskFault known input before after task)
-cut_short known input before after task text (Ok x) is failed part = tt
-cut_short known input before after task text (Err fault) is failed part = inr (failed, record { text = text; is = is; gained = part })
+-- the device took a task's text, or a beginning of it
+pub written_whole : {T E : Type 0} (known : List ℕ → Option (List ℕ)) (old between new : Traffic) (task : Task) (text : List ℕ) (r : Result T E)
+    → IsTaskText known old between task text → OnOk r (Takes between new text) → OnOk r (IsTaskDone known old new task)
+written_whole known old between new task text (Ok x) is took = record { text = text; between = between; is = is; written = took }
+written_whole known old between new task text (Err e) is took = tt
 
--- what holds of all that a reader gave holds of what it had, at its end
-pub all_given : (P : List ℕ → Type 0) (before after : Option (List ℕ)) (done : List ℕ) → Consumes before after done → IsAtEnd after → P done → IfSome before P
-all_given P None after done given end h = tt
-all_given P (Some left) None done given end h = absurd given
-all_given P (Some left) (Some rest) done given end h = subst P (sym (given ∙ ap (λ (l : List ℕ). done ++ l) end ∙ append-nil done)) h
+pub cut_short : {T : Type 0} (known : List ℕ → Option (List ℕ)) (old between new : Traffic) (task : Task) (text : List ℕ) (r : Result T Fault)
+    → IsTaskText known old between task text → IfErr r (λ fault. (fault ≡ OutputFailed) × TakesBeginning between new text) → IfErr r (IsTaskFault known old new task)
+cut_short known old between new task text (Ok x) is failed = tt
+cut_short known old between new task text (Err fault) is failed =
+    inr (failed.0, record { text = text; between = between; is = is; written = failed.1 })
 
--- what follows from it for what was made of it
-pub known_ok : {T E : Type 0} (P : List ℕ → Type 0) (Q : T → List ℕ → Type 0) (known : Option (List ℕ)) (r : Result T E)
-    → ((bytes : List ℕ) → P bytes → IfOk r (λ x. Q x bytes)) → IfSome known P → IfOk r (λ x. IfSome known (Q x))
-known_ok P Q known (Err e) leads h = tt
-known_ok P Q None (Ok x) leads h = tt
-known_ok P Q (Some bytes) (Ok x) leads h = leads bytes h
+taken_unread : (old new : Traffic) (bytes : List ℕ) → Takes old new bytes → IsUnread old new
+taken_unread old new bytes a =
+    subst (λ (t : Traffic). IsUnread old t) (sym a) refl
 
-pub ruleset runs = cut_short
+failed_unread : (old new : Traffic) (bytes : List ℕ) → TakesBeginning old new bytes → IsUnread old new
+failed_unread old new bytes a =
+    subst (λ (t : Traffic). IsUnread old t) (sym a.failed) refl
+
+-- that is no reading
+pub unread_by : {T : Type 0} (old between new : Traffic) (bytes : List ℕ) (r : Result T Fault)
+    → between ≡ old → OnOk r (Takes between new bytes) → IfErr r (λ fault. (fault ≡ OutputFailed) × TakesBeginning between new bytes) → IsUnread old new
+unread_by old between new bytes (Ok x) same took failed = subst (λ (t : Traffic). IsUnread t new) same (taken_unread between new bytes took)
+unread_by old between new bytes (Err e) same took failed = subst (λ (t : Traffic). IsUnread t new) same (failed_unread between new bytes failed.1)
+
+pub same_unread : (old new : Traffic) → new ≡ old → IsUnread old new
+same_unread old new same = subst (λ (t : Traffic). IsUnread old t) (sym same) refl
+
+pub ruleset runs = (written_whole, cut_short, unread_by, same_unread)

@@ -5,7 +5,7 @@ use Rattle.std.specs.Borrow.{Bor}
 use Rattle.std.specs.List.{list_all}
 use Rattle.s3_config.specs.Settings.{Settings}
 use Rattle.s3_settings.specs.declared.fault.Fault.{Fault}
-use Rattle.s3_settings.specs.declared.fault.Fault.TheVariants.{CannotRead, BadKeysLine, BadEventLine, BadSetting, InputFailed, OutputFailed, OutOfMemory}
+use Rattle.s3_settings.specs.declared.fault.Fault.TheVariants.{CannotRead, BadKeysLine, BadEventLine, BadSetting, CannotListen, InputFailed, OutputFailed, OutOfMemory}
 use Rattle.s3_settings.specs.declared.settings.Setup.{Setup}
 use Rattle.s3_tasks.specs.declared.sign.Draft.{Draft}
 use Rattle.s3_options.specs.declared.options.SignOptions.{SignOptions}
@@ -39,6 +39,7 @@ config_fault known o setup moment draft (CannotRead path) timed asked drafted h 
 config_fault known o setup moment draft (BadKeysLine number) timed asked drafted h = (draft, ap is_some timed, drafted, (setup, asked, h))
 config_fault known o setup moment draft (BadEventLine number) timed asked drafted h = absurd h
 config_fault known o setup moment draft BadSetting timed asked drafted h = inr (inl (draft, ap is_some timed, drafted, (setup, asked, h)))
+config_fault known o setup moment draft (CannotListen address) timed asked drafted h = absurd h
 config_fault known o setup moment draft InputFailed timed asked drafted h = absurd h
 config_fault known o setup moment draft OutputFailed timed asked drafted h = absurd h
 config_fault known o setup moment draft OutOfMemory timed asked drafted h = first_right o setup moment timed asked
@@ -49,6 +50,7 @@ request_fault known o draft settings stamp (CannotRead path) ready h = inr (draf
 request_fault known o draft settings stamp (BadKeysLine number) ready h = absurd h
 request_fault known o draft settings stamp (BadEventLine number) ready h = absurd h
 request_fault known o draft settings stamp BadSetting ready h = inr (inr (draft, settings, stamp, ready, h))
+request_fault known o draft settings stamp (CannotListen address) ready h = absurd h
 request_fault known o draft settings stamp InputFailed ready h = absurd h
 request_fault known o draft settings stamp OutputFailed ready h = absurd h
 request_fault known o draft settings stamp OutOfMemory ready h = first_right o ready.setup ready.moment ready.timed ready.asked

@@ -8,7 +8,7 @@ use Rattle.s3_config.specs.Settings.{Settings, secret_of}
 use Rattle.s3_signer.specs.Request.{HeaderLine, IsSignable, given_lines, request_text}
 use Rattle.s3_signer.specs.Chunked.{IsChunkedText, IsSignableInChunks, greatest_chunk}
 use Rattle.s3_settings.specs.declared.fault.Fault.{Fault}
-use Rattle.s3_settings.specs.declared.fault.Fault.TheVariants.{CannotRead, BadKeysLine, BadEventLine, BadSetting, InputFailed, OutputFailed, OutOfMemory}
+use Rattle.s3_settings.specs.declared.fault.Fault.TheVariants.{CannotRead, BadKeysLine, BadEventLine, BadSetting, CannotListen, InputFailed, OutputFailed, OutOfMemory}
 use Rattle.s3_settings.specs.declared.settings.Setup.{Setup}
 use Rattle.s3_tasks.specs.declared.sign.Draft.{Draft}
 use Rattle.s3_options.specs.declared.options.SignOptions.{SignOptions}
@@ -172,6 +172,7 @@ IsSignFault known o (CannotRead path) =
     HasDraftAndConfigFault known o (CannotRead path) ⊎ HasRequestFault known o (CannotRead path)
 IsSignFault known o (BadKeysLine number) = HasDraftAndConfigFault known o (BadKeysLine number)
 IsSignFault known o (BadEventLine number) = ⊥
+IsSignFault known o (CannotListen address) = ⊥
 IsSignFault known o InputFailed = ⊥
 IsSignFault known o OutputFailed = ⊥
 IsSignFault known o OutOfMemory = are_first_options o ≡ true

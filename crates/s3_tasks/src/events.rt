@@ -1,17 +1,19 @@
 //! The events of several connections, which the input spells line by line, are run, and what the connections wrote is
 //! printed.
 
-ghost use Rattle.std.specs.Prelude.{◌≡◌, ◌⊎◌, ◌<◌, ◌+◌, ◌++◌, length, take, IfOk, OnOk, IfErr, IfSome};
+ghost use Rattle.std.specs.Prelude.{◌≡◌, ◌<◌, ◌+◌, ◌++◌, length, take, IfOk, OnOk, IfErr};
 ghost use Rattle.s3_text.specs.Lines.{lines_of};
 ghost use Rattle.s3_events.specs.Printing.{outputs_text};
 ghost use Rattle.s3_events.specs.Script.{IsScriptOf};
+ghost use Rattle.s3_settings.specs.Devices.{GivesAll};
 ghost use Rattle.s3_settings.specs.declared.mode.ReplayMode.TheVariants.{Events as InEvents};
 ghost use Rattle.s3_world.specs.Run.{Runs};
 ghost use Rattle.s3_world.specs.World.{each_moments, unsent_of_all};
-ghost use Rattle.s3_tasks.specs.Run.{IsAnswerFault, IsEventsAnswered, IsLinesFault, IsScriptAnswered};
+ghost use Rattle.s3_tasks.specs.Run.{IsAnswerFault, IsEventsAnswered, IsLinesFault, IsReadingFault, IsScriptAnswered};
 
 use crate::run::PIECE;
 use s3_config::Config;
+use s3_devices::Device;
 use s3_events::{EventsError, Script, print_output, read_events};
 use s3_records::MapRecords;
 use s3_settings::{Fault, read_piece};
@@ -19,41 +21,46 @@ use s3_store::Store;
 use s3_terms::NoMemory;
 use s3_world::{World, run};
 use std::alloc::Global;
-use std::io::Read;
+use std::sync::Wait;
 
 /// What the connections are answered whose events all the input spells, under some settings: a line each, in the order of
-/// their numbers. All lines are read before the first event happens.
+/// their numbers. All lines are read before the first event happens. It may wait for the device, and then never return.
 ///
 /// # Errors
 ///
-/// `InputFailed` where the input could not be read, `BadEventLine` with the number of its first bad line, and
+/// `InputFailed` where a read failed, `BadEventLine` with the number of its first bad line, and
 /// `OutOfMemory`.
-pub fn events_answered<'a, R: Read>(
+pub fn events_answered<'a, R: Wait, D: Device>(
+    rt: &R,
     alloc: Global,
     config: &Config,
-    input: &mut R,
+    device: &mut D,
 ) -> Result<Vec<u8>, Fault<'a>>
-    ensures value { IfOk result (λ text. IfSome (R.remaining input.old) (λ bytes. IsEventsAnswered config.now bytes text.items)) }
-    ensures refused { IfErr result (IsAnswerFault InEvents (R.remaining input.old)) }
+    ensures value { IfOk result (λ text. GivesAll (λ bytes. IsEventsAnswered config.now bytes text.items) (D.traffic device.old) (D.traffic device.new)) }
+    ensures refused { IfErr result (IsAnswerFault InEvents (D.traffic device.old) (D.traffic device.new)) }
 {
     let mut text = Vec::new(alloc);
-    read_all(&mut text, input)?;
+    read_all(rt, &mut text, device)?;
     lines_answered(alloc, config, text.as_slice())
 }
 
-// Adds all that the input has left to a text, in pieces as they are read.
-fn read_all<'a, R: Read>(text: &mut Vec<u8>, input: &mut R) -> Result<(), Fault<'a>>
-    ensures all { OnOk result (IfSome (R.remaining input.old) (λ left. text.new.items ≡ text.old.items ++ left)) }
-    ensures refused { IfErr result (λ fault. (fault ≡ Fault.OutOfMemory) ⊎ (fault ≡ Fault.InputFailed)) }
+// Adds all that the device gives to a text, in pieces as they are read.
+fn read_all<'a, R: Wait, D: Device>(
+    rt: &R,
+    text: &mut Vec<u8>,
+    device: &mut D,
+) -> Result<(), Fault<'a>>
+    ensures all { OnOk result (GivesAll (λ given. text.new.items ≡ text.old.items ++ given) (D.traffic device.old) (D.traffic device.new)) }
+    ensures refused { IfErr result (IsReadingFault (D.traffic device.old) (D.traffic device.new)) }
 {
     let mut buffer = [0; PIECE];
-    for _ in 0..u64::MAX {
-        match read_piece(input, &mut buffer)? {
+    for _ in rt.forever() {
+        match read_piece(device, &mut buffer)? {
             Some(count) => text.extend_from_slice(&buffer[..count])?,
             None => return Ok(()),
         }
     }
-    Err(Fault::InputFailed)
+    unreachable!()
 }
 
 // What event lines are answered.

@@ -1,9 +1,9 @@
 //! What the program does: it reads the words of its command line, and answers one connection, answers event
-//! lines of several or signs one request, over any files and devices.
+//! lines of several or signs one request, over any files and devices. Where the words ask for a server, it says so.
 #![tactic(auto)]
 
 mod events;
 mod run;
 mod sign;
 
-pub use run::run_words;
+pub use run::{Ran, run_words};

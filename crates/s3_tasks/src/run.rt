@@ -1,26 +1,31 @@
-//! A run of the program, from its words to its status.
+//! A run of the program, from its words to its status, or to the options of a server.
 
-ghost use Rattle.std.specs.Prelude.{◌≡◌, ◌≢◌, ◌≤◌, ◌⊎◌, ◌++◌, ℕ, List, [], IfOk, OnOk, IfErr, IfSome, IsTrue, map, true};
+ghost use Rattle.std.specs.Prelude.{◌≡◌, ◌≢◌, ◌≤◌, ◌⊎◌, ℕ, List, [], IfOk, OnOk, IfErr, IsTrue, map, true};
 ghost use Rattle.s3_config.specs.Settings.{Settings};
 ghost use Rattle.s3_session.specs.Replay.{Replays};
 ghost use Rattle.s3_world.specs.World.{each_moments};
 ghost use Rattle.s3_replay.specs.Replaying.{HasTaken, all_at};
-ghost use Rattle.s3_settings.specs.Devices.{AppendsBeginning};
+ghost use Rattle.s3_settings.specs.Devices.{AppendsBeginning, GivesAll, IsUnread};
 ghost use Rattle.s3_settings.specs.Fault.{line_of};
-ghost use Rattle.s3_tasks.specs.Run.{IsAnswered, IsAnswerFault, IsReplayed, IsReplayFault, IsDone, IsTaskText, IsTextFault, IsTaskDone, IsTaskFault, is_before_input, is_signing, IsRunFault, HasFailed};
-ghost use Rattle.s3_command_line.specs.Words.{AreRightWords, AreSignWords};
+ghost use Rattle.s3_tasks.specs.Run.{IsAnswered, IsAnswerFault, IsFed, IsReadingFault, IsReplayed, IsReplayFault, IsDone, IsTaskText, IsTextFault, IsTaskDone, IsTaskFault, is_before_input, is_signing, IsRunFault, HasFailed};
+ghost use Rattle.s3_command_line.specs.Words.{AreRightWords, AreSignWords, IsAskedBy};
+ghost use Rattle.s3_command_line.specs.declared.task.Asked.TheVariants.{Server};
+ghost use Rattle.s3_options.specs.declared.options.ServeOptions.{ServeOptions};
+ghost use Rattle.s3_tasks.specs.declared.run.Ran.TheVariants.{Ended, Serve};
 
 use crate::events::events_answered;
 use crate::sign::signed_text;
 use s3_calendar::Moment;
-use s3_command_line::{Task, WordsError, read_words};
+use s3_command_line::{Asked, Task, WordsError, read_words};
 use s3_config::Config;
-use s3_options::ReplayOptions;
+use s3_devices::Device;
+use s3_options::{ReplayOptions, ServeOptions};
 use s3_replay::{Replay, at_moment};
 use s3_settings::{Fault, Files, ReplayMode, Setup, configure, read_piece, write_output};
 use std::alloc::Global;
 use std::convert::AsStr;
-use std::io::{Read, Write};
+use std::io::Write;
+use std::sync::Wait;
 
 // How many bytes of the input are read at once, at most.
 pub(crate) const PIECE: usize = 65_536;
@@ -34,48 +39,63 @@ const FAILED: u8 = 1;
 // The status of a run whose words were wrong or asked for help.
 const USAGE: u8 = 2;
 
+/// What came of a run.
+#[derive(Clone, Copy)]
+pub enum Ran<'a> {
+    /// It ended with this exit status.
+    Ended(u8),
+    /// The words ask for a server with these options, and nothing was done yet.
+    Serve(ServeOptions<'a>),
+}
+
 /// Runs the program on the words of its command line, of which the first is its name, and answers
-/// its exit status: 0 at the end of the work, 2 where the words are wrong or ask for help, with the
+/// its exit status: 0 at the end of the work, 2 where the words are wrong or ask for help or the version, with the
 /// text for the user on `errors`, and 1 otherwise, with one line there. That `errors` fails changes
-/// nothing.
-pub fn run_words<S: AsStr, F: Files, R: Read, W: Write, E: Write>(
+/// nothing. Where the words ask for a server, it only answers that: the caller has the sockets.
+///
+/// The input is what `device` gives, and the output what it takes. It may wait for its device, and then never return.
+/// Where a read fails, whatever the reason, the input failed: for memory that the device lacks too.
+pub fn run_words<'a, R: Wait, S: AsStr, F: Files, D: Device, E: Write>(
+    rt: &R,
     alloc: Global,
-    words: &[S],
+    words: &'a [S],
     files: &F,
-    input: &mut R,
-    output: &mut W,
+    device: &mut D,
     errors: &mut E,
-) -> u8
-    ensures status { result ≤ 2 }
-    ensures silent { result ≡ 0 → errors.new ≡ errors.old }
-    ensures done { result ≡ 0 → IsDone (map S.text words.now) (F.known files.now) (R.remaining input.old) (W.contents output.old) (W.contents output.new) }
-    ensures usage { result ≡ 2 → ¬ AreRightWords (map S.text words.now) }
-    ensures untouched { result ≡ 2 → (input.new ≡ input.old) × (output.new ≡ output.old) }
-    ensures input { AreSignWords (map S.text words.now) → input.new ≡ input.old }
-    ensures failed { result ≡ 1 → HasFailed (IsRunFault (map S.text words.now) (F.known files.now) (R.remaining input.old) (W.contents output.old) (W.contents output.new)) (E.contents errors.old) (E.contents errors.new) (input.new ≡ input.old) (output.new ≡ output.old) }
+) -> Ran<'a>
+    ensures status { (status : ℕ) → result ≡ Ended status → status ≤ 2 }
+    ensures silent { result ≡ Ended 0 → errors.new ≡ errors.old }
+    ensures done { result ≡ Ended 0 → IsDone (map S.text words.entry.now) (F.known files.now) (D.traffic device.old) (D.traffic device.new) }
+    ensures usage { result ≡ Ended 2 → ¬ AreRightWords (map S.text words.entry.now) }
+    ensures untouched { result ≡ Ended 2 → device.new ≡ device.old }
+    ensures input { AreSignWords (map S.text words.entry.now) → IsUnread (D.traffic device.old) (D.traffic device.new) }
+    ensures failed { result ≡ Ended 1 → HasFailed (IsRunFault (map S.text words.entry.now) (F.known files.now) (D.traffic device.old) (D.traffic device.new)) (E.contents errors.old) (E.contents errors.new) (device.new ≡ device.old) }
+    ensures server { (options : ServeOptions) → result ≡ Serve options → IsAskedBy (map S.text words.entry.now) (Server options) }
+    ensures undone { (options : ServeOptions) → result ≡ Serve options → (errors.new ≡ errors.old) × (device.new ≡ device.old) }
 {
     match read_words(alloc, words) {
-        Ok(task) => run_task(alloc, &task, files, input, output, errors),
-        Err(error) => refused(errors, error),
+        Ok(Asked::Work(task)) => Ran::Ended(run_task(rt, alloc, &task, files, device, errors)),
+        Ok(Asked::Server(options)) => Ran::Serve(options),
+        Err(error) => Ran::Ended(refused(errors, error)),
     }
 }
 
 // Runs a task and answers its status; a fault is told.
-fn run_task<'a, F: Files, R: Read, W: Write, E: Write>(
+fn run_task<'a, R: Wait, F: Files, D: Device, E: Write>(
+    rt: &R,
     alloc: Global,
     task: &Task<'a>,
     files: &F,
-    input: &mut R,
-    output: &mut W,
+    device: &mut D,
     errors: &mut E,
 ) -> u8
     ensures status { (result ≡ DONE) ⊎ (result ≡ FAILED) }
     ensures silent { result ≡ DONE → errors.new ≡ errors.old }
-    ensures done { result ≡ DONE → IsTaskDone (F.known files.now) (R.remaining input.old) (W.contents output.old) (W.contents output.new) task.now }
-    ensures failed { result ≡ FAILED → HasFailed (IsTaskFault (F.known files.now) (R.remaining input.old) (W.contents output.old) (W.contents output.new) task.now) (E.contents errors.old) (E.contents errors.new) (input.new ≡ input.old) (output.new ≡ output.old) }
-    ensures input { is_signing task.now ≡ true → input.new ≡ input.old }
+    ensures done { result ≡ DONE → IsTaskDone (F.known files.now) (D.traffic device.old) (D.traffic device.new) task.now }
+    ensures failed { result ≡ FAILED → HasFailed (IsTaskFault (F.known files.now) (D.traffic device.old) (D.traffic device.new) task.now) (E.contents errors.old) (E.contents errors.new) (device.new ≡ device.old) }
+    ensures input { is_signing task.now ≡ true → IsUnread (D.traffic device.old) (D.traffic device.new) }
 {
-    match work(alloc, task, files, input, output) {
+    match work(rt, alloc, task, files, device) {
         Ok(()) => DONE,
         Err(fault) => failed(errors, fault),
     }
@@ -107,110 +127,119 @@ fn failed<E: Write>(errors: &mut E, fault: Fault<'_>) -> u8
 
 // Does what the words ask for.
 #[tactic(auto, using(crate::proofs::RunLemmas::runs))]
-fn work<'a, F: Files, R: Read, W: Write>(
+fn work<'a, R: Wait, F: Files, D: Device>(
+    rt: &R,
     alloc: Global,
     task: &Task<'a>,
     files: &F,
-    input: &mut R,
-    output: &mut W,
+    device: &mut D,
 ) -> Result<(), Fault<'a>>
-    ensures done { OnOk result (IsTaskDone (F.known files.now) (R.remaining input.old) (W.contents output.old) (W.contents output.new) task.now) }
-    ensures refused { IfErr result (IsTaskFault (F.known files.now) (R.remaining input.old) (W.contents output.old) (W.contents output.new) task.now) }
-    ensures unread { IfErr result (λ fault. IsTrue (is_before_input fault) → input.new ≡ input.old) }
-    ensures unwritten { IfErr result (λ fault. fault ≢ Fault.OutputFailed → output.new ≡ output.old) }
-    ensures input { is_signing task.now ≡ true → input.new ≡ input.old }
+    ensures done { OnOk result (IsTaskDone (F.known files.now) (D.traffic device.old) (D.traffic device.new) task.now) }
+    ensures refused { IfErr result (IsTaskFault (F.known files.now) (D.traffic device.old) (D.traffic device.new) task.now) }
+    ensures unread { IfErr result (λ fault. IsTrue (is_before_input fault) → device.new ≡ device.old) }
+    ensures input { is_signing task.now ≡ true → IsUnread (D.traffic device.old) (D.traffic device.new) }
 {
-    let text = task_text(alloc, task, files, input)?;
-    write_output(output, text.as_slice())
+    let text = task_text(rt, alloc, task, files, device)?;
+    write_output(rt, device, text.as_slice())
 }
 
 // What the words ask to write.
-fn task_text<'a, F: Files, R: Read>(
+fn task_text<'a, R: Wait, F: Files, D: Device>(
+    rt: &R,
     alloc: Global,
     task: &Task<'a>,
     files: &F,
-    input: &mut R,
+    device: &mut D,
 ) -> Result<Vec<u8>, Fault<'a>>
-    ensures value { IfOk result (λ text. IsTaskText (F.known files.now) (R.remaining input.old) task.now text.items) }
-    ensures refused { IfErr result (IsTextFault (F.known files.now) (R.remaining input.old) task.now) }
-    ensures unread { IfErr result (λ fault. IsTrue (is_before_input fault) → input.new ≡ input.old) }
-    ensures input { is_signing task.now ≡ true → input.new ≡ input.old }
+    ensures value { IfOk result (λ text. IsTaskText (F.known files.now) (D.traffic device.old) (D.traffic device.new) task.now text.items) }
+    ensures refused { IfErr result (IsTextFault (F.known files.now) (D.traffic device.old) (D.traffic device.new) task.now) }
+    ensures unread { IfErr result (λ fault. IsTrue (is_before_input fault) → device.new ≡ device.old) }
+    ensures input { is_signing task.now ≡ true → D.traffic device.new ≡ D.traffic device.old }
 {
     match task {
-        Task::Replay(options) => replay(alloc, options, files, input),
+        Task::Replay(options) => replay(rt, alloc, options, files, device),
         Task::Sign(options) => signed_text(alloc, options, files),
     }
 }
 
 // What all the input is answered, read as the options say.
-fn replay<'a, F: Files, R: Read>(
+fn replay<'a, R: Wait, F: Files, D: Device>(
+    rt: &R,
     alloc: Global,
     options: &ReplayOptions<'a>,
     files: &F,
-    input: &mut R,
+    device: &mut D,
 ) -> Result<Vec<u8>, Fault<'a>>
-    ensures value { IfOk result (λ text. IsReplayed (F.known files.now) (R.remaining input.old) options.now text.items) }
-    ensures refused { IfErr result (IsReplayFault (F.known files.now) (R.remaining input.old) options.now) }
-    ensures unread { IfErr result (λ fault. IsTrue (is_before_input fault) → input.new ≡ input.old) }
+    ensures value { IfOk result (λ text. IsReplayed (F.known files.now) (D.traffic device.old) (D.traffic device.new) options.now text.items) }
+    ensures refused { IfErr result (IsReplayFault (F.known files.now) (D.traffic device.old) (D.traffic device.new) options.now) }
+    ensures unread { IfErr result (λ fault. IsTrue (is_before_input fault) → device.new ≡ device.old) }
 {
     let mode = ReplayMode::read(options)?;
     let setup = Setup::read(alloc, &options.common)?;
     let config = configure(alloc, setup, files)?;
-    answered(alloc, &config, mode, input)
+    answered(rt, alloc, &config, mode, device)
 }
 
 // What all the input is answered, read in a mode and under some settings.
-fn answered<'a, R: Read>(
+#[tactic(auto, using(crate::proofs::ReadingLemmas::readings))]
+fn answered<'a, R: Wait, D: Device>(
+    rt: &R,
     alloc: Global,
     config: &Config,
     mode: ReplayMode,
-    input: &mut R,
+    device: &mut D,
 ) -> Result<Vec<u8>, Fault<'a>>
-    ensures value { IfOk result (λ text. IfSome (R.remaining input.old) (λ bytes. IsAnswered config.now mode bytes text.items)) }
-    ensures refused { IfErr result (IsAnswerFault mode (R.remaining input.old)) }
+    ensures value { IfOk result (λ text. GivesAll (λ bytes. IsAnswered config.now mode bytes text.items) (D.traffic device.old) (D.traffic device.new)) }
+    ensures refused { IfErr result (IsAnswerFault mode (D.traffic device.old) (D.traffic device.new)) }
 {
     match mode {
-        ReplayMode::AtMoment(moment) => answers(alloc, config, moment, input),
-        ReplayMode::Events => events_answered(alloc, config, input),
+        ReplayMode::AtMoment(moment) => answers(rt, alloc, config, moment, device),
+        ReplayMode::Events => events_answered(rt, alloc, config, device),
     }
 }
 
 // What the connection of all the input is answered, under some settings at a moment.
-fn answers<'a, R: Read>(
+fn answers<'a, R: Wait, D: Device>(
+    rt: &R,
     alloc: Global,
     config: &Config,
     moment: Moment,
-    input: &mut R,
+    device: &mut D,
 ) -> Result<Vec<u8>, Fault<'a>>
-    ensures value { IfOk result (λ text. IfSome (R.remaining input.old) (λ bytes. Replays config.now moment bytes text.items)) }
-    ensures refused { IfErr result (λ fault. (fault ≡ Fault.OutOfMemory) ⊎ (fault ≡ Fault.InputFailed)) }
+    ensures value { IfOk result (λ text. GivesAll (λ bytes. Replays config.now moment bytes text.items) (D.traffic device.old) (D.traffic device.new)) }
+    ensures refused { IfErr result (IsReadingFault (D.traffic device.old) (D.traffic device.new)) }
 {
     let moments = at_moment(alloc, moment)?;
-    answers_at(alloc, config, moments.as_slice(), input)
+    answers_at(rt, alloc, config, moments.as_slice(), device)
 }
 
 // The same, whose messages have the moments of a list.
-fn answers_at<'a, R: Read>(
+fn answers_at<'a, R: Wait, D: Device>(
+    rt: &R,
     alloc: Global,
     config: &Config,
     moments: &[Vec<Moment>],
-    input: &mut R,
+    device: &mut D,
 ) -> Result<Vec<u8>, Fault<'a>>
     ensures value { (moment : ℕ) → each_moments moments.now ≡ all_at moment
-        → IfOk result (λ text. IfSome (R.remaining input.old) (λ bytes. Replays config.now moment bytes text.items)) }
-    ensures refused { IfErr result (λ fault. (fault ≡ Fault.OutOfMemory) ⊎ (fault ≡ Fault.InputFailed)) }
+        → IfOk result (λ text. GivesAll (λ bytes. Replays config.now moment bytes text.items) (D.traffic device.old) (D.traffic device.new)) }
+    ensures refused { IfErr result (IsReadingFault (D.traffic device.old) (D.traffic device.new)) }
 {
     let replay = Replay::new(alloc, config, moments)?;
-    written_after(replay, input)
+    written_after(rt, replay, device)
 }
 
-// What a replay writes that takes all that the input has left and then ends.
-fn written_after<'a, R: Read>(mut replay: Replay<'_>, input: &mut R) -> Result<Vec<u8>, Fault<'a>>
+// What a replay writes that takes all that the device gives and then ends.
+fn written_after<'a, R: Wait, D: Device>(
+    rt: &R,
+    mut replay: Replay<'_>,
+    device: &mut D,
+) -> Result<Vec<u8>, Fault<'a>>
     ensures value { (settings : Settings) (moment : ℕ) → HasTaken replay.entry settings moment []
-        → IfOk result (λ text. IfSome (R.remaining input.old) (λ bytes. Replays settings moment bytes text.items)) }
-    ensures refused { IfErr result (λ fault. (fault ≡ Fault.OutOfMemory) ⊎ (fault ≡ Fault.InputFailed)) }
+        → IfOk result (λ text. GivesAll (λ bytes. Replays settings moment bytes text.items) (D.traffic device.old) (D.traffic device.new)) }
+    ensures refused { IfErr result (IsReadingFault (D.traffic device.old) (D.traffic device.new)) }
 {
-    feed_input(&mut replay, input)?;
+    feed_input(rt, &mut replay, device)?;
     written(replay)
 }
 
@@ -224,18 +253,21 @@ fn written<'a>(replay: Replay<'_>) -> Result<Vec<u8>, Fault<'a>>
     Ok(text)
 }
 
-// Feeds a replay with all that the input has left, in pieces as they are read.
-fn feed_input<'a, R: Read>(replay: &mut Replay<'_>, input: &mut R) -> Result<(), Fault<'a>>
-    ensures fed { (settings : Settings) (moment : ℕ) (bytes : List ℕ) → HasTaken replay.old settings moment bytes
-        → OnOk result (IfSome (R.remaining input.old) (λ left. HasTaken replay.new settings moment (bytes ++ left))) }
-    ensures refused { IfErr result (λ fault. (fault ≡ Fault.OutOfMemory) ⊎ (fault ≡ Fault.InputFailed)) }
+// Feeds a replay with all that the device gives, in pieces as they are read.
+fn feed_input<'a, R: Wait, D: Device>(
+    rt: &R,
+    replay: &mut Replay<'_>,
+    device: &mut D,
+) -> Result<(), Fault<'a>>
+    ensures fed { OnOk result (GivesAll (IsFed replay.old replay.new) (D.traffic device.old) (D.traffic device.new)) }
+    ensures refused { IfErr result (IsReadingFault (D.traffic device.old) (D.traffic device.new)) }
 {
     let mut buffer = [0; PIECE];
-    for _ in 0..u64::MAX {
-        match read_piece(input, &mut buffer)? {
+    for _ in rt.forever() {
+        match read_piece(device, &mut buffer)? {
             Some(count) => replay.feed(&buffer[..count])?,
             None => return Ok(()),
         }
     }
-    Err(Fault::InputFailed)
+    unreachable!()
 }

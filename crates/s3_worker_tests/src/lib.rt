@@ -1,7 +1,10 @@
-//! Tests of `s3_workers`: connections over a stream that gives and takes in pieces, would block, and fails. What they write is
-//! compared to `s3_replay::replay_one`'s, or is as `docs/PROTOCOL.md` says.
+//! Tests of `s3_workers`: connections over a stream that gives and takes in pieces, would block, and fails; two connections of one
+//! worker, in turns; and two workers at one desk, one of which is held inside a body. What is written is compared to
+//! `s3_replay::replay_one`'s, or is as `docs/PROTOCOL.md` says.
 #![tactic(auto)]
 
+#[cfg(test)]
+mod overlap;
 #[cfg(test)]
 mod places;
 #[cfg(test)]
@@ -10,3 +13,5 @@ mod served;
 mod stream;
 #[cfg(test)]
 mod tests;
+#[cfg(test)]
+mod turns;

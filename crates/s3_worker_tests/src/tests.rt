@@ -1,5 +1,5 @@
 //! Connections to their end.
-use crate::served::{HEAD, PUT_AND_GET, config, replayed, served};
+use crate::served::{CHUNKS_AND_GET, HEAD, PUT_AND_GET, config, replayed, served};
 use crate::stream::Manner;
 use s3_config::Config;
 use s3_workers::{Connection, Outcome};
@@ -22,10 +22,11 @@ fn is_alike<R: Wait>(
     rt: &R,
     alloc: Global,
     config: &Config,
+    bytes: &[u8],
     wanted: &[u8],
     manner: Manner,
 ) -> bool {
-    match served(rt, alloc, config, PUT_AND_GET, manner) {
+    match served(rt, alloc, config, bytes, manner) {
         Some((outcome, out, _)) => outcome == Outcome::Closed && out.as_slice() == wanted,
         None => false,
     }
@@ -36,19 +37,20 @@ fn unlike<R: Wait>(
     rt: &R,
     alloc: Global,
     config: &Config,
+    bytes: &[u8],
     wanted: &[u8],
     most: usize,
     is_slow: bool,
 ) -> usize {
     let mut count = 0_usize;
-    for first in 0..PUT_AND_GET.len() {
+    for first in 0..bytes.len() {
         let manner = Manner {
             first,
             most,
             is_slow,
             ..PLAIN
         };
-        if !is_alike(rt, alloc, config, wanted, manner) {
+        if !is_alike(rt, alloc, config, bytes, wanted, manner) {
             count = count.saturating_add(1);
         }
     }
@@ -56,11 +58,17 @@ fn unlike<R: Wait>(
 }
 
 // The same, where what is wanted is what is replayed.
-fn unlike_replayed<R: Wait>(rt: &R, alloc: Global, most: usize, is_slow: bool) -> Option<usize> {
+fn unlike_replayed<R: Wait>(
+    rt: &R,
+    alloc: Global,
+    bytes: &[u8],
+    most: usize,
+    is_slow: bool,
+) -> Option<usize> {
     let config = config(alloc)?;
-    let wanted = replayed(alloc, &config, PUT_AND_GET);
+    let wanted = replayed(alloc, &config, bytes);
     match wanted {
-        Some(wanted) => Some(unlike(rt, alloc, &config, &wanted, most, is_slow)),
+        Some(wanted) => Some(unlike(rt, alloc, &config, bytes, &wanted, most, is_slow)),
         None => None,
     }
 }
@@ -87,8 +95,16 @@ fn passed<R: Wait>(rt: &R, alloc: Global, manner: Manner) -> Option<u64> {
 #[test]
 fn blocked_anywhere(rt: HostRuntime) {
     let alloc = rt.alloc();
-    for (most, is_slow) in [(usize::MAX, false), (usize::MAX, true), (1, true)] {
-        assert!(rt; unlike_replayed(&rt, alloc, most, is_slow) == Some(0));
+    let cases = [
+        (PUT_AND_GET, usize::MAX, false),
+        (PUT_AND_GET, usize::MAX, true),
+        (PUT_AND_GET, 1, true),
+        (CHUNKS_AND_GET, usize::MAX, false),
+        (CHUNKS_AND_GET, usize::MAX, true),
+        (CHUNKS_AND_GET, 1, true),
+    ];
+    for (bytes, most, is_slow) in cases {
+        assert!(rt; unlike_replayed(&rt, alloc, bytes, most, is_slow) == Some(0));
     }
 }
 

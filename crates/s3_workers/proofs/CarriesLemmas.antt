@@ -76,11 +76,13 @@ module _ {C : Type 0} (gives : C → C → ℕ → Type 0) (settings : Settings)
       → IsClockAsked gives clock later (gave_between old new) → Needs need (standing_of new)
       → Carries gives settings new from later entries (fed past bytes (gave_between old new) (turns_of need)) (turns_of need) sent
   carries_fed later bytes need c stands asked is = record {
+    moments = c.moments ++ gave_between old new;
     gained = c.gained;
     stands = stands;
-    given = gives_more gives from.clock clock later past.moments (gave_between old new) c.given asked;
+    given = gives_more gives from.clock clock later c.moments (gave_between old new) c.given asked;
     made = c.made;
-    turns = ap (λ (ts : List Turn). ts ++ turns_of need) (c.turns ∙ append-nil (map answered_turn c.gained));
+    times = ap (λ (ms : List ℕ). ms ++ gave_between old new) c.times ∙ append_assoc from.earlier.moments c.moments (gave_between old new);
+    turns = ap (λ (ts : List Turn). ts ++ turns_of need) (c.turns ∙ append-nil (map answered_turn (from.earlier.entries ++ c.gained)));
     answers = c.answers;
     waits = needed need (standing_of new) is;
   }
@@ -90,13 +92,17 @@ module _ {C : Type 0} (gives : C → C → ℕ → Type 0) (settings : Settings)
       → Carries gives settings new from clock later (answered past (Ok answer)) [] sent
   carries_replied later turn answer c stands is added =
       let e : Entry = entry_of turn answer in
+      let own : List Entry = from.earlier.entries ++ c.gained in
+      let more = append_assoc from.earlier.entries c.gained (e ∷ []) in
       record {
+        moments = c.moments;
         gained = c.gained ++ e ∷ [];
         stands = stands;
         given = c.given;
         made = added ∙ ap (λ (es : List Entry). es ++ e ∷ []) c.made ∙ append_assoc from.entries c.gained (e ∷ []);
-        turns = c.turns ∙ sym (map_push answered_turn c.gained e) ∙ sym (append-nil (map answered_turn (c.gained ++ e ∷ [])));
-        answers = ap (λ (before : List Answer). before ++ answer ∷ []) c.answers ∙ sym (map_push answer_of c.gained e);
+        times = c.times;
+        turns = c.turns ∙ sym (map_push answered_turn own e) ∙ ap (map answered_turn) more ∙ sym (append-nil (map answered_turn (from.earlier.entries ++ (c.gained ++ e ∷ []))));
+        answers = ap (λ (before : List Answer). before ++ answer ∷ []) c.answers ∙ sym (map_push answer_of own e) ∙ ap (map answer_of) more;
         waits = replied_waits answer (standing_of new) is;
       }
 
@@ -104,10 +110,12 @@ module _ {C : Type 0} (gives : C → C → ℕ → Type 0) (settings : Settings)
       → Stands new settings past sent → IsAnsweredTo (Err e) (standing_of new) → later ≡ entries
       → Carries gives settings new from clock later past turns sent
   carries_died later e turns c stands is same = record {
+    moments = c.moments;
     gained = c.gained;
     stands = stands;
     given = c.given;
     made = same ∙ c.made;
+    times = c.times;
     turns = c.turns;
     answers = c.answers;
     waits = died_waits e (standing_of new) turns is;
@@ -117,10 +125,12 @@ module _ {C : Type 0} (gives : C → C → ℕ → Type 0) (settings : Settings)
   pub carries_ended : Carries gives settings old from clock entries past [] sent → Stands new settings (record past { ended = true }) sent
       → is_waiting (standing_of new) ≡ false → Carries gives settings new from clock entries (record past { ended = true }) [] sent
   carries_ended c stands idle = record {
+    moments = c.moments;
     gained = c.gained;
     stands = stands;
     given = c.given;
     made = c.made;
+    times = c.times;
     turns = c.turns;
     answers = c.answers;
     waits = none_waits (standing_of new) idle;
@@ -130,10 +140,12 @@ module _ {C : Type 0} (gives : C → C → ℕ → Type 0) (settings : Settings)
   pub carries_sent : (waiting : List Turn) (more : List ℕ) → Carries gives settings old from clock entries past waiting sent → Stands new settings past more
       → standing_of new ≡ standing_of old → Carries gives settings new from clock entries past waiting more
   carries_sent waiting more c stands same = record {
+    moments = c.moments;
     gained = c.gained;
     stands = stands;
     given = c.given;
     made = c.made;
+    times = c.times;
     turns = c.turns;
     answers = c.answers;
     waits = subst (λ (s : Standing). HasWaiting s waiting) (sym same) c.waits;

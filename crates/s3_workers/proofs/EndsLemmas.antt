@@ -9,10 +9,10 @@ use Rattle.s3_session.specs.Session as sessions
 use Rattle.s3_session.specs.Session.{is_closed, standing_of}
 use Rattle.s3_session.specs.Laws.{OutputsStay, SessionsWrite}
 use Rattle.s3_buffered_session.specs.Output.{answer_of, answered_turn}
-use Rattle.s3_workers.specs.Device.{Traffic}
+use Rattle.s3_devices.specs.Device.{Traffic}
 use Rattle.s3_workers.specs.Around.{Around, Ends, Fails, HasClosed, HasFailedToRead, HasWritten, Outputs, past_of}
 use Rattle.s3_workers.specs.Connection.{HasMet, Held, IsFit, IsServed, Leaves, StopsAt, unsent_of}
-use Rattle.s3_workers.specs.declared.device.Wanted.TheVariants as wants
+use Rattle.s3_devices.specs.declared.device.Wanted.TheVariants as wants
 use Rattle.s3_workers.specs.declared.outcome.Outcome.{Outcome}
 use Rattle.s3_workers.specs.declared.outcome.Outcome.TheVariants as outcomes
 use Rattle.s3_workers.specs.declared.outcome.Step.{Step}
@@ -20,9 +20,9 @@ use Rattle.s3_workers.specs.declared.outcome.Step.TheVariants as steps
 use Rattle.s3_workers.specs.declared.stage.Stage.{Stage}
 use Rattle.s3_workers.specs.declared.stage.Stage.TheVariants as stages
 
-past_is : (past : Past) (ended : Bool) (gained : List Entry) (waiting : List Turn) → ended ≡ past.ended → past.turns ≡ map answered_turn gained ++ waiting → past.answers ≡ map answer_of gained
-    → past ≡ past_of past.bytes ended past.moments gained waiting
-past_is past ended gained waiting same turns answers = rw (same, sym turns, sym answers) refl
+past_is : (past : Past) (ended : Bool) (moments : List ℕ) (entries : List Entry) (waiting : List Turn) → ended ≡ past.ended → past.moments ≡ moments
+    → past.turns ≡ map answered_turn entries ++ waiting → past.answers ≡ map answer_of entries → past ≡ past_of past.bytes ended moments entries waiting
+past_is past ended moments entries waiting same times turns answers = rw (same, sym times, sym turns, sym answers) refl
 
 over_reads : (standing : Standing) → is_closed standing ≡ true → standing ≢ Reading
 over_reads Reading closed reads = let never = closed in absurd (cc)
@@ -39,11 +39,18 @@ done_closed session kept fit goes_on = elim (cases_Bool (is_closed (standing_of 
 
 module _ {C : Type 0} (gives : C → C → ℕ → Type 0) (write : SessionsWrite) (stay : OutputsStay) (settings : Settings) (c : Held) (from now : Around C)
     (h : IsServed gives settings c from now) where
+  -- all moments and entries that it has
+  abbrev all_moments : List ℕ
+  all_moments = from.earlier.moments ++ h.carries.moments
+
+  abbrev all_entries : List Entry
+  all_entries = from.earlier.entries ++ h.carries.gained
+
   -- its output for the bytes that were taken
-  output_of : (ended : Bool) (bytes out : List ℕ) → Writes (standing_of c.session) settings (past_of bytes ended h.past.moments h.carries.gained h.waiting) out
+  output_of : (ended : Bool) (bytes out : List ℕ) → Writes (standing_of c.session) settings (past_of bytes ended all_moments all_entries h.waiting) out
       → Outputs gives settings from now (standing_of c.session) bytes ended out
   output_of ended bytes out writes = record {
-    moments = h.past.moments;
+    moments = h.carries.moments;
     gained = h.carries.gained;
     waiting = h.waiting;
     clock = h.carries.given;
@@ -53,10 +60,10 @@ module _ {C : Type 0} (gives : C → C → ℕ → Type 0) (write : SessionsWrit
   }
 
   writes_taken : (ended : Bool) → ended ≡ h.past.ended
-      → Writes (standing_of c.session) settings (past_of h.past.bytes ended h.past.moments h.carries.gained h.waiting) (h.sent ++ unsent_of c)
+      → Writes (standing_of c.session) settings (past_of h.past.bytes ended all_moments all_entries h.waiting) (h.sent ++ unsent_of c)
   writes_taken ended same =
       subst (λ (p : Past). Writes (standing_of c.session) settings p (h.sent ++ unsent_of c))
-      (past_is h.past ended h.carries.gained h.waiting same h.carries.turns h.carries.answers) (write c.session settings h.past h.sent h.carries.stands)
+      (past_is h.past ended all_moments all_entries h.waiting same h.carries.times h.carries.turns h.carries.answers) (write c.session settings h.past h.sent h.carries.stands)
 
   pub written_so_far : HasWritten gives settings from now
   written_so_far = record {
@@ -75,12 +82,12 @@ module _ {C : Type 0} (gives : C → C → ℕ → Type 0) (write : SessionsWrit
 
   -- the same, with what is behind them, where no more is read
   writes_over : is_closed (standing_of c.session) ≡ true → h.past.ended ≡ false
-      → Writes (standing_of c.session) settings (past_of (h.past.bytes ++ h.behind) now.traffic.is_ended h.past.moments h.carries.gained h.waiting) (h.sent ++ unsent_of c)
+      → Writes (standing_of c.session) settings (past_of (h.past.bytes ++ h.behind) now.traffic.is_ended all_moments all_entries h.waiting) (h.sent ++ unsent_of c)
   writes_over closed unended =
       let moved = stay settings (standing_of c.session) h.past (h.sent ++ unsent_of c) h.behind now.traffic.is_ended (over_reads (standing_of c.session) closed) unended
       (write c.session settings h.past h.sent h.carries.stands) in
-      let same : record h.past { bytes = h.past.bytes ++ h.behind; ended = now.traffic.is_ended } ≡ past_of (h.past.bytes ++ h.behind) now.traffic.is_ended h.past.moments h.carries.gained h.waiting =
-      rw (h.carries.turns, h.carries.answers) refl in
+      let same = past_is (record h.past { bytes = h.past.bytes ++ h.behind; ended = now.traffic.is_ended }) now.traffic.is_ended all_moments all_entries h.waiting
+      refl h.carries.times h.carries.turns h.carries.answers in
       subst (λ (p : Past). Writes (standing_of c.session) settings p (h.sent ++ unsent_of c)) same moved
 
   nothing_behind : h.behind ≡ [] → h.past.bytes ++ h.behind ≡ h.past.bytes
@@ -88,10 +95,10 @@ module _ {C : Type 0} (gives : C → C → ℕ → Type 0) (write : SessionsWrit
 
   -- the output for all that was read
   writes_all : c.stage ≡ stages.Done
-      → Writes (standing_of c.session) settings (past_of (h.past.bytes ++ h.behind) now.traffic.is_ended h.past.moments h.carries.gained h.waiting) (h.sent ++ unsent_of c)
+      → Writes (standing_of c.session) settings (past_of (h.past.bytes ++ h.behind) now.traffic.is_ended all_moments all_entries h.waiting) (h.sent ++ unsent_of c)
   writes_all at = elim (cases_Bool h.past.ended) [
     | inl over ↦ (let none = subst (λ (s : Stage). Leaves s c.kept h.behind h.past.ended) at h.left over in
-        subst (λ (b : List ℕ). Writes (standing_of c.session) settings (past_of b now.traffic.is_ended h.past.moments h.carries.gained h.waiting) (h.sent ++ unsent_of c))
+        subst (λ (b : List ℕ). Writes (standing_of c.session) settings (past_of b now.traffic.is_ended all_moments all_entries h.waiting) (h.sent ++ unsent_of c))
         (sym (nothing_behind none)) (writes_taken now.traffic.is_ended h.ended))
     | inr unended ↦ writes_over (done_closed c.session c.kept (subst (λ (s : Stage). IsFit s c.session c.kept) at h.fit) (sym h.carries.stands.end ∙ unended)) unended
   ]
@@ -110,7 +117,7 @@ module _ {C : Type 0} (gives : C → C → ℕ → Type 0) (write : SessionsWrit
     read = h.came;
     written = h.went;
     output = output_of now.traffic.is_ended (h.past.bytes ++ h.behind) h.sent
-        (subst (Writes (standing_of c.session) settings (past_of (h.past.bytes ++ h.behind) now.traffic.is_ended h.past.moments h.carries.gained h.waiting)) (all_sent none) (writes_all at));
+        (subst (Writes (standing_of c.session) settings (past_of (h.past.bytes ++ h.behind) now.traffic.is_ended all_moments all_entries h.waiting)) (all_sent none) (writes_all at));
     idle = (subst (λ (s : Stage). IsFit s c.session c.kept) at h.fit).0;
     over = is_over at;
   }
@@ -128,7 +135,7 @@ module _ {C : Type 0} (gives : C → C → ℕ → Type 0) (write : SessionsWrit
         unended = h.ended ∙ unended;
         output = subst (λ (s : Standing). Outputs gives settings from now s h.past.bytes false h.sent) fit.0
             (output_of false h.past.bytes h.sent
-            (subst (Writes (standing_of c.session) settings (past_of h.past.bytes false h.past.moments h.carries.gained h.waiting)) (all_sent none) (writes_taken false (sym unended))));
+            (subst (Writes (standing_of c.session) settings (past_of h.past.bytes false all_moments all_entries h.waiting)) (all_sent none) (writes_taken false (sym unended))));
       }
 
   pub has_ended : (outcome : Outcome) → StopsAt (steps.Ended outcome) c → Ends gives outcome settings from now

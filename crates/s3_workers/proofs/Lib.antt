@@ -1,4 +1,3 @@
 pub mod CarriesLemmas
 pub mod EndsLemmas
-pub mod RecordedLemmas
 pub mod ServedLemmas

@@ -1,14 +1,15 @@
 -- How a connection stands after each move.
-use Rattle.std.proofs.Common.{◌≡◌, ℕ, Bool, true, false, List, [], ◌++◌, refl, sym, ap, subst, ◌∙◌, append-nil, append_assoc}
+use Rattle.std.proofs.Common.{◌≡◌, ℕ, Bool, true, false, List, [], ◌++◌, map, refl, sym, ap, subst, ◌∙◌, append-nil, append_assoc}
 use Rattle.s3_config.specs.Settings.{Settings}
 use Rattle.s3_machine.specs.History.{Entry}
 use Rattle.s3_machine.specs.declared.turn.Turn.{Turn}
 use Rattle.s3_session.specs.Output.{Standing, is_dead, is_waiting, nothing_yet}
 use Rattle.s3_session.specs.Session.{Connection, Stands, is_closed, standing_of}
+use Rattle.s3_buffered_session.specs.Output.{answer_of, answered_turn}
 use Rattle.s3_buffered_session.specs.Buffered.{HasWaiting}
-use Rattle.s3_workers.specs.Device.{Traffic, with_received}
-use Rattle.s3_workers.specs.Around.{Around, around}
-use Rattle.s3_workers.specs.Connection.{Carries, HasSent, Held, IsFit, IsNew, IsServed, Leaves, Took, held}
+use Rattle.s3_devices.specs.Device.{Traffic, with_received}
+use Rattle.s3_workers.specs.Around.{Around, Own, around, nothing_own, since}
+use Rattle.s3_workers.specs.Connection.{Carries, HasSent, Held, IsFit, IsHeld, IsNew, IsServed, Leaves, MayRest, Took, held}
 use Rattle.s3_workers.specs.declared.stage.Stage.{Stage}
 use Rattle.s3_workers.specs.declared.stage.Stage.TheVariants as stages
 use Rattle.s3_workers.proofs.CarriesLemmas.{carries_ended, carries_sent, no_turns}
@@ -19,28 +20,80 @@ fit_same stages.Reading old new kept standing end fit = (standing ∙ fit.0, end
 fit_same stages.Answered old new kept standing end fit = (ap is_waiting standing ∙ fit.0, ap is_dead standing ∙ fit.1, end ∙ fit.2)
 fit_same stages.Done old new kept standing end fit = (ap is_waiting standing ∙ fit.0, λ opened. end ∙ fit.1 (sym (ap is_closed standing) ∙ opened))
 
+-- nothing came
+pub held_new : (settings : Settings) (c : Held) (traffic : Traffic) → IsNew c → traffic.is_ended ≡ false → IsHeld settings c nothing_own traffic traffic
+held_new settings c traffic new unended = record {
+  past = nothing_yet;
+  waiting = [];
+  sent = [];
+  behind = [];
+  stands = new.4 settings;
+  times = refl;
+  turns = refl;
+  answers = refl;
+  waits = subst (λ (s : Standing). HasWaiting s []) (sym new.2) refl;
+  came = sym (append-nil traffic.received);
+  went = sym (append-nil traffic.sent);
+  ended = unended;
+  fit = subst (λ (s : Stage). IsFit s c.session c.kept) (sym new.0) (new.2, new.3, new.1);
+  left = subst (λ (s : Stage). Leaves s c.kept [] false) (sym new.0) refl;
+}
+
 module _ {C : Type 0} (gives : C → C → ℕ → Type 0) (settings : Settings) where
-  -- nothing came
-  pub served_new : (c : Held) (at : Around C) → IsNew c → at.traffic.is_ended ≡ false → IsServed gives settings c at at
-  served_new c at new unended = record {
-    past = nothing_yet;
-    waiting = [];
-    sent = [];
-    behind = [];
+  -- its worker comes to it
+  pub held_served : (c : Held) (own : Own) (began now : Traffic) (clock : C) (entries : List Entry) → IsHeld settings c own began now
+      → IsServed gives settings c (since own began clock entries) (around clock entries now)
+  held_served c own began now clock entries h = record {
+    past = h.past;
+    waiting = h.waiting;
+    sent = h.sent;
+    behind = h.behind;
     carries = record {
+      moments = [];
       gained = [];
-      stands = new.4 settings;
+      stands = h.stands;
       given = refl;
-      made = sym (append-nil at.entries);
-      turns = refl;
-      answers = refl;
-      waits = subst (λ (s : Standing). HasWaiting s []) (sym new.2) refl;
+      made = sym (append-nil entries);
+      times = h.times ∙ sym (append-nil own.moments);
+      turns = h.turns ∙ ap (λ (es : List Entry). map answered_turn es ++ h.waiting) (sym (append-nil own.entries));
+      answers = h.answers ∙ ap (map answer_of) (sym (append-nil own.entries));
+      waits = h.waits;
     };
-    came = sym (append-nil at.traffic.received);
-    went = sym (append-nil at.traffic.sent);
-    ended = unended;
-    fit = subst (λ (s : Stage). IsFit s c.session c.kept) (sym new.0) (new.2, new.3, new.1);
-    left = subst (λ (s : Stage). Leaves s c.kept [] false) (sym new.0) refl;
+    came = h.came;
+    went = h.went;
+    ended = h.ended;
+    fit = h.fit;
+    left = h.left;
+  }
+
+  -- nothing came
+  pub served_new : (c : Held) (clock : C) (entries : List Entry) (traffic : Traffic) → IsNew c → traffic.is_ended ≡ false
+      → IsServed gives settings c (around clock entries traffic) (around clock entries traffic)
+  served_new c clock entries traffic new unended = held_served c nothing_own traffic traffic clock entries (held_new settings c traffic new unended)
+
+  -- its worker turns to others
+  pub served_rests : (c : Held) (from now : Around C) → IsServed gives settings c from now → MayRest gives settings c from now
+  served_rests c from now h = record {
+    moments = h.carries.moments;
+    gained = h.carries.gained;
+    given = h.carries.given;
+    made = h.carries.made;
+    is_held = record {
+      past = h.past;
+      waiting = h.waiting;
+      sent = h.sent;
+      behind = h.behind;
+      stands = h.carries.stands;
+      times = h.carries.times;
+      turns = h.carries.turns;
+      answers = h.carries.answers;
+      waits = h.carries.waits;
+      came = h.came;
+      went = h.went;
+      ended = h.ended;
+      fit = h.fit;
+      left = h.left;
+    };
   }
 
   module _ (old : Connection) (kept : List ℕ) (from : Around C) (clock : C) (entries : List Entry) (traffic : Traffic) where

@@ -9,18 +9,36 @@ use Rattle.s3_session.specs.Output as standings
 use Rattle.s3_session.specs.Session.{is_closed}
 use Rattle.s3_buffered_session.specs.Output.{answer_of, answered_turn}
 use Rattle.s3_buffered_session.specs.Buffered.{HasWaiting}
-use Rattle.s3_workers.specs.Device.{Traffic}
+use Rattle.s3_devices.specs.Device.{Traffic}
 use Rattle.s3_workers.specs.declared.outcome.Outcome.{Outcome}
 use Rattle.s3_workers.specs.declared.outcome.Outcome.TheVariants as outcomes
 
--- the clock of a connection, the entries of its counter, and what its device gave and took
+-- what a connection has of its own: the moments that its messages were given, and the entries of its commands
+pub record Own : Type 0 where
+  pub moments : List ℕ
+  pub entries : List Entry
+
+abbrev pub nothing_own : Own
+nothing_own = record { moments = []; entries = [] }
+
+-- these as well
+abbrev pub with_own : Own → List ℕ → List Entry → Own
+with_own own moments entries = record { moments = own.moments ++ moments; entries = own.entries ++ entries }
+
+-- the clock of a connection, the entries of its counter, and what its device gave and took; and what it had of its own before
+-- its worker came back to it from others, if it did
 pub record Around (C : Type 0) : Type 0 where
+  pub earlier : Own
   pub clock : C
   pub entries : List Entry
   pub traffic : Traffic
 
 abbrev pub around : {C : Type 0} → C → List Entry → Traffic → Around C
-around clock entries traffic = record { clock = clock; entries = entries; traffic = traffic }
+around clock entries traffic = record { earlier = nothing_own; clock = clock; entries = entries; traffic = traffic }
+
+-- the same for a connection that has this of its own, whose device had given and taken so much when it began
+abbrev pub since : {C : Type 0} → Own → Traffic → C → List Entry → Around C
+since own began clock entries = record { earlier = own; clock = clock; entries = entries; traffic = began }
 
 -- what went through a connection whose device gave these bytes, and said or not that no more come; whose clock gave these
 -- moments; whose counter made these entries; and of which these turns have no answer
@@ -40,8 +58,8 @@ module _ {C : Type 0} (gives : C → C → ℕ → Type 0) where
   GivesAll old new (moment ∷ moments) = (next : C) × gives old next moment × GivesAll next new moments
 
   -- The output of a connection for these bytes, for the moments that its clock gave, and for the entries that its counter
-  -- gained: their commands are those of its first sound messages, at those moments, and they are answered so. A turn is left
-  -- without an answer only where one waits or memory ran out.
+  -- gained, behind those that it had before: their commands are those of its first sound messages, at those moments, and they
+  -- are answered so. A turn is left without an answer only where one waits or memory ran out.
   pub record Outputs (settings : Settings) (from now : Around C) (standing : Standing) (bytes : List ℕ) (ended : Bool) (out : List ℕ) : Type 0 where
     pub moments : List ℕ
     pub gained : List Entry
@@ -49,7 +67,7 @@ module _ {C : Type 0} (gives : C → C → ℕ → Type 0) where
     pub clock : GivesAll from.clock now.clock moments
     pub entries : now.entries ≡ from.entries ++ gained
     pub waits : HasWaiting standing waiting
-    pub writes : Writes standing settings (past_of bytes ended moments gained waiting) out
+    pub writes : Writes standing settings (past_of bytes ended (from.earlier.moments ++ moments) (from.earlier.entries ++ gained) waiting) out
 
   -- The connection is closed: its input's end was read, or its output has ended; no command waits; and what was written is the
   -- output for all that was read, whole.

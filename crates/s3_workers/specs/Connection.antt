@@ -11,10 +11,10 @@ use Rattle.s3_session.specs.Session as sessions
 use Rattle.s3_session.specs.Session.{Connection, Stands, is_closed}
 use Rattle.s3_buffered_session.specs.Output.{answer_of, answered_turn}
 use Rattle.s3_buffered_session.specs.Buffered.{HasWaiting}
-use Rattle.s3_workers.specs.Device.{Traffic}
-use Rattle.s3_workers.specs.Around.{Around, Fails, GivesAll}
-use Rattle.s3_workers.specs.declared.device.Wanted.{Wanted}
-use Rattle.s3_workers.specs.declared.device.Wanted.TheVariants as wants
+use Rattle.s3_devices.specs.Device.{Traffic}
+use Rattle.s3_workers.specs.Around.{Around, Fails, GivesAll, Own, with_own}
+use Rattle.s3_devices.specs.declared.device.Wanted.{Wanted}
+use Rattle.s3_devices.specs.declared.device.Wanted.TheVariants as wants
 use Rattle.s3_workers.specs.declared.outcome.Outcome.TheVariants as outcomes
 use Rattle.s3_workers.specs.declared.outcome.Step.{Step}
 use Rattle.s3_workers.specs.declared.outcome.Step.TheVariants as steps
@@ -49,15 +49,35 @@ Leaves stages.Reading kept behind ended = behind ≡ []
 Leaves stages.Answered kept behind ended = behind ≡ kept
 Leaves stages.Done kept behind ended = ended ≡ true → behind ≡ []
 
+-- A connection that nobody looks at: the bytes that came since it began went through its session, as far as they were taken, with
+-- the moments and the entries that are its own, and what it sent went out.
+pub record IsHeld (settings : Settings) (c : Held) (own : Own) (began now : Traffic) : Type 0 where
+  pub past : Past
+  pub waiting : List Turn
+  pub sent : List ℕ
+  pub behind : List ℕ
+  pub stands : Stands c.session settings past sent
+  pub times : past.moments ≡ own.moments
+  pub turns : past.turns ≡ map answered_turn own.entries ++ waiting
+  pub answers : past.answers ≡ map answer_of own.entries
+  pub waits : HasWaiting (sessions.standing_of c.session) waiting
+  pub came : now.received ≡ began.received ++ (past.bytes ++ behind)
+  pub went : now.sent ≡ began.sent ++ sent
+  pub ended : now.is_ended ≡ past.ended
+  pub fit : IsFit c.stage c.session c.kept
+  pub left : Leaves c.stage c.kept behind past.ended
+
 module _ {C : Type 0} (gives : C → C → ℕ → Type 0) (settings : Settings) where
   -- the session of a connection: what went through it came from the clock and the counter
   pub record Carries (session : Connection) (from : Around C) (clock : C) (entries : List Entry) (past : Past) (waiting : List Turn) (sent : List ℕ) : Type 0 where
+    pub moments : List ℕ
     pub gained : List Entry
     pub stands : Stands session settings past sent
-    pub given : GivesAll gives from.clock clock past.moments
+    pub given : GivesAll gives from.clock clock moments
     pub made : entries ≡ from.entries ++ gained
-    pub turns : past.turns ≡ map answered_turn gained ++ waiting
-    pub answers : past.answers ≡ map answer_of gained
+    pub times : past.moments ≡ from.earlier.moments ++ moments
+    pub turns : past.turns ≡ map answered_turn (from.earlier.entries ++ gained) ++ waiting
+    pub answers : past.answers ≡ map answer_of (from.earlier.entries ++ gained)
     pub waits : HasWaiting (sessions.standing_of session) waiting
 
   -- a connection between two looks: the bytes that came went through its session, as far as they were taken, and what it
@@ -73,6 +93,15 @@ module _ {C : Type 0} (gives : C → C → ℕ → Type 0) (settings : Settings)
     pub ended : now.traffic.is_ended ≡ past.ended
     pub fit : IsFit c.stage c.session c.kept
     pub left : Leaves c.stage c.kept behind past.ended
+
+  -- What a connection was given and gained between two looks is its own from then on: it is held with that, whatever its worker
+  -- does for others.
+  pub record MayRest (c : Held) (from now : Around C) : Type 0 where
+    pub moments : List ℕ
+    pub gained : List Entry
+    pub given : GivesAll gives from.clock now.clock moments
+    pub made : now.entries ≡ from.entries ++ gained
+    pub is_held : IsHeld settings c (with_own from.earlier moments gained) from.traffic now.traffic
 
   -- the turn of a session was answered, or memory ran out at it
   pub record IsAnswered (stage : Stage) (session : Connection) (from : Around C) (clock : C) (entries : List Entry) (before : Past) (sent : List ℕ) : Type 0 where

@@ -1,7 +1,5 @@
 pub mod Around
 pub mod Connection
 pub mod Counter
-pub mod Device
-pub mod Recorded
 pub use Rattle.s3_session.specs.Output as Session
 pub use Rattle.s3_machine.specs.History

@@ -3,11 +3,10 @@
 ghost use Rattle.std.specs.Prelude.{◌≡◌, ◌≢◌, ◌<◌, ◌≤◌, ◌+◌, [], length};
 ghost use Rattle.s3_session.specs.Session as sessions;
 ghost use Rattle.s3_workers.specs.Around.{Around, Ends, around};
-ghost use Rattle.s3_workers.specs.Device.{Traffic};
+ghost use Rattle.s3_devices.specs.Device.{Traffic};
 ghost use Rattle.s3_workers.specs.declared.outcome.Outcome.{Outcome};
 
 use crate::counter::Counter;
-use crate::device::Device;
 use crate::feeding::take_kept;
 use crate::gate::{Gate, Place};
 use crate::moving::{has_unsent, read_some, write_some};
@@ -16,6 +15,7 @@ use crate::stage::Stage;
 use crate::worker::Worker;
 use s3_buffered_session::Kept;
 use s3_config::Config;
+use s3_devices::Device;
 use s3_session::{Clock, Session, outputs_stay, sessions_write};
 use std::alloc::Global;
 use std::marker::Model;
@@ -62,6 +62,11 @@ impl Connection {
     /// Whether it reads, and a part of a message has come: for the time that its caller gives it. It takes no memory.
     pub fn is_within_message(&self) -> bool {
         self.is_within
+    }
+
+    /// Whether the head of a message was admitted and its body isn't whole, for the same. It takes no memory.
+    pub fn is_in_body(&self) -> bool {
+        self.session.in_body()
     }
 
     /// Serves the connection as far as it goes without waiting, and no further than this many moves: a read or a write each,

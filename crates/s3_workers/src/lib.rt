@@ -5,14 +5,12 @@
 mod book_counter;
 mod connection;
 mod counter;
-mod device;
-mod events;
+mod desk_counter;
 mod feeding;
 mod gate;
 mod laws;
 mod moving;
 mod outcome;
-mod recorded;
 mod serving;
 mod stage;
 mod worker;
@@ -20,11 +18,11 @@ mod worker;
 pub use book_counter::BookCounter;
 pub use connection::Connection;
 pub use counter::Counter;
-pub use device::{Device, Reading, Wanted, Writing};
-pub use events::DeviceEvent;
+pub use desk_counter::DeskCounter;
 pub use gate::{Gate, NoGate, Place};
-pub use laws::{connections_begin, connections_write};
+pub use laws::{
+    connections_are_held, connections_begin, connections_go_on, connections_rest, connections_write,
+};
 pub use outcome::{Outcome, Step};
-pub use recorded::Recorded;
 pub use serving::serve;
 pub use worker::Worker;

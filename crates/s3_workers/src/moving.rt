@@ -6,13 +6,13 @@ ghost use Rattle.s3_workers.specs.Around.{Around, around};
 ghost use Rattle.s3_workers.specs.Connection.{HasMet, HasSent, IsFit, IsServed, StopsAt, held, progress_of};
 
 use crate::counter::Counter;
-use crate::device::{Device, Reading, Wanted, Writing};
 use crate::feeding::take_piece;
 use crate::outcome::{Outcome, Step};
 use crate::stage::Stage;
 use crate::worker::Worker;
 use s3_buffered_session::Kept;
 use s3_config::Config;
+use s3_devices::{Device, Reading, Wanted, Writing};
 use s3_session::{Clock, Session};
 use std::alloc::Global;
 

@@ -1,6 +1,6 @@
 //! What comes of a connection, and of a step of it.
 
-use crate::device::Wanted;
+use s3_devices::Wanted;
 
 /// How a connection has ended.
 #[derive(Clone, Copy, Debug, PartialEq, Eq)]

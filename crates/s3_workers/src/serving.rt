@@ -6,12 +6,12 @@ ghost use Rattle.s3_workers.specs.Connection.{IsServed};
 
 use crate::connection::Connection;
 use crate::counter::Counter;
-use crate::device::Device;
 use crate::gate::{Gate, Place};
 use crate::laws::connections_begin;
 use crate::outcome::{Outcome, Step};
 use crate::worker::Worker;
 use s3_config::Config;
+use s3_devices::Device;
 use s3_session::Clock;
 use std::alloc::Global;
 use std::sync::Wait;

@@ -1,14 +1,16 @@
 //! The program `s3d`, which answers and signs requests of the Amazon S3 REST API. `s3d replay` answers
-//! one connection that stands whole on the standard input, or many whose events do, and `s3d sign` writes one
-//! signed request.
-//! `s3_tasks::run_words` does the work over any devices.
+//! one connection that stands whole on the standard input, or many whose events do, `s3d sign` writes one
+//! signed request, and `s3d serve` listens on a socket.
+//! `s3_tasks::run_words` does the work over any device, and `s3_server::serve_words` over sockets.
 #![tactic(auto)]
 
 ghost use Rattle.std.specs.Prelude.{◌≡◌};
 ghost use Rattle.std.specs.Process.{exit_status};
 
+use s3_devices::{Recorded, Streams};
+use s3_server::serve_words;
 use s3_settings::Files;
-use s3_tasks::run_words;
+use s3_tasks::{Ran, run_words};
 use std::alloc::Global;
 use std::process::ExitCode;
 use std::{env, fs, io};
@@ -37,14 +39,28 @@ fn exit_code(status: u8) -> ExitCode
 }
 
 fn main(rt: HostRuntime) -> ExitCode {
-    let alloc = rt.alloc();
+    let (alloc, files) = (rt.alloc(), SystemFiles(&rt));
     let words = arguments(&rt).unwrap_or(Vec::new(alloc));
-    exit_code(run_words(
+    let mut errors = rt.stderr();
+    let Some(mut device) = Recorded::new(Streams {
+        input: rt.stdin(),
+        output: rt.stdout(),
+    }) else {
+        return ExitCode::FAILURE;
+    };
+    let ran = run_words(
+        &rt,
         alloc,
         words.as_slice(),
-        &SystemFiles(&rt),
-        &mut rt.stdin(),
-        &mut rt.stdout(),
-        &mut rt.stderr(),
-    ))
+        &files,
+        &mut device,
+        &mut errors,
+    );
+    exit_code(match ran {
+        Ran::Ended(status) => status,
+        Ran::Serve(options) => {
+            let mut output = rt.stdout();
+            serve_words(&rt, alloc, &options, &files, &mut output, &mut errors)
+        }
+    })
 }

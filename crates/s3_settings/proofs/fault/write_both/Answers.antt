@@ -1,4 +1,4 @@
-use Rattle.s3_settings.proofs.DeviceLemmas.{told_after, part_after, part_of_first}
+use Rattle.s3_settings.proofs.WriterLemmas.{told_after, part_after, part_of_first}
 use Rattle.s3_settings.proofs.fault.write_both.Goals as goal
 
 pub returns-in-Ok-clause-told : goal.returns-in-Ok-clause-told

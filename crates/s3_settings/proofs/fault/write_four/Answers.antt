@@ -1,5 +1,5 @@
 use Rattle.std.proofs.Common.{◌++◌}
-use Rattle.s3_settings.proofs.DeviceLemmas.{told_after, part_after, part_of_first}
+use Rattle.s3_settings.proofs.WriterLemmas.{told_after, part_after, part_of_first}
 use Rattle.s3_settings.proofs.fault.write_four.Goals as goal
 
 pub returns-in-Ok-clause-told : goal.returns-in-Ok-clause-told

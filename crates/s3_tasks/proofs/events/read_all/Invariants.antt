@@ -1,8 +1,8 @@
 use Rattle.std.proofs.Common.{◌≡◌, ℕ, List, ◌++◌}
-use Rattle.std.specs.Io.KnownBytes.{Consumes}
+use Rattle.s3_settings.specs.Devices.{Gives}
 use Rattle.s3_tasks.proofs.events.read_all.Given as goal
 
 abbrev pub invariant-loop : goal.invariant-loop
-invariant-loop g l = (done : List ℕ)
-    × Consumes (g.R.Read.remaining l.fn.input) (g.R.Read.remaining l.input) done
-    × (l.text.items ≡ l.fn.text.items ++ done)
+invariant-loop g l = (given : List ℕ)
+    × Gives (g.D.Device.traffic l.fn.device) (g.D.Device.traffic l.device) given
+    × (l.text.items ≡ l.fn.text.items ++ given)

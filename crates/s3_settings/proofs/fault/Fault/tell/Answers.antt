@@ -2,7 +2,7 @@ use Rattle.std.proofs.Common.{List, ℕ, subst}
 use Rattle.std.specs.Prelude.{OnOk}
 use Rattle.std.specs.Io.KnownBytes.{Appends}
 use Rattle.s3_settings.specs.Devices.{AppendsBeginning}
-use Rattle.s3_settings.proofs.DeviceLemmas.{line_said, either_taken}
+use Rattle.s3_settings.proofs.WriterLemmas.{line_said, either_taken}
 use Rattle.s3_settings.proofs.fault.Fault.tell.Goals as goal
 
 pub returns-clause-told : goal.returns-clause-told

@@ -1,0 +1,108 @@
+"""A client of S3 for the scripts of this folder: signed requests as bytes, and connections that stay."""
+
+import hashlib
+import hmac
+import socket
+import sys
+import time
+import urllib.parse
+from pathlib import Path
+
+sys.path.insert(0, str(Path(__file__).resolve().parent.parent / "interop"))
+
+from server import BUCKET, ID, REGION, SECRET, Peer, Server  # noqa: E402,F401
+
+
+def code(key, text):
+    return hmac.new(key, text.encode(), hashlib.sha256).digest()
+
+
+def request(address, method, key, body=b"", moment=None):
+    """One signed request, as bytes."""
+    stamp = time.strftime("%Y%m%dT%H%M%SZ", time.gmtime(moment))
+    path = urllib.parse.quote(f"/{BUCKET}/{key}", safe="/~")
+    sha = hashlib.sha256(body).hexdigest()
+    signed = {"host": address, "x-amz-content-sha256": sha, "x-amz-date": stamp}
+    names = ";".join(signed)
+    lines = "".join(f"{name}:{value}\n" for name, value in signed.items())
+    canonical = hashlib.sha256(f"{method}\n{path}\n\n{lines}\n{names}\n{sha}".encode()).hexdigest()
+    scope = f"{stamp[:8]}/{REGION}/s3/aws4_request"
+    by_day = code(("AWS4" + SECRET).encode(), stamp[:8])
+    by_scope = code(code(code(by_day, REGION), "s3"), "aws4_request")
+    signature = code(by_scope, f"AWS4-HMAC-SHA256\n{stamp}\n{scope}\n{canonical}").hex()
+    head = [f"{method} {path} HTTP/1.1", *(f"{name}: {value}" for name, value in signed.items())]
+    if method == "PUT":
+        head.append(f"content-length: {len(body)}")
+    head.append(
+        f"authorization: AWS4-HMAC-SHA256 Credential={ID}/{scope}, SignedHeaders={names}, Signature={signature}"
+    )
+    return ("\r\n".join(head) + "\r\n\r\n").encode() + body
+
+
+def place_of(address):
+    """The host and the port of an address."""
+    host, port = address.rsplit(":", 1)
+    return host, int(port)
+
+
+class Cut(Exception):
+    """The connection ended before its reply."""
+
+
+class Connection:
+    """A connection that stays, and is made again where it ended."""
+
+    def __init__(self, address, patience=60):
+        self.place = place_of(address)
+        self.patience = patience
+        self.socket = None
+        self.kept = b""
+
+    def open(self):
+        if self.socket is None:
+            self.socket = socket.create_connection(self.place, self.patience)
+            self.socket.setsockopt(socket.IPPROTO_TCP, socket.TCP_NODELAY, 1)
+            self.kept = b""
+        return self.socket
+
+    def close(self):
+        if self.socket is not None:
+            self.socket.close()
+            self.socket = None
+
+    def send(self, data):
+        self.open().sendall(data)
+
+    def more(self):
+        piece = self.socket.recv(262144)
+        if not piece:
+            self.close()
+            raise Cut()
+        return piece
+
+    def reply(self, has_body=True):
+        """The status and the body of the next reply."""
+        while (end := self.kept.find(b"\r\n\r\n")) < 0:
+            self.kept += self.more()
+        head, rest = self.kept[:end].split(b"\r\n"), self.kept[end + 4 :]
+        status = int(head[0].split()[1])
+        if status == 100:
+            self.kept = rest
+            return self.reply(has_body)
+        fields = dict(line.split(b":", 1) for line in head[1:])
+        fields = {name.lower(): value.strip() for name, value in fields.items()}
+        size = int(fields.get(b"content-length", b"0")) if has_body else 0
+        pieces, got = [rest], len(rest)
+        while got < size:
+            pieces.append(self.more())
+            got += len(pieces[-1])
+        whole = b"".join(pieces)
+        self.kept = whole[size:]
+        if fields.get(b"connection", b"").lower() == b"close" or head[0].startswith(b"HTTP/1.0"):
+            self.close()
+        return status, whole[:size]
+
+    def ask(self, data):
+        """Sends a request, and gives the status and the body of its reply."""
+        self.send(data)
+        return self.reply()

@@ -1,0 +1,61 @@
+//! The other end of a connection, as a worker sees it.
+
+ghost use Rattle.std.specs.Prelude.{◌≡◌, ◌≢◌, ◌<◌, [], length};
+ghost use Rattle.s3_devices.specs.Device.{Reads, Traffic, Writes};
+
+/// What came of a read.
+#[derive(Clone, Copy, Debug)]
+pub enum Reading {
+    /// So many bytes, at least one, stand at the front of the buffer.
+    Bytes(usize),
+    /// No more bytes come.
+    End,
+    /// Nothing has come: the read would have to wait.
+    Later,
+    /// The device failed.
+    Failed,
+}
+
+/// What came of a write.
+#[derive(Clone, Copy, Debug)]
+pub enum Writing {
+    /// So many bytes in front, at least one, were taken.
+    Took(usize),
+    /// There is no room: the write would have to wait.
+    Later,
+    /// The device failed, or took nothing.
+    Failed,
+}
+
+/// What a connection waits for.
+#[derive(Clone, Copy, Debug)]
+pub enum Wanted {
+    /// That its device can be read.
+    Input,
+    /// That its device has room for what is unsent.
+    Room,
+}
+
+/// The other end of a connection: bytes are read from it and written to it.
+///
+/// Contracts see all that it gave and took. A real device knows that too without keeping it: `Recorded` is one over any
+/// reader and writer.
+pub trait Device {
+    ghost traffic: { Self → Traffic };
+
+    /// Reads what has come, as far as the buffer has room.
+    fn read(&mut self, buffer: &mut [u8]) -> Reading
+        requires room { 0 < length buffer.old }
+        ensures reads { Reads result (traffic self.old) (traffic self.new) buffer.new };
+
+    /// Writes some of these bytes, those in front.
+    fn write(&mut self, bytes: &[u8]) -> Writing
+        requires some { bytes.now ≢ [] }
+        ensures writes { Writes result (traffic self.old) (traffic self.new) bytes.now };
+
+    /// Waits for this. A device that never answers `Later` needs none; one that does, and is served by `serve`, has to wait
+    /// here, or its worker asks it again and again.
+    fn wait(&mut self, _wanted: Wanted)
+        ensures { traffic self.new ≡ traffic self.old }
+    {}
+}

@@ -1,0 +1,14 @@
+//! The other end of a connection, or of a run of the program: bytes are read from it and written to it, and contracts see all
+//! that it gave and took, and how often it failed. `Recorded` is one over any reader and writer, and
+//! `Streams` makes one stream of both.
+#![tactic(auto)]
+
+mod device;
+mod events;
+mod recorded;
+mod streams;
+
+pub use device::{Device, Reading, Wanted, Writing};
+pub use events::DeviceEvent;
+pub use recorded::Recorded;
+pub use streams::Streams;

@@ -1,0 +1,2 @@
+pub mod HeldLemmas
+pub mod SeatLemmas

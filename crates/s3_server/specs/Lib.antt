@@ -1,0 +1,4 @@
+pub mod Clock
+pub mod Held
+pub mod Limits
+pub mod Serve

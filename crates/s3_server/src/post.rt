@@ -1,0 +1,360 @@
+//! Where a worker works: it waits until some of its connections are ready, and has these go on.
+
+ghost use Rattle.std.specs.Prelude.{◌≡◌};
+
+use crate::clock::SystemClock;
+use crate::held::Held;
+use crate::socket::Socket;
+use crate::tally::Tally;
+use mio::net::{TcpListener, TcpStream};
+use mio::{Events, Interest, Poll, Token};
+use s3_config::Config;
+use s3_workers::{Counter, Gate, Place, Worker};
+use slab::Slab;
+use std::alloc::{AllocError, Global};
+use std::io::{self, ErrorKind};
+use std::net::{self, Net};
+use std::sync::Wait;
+use std::time::{self, Duration, Instant};
+
+// The token of the listener; no slab has so many places.
+const LISTENER: Token = Token(usize::MAX);
+
+// How many events a wait reports at most.
+const EVENTS: usize = 256;
+
+// How many bytes a read takes at most.
+const BUFFER: usize = 262_144;
+
+// Milliseconds that it waits for events where the server goes on for ever, and where it ends some time or a connection is at the
+// door.
+const PATIENCE: u64 = 1000;
+
+const SHORT_PATIENCE: u64 = 20;
+
+// Milliseconds between two looks at the time limits.
+const BETWEEN_LOOKS: u64 = 1000;
+
+// How many milliseconds a connection has waited for its next message at least before it is let go for another one.
+const LEAST_IDLE: u64 = 1000;
+
+/// Where a worker works: what it waits with, what it reads into, and the connections that it holds, all with the same settings.
+#[derive(Drop)]
+pub struct Post<'a> {
+    config: &'a Config,
+    poll: Poll,
+    listener: TcpListener,
+    events: Events,
+    buffer: Vec<u8>,
+    held: Slab<Held<'a>>,
+    // Whether connections may wait to be taken.
+    has_waiting: bool,
+    // One that was taken, and has no place yet; and whether the other workers were asked for one.
+    door: Option<TcpStream>,
+    has_asked: bool,
+    // When the time limits were looked at last.
+    looked: Option<Instant>,
+}
+
+/// Why there is no post.
+#[derive(Drop)]
+pub enum NoPost {
+    /// There was no memory.
+    OutOfMemory,
+    /// The system has no more descriptors.
+    NoDescriptor,
+}
+
+impl From<AllocError> for NoPost {
+    fn from(_e: AllocError) -> NoPost {
+        NoPost::OutOfMemory
+    }
+}
+
+impl From<io::Error> for NoPost {
+    fn from(_e: io::Error) -> NoPost {
+        NoPost::NoDescriptor
+    }
+}
+
+impl<'a> Post<'a> {
+    /// A post for connections from a listener that other posts have too. It takes all the memory that it works with but that
+    /// of its connections.
+    pub fn new<R: Net>(
+        rt: &R,
+        alloc: Global,
+        config: &'a Config,
+        listener: &net::TcpListener,
+    ) -> Result<Post<'a>, NoPost> {
+        let events = Events::with_capacity(alloc, EVENTS)?;
+        let buffer = Vec::from_elem(alloc, 0, BUFFER)?;
+        let (poll, listener) = listening_poll(rt, listener)?;
+        Ok(Post {
+            config,
+            poll,
+            listener,
+            events,
+            buffer,
+            held: Slab::new(alloc),
+            has_waiting: true,
+            door: None,
+            has_asked: false,
+            looked: None,
+        })
+    }
+
+    /// Serves connections until no more are taken and the last one has ended, or the system fails.
+    pub fn work<R: Wait + time::Clock, N: Counter, G: Gate>(
+        &mut self,
+        rt: &R,
+        alloc: Global,
+        tally: &Tally,
+        worker: &mut Worker<SystemClock<'_, R>, N, G>,
+    )
+        ensures seat { N.seat worker.new.counter ≡ N.seat worker.old.counter }
+    {
+        for _ in rt.forever() {
+            if self.is_done(tally) || self.turn(rt, alloc, tally, worker).is_err() {
+                break;
+            }
+        }
+        self.let_all_go(tally);
+    }
+
+    // Whether no more connections are taken, and the last one has ended.
+    fn is_done(&self, tally: &Tally) -> bool {
+        tally.is_full() && self.held.is_empty() && self.door.is_none()
+    }
+
+    // Waits once, and serves what is ready.
+    fn turn<R: time::Clock, N: Counter, G: Gate>(
+        &mut self,
+        rt: &R,
+        alloc: Global,
+        tally: &Tally,
+        worker: &mut Worker<SystemClock<'_, R>, N, G>,
+    ) -> io::Result<()>
+        ensures seat { N.seat worker.new.counter ≡ N.seat worker.old.counter }
+    {
+        let patience = self.patience(tally);
+        self.poll.poll(&mut self.events, Some(patience))?;
+        let now = Instant::now(rt)?;
+        self.go_on(alloc, tally, worker, now);
+        if self.has_waiting && !tally.is_full() {
+            self.take_one(tally, now);
+        }
+        self.let_in(alloc, tally, &worker.gate, now);
+        self.give_up_one(tally, now);
+        self.look(tally, now);
+        Ok(())
+    }
+
+    // How long it waits for events.
+    fn patience(&self, tally: &Tally) -> Duration {
+        Duration::from_millis(if self.door.is_some() {
+            SHORT_PATIENCE
+        } else if self.has_waiting && !tally.is_full() {
+            0
+        } else if tally.has_end() {
+            SHORT_PATIENCE
+        } else {
+            PATIENCE
+        })
+    }
+
+    // Has the connections go on that are ready; those that have ended are let go.
+    fn go_on<R: time::Clock, N: Counter, G: Gate>(
+        &mut self,
+        alloc: Global,
+        tally: &Tally,
+        worker: &mut Worker<SystemClock<'_, R>, N, G>,
+        now: Instant,
+    )
+        ensures seat { N.seat worker.new.counter ≡ N.seat worker.old.counter }
+    {
+        for event in &self.events {
+            let token = event.token();
+            if token == LISTENER {
+                self.has_waiting = true;
+                continue;
+            }
+            let Some(held) = self.held.get_mut(token.0) else {
+                continue;
+            };
+            let (buffer, registry) = (self.buffer.as_mut_slice(), self.poll.registry());
+            if !held.serve(alloc, worker, buffer, registry, token, now) {
+                let_go(&mut self.held, tally, token.0);
+            }
+        }
+    }
+
+    // Takes a connection that waits, if none is at the door. Whoever has less to do takes the others: a worker that took all
+    // that wait would serve them alone. Where the system has no more descriptors, it lets a connection go for the next one.
+    fn take_one(&mut self, tally: &Tally, now: Instant) {
+        if self.door.is_some() {
+            return;
+        }
+        match self.listener.accept() {
+            Ok((stream, _)) => {
+                self.door = Some(stream);
+            }
+            Err(error) => {
+                self.has_waiting = match error.kind() {
+                    ErrorKind::WouldBlock => false,
+                    ErrorKind::ConnectionAborted | ErrorKind::Interrupted => true,
+                    _ => self.lets_one_go(tally, now),
+                };
+            }
+        }
+    }
+
+    // Lets the connection in that is at the door, if there is a place for it; where the server takes no more, it ends.
+    fn let_in<G: Gate>(&mut self, alloc: Global, tally: &Tally, gate: &G, now: Instant) {
+        if tally.is_full() {
+            self.door = None;
+        }
+        if self.door.is_none() || !self.has_place(tally, now) {
+            return;
+        }
+        let is_held = match (self.door.take(), tally.count_one()) {
+            (Some(stream), Some(number)) => {
+                gate.pass(Place::Accepted, number);
+                self.holds(alloc, number, stream, now)
+            }
+            _ => false,
+        };
+        if !is_held {
+            tally.give_place();
+        }
+    }
+
+    // Whether it has taken a place for one more: a free one, or that of the connection which has waited longest for its next
+    // message. Where it holds none such, the other workers are asked.
+    fn has_place(&mut self, tally: &Tally, now: Instant) -> bool {
+        if tally.take_place() || (self.lets_one_go(tally, now) && tally.take_place()) {
+            if self.has_asked {
+                tally.take_wish();
+                self.has_asked = false;
+            }
+            return true;
+        }
+        if !self.has_asked {
+            tally.want_place();
+            self.has_asked = true;
+        }
+        false
+    }
+
+    // Lets the connection go that has waited longest for its next message, where another worker wants a place.
+    fn give_up_one(&mut self, tally: &Tally, now: Instant) {
+        if self.door.is_none() && tally.is_wanted() && self.longest_idle(now).is_some() {
+            if tally.take_wish() {
+                self.lets_one_go(tally, now);
+            }
+        }
+    }
+
+    // Lets the connection go that has waited longest for its next message, and answers whether there was one.
+    fn lets_one_go(&mut self, tally: &Tally, now: Instant) -> bool {
+        match self.longest_idle(now) {
+            Some(key) => {
+                let_go(&mut self.held, tally, key);
+                true
+            }
+            None => false,
+        }
+    }
+
+    // The key of the connection that has waited longest for its next message, and not just begun to.
+    fn longest_idle(&self, now: Instant) -> Option<usize> {
+        let mut longest: Option<(usize, Instant)> = None;
+        for key in 0..self.held.capacity() {
+            if let Some(since) = self.idle_since(key, now) {
+                longest = match longest {
+                    Some((_, before)) if before <= since => longest,
+                    _ => Some((key, since)),
+                };
+            }
+        }
+        longest.map(|(key, _)| key)
+    }
+
+    // Lets all go.
+    fn let_all_go(&mut self, tally: &Tally) {
+        for key in 0..self.held.capacity() {
+            let_go(&mut self.held, tally, key);
+        }
+    }
+
+    // Since when the connection under a key waits for its next message, if not for so short a time that it may be on its way.
+    fn idle_since(&self, key: usize, now: Instant) -> Option<Instant> {
+        let since = self.held.get(key)?.idle_since()?;
+        if now.duration_since(since) < Duration::from_millis(LEAST_IDLE) {
+            return None;
+        }
+        Some(since)
+    }
+
+    // Whether it holds a connection that came; one for which there is no memory is let go.
+    fn holds(&mut self, alloc: Global, number: u64, stream: TcpStream, now: Instant) -> bool {
+        let Some(held) = Held::new(alloc, self.config, number, Socket::new(stream), now) else {
+            return false;
+        };
+        let Ok(key) = self.held.insert(held) else {
+            return false;
+        };
+        if self.is_registered(key) {
+            return true;
+        }
+        self.held.try_remove(key);
+        false
+    }
+
+    // Whether the connection under a key is reported from now on.
+    fn is_registered(&self, key: usize) -> bool {
+        match self.held.get(key) {
+            Some(held) => held.register(self.poll.registry(), Token(key)).is_ok(),
+            None => false,
+        }
+    }
+
+    // Lets go of the connections that have waited too long, if it didn't look just now.
+    fn look(&mut self, tally: &Tally, now: Instant) {
+        if let Some(looked) = self.looked {
+            if now.duration_since(looked) < Duration::from_millis(BETWEEN_LOOKS) {
+                return;
+            }
+        }
+        self.looked = Some(now);
+        self.has_waiting = true;
+        for key in 0..self.held.capacity() {
+            if self.is_over(key, now) {
+                let_go(&mut self.held, tally, key);
+            }
+        }
+    }
+
+    // Whether the connection under a key has waited too long.
+    fn is_over(&self, key: usize, now: Instant) -> bool {
+        match self.held.get(key) {
+            Some(held) => held.is_over(now),
+            None => false,
+        }
+    }
+}
+
+// Lets the connection under a key go.
+fn let_go(held: &mut Slab<Held<'_>>, tally: &Tally, key: usize) {
+    if held.try_remove(key).is_some() {
+        tally.give_place();
+    }
+}
+
+// A poll that reports the connections that come, and what they are taken from.
+fn listening_poll<R: Net>(rt: &R, listener: &net::TcpListener) -> io::Result<(Poll, TcpListener)> {
+    let poll = Poll::new(rt)?;
+    let mut listener = TcpListener::from_std(listener.try_clone()?);
+    poll.registry()
+        .register(&mut listener, LISTENER, Interest::READABLE)?;
+    Ok((poll, listener))
+}

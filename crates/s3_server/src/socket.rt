@@ -1,0 +1,143 @@
+//! A connection's socket, which never waits: where nothing comes, or nothing can go, it answers `WouldBlock`.
+
+ghost use Rattle.std.specs.Prelude.{◌≡◌};
+
+use mio::net::TcpStream;
+use mio::unix::SourceFd;
+use mio::{Interest, Registry, Token};
+use std::cell::Cell;
+use std::io::{self, ErrorKind, Read, Write};
+use std::net::Shutdown;
+use std::os::fd::AsRawFd;
+
+// How many reads are dropped before others have theirs.
+const DROPPED: u32 = 16;
+
+/// A socket, and what happened on it since that was last asked. Nothing will report it again where a read or a write was interrupted.
+#[derive(Drop)]
+pub struct Socket {
+    stream: TcpStream,
+    has_read: Cell<bool>,
+    has_written: Cell<bool>,
+    is_interrupted: Cell<bool>,
+    is_ended: Cell<bool>,
+}
+
+/// What is left of a socket whose bytes are dropped.
+#[derive(Clone, Copy, PartialEq, Eq)]
+pub enum Left {
+    /// Nothing: no more come.
+    Nothing,
+    /// Perhaps more, which it will report.
+    Later,
+    /// Perhaps more at once.
+    More,
+}
+
+impl Socket {
+    /// A socket that just came. Small pieces go out at once, if the system does as it is told.
+    pub fn new(stream: TcpStream) -> Socket {
+        let _ = stream.set_nodelay(true);
+        Socket {
+            stream,
+            has_read: Cell::new(false),
+            has_written: Cell::new(false),
+            is_interrupted: Cell::new(false),
+            is_ended: Cell::new(false),
+        }
+    }
+
+    /// Has the socket reported under a token when bytes may come or go.
+    pub fn register(&self, registry: &Registry, token: Token) -> io::Result<()> {
+        let fd = self.stream.as_raw_fd();
+        registry.register(&mut SourceFd(&fd), token, both_ways())
+    }
+
+    /// Has it reported once more, if it is ready.
+    pub fn ask_again(&self, registry: &Registry, token: Token) -> io::Result<()> {
+        let fd = self.stream.as_raw_fd();
+        registry.reregister(&mut SourceFd(&fd), token, both_ways())
+    }
+
+    /// Whether bytes came since this was last asked.
+    pub fn take_read(&self) -> bool {
+        self.has_read.replace(false)
+    }
+
+    /// Whether bytes went since this was last asked.
+    pub fn take_written(&self) -> bool {
+        self.has_written.replace(false)
+    }
+
+    /// Whether a read or a write was interrupted since this was last asked.
+    pub fn take_interrupted(&self) -> bool {
+        self.is_interrupted.replace(false)
+    }
+
+    /// Whether its end was read.
+    pub fn is_ended(&self) -> bool {
+        self.is_ended.get()
+    }
+
+    /// Tells the peer that nothing more is written, and answers whether that could be told.
+    pub fn end_writing(&self) -> bool {
+        self.stream.shutdown(Shutdown::Write).is_ok()
+    }
+
+    /// Reads what has come and drops it.
+    pub fn drop_input(&self, buffer: &mut [u8]) -> Left {
+        for _ in 0..DROPPED {
+            match (&self.stream).read(buffer) {
+                Ok(0) => return Left::Nothing,
+                Ok(_) => {}
+                Err(e) => {
+                    return match e.kind() {
+                        ErrorKind::WouldBlock => Left::Later,
+                        ErrorKind::Interrupted => Left::More,
+                        _ => Left::Nothing,
+                    };
+                }
+            }
+        }
+        Left::More
+    }
+
+    // Notes that a read or a write was interrupted, if it was.
+    fn note_error(&self, error: &io::Error) {
+        if error.kind() == ErrorKind::Interrupted {
+            self.is_interrupted.set(true);
+        }
+    }
+}
+
+impl Read for Socket {
+    fn read(&mut self, buf: &mut [u8]) -> io::Result<usize> {
+        let came = self.stream.read(buf);
+        match &came {
+            Ok(0) => self.is_ended.set(true),
+            Ok(_) => self.has_read.set(true),
+            Err(e) => self.note_error(e),
+        }
+        came
+    }
+}
+
+impl Write for Socket {
+    fn write(&mut self, buf: &[u8]) -> io::Result<usize> {
+        let went = self.stream.write(buf);
+        match &went {
+            Ok(_) => self.has_written.set(true),
+            Err(e) => self.note_error(e),
+        }
+        went
+    }
+
+    fn flush(&mut self) -> io::Result<()> {
+        Ok(())
+    }
+}
+
+// Interest in both directions.
+fn both_ways() -> Interest {
+    Interest::READABLE | Interest::WRITABLE
+}

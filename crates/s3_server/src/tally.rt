@@ -1,0 +1,85 @@
+//! The count of the connections.
+
+use std::sync::atomic::{AtomicU64, Ordering};
+
+/// How many connections came and are held, what the most is of both, and how many want a place that another worker may give. All
+/// workers count in one.
+#[derive(Drop)]
+pub struct Tally {
+    came: AtomicU64,
+    most: Option<u64>,
+    held: AtomicU64,
+    most_held: u64,
+    wants: AtomicU64,
+}
+
+impl Tally {
+    /// None came yet. After `most` the server ends, without such a number it goes on for ever; and it holds no more than
+    /// `most_held` at a time.
+    pub fn new(most: Option<u64>, most_held: u64) -> Tally {
+        Tally {
+            came: AtomicU64::new(0),
+            most,
+            held: AtomicU64::new(0),
+            most_held,
+            wants: AtomicU64::new(0),
+        }
+    }
+
+    /// Counts a connection, and answers its number, from 1; `None` where it is one too many.
+    pub fn count_one(&self) -> Option<u64> {
+        let before = self.came.fetch_add(1, Ordering::SeqCst);
+        match self.most {
+            Some(most) if before >= most => None,
+            _ => before.checked_add(1),
+        }
+    }
+
+    /// Whether no more connections are taken.
+    pub fn is_full(&self) -> bool {
+        match self.most {
+            Some(most) => self.came.load(Ordering::SeqCst) >= most,
+            None => false,
+        }
+    }
+
+    /// Whether the server ends some time.
+    pub fn has_end(&self) -> bool {
+        self.most.is_some()
+    }
+
+    /// Takes the place of one that is held, and answers whether there was one.
+    pub fn take_place(&self) -> bool {
+        if self.held.fetch_add(1, Ordering::SeqCst) < self.most_held {
+            return true;
+        }
+        self.give_place();
+        false
+    }
+
+    /// Gives a place back.
+    pub fn give_place(&self) {
+        self.held.fetch_sub(1, Ordering::SeqCst);
+    }
+    /// Asks the other workers for a place.
+    pub fn want_place(&self) {
+        self.wants.fetch_add(1, Ordering::SeqCst);
+    }
+
+    /// Whether some worker wants a place.
+    pub fn is_wanted(&self) -> bool {
+        self.wants.load(Ordering::SeqCst) > 0
+    }
+
+    /// Takes one wish back, or upon the asker of this, and answers whether there was one.
+    pub fn take_wish(&self) -> bool {
+        let wants = self.wants.load(Ordering::SeqCst);
+        match wants.checked_sub(1) {
+            Some(fewer) => self
+                .wants
+                .compare_exchange(wants, fewer, Ordering::SeqCst, Ordering::SeqCst)
+                .is_ok(),
+            None => false,
+        }
+    }
+}

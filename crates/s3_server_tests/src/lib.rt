@@ -1,0 +1,10 @@
+//! Tests of `s3_server`: a server and its clients in one process, over real sockets of this machine. Requests are signed by
+//! `s3_signer`; what is answered is as `docs/PROTOCOL.md` says.
+#![tactic(auto)]
+
+#[cfg(test)]
+mod client;
+#[cfg(test)]
+mod loopback;
+#[cfg(test)]
+mod screen;

@@ -1,0 +1,77 @@
+-- What writers tell over several calls.
+use Rattle.std.proofs.Common.{◌≡◌, ◌∙◌, ℕ, List, ◌++◌, length, take, drop, Some, None, codes, ◌-◌, [], ◌∷◌, Option, Result, Ok, Err, sym, ap, arith, append_assoc, append-nil, take-append-drop}
+use Rattle.std.proofs.lemmas.List.{take_all, take_rest}
+use Rattle.std.proofs.KnownBytes.{Appends-trans}
+use Rattle.std.proofs.Math.Seq.{take-append-add}
+use Rattle.std.proofs.lemmas.List.{length-append, take-append-le}
+use Rattle.std.proofs.Transfers.{starts_with_length}
+use Rattle.std.specs.Prelude.{OnOk, OnErr}
+use Rattle.std.specs.Io.{StartsWith}
+use Rattle.std.specs.Io.KnownBytes.{Appends, Keeps}
+use Rattle.s3_settings.specs.Devices.{AppendsBeginning}
+
+-- what stays has gained nothing, and what gained nothing stays
+pub nothing_taken : (before after : Option (List ℕ)) (bytes : List ℕ) → Keeps before after → Appends before after (take 0 bytes)
+nothing_taken None after bytes k = tt
+nothing_taken (Some xs) None bytes k = absurd k
+nothing_taken (Some xs) (Some ys) bytes k = k ∙ sym (append-nil xs)
+
+pub zero_kept : (before after : Option (List ℕ)) (bytes : List ℕ) → Appends before after (take 0 bytes) → Keeps before after
+zero_kept None after bytes a = tt
+zero_kept (Some xs) None bytes a = absurd a
+zero_kept (Some xs) (Some ys) bytes a = a ∙ append-nil xs
+
+pub ruleset kept = (nothing_taken, zero_kept)
+
+-- all of the bytes are a beginning of them
+pub whole_taken : (before after : Option (List ℕ)) (bytes : List ℕ) → Appends before after bytes → AppendsBeginning before after bytes
+whole_taken before after bytes a = record { taken = bytes; first = take_all (length bytes) bytes (omega arith); gained = a }
+
+-- one write more
+pub more_taken : (before between after : Option (List ℕ)) (bytes done left : List ℕ) (count : ℕ) → bytes ≡ done ++ left → Appends before between done → Appends between after (take count left) → (more : List ℕ) × (bytes ≡ more ++ take (length left - count) (drop count left)) × Appends before after more
+more_taken before between after bytes done left count e a b =
+    let rest : take (length left - count) (drop count left) ≡ drop count left = take_rest left count in (
+      done ++ take count left,
+      e ∙ ap (λ (l : List ℕ). done ++ l) (sym (take-append-drop count left)) ∙ sym (append_assoc done (take count left) (drop count left)) ∙ ap (λ (l : List ℕ). (done ++ take count left) ++ l) (sym rest),
+      Appends-trans before between after done (take count left) a b,
+    )
+
+-- a beginning of what follows some bytes is one of all
+starts_further : (front bytes taken : List ℕ) → StartsWith bytes taken → StartsWith (front ++ bytes) (front ++ taken)
+starts_further front bytes taken h =
+    ap (λ (n : ℕ). take n (front ++ bytes)) (length-append front taken) ∙ take-append-add front bytes (length taken) ∙ ap (λ (l : List ℕ). front ++ l) h
+
+starts_before : (bytes more taken : List ℕ) → StartsWith bytes taken → StartsWith (bytes ++ more) taken
+starts_before bytes more taken h = take-append-le (length taken) bytes more (starts_with_length bytes taken h) ∙ h
+
+-- what a writer took of one piece after another
+pub part_of_first : (before after : Option (List ℕ)) (first more : List ℕ) → AppendsBeginning before after first → AppendsBeginning before after (first ++ more)
+part_of_first before after first more a = record { taken = a.taken; first = starts_before first more a.taken a.first; gained = a.gained }
+
+pub part_of_more : (before between after : Option (List ℕ)) (first more : List ℕ) → Appends before between first → AppendsBeginning between after more → AppendsBeginning before after (first ++ more)
+part_of_more before between after first more a b =
+    record { taken = first ++ b.taken; first = starts_further first more b.taken b.first; gained = Appends-trans before between after first b.taken a b.gained }
+
+-- the same by what the call for the other piece answered
+pub told_after : {T E : Type 0} (r : Result T E) (before between after : Option (List ℕ)) (first more : List ℕ)
+    → Appends before between first → OnOk r (Appends between after more) → OnOk r (Appends before after (first ++ more))
+told_after (Ok x) before between after first more a b = Appends-trans before between after first more a b
+told_after (Err e) before between after first more a b = tt
+
+pub part_after : {T E : Type 0} (r : Result T E) (before between after : Option (List ℕ)) (first more : List ℕ)
+    → Appends before between first → OnErr r (AppendsBeginning between after more) → OnErr r (AppendsBeginning before after (first ++ more))
+part_after (Ok x) before between after first more a b = tt
+part_after (Err e) before between after first more a b = part_of_more before between after first more a b
+
+-- a writer that failed or not gained a beginning
+pub either_taken : {T E : Type 0} (r : Result T E) (before after : Option (List ℕ)) (bytes : List ℕ) → OnOk r (Appends before after bytes) → OnErr r (AppendsBeginning before after bytes) → AppendsBeginning before after bytes
+either_taken (Ok x) before after bytes all part = whole_taken before after bytes all
+either_taken (Err e) before after bytes all part = part
+
+-- the line of a fault from its parts
+pub line_said : (first second start end text : List ℕ) → start ≡ first → end ≡ second → first ++ second ≡ text → (codes "s3d: " ++ start) ++ (end ++ 10 ∷ []) ≡ codes "s3d: " ++ text ++ 10 ∷ []
+line_said first second start end text s t e =
+    let joined : start ++ end ≡ text = cc in
+    append_assoc (codes "s3d: ") start (end ++ 10 ∷ [])
+    ∙ ap (λ (l : List ℕ). codes "s3d: " ++ l) (sym (append_assoc start end (10 ∷ [])) ∙ ap (λ (l : List ℕ). l ++ 10 ∷ []) joined)
+    ∙ sym (append_assoc (codes "s3d: ") text (10 ∷ []))

@@ -1,0 +1,219 @@
+"""The clients of S3 that are libraries, and curl: what `interop/run` asks of each client stands in `Client`."""
+
+import hashlib
+import os
+import shutil
+import subprocess
+import tempfile
+import urllib.parse
+from pathlib import Path
+
+from server import BUCKET, ID, REGION, SECRET
+
+MIB = 1024 * 1024
+# Seconds that one command of a client may take.
+PATIENCE = 120
+
+
+class Missing(Exception):
+    """There is nothing under the key."""
+
+
+class Refused(Exception):
+    """The credentials were refused."""
+
+
+class Client:
+    """A client of S3. Each method raises `Missing` or `Refused` where the server says so, and any other error where the
+    client fails."""
+
+    name = ""
+    # What the client can't do here: the names of checks, and why. They are tried, and count only where they pass.
+    limits = {}
+
+    def __init__(self, address, folder, secret=SECRET):
+        self.address, self.folder, self.secret = address, folder, secret
+
+    @classmethod
+    def absent(cls):
+        """Why the client can't be tried on this machine, or None."""
+
+    @classmethod
+    def version(cls):
+        """Its version, in its own words."""
+        return ""
+
+    def path(self, data=b""):
+        """The path of a new file with these bytes."""
+        handle, path = tempfile.mkstemp(dir=self.folder)
+        os.write(handle, data)
+        os.close(handle)
+        return path
+
+
+def ran(words, env=None, stdin=subprocess.DEVNULL):
+    """Runs a command, and gives its status, what it wrote and what it said."""
+    done = subprocess.run(words, env=env, stdin=stdin, capture_output=True, timeout=PATIENCE)
+    return done.returncode, done.stdout, done.stderr.decode(errors="replace")
+
+
+def first_line(words):
+    """The first line that a command writes."""
+    _, wrote, said = ran(words)
+    return (wrote.decode(errors="replace") + said).strip().splitlines()[0]
+
+
+def told(status, said, missing=(), refused=()):
+    """Raises what a failed command told."""
+    if status == 0:
+        return
+    if any(word in said for word in missing):
+        raise Missing(said)
+    if any(word in said for word in refused):
+        raise Refused(said)
+    raise RuntimeError(f"status {status}: {said.strip()}")
+
+
+class Curl(Client):
+    """`curl --aws-sigv4`, which signs a request and knows nothing else of S3."""
+
+    name = "curl"
+
+    @classmethod
+    def absent(cls):
+        if not shutil.which("curl"):
+            return "not installed"
+        _, wrote, _ = ran(["curl", "--help", "all"])
+        return None if b"--aws-sigv4" in wrote else "this curl can't sign"
+
+    @classmethod
+    def version(cls):
+        return " ".join(first_line(["curl", "--version"]).split()[:2])
+
+    def asked(self, method, key, data=b"", more=()):
+        """The bytes that a request is answered."""
+        url = f"http://{self.address}/{BUCKET}/{urllib.parse.quote(key, safe='/~')}"
+        out = self.path()
+        words = ["curl", "-sS", "--path-as-is", "-o", out, "-w", "%{http_code}", "--aws-sigv4", f"aws:amz:{REGION}:s3"]
+        words += ["--user", f"{ID}:{self.secret}", "-H", f"x-amz-content-sha256: {hashlib.sha256(data).hexdigest()}"]
+        words += [*more, "-X", method] if method != "HEAD" else ["--head"]
+        status, wrote, said = ran([*words, url])
+        if status:
+            raise RuntimeError(f"status {status}: {said.strip()}")
+        body = Path(out).read_bytes()
+        code = int(wrote.decode()[-3:])
+        if code == 404:
+            raise Missing(body)
+        if code == 403:
+            raise Refused(body)
+        if code // 100 != 2:
+            raise RuntimeError(f"{code}: {body[:300]}")
+        return body
+
+    def put(self, key, data):
+        self.asked("PUT", key, data, ["-T", self.path(data)])
+
+    def get(self, key):
+        return self.asked("GET", key)
+
+    def head(self, key):
+        lines = self.asked("HEAD", key).decode().split("\r\n")
+        sizes = [line.split(":")[1] for line in lines if line.lower().startswith("content-length:")]
+        return int(sizes[-1])
+
+    def delete(self, key):
+        self.asked("DELETE", key)
+
+
+def raise_told(error):
+    """Raises what an error of boto3's tells."""
+    status = error.response["ResponseMetadata"]["HTTPStatusCode"]
+    raise {404: Missing, 403: Refused}.get(status, RuntimeError)(str(error)) from error
+
+
+class Boto3(Client):
+    """AWS's library for Python."""
+
+    name = "boto3"
+
+    @classmethod
+    def absent(cls):
+        try:
+            import boto3  # noqa: F401
+        except ImportError:
+            return "not installed"
+        return None
+
+    @classmethod
+    def version(cls):
+        import boto3
+
+        return boto3.__version__
+
+    def client(self):
+        import boto3
+        from botocore.config import Config
+
+        settings = {"s3": {"addressing_style": "path"}, "retries": {"total_max_attempts": 1}, "proxies": {}}
+        try:
+            config = Config(
+                request_checksum_calculation="when_required", response_checksum_validation="when_required", **settings
+            )
+        except TypeError:
+            # A library of before these settings sends no checksums.
+            config = Config(**settings)
+        return boto3.client(
+            "s3",
+            endpoint_url=f"http://{self.address}",
+            region_name=REGION,
+            aws_access_key_id=ID,
+            aws_secret_access_key=self.secret,
+            config=config,
+        )
+
+    def call(self, operation, key, **more):
+        from botocore.exceptions import ClientError
+
+        try:
+            return getattr(self.client(), operation)(Bucket=BUCKET, Key=key, **more)
+        except ClientError as error:
+            raise_told(error)
+
+    def put(self, key, data):
+        self.call("put_object", key, Body=data)
+
+    def get(self, key):
+        return self.call("get_object", key)["Body"].read()
+
+    def head(self, key):
+        return self.call("head_object", key)["ContentLength"]
+
+    def delete(self, key):
+        self.call("delete_object", key)
+
+
+class Boto3Files(Boto3):
+    """The same library's transfers of files, which ask for an object before they get it."""
+
+    name = "boto3 files"
+
+    def transfer(self, operation, *words):
+        from boto3.s3.transfer import TransferConfig
+        from botocore.exceptions import ClientError
+
+        try:
+            getattr(self.client(), operation)(*words, Config=TransferConfig(multipart_threshold=1024 * MIB))
+        except ClientError as error:
+            raise_told(error)
+        except Exception as error:
+            if "403" in str(error):
+                raise Refused(str(error)) from error
+            raise
+
+    def put(self, key, data):
+        self.transfer("upload_file", self.path(data), BUCKET, key)
+
+    def get(self, key):
+        path = self.path()
+        self.transfer("download_file", BUCKET, key, path)
+        return Path(path).read_bytes()

@@ -1,0 +1,290 @@
+"""The clients of S3 that are commands of their own, for `interop/run`."""
+
+import json
+import os
+import shutil
+import subprocess
+import time
+import urllib.parse
+from pathlib import Path
+
+from clients import Client, first_line, ran, told
+from server import BUCKET, ID, REGION, SECRET
+
+AWS_CONFIG = f"""[default]
+region = {REGION}
+request_checksum_calculation = when_required
+response_checksum_validation = when_required
+s3 =
+    addressing_style = path
+    multipart_threshold = 1GB
+"""
+
+
+def environment(**more):
+    """This program's environment without what AWS's tools read there, and with more."""
+    kept = {name: value for name, value in os.environ.items() if not name.startswith(("AWS_", "RCLONE_", "S3_"))}
+    return {**kept, "no_proxy": "127.0.0.1", **more}
+
+
+class Command(Client):
+    """A client that is a program."""
+
+    program = ""
+
+    @classmethod
+    def absent(cls):
+        return None if shutil.which(cls.program) else "not installed"
+
+    @classmethod
+    def version(cls):
+        return first_line([cls.program, "--version"])
+
+
+class Aws(Command):
+    """What the forms of the AWS command line share. Both of its generations may be installed."""
+
+    program = "aws"
+    generation = 1
+
+    @classmethod
+    def found(cls):
+        """The first `aws` of this generation on the path, and its version."""
+        for folder in os.environ["PATH"].split(":"):
+            if (path := shutil.which("aws", path=folder)) is not None:
+                version = first_line([path, "--version"]).split()[0]
+                if version.startswith(f"aws-cli/{cls.generation}."):
+                    return path, version
+        return None
+
+    @classmethod
+    def absent(cls):
+        return None if cls.found() else f"generation {cls.generation} of it is not installed"
+
+    @classmethod
+    def version(cls):
+        return cls.found()[1]
+
+    def aws(self, *words):
+        config = self.path(AWS_CONFIG.encode())
+        env = environment(
+            AWS_ACCESS_KEY_ID=ID,
+            AWS_SECRET_ACCESS_KEY=self.secret,
+            AWS_CONFIG_FILE=config,
+            AWS_SHARED_CREDENTIALS_FILE=config,
+            AWS_EC2_METADATA_DISABLED="true",
+            AWS_MAX_ATTEMPTS="1",
+        )
+        status, wrote, said = ran([self.found()[0], "--endpoint-url", f"http://{self.address}", *words], env)
+        told(status, said, ["(404)", "NoSuchKey"], ["(403)", "SignatureDoesNotMatch"])
+        return wrote
+
+    def api(self, operation, key, *words):
+        return self.aws("s3api", operation, "--bucket", BUCKET, "--key", key, *words)
+
+    def head(self, key):
+        return int(self.api("head-object", key, "--query", "ContentLength", "--output", "text"))
+
+
+class AwsApi(Aws):
+    """`aws s3api`: one request a command."""
+
+    name = "aws1 s3api"
+
+    def put(self, key, data):
+        self.api("put-object", key, "--body", self.path(data))
+
+    def get(self, key):
+        path = self.path()
+        self.api("get-object", key, path)
+        return Path(path).read_bytes()
+
+    def delete(self, key):
+        self.api("delete-object", key)
+
+
+class AwsCopy(Aws):
+    """`aws s3 cp` and `aws s3 rm`."""
+
+    name = "aws1 s3 cp"
+
+    def put(self, key, data):
+        self.aws("s3", "cp", "--only-show-errors", self.path(data), f"s3://{BUCKET}/{key}")
+
+    def get(self, key):
+        path = self.path()
+        self.aws("s3", "cp", "--only-show-errors", f"s3://{BUCKET}/{key}", path)
+        return Path(path).read_bytes()
+
+    def delete(self, key):
+        self.aws("s3", "rm", "--only-show-errors", f"s3://{BUCKET}/{key}")
+
+
+class Aws2Api(AwsApi):
+    name, generation = "aws2 s3api", 2
+
+
+class Aws2Copy(AwsCopy):
+    name, generation = "aws2 s3 cp", 2
+
+
+class S3cmd(Command):
+    """`s3cmd`."""
+
+    name = program = "s3cmd"
+
+    def s3cmd(self, *words):
+        config = [f"access_key = {ID}", f"secret_key = {self.secret}", f"host_base = {self.address}"]
+        config += [f"host_bucket = {self.address}", f"bucket_location = {REGION}", "use_https = False"]
+        config += ["enable_multipart = False", "signature_v2 = False", "max_retries = 1"]
+        path = self.path(("[default]\n" + "\n".join(config) + "\n").encode())
+        status, wrote, said = ran(["s3cmd", "-c", path, "--no-progress", *words], environment())
+        told(status, said, ["404", "NoSuchKey", "does not exist"], ["403", "SignatureDoesNotMatch"])
+        return wrote
+
+    def put(self, key, data):
+        self.s3cmd("put", self.path(data), f"s3://{BUCKET}/{key}")
+
+    def get(self, key):
+        path = self.path()
+        self.s3cmd("get", "--force", f"s3://{BUCKET}/{key}", path)
+        return Path(path).read_bytes()
+
+    def head(self, key):
+        lines = self.s3cmd("info", f"s3://{BUCKET}/{key}").decode().splitlines()
+        return int([line.split(":")[1] for line in lines if "File size" in line][0])
+
+    def delete(self, key):
+        self.s3cmd("del", f"s3://{BUCKET}/{key}")
+
+
+class Rclone(Command):
+    """`rclone`. It tells a get that was refused as one of an object that isn't there."""
+
+    name = program = "rclone"
+
+    def rclone(self, *words):
+        env = environment(
+            RCLONE_CONFIG=self.path(),
+            RCLONE_CONFIG_PAIL_TYPE="s3",
+            RCLONE_CONFIG_PAIL_PROVIDER="Other",
+            RCLONE_CONFIG_PAIL_ACCESS_KEY_ID=ID,
+            RCLONE_CONFIG_PAIL_SECRET_ACCESS_KEY=self.secret,
+            RCLONE_CONFIG_PAIL_REGION=REGION,
+            RCLONE_CONFIG_PAIL_ENDPOINT=f"http://{self.address}",
+            RCLONE_S3_FORCE_PATH_STYLE="true",
+            RCLONE_S3_NO_CHECK_BUCKET="true",
+            RCLONE_S3_UPLOAD_CUTOFF="1Gi",
+            RCLONE_RETRIES="1",
+            RCLONE_LOW_LEVEL_RETRIES="1",
+        )
+        status, wrote, said = ran(["rclone", *words], env)
+        told(status, said, ["404", "not found", "doesn't exist"], ["403", "Forbidden", "SignatureDoesNotMatch"])
+        return wrote
+
+    def put(self, key, data):
+        self.rclone("copyto", "--ignore-times", self.path(data), f"pail:{BUCKET}/{key}")
+
+    def get(self, key):
+        path = self.path()
+        self.rclone("copyto", "--ignore-times", f"pail:{BUCKET}/{key}", path)
+        return Path(path).read_bytes()
+
+    def head(self, key):
+        return json.loads(self.rclone("lsjson", "--stat", f"pail:{BUCKET}/{key}"))["Size"]
+
+    def delete(self, key):
+        self.rclone("deletefile", f"pail:{BUCKET}/{key}")
+
+
+class S4cmd(Command):
+    """`s4cmd`."""
+
+    name = program = "s4cmd"
+    LISTS = "it asks for a list of objects first"
+    limits = dict.fromkeys(
+        ["get", "put again", "head", "delete", "missing key", "wrong secret", "wrong, 8 MiB", "empty", "8 MiB", "odd key"], LISTS
+    )
+
+    def s4cmd(self, *words):
+        env = environment(S3_ACCESS_KEY=ID, S3_SECRET_KEY=self.secret)
+        status, wrote, said = ran(["s4cmd", "--retry", "1", "--endpoint-url", f"http://{self.address}", *words], env)
+        told(status, said, ["404"], ["403"])
+        return wrote
+
+    def put(self, key, data):
+        self.s4cmd("put", "-f", self.path(data), f"s3://{BUCKET}/{key}")
+
+    def get(self, key):
+        path = self.path()
+        self.s4cmd("get", "-f", f"s3://{BUCKET}/{key}", path)
+        return Path(path).read_bytes()
+
+    def head(self, key):
+        return int(self.s4cmd("ls", f"s3://{BUCKET}/{key}").split()[2])
+
+    def delete(self, key):
+        self.s4cmd("del", f"s3://{BUCKET}/{key}")
+
+
+class S3backer(Command):
+    """`s3backer`, a disk whose blocks are objects: a put writes to the front of a new disk that is named as the key, and a
+    get reads that from the disk, which is mounted anew."""
+
+    name = program = "s3backer"
+    SIZE = 8 << 20
+    NO_FILES = "it is a disk, and has no such operation"
+    limits = dict.fromkeys(["head", "delete", "missing key", "wrong, 8 MiB", "wrong secret", "odd key"], NO_FILES)
+
+    @classmethod
+    def absent(cls):
+        return super().absent() or (None if Path("/dev/fuse").exists() and shutil.which("fusermount") else "no FUSE here")
+
+    def __init__(self, address, folder, secret=SECRET):
+        super().__init__(address, folder, secret)
+        self.sizes = {}
+
+    def disk(self, key, work):
+        """What comes of work on the disk's file while it is mounted."""
+        mount = Path(self.path() + "-disk")
+        mount.mkdir()
+        words = ["s3backer", "-f", f"--baseURL=http://{self.address}/", f"--accessId={ID}", f"--accessKey={self.secret}"]
+        words += ["--blockSize=64k", f"--size={self.SIZE}", f"--prefix={urllib.parse.quote(key, safe='')}-", "--force"]
+        running = subprocess.Popen([*words, "--maxRetryPause=500", BUCKET, mount], stderr=subprocess.PIPE, text=True)
+        try:
+            for _ in range(100):
+                if (mount / "file").exists() or running.poll() is not None:
+                    break
+                time.sleep(0.1)
+            return work(mount / "file")
+        finally:
+            subprocess.run(["fusermount", "-u", mount], capture_output=True)
+            try:
+                running.communicate(timeout=60)
+            except subprocess.TimeoutExpired:
+                running.kill()
+
+    def put(self, key, data):
+        def work(file):
+            with file.open("r+b") as disk:
+                disk.write(data)
+                disk.flush()
+                os.fsync(disk.fileno())
+
+        self.disk(key, work)
+        self.sizes[key] = len(data)
+
+    def get(self, key):
+        def work(file):
+            with file.open("rb") as disk:
+                return disk.read(self.sizes[key])
+
+        return self.disk(key, work)
+
+
+# Clients that can't work with this server at all: their names, their programs, and why.
+UNABLE = [
+    ("libs3", "s3", "it signs by Signature Version 2 alone"),
+    ("s3fs", "s3fs", "it asks for a list of objects before it mounts"),
+    ("restic", "restic", "it asks where the bucket is, and for lists"),
+]
