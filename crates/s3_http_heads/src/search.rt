@@ -11,6 +11,9 @@ use std::alloc::Global;
 // How many bytes an empty line has with the end of the line before it, by which every head ends.
 const HEAD_END: u8 = 4;
 
+// For how many bytes a search keeps memory when it begins anew: a usual head is no longer.
+const KEPT_ROOM: usize = 1_024;
+
 /// Looks for the head text at the front of a connection's bytes as they arrive, and never looks again at
 /// those that it has taken.
 ///
@@ -73,12 +76,14 @@ impl HeadSearch {
         }
     }
 
-    /// Begins anew, with the memory that it has.
+    /// Begins anew, with the memory that it has, of which it gives back what is more than 1,024 bytes; it keeps
+    /// all where memory runs out for the smaller block.
     pub fn clear(&mut self)
         ensures begins { Stands self.new [] }
         ensures whole { is_lost self.new ≡ false }
     {
         self.text.clear();
+        self.text.shrink_to(KEPT_ROOM);
         self.position = BEGINNING;
         self.is_lost = false;
     }

@@ -114,6 +114,15 @@ pub reply_waits : (text head : List ℕ) (at taken : ℕ) (bodies : List Placed)
 reply_waits text head at taken bodies body new more s e f =
     rw (f, e) (waits_reply text head at taken bodies body s)
 
+-- a reply whose body is copied in part behind its head, in a text that grew twice
+pub joined_text : (text head joined grown new : List ℕ) → grown ≡ text ++ head → new ≡ grown ++ joined → new ≡ text ++ (head ++ joined)
+joined_text text head joined grown new first second =
+    second ∙ ap (λ (xs : List ℕ). xs ++ joined) first ∙ append_assoc text head joined
+
+pub joined_reply : (before head joined rest body : List ℕ) → joined ++ rest ≡ body → before ++ ((head ++ joined) ++ rest) ≡ before ++ (head ++ body)
+joined_reply before head joined rest body is =
+    ap (λ (xs : List ℕ). before ++ xs) (append_assoc head joined rest ∙ ap (λ (xs : List ℕ). head ++ xs) is)
+
 -- the text in front is among what waits
 pub front_fits : (text : List ℕ) (at taken : ℕ) (bodies : List Placed) → AreSound text at taken bodies → text_front (length text) at bodies ≤ length (woven text at taken bodies)
 front_fits text at taken [] s = omega (arith, length-drop at text)
@@ -140,3 +149,14 @@ pub first_within : (size at : ℕ) (bodies : List Placed) (first : Placed) (rest
 first_within size at bodies first rest e h =
     let order : AreInOrder size at (first ∷ rest) = rw e at h in
     within size first.behind rest order.2
+
+-- where nothing waits, there is neither text nor body
+pub none_waits : (text : List ℕ) (at taken : ℕ) (bodies : List Placed) → AreSound text at taken bodies → woven text at taken bodies ≡ [] → (length text ≡ 0) × (length bodies ≡ 0)
+none_waits text at taken [] s none =
+    let sent : length (drop at text) ≡ 0 = ap (λ (xs : List ℕ). length xs) none in
+    let cleared : text ≡ [] = s.cleared (omega (arith, s.in_order, sent, length-drop at text)) in
+    (ap (λ (xs : List ℕ). length xs) cleared, refl)
+none_waits text at taken (first ∷ rest) s none =
+    let others = drop taken first.body ++ woven text first.behind 0 rest in
+    let sent : length (slice_range text at first.behind ++ others) ≡ 0 = ap (λ (xs : List ℕ). length xs) none in
+    absurd (omega (arith, sent, s.part_gone.0, length-append (slice_range text at first.behind) others, length-append (drop taken first.body) (woven text first.behind 0 rest), length-drop taken first.body))

@@ -1,7 +1,8 @@
 -- What a caller knows of what is to be sent.
-use Rattle.std.specs.Prelude.{ℕ, Bool, true, false, List, [], ◌++◌, drop}
+use Rattle.std.specs.Prelude.{ℕ, ◌==◌, Bool, true, false, ◌&&◌, not, if◌then◌else◌, List, [], ◌++◌, length, drop}
 
--- the bytes that aren't sent yet; room for one more reply is set aside; it was so once; the last text is in
+-- the bytes that aren't sent yet; room for one more reply is set aside; it was so since memory was
+-- given back, or at all; the last text is in
 pub record Sending : Type 0 where
   pub unsent : List ℕ
   pub has_room : Bool
@@ -27,3 +28,12 @@ with_end s text = record { unsent = s.unsent ++ text; has_room = s.has_room; had
 -- without so many bytes in front, which are sent
 abbrev pub without : Sending → ℕ → Sending
 without s n = record { unsent = drop n s.unsent; has_room = s.has_room; had_room = s.had_room; is_ended = s.is_ended }
+
+-- without memory where all is sent and no room is set aside, so that none is known to be there for the next
+abbrev pub given_back : Sending → Sending
+given_back s = record {
+  unsent = s.unsent;
+  has_room = s.has_room;
+  had_room = if length s.unsent == 0 && not s.has_room then false else s.had_room;
+  is_ended = s.is_ended;
+}

@@ -74,3 +74,7 @@ abbrev pub LeavesRoom : Pending → Pending → Type 0
 LeavesRoom old new =
     (vec_capacity new.text ≡ vec_capacity old.text) × (deque_capacity new.bodies ≡ deque_capacity old.bodies)
     × (vec_len new.text ≤ vec_len old.text) × (deque_len new.bodies ≤ deque_len old.bodies)
+
+-- there is no memory for texts and bodies
+abbrev pub TakesNone : Pending → Type 0
+TakesNone p = (vec_capacity p.text ≡ 0) × (deque_capacity p.bodies ≡ 0)

@@ -2,6 +2,7 @@
 //! somebody who takes their bytes.
 #![tactic(auto)]
 
+mod joined;
 mod outbox;
 mod pending;
 mod placed;

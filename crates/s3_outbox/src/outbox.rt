@@ -2,7 +2,7 @@
 
 ghost use Rattle.std.specs.Prelude.{◌≡◌, ℕ, ◌<◌, ◌≤◌, Bool, true, false, List, [], ◌++◌, length, take, IfOk, OnOk, OnErr};
 ghost use Rattle.s3_outbox.specs.Pending.{bytes_of};
-ghost use Rattle.s3_outbox.specs.Outbox.{nothing, with_room, with_reply, with_end, without};
+ghost use Rattle.s3_outbox.specs.Outbox.{nothing, with_room, with_reply, with_end, without, given_back};
 
 use crate::pending::Pending;
 use crate::printed::PrintedReply;
@@ -12,9 +12,12 @@ use s3_terms::NoMemory;
 use std::alloc::Global;
 use std::marker::Model;
 
+/// How long the last text of all may be, in bytes. It is a refusal, which has no metadata, so it is short.
+const LAST_LIMIT: usize = 768;
+
 /// What a connection has still to send: replies behind one another, and the last text of all. Contracts see
-/// the bytes that aren't sent yet, whether room for one more reply is set aside, whether it was so once, and
-/// whether the last text is in.
+/// the bytes that aren't sent yet, whether room for one more reply is set aside, whether it was so since memory
+/// was given back, and whether the last text is in.
 ///
 /// Room for a reply is made before what it answers is done, so that the reply itself can't fail.
 #[derive(Drop)]
@@ -22,7 +25,7 @@ pub struct Outbox {
     replies: Pending,
     has_room: bool,
     had_room: bool,
-    last: ArrayVec<u8, 4096>,
+    last: ArrayVec<u8, LAST_LIMIT>,
     last_sent: usize,
     is_ended: bool,
 }
@@ -46,7 +49,7 @@ impl Model for Outbox {
         × (o.has_room ≡ true → o.had_room ≡ true)
         × (o.had_room ≡ true → KeepsRoom o.replies)
         × (o.last_sent ≤ length o.last.items)
-        × (length o.last.items ≤ 4096)
+        × (length o.last.items ≤ 768)
         × (o.is_ended ≡ false → o.last.items ≡ []) };
 }
 
@@ -84,7 +87,7 @@ impl Outbox {
     /// # Errors
     ///
     /// `NoMemory` where there was no room and memory runs out; nothing has changed then. Once room was made,
-    /// that can't be while all is sent: the room is used again.
+    /// that can't be while all is sent, until memory is given back: the room is used again.
     pub fn make_room(&mut self) -> Result<(), NoMemory>
         ensures made { OnOk result (self.new ≡ with_room self.old) }
         ensures unchanged { OnErr result (self.new ≡ self.old) }
@@ -122,11 +125,11 @@ impl Outbox {
         self.has_room = false;
     }
 
-    /// Puts the last text of all, of at most 4,096 bytes, behind the replies. It needs no room, and takes no
+    /// Puts the last text of all, of at most 768 bytes, behind the replies. It needs no room, and takes no
     /// memory.
     pub fn end_with(&mut self, text: &[u8])
         requires unended { self.old.is_ended ≡ false }
-        requires fits { length «text».now ≤ 4096 }
+        requires fits { length «text».now ≤ 768 }
         ensures ended { self.new ≡ with_end self.old «text».now }
     {
         let Ok(()) = self.last.try_extend_from_slice(text) else {
@@ -156,6 +159,18 @@ impl Outbox {
         ensures sent { self.new ≡ without self.old count }
     {
         self.last_sent += self.replies.send(count);
+    }
+
+    /// Gives back the memory of the texts and bodies, where all is sent and no room is set aside; else it does
+    /// nothing. It takes no memory.
+    pub fn give_back(&mut self)
+        ensures given_back { self.new ≡ given_back self.old }
+    {
+        if self.has_room || !self.out().is_empty() {
+            return;
+        }
+        self.replies.give_back();
+        self.had_room = false;
     }
 
     /// A copy of all that is unsent.

@@ -3,8 +3,9 @@
 ghost use Rattle.std.specs.Prelude.{◌≡◌, ◌≢◌, ℕ, ◌+◌, ◌-◌, ◌<◌, ◌≤◌, List, [], ◌++◌, length, take, drop, IfOk, OnOk, OnErr, min};
 ghost use Rattle.std.specs.Vec.{vec_len, vec_capacity};
 ghost use Rattle.std.specs.VecDeque.{deque_len, deque_capacity};
-ghost use Rattle.s3_outbox.specs.Pending.{bytes_of, waiting, AreInOrder, IsPartGone, IsSound, HasRoom, LeavesRoom, text_front, body_size};
+ghost use Rattle.s3_outbox.specs.Pending.{bytes_of, waiting, AreInOrder, IsPartGone, IsSound, HasRoom, LeavesRoom, TakesNone, text_front, body_size};
 
+use crate::joined::join_small;
 use crate::placed::{Placed, first_of, place};
 use crate::printed::PrintedReply;
 use s3_segments::Body;
@@ -16,7 +17,8 @@ use std::collections::VecDeque;
 pub(crate) const TEXT_LIMIT: usize = 4096;
 
 /// The texts of replies one behind another, of which the first `at` bytes are sent, and the bodies between
-/// them, of the first of which `taken` bytes are sent. The text's memory is used again once all is sent.
+/// them, of the first of which `taken` bytes are sent. The text's memory is used again once all is sent, until
+/// it is given back.
 #[derive(Drop)]
 pub(crate) struct Pending {
     pub(crate) text: Vec<u8>,
@@ -67,6 +69,7 @@ impl Pending {
         let Ok(()) = self.text.extend_from_slice(head) else {
             unreachable!()
         };
+        let body = join_small(&mut self.text, body);
         place(&mut self.bodies, self.text.len(), body);
     }
 
@@ -80,6 +83,7 @@ impl Pending {
         ensures bodies_stay { deque_capacity self.old.bodies ≤ deque_capacity self.new.bodies }
     {
         let body = reply.print(&mut self.text);
+        let body = join_small(&mut self.text, body);
         place(&mut self.bodies, self.text.len(), body);
     }
 
@@ -213,6 +217,17 @@ impl Pending {
             self.text.clear();
             self.at = 0;
         }
+    }
+
+    // Gives memory back: all of it, where all is sent.
+    pub(crate) fn give_back(&mut self)
+        requires sound { IsSound self.old }
+        ensures sound { IsSound self.new }
+        ensures same { waiting self.new ≡ waiting self.old }
+        ensures freed { waiting self.old ≡ [] → TakesNone self.new }
+    {
+        self.text.shrink_to_fit();
+        self.bodies.shrink_to_fit();
     }
 
     // Puts a copy of all that waits behind what `all` has.

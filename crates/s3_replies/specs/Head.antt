@@ -1,6 +1,6 @@
 -- The head of a reply: its status line and its header lines (RFC 9112, sections 4 and 5; Amazon S3 API
 -- Reference, "Common response headers").
-use Rattle.std.specs.Prelude.{ℕ, ◌≤◌, Bool, false, List, [], ◌∷◌, ◌++◌, map, length, codes, Option, None, option_map}
+use Rattle.std.specs.Prelude.{ℕ, ◌+◌, ◌*◌, ◌≤◌, Bool, false, List, [], ◌∷◌, ◌++◌, map, length, codes, Option, None, option_map}
 use Rattle.std.specs.Fmt.{decimal}
 use Rattle.s3_text.specs.Characters.{crlf}
 use Rattle.s3_text.specs.Digits.{number_digits}
@@ -118,3 +118,15 @@ pub record HasRoomFor (head : Fields) : Type 0 where
   pub content_type : value_length head.content_type ≤ 255
   pub metadata : metadata_size head.metadata ≤ 2048
   pub metadata_count : length head.metadata ≤ 64
+
+-- how many bytes the lines that tell of a body take at most: 22 for `Accept-Ranges`, 17 and 16 beside the values of
+-- `Content-Range` and `Content-Type`, 15 beside the name and the value of an entry of metadata, 38 for `Content-Length`
+abbrev pub body_room : Fields → ℕ
+body_room head =
+    22 + (17 + value_length head.content_range) + (16 + value_length head.content_type)
+    + (metadata_size head.metadata + 15 * length head.metadata) + 38
+
+-- how many bytes the head takes at most: 45 for the status line, 92 and 236 for the lines in front of those that tell
+-- of a body, and 2 for the empty line at the end
+abbrev pub head_room : Fields → ℕ
+head_room head = 45 + 92 + 236 + body_room head + 2

@@ -1,7 +1,7 @@
 //! The head of a reply: its status line and its header lines.
 
 ghost use Rattle.std.specs.Prelude.{◌≡◌, ◌≤◌, ◌+◌, [], ◌++◌};
-ghost use Rattle.s3_replies.specs.Head.{fields_of, bare, opening_lines, version_lines, body_lines, print_head, HasRoomFor};
+ghost use Rattle.s3_replies.specs.Head.{fields_of, bare, opening_lines, version_lines, body_lines, print_head, HasRoomFor, body_room, head_room};
 ghost use Rattle.s3_replies.specs.Lines.{print_lines};
 
 use crate::lines::{
@@ -65,12 +65,13 @@ impl<'a> Head<'a> {
         }
     }
 
-    /// Appends the head, which is `HEAD_MAX` bytes long at most.
+    /// Appends the head, which is `HEAD_MAX` bytes long at most, and no longer than what it says needs.
     pub(crate) fn print<R: Room>(&self, out: &mut R)
         requires fits { HasRoomFor (fields_of self.now) }
         requires room { R.size out.old + HEAD_MAX ≤ R.capacity out.old }
         ensures items { R.written out.new ≡ R.written out.old ++ print_head (fields_of self.now) }
         ensures bound { R.size out.new ≤ R.size out.old + HEAD_MAX }
+        ensures short { R.size out.new ≤ R.size out.old + head_room (fields_of self.now) }
         ensures capacity { R.capacity out.old ≤ R.capacity out.new }
     {
         write_status(out, self.status);
@@ -110,13 +111,14 @@ impl<'a> Head<'a> {
         write_optional(out, "Last-Modified", self.modified);
     }
 
-    /// Appends the lines that tell of a body: 3,420 bytes at most.
+    /// Appends the lines that tell of a body: 3,420 bytes at most, and no more than what they say needs.
     fn write_body_lines<R: Room>(&self, out: &mut R)
         requires fits { HasRoomFor (fields_of self.now) }
         requires room { R.size out.old + 3420 ≤ R.capacity out.old }
         ensures items { R.written out.new
             ≡ R.written out.old ++ print_lines (body_lines (fields_of self.now)) }
         ensures bound { R.size out.new ≤ R.size out.old + 3420 }
+        ensures short { R.size out.new ≤ R.size out.old + body_room (fields_of self.now) }
         ensures capacity { R.capacity out.old ≤ R.capacity out.new }
     {
         write_flag(out, "Accept-Ranges", "bytes", self.accepts_ranges);

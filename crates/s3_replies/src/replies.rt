@@ -174,7 +174,7 @@ fn deleted_reply<R: Room>(
 }
 
 /// Appends the whole reply that refuses with the code, under that number, and says whether what was asked for
-/// is a delete marker.
+/// is a delete marker. It is 768 bytes long at most.
 fn error_reply<R: Room>(
     out: &mut R,
     code: Code,
@@ -187,6 +187,7 @@ fn error_reply<R: Room>(
     ensures written { R.written out.new
         ≡ R.written out.old ++ print_reply (error_fields code is_delete_marker number context.now.closes date)
         context.now.head_only (error_document code) }
+    ensures short { R.size out.new ≤ R.size out.old + 768 }
     ensures capacity { R.capacity out.old ≤ R.capacity out.new }
 {
     let document = document_of(code);
@@ -204,6 +205,7 @@ fn error_reply<R: Room>(
 fn write_body<R: Room>(out: &mut R, head_only: bool, body: &[u8])
     requires { R.size out.old + length body.now ≤ R.capacity out.old }
     ensures written { R.written out.new ≡ R.written out.old ++ sent_body head_only body.now }
+    ensures bound { R.size out.new ≤ R.size out.old + length body.now }
     ensures capacity { R.capacity out.old ≤ R.capacity out.new }
 {
     if !head_only {
@@ -289,9 +291,10 @@ fn sent(head_only: bool, body: Body) -> Option<Body>
 }
 
 /// The reply to a message of this moment that is refused before it comes to the machine; `head_only` says
-/// that the message is a HEAD. The reply ends the connection, and its id is zero.
+/// that the message is a HEAD. The reply ends the connection, its id is zero, and it is 768 bytes long at most.
 pub fn refusal(code: Code, moment: Moment, head_only: bool) -> ArrayVec<u8, 4096>
-    ensures { PrintsRefusal code moment head_only result.items }
+    ensures printed { PrintsRefusal code moment head_only result.items }
+    ensures short { length result.items ≤ 768 }
 {
     let closing = Context {
         moment,
@@ -310,10 +313,10 @@ pub const INTERNAL_ERROR: &[u8] = b"HTTP/1.1 500 Internal Server Error\r\n\
     x-amz-request-id: 0000000000000000\r\n\
     \r\n";
 
-/// `INTERNAL_ERROR`, with a clause that says what it is.
+/// `INTERNAL_ERROR`, with clauses that say what it is, and that it is 768 bytes long at most.
 pub fn internal_error_reply() -> &'static [u8]
     ensures value { result.now ≡ internal_error }
-    ensures fits { length result.now ≤ 4096 }
+    ensures fits { length result.now ≤ 768 }
 {
     INTERNAL_ERROR
 }

@@ -81,12 +81,20 @@ fn plan_of(alloc: Global, line: &[u8]) -> Result<Plan, Code> {
     route(alloc, &head)
 }
 
-// The text of what it asks for with this body, and its refusal where it asks for nothing.
-fn asked_of(alloc: Global, line: &[u8], body: &[u8]) -> Result<&'static [u8], Code> {
-    let plan = plan_of(alloc, line)?;
-    let payload = payload_of(alloc, body)?;
+// The text of what is planned with this payload, and its refusal where nothing is.
+fn command_text(alloc: Global, plan: Plan, payload: Payload) -> Result<&'static [u8], Code> {
     let command = command(alloc, plan, payload)?;
     Ok(text_of(&command))
+}
+
+// The same with this body.
+fn planned_text(alloc: Global, plan: Plan, body: &[u8]) -> Result<&'static [u8], Code> {
+    command_text(alloc, plan, payload_of(alloc, body)?)
+}
+
+// The text of what it asks for with this body, and its refusal where it asks for nothing.
+fn asked_of(alloc: Global, line: &[u8], body: &[u8]) -> Result<&'static [u8], Code> {
+    planned_text(alloc, plan_of(alloc, line)?, body)
 }
 
 /// A request's method and target, its body, and what it asks for, or its refusal.

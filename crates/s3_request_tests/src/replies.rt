@@ -254,13 +254,21 @@ fn has_bytes(body: Option<Body>, bytes: &[u8]) -> bool {
     }
 }
 
+/// What stands behind the head of an answer in these bytes, where it stands in front.
+fn behind_head<'a>(
+    alloc: Global,
+    answer: &Answer,
+    context: &Context,
+    bytes: &'a [u8],
+) -> Option<&'a [u8]> {
+    let mut head = Vec::with_capacity(alloc, 4096).ok()?;
+    head_of(answer, context, &mut head);
+    bytes.strip_prefix(head.as_slice())
+}
+
 /// Whether an answer is sent as these bytes: its head, and behind it what stands there.
 fn is_sent(alloc: Global, answer: Answer, context: &Context, bytes: &[u8]) -> bool {
-    let Ok(mut head) = Vec::with_capacity(alloc, 4096) else {
-        return false;
-    };
-    head_of(&answer, context, &mut head);
-    match bytes.strip_prefix(head.as_slice()) {
+    match behind_head(alloc, &answer, context, bytes) {
         Some(rest) => has_bytes(body_of(answer, context), rest),
         None => false,
     }

@@ -51,8 +51,26 @@ fn behind<'a, B>(found: &Found<B>, told: &'a str) -> Option<&'a str> {
     if is_so { Some(rest) } else { None }
 }
 
+// What is told behind this word, where it stands in front.
+fn behind_word<'a>(word: &str, told: &'a str) -> Option<&'a str> {
+    let (first, rest) = cut(told);
+    if first == word { Some(rest) } else { None }
+}
+
+// What is told behind this word, and behind what is told of a version there.
+fn behind_both<'a, B>(word: &str, found: &Found<B>, told: &'a str) -> Option<&'a str> {
+    behind(found, behind_word(word, told)?)
+}
+
+fn is_made(name: &BucketName, told: &str) -> bool {
+    match behind_word("made", told) {
+        Some(rest) => name.as_bytes() == rest.as_bytes(),
+        None => false,
+    }
+}
+
 fn is_got(found: &Found<Body>, told: &str) -> bool {
-    match behind(found, told) {
+    match behind_both("got", found, told) {
         Some(bytes) => {
             found.stored.body.as_slice() == bytes.as_bytes()
                 && found.stored.size == found.stored.body.size()
@@ -62,24 +80,47 @@ fn is_got(found: &Found<Body>, told: &str) -> bool {
 }
 
 fn is_head(found: &Found<()>, told: &str) -> bool {
-    match behind(found, told) {
+    match behind_both("head", found, told) {
         Some(size) => is_number(size, found.stored.size),
         None => false,
     }
 }
 
-fn is_put(tag: &Tag, shown: Option<VersionId>, told: &str) -> bool {
+// Whether the version is shown so, and has this tag.
+fn is_put_as(tag: &Tag, shown: Option<VersionId>, told: &str) -> bool {
     let (id, text) = cut(told);
     is_shown(shown, id) && is_tag(tag, text)
+}
+
+fn is_put(tag: &Tag, shown: Option<VersionId>, told: &str) -> bool {
+    match behind_word("stored", told) {
+        Some(rest) => is_put_as(tag, shown, rest),
+        None => false,
+    }
 }
 
 fn is_marked(is_delete_marker: bool, told: &str) -> bool {
     told == if is_delete_marker { "marker" } else { "" }
 }
 
-fn is_deleted(shown: Option<VersionId>, is_delete_marker: bool, told: &str) -> bool {
+// Whether the version is shown so, and a marker only where it is one.
+fn is_deleted_as(shown: Option<VersionId>, is_delete_marker: bool, told: &str) -> bool {
     let (id, rest) = cut(told);
     is_shown(shown, id) && is_marked(is_delete_marker, rest)
+}
+
+fn is_deleted(shown: Option<VersionId>, is_delete_marker: bool, told: &str) -> bool {
+    match behind_word("deleted", told) {
+        Some(rest) => is_deleted_as(shown, is_delete_marker, rest),
+        None => false,
+    }
+}
+
+fn is_refused(code: Code, is_delete_marker: bool, told: &str) -> bool {
+    match behind_word(code.name(), told) {
+        Some(rest) => is_marked(is_delete_marker, rest),
+        None => false,
+    }
 }
 
 fn name_of(versioning: Versioning) -> &'static str {
@@ -90,27 +131,47 @@ fn name_of(versioning: Versioning) -> &'static str {
     }
 }
 
-// Whether this came of a command.
-fn is_outcome(outcome: &Outcome, told: &str) -> bool {
-    let (word, rest) = cut(told);
+fn is_word(told: &str, word: &str) -> bool {
+    told == word
+}
+
+// Whether this came of a command that is on no key.
+fn is_bucket_outcome(outcome: &Outcome, told: &str) -> bool {
     match outcome {
         Outcome::Buckets { buckets } => buckets.document() == told.as_bytes(),
-        Outcome::BucketMade { name } => word == "made" && name.as_bytes() == rest.as_bytes(),
-        Outcome::BucketFound => told == "found",
-        Outcome::BucketDropped => told == "dropped",
-        Outcome::VersioningSet => told == "set",
-        Outcome::BucketVersioning { versioning } => told == name_of(*versioning),
-        Outcome::Put { tag, shown } => word == "stored" && is_put(tag, *shown, rest),
-        Outcome::Got { found } => word == "got" && is_got(found, rest),
-        Outcome::HeadGot { found } => word == "head" && is_head(found, rest),
+        Outcome::BucketMade { name } => is_made(name, told),
+        Outcome::BucketFound => is_word(told, "found"),
+        Outcome::BucketDropped => is_word(told, "dropped"),
+        Outcome::VersioningSet => is_word(told, "set"),
+        Outcome::BucketVersioning { versioning } => is_word(told, name_of(*versioning)),
+        Outcome::Put { .. }
+        | Outcome::Got { .. }
+        | Outcome::HeadGot { .. }
+        | Outcome::Deleted { .. }
+        | Outcome::Refused { .. } => false,
+    }
+}
+
+// Whether this came of a command.
+fn is_outcome(outcome: &Outcome, told: &str) -> bool {
+    match outcome {
+        Outcome::Put { tag, shown } => is_put(tag, *shown, told),
+        Outcome::Got { found } => is_got(found, told),
+        Outcome::HeadGot { found } => is_head(found, told),
         Outcome::Deleted {
             shown,
             is_delete_marker,
-        } => word == "deleted" && is_deleted(*shown, *is_delete_marker, rest),
+        } => is_deleted(*shown, *is_delete_marker, told),
         Outcome::Refused {
             code,
             is_delete_marker,
-        } => word == code.name() && is_marked(*is_delete_marker, rest),
+        } => is_refused(*code, *is_delete_marker, told),
+        Outcome::Buckets { .. }
+        | Outcome::BucketMade { .. }
+        | Outcome::BucketFound
+        | Outcome::BucketDropped
+        | Outcome::VersioningSet
+        | Outcome::BucketVersioning { .. } => is_bucket_outcome(outcome, told),
     }
 }
 

@@ -1,5 +1,5 @@
 -- How long a connection may keep its place while nothing comes or goes.
-use Rattle.std.specs.Prelude.{ℕ}
+use Rattle.std.specs.Prelude.{ℕ, Bool, true, false, not, ◌&&◌, ◌||◌, nat_lt}
 use Rattle.s3_server.specs.declared.time_limits.Awaited.{Awaited}
 use Rattle.s3_server.specs.declared.time_limits.Awaited.TheVariants.{Message, Head, Body, Room, End}
 
@@ -11,3 +11,17 @@ most_seconds Head = 60
 most_seconds Body = 60
 most_seconds Room = 60
 most_seconds End = 5
+
+-- a wait of so many whole seconds is too long
+abbrev pub is_too_long : Awaited → ℕ → Bool
+is_too_long awaited seconds = not (nat_lt seconds (most_seconds awaited))
+
+-- a head of which a part has come goes on
+abbrev pub is_same_head : Awaited → Awaited → Bool
+is_same_head Head Head = true
+is_same_head before awaited = false
+
+-- the time of what is awaited begins now, by what was awaited before, and whether bytes have come or went: with each byte, but
+-- for a head, which has its time from its first byte on, unless something was written in between
+abbrev pub begins_anew : Awaited → Awaited → Bool → Bool → Bool
+begins_anew before awaited has_read has_written = has_written || (has_read && not (is_same_head before awaited))

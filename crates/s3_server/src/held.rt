@@ -1,6 +1,6 @@
 //! A connection in the hands of a worker.
 
-ghost use Rattle.std.specs.Prelude.{◌≡◌, ◌≢◌, ◌<◌, ◌++◌, length, IfSome};
+ghost use Rattle.std.specs.Prelude.{◌≡◌, ◌≢◌, ◌<◌, ◌++◌, [], length, IfSome};
 ghost use Rattle.s3_workers.specs.Around.{Ends, Fails, around, nothing_own, with_own};
 ghost use Rattle.s3_devices.specs.Recorded.{no_traffic};
 ghost use Rattle.s3_workers.specs.declared.outcome.Outcome.{Outcome};
@@ -75,15 +75,35 @@ impl<'a> Held<'a> {
         ensures own { IfSome result (λ held. held.own ≡ nothing_own) }
         ensures traffic { IfSome result (λ held. held.traffic ≡ no_traffic) }
     {
+        let own = Recorder::new()?;
+        let socket = Recorded::new(socket)?;
+        Some(Held::beginning(alloc, config, number, socket, own, now))
+    }
+
+    // The same of its parts.
+    fn beginning(
+        alloc: Global,
+        config: &'a Config,
+        number: u64,
+        socket: Recorded<Socket>,
+        own: Recorder<Gained>,
+        now: Instant,
+    ) -> Held<'a>
+        requires own { own.entries ≡ [] }
+        requires traffic { socket ≡ no_traffic }
+        ensures settings { result.settings ≡ config.entry.now }
+        ensures own { result.own ≡ nothing_own }
+        ensures traffic { result.traffic ≡ no_traffic }
+    {
         connections_are_held();
-        Some(Held {
+        Held {
             config,
             connection: Connection::new(alloc, number),
-            socket: Recorded::new(socket)?,
-            own: Recorder::new()?,
+            socket,
+            own,
             awaited: Awaited::Message,
             since: now,
-        })
+        }
     }
 
     /// Has it reported under a token when it may go on.

@@ -14,3 +14,4 @@ mod tally;
 mod time_limits;
 
 pub use serve::serve_words;
+pub use time_limits::Awaited;

@@ -7,7 +7,7 @@ use crate::held::Held;
 use crate::socket::Socket;
 use crate::tally::Tally;
 use mio::net::{TcpListener, TcpStream};
-use mio::{Events, Interest, Poll, Token};
+use mio::{Events, Interest, Poll, Registry, Token};
 use s3_config::Config;
 use s3_workers::{Counter, Gate, Place, Worker};
 use slab::Slab;
@@ -140,13 +140,18 @@ impl<'a> Post<'a> {
         self.poll.poll(&mut self.events, Some(patience))?;
         let now = Instant::now(rt)?;
         self.go_on(alloc, tally, worker, now);
+        self.take_and_let_go(alloc, tally, &worker.gate, now);
+        Ok(())
+    }
+
+    // Takes a connection that waits, if it may, and lets those go that have to.
+    fn take_and_let_go<G: Gate>(&mut self, alloc: Global, tally: &Tally, gate: &G, now: Instant) {
         if self.has_waiting && !tally.is_full() {
             self.take_one(tally, now);
         }
-        self.let_in(alloc, tally, &worker.gate, now);
+        self.let_in(alloc, tally, gate, now);
         self.give_up_one(tally, now);
         self.look(tally, now);
-        Ok(())
     }
 
     // How long it waits for events.
@@ -178,13 +183,17 @@ impl<'a> Post<'a> {
                 self.has_waiting = true;
                 continue;
             }
-            let Some(held) = self.held.get_mut(token.0) else {
-                continue;
-            };
             let (buffer, registry) = (self.buffer.as_mut_slice(), self.poll.registry());
-            if !held.serve(alloc, worker, buffer, registry, token, now) {
-                let_go(&mut self.held, tally, token.0);
-            }
+            serve_one(
+                &mut self.held,
+                alloc,
+                tally,
+                worker,
+                buffer,
+                registry,
+                token,
+                now,
+            );
         }
     }
 
@@ -297,17 +306,26 @@ impl<'a> Post<'a> {
 
     // Whether it holds a connection that came; one for which there is no memory is let go.
     fn holds(&mut self, alloc: Global, number: u64, stream: TcpStream, now: Instant) -> bool {
-        let Some(held) = Held::new(alloc, self.config, number, Socket::new(stream), now) else {
-            return false;
-        };
-        let Ok(key) = self.held.insert(held) else {
+        let Some(key) = self.key_of(alloc, number, stream, now) else {
             return false;
         };
         if self.is_registered(key) {
             return true;
         }
-        self.held.try_remove(key);
+        drops(&mut self.held, key);
         false
+    }
+
+    // The key of a connection that came, unless there is no memory for it.
+    fn key_of(
+        &mut self,
+        alloc: Global,
+        number: u64,
+        stream: TcpStream,
+        now: Instant,
+    ) -> Option<usize> {
+        let held = Held::new(alloc, self.config, number, Socket::new(stream), now)?;
+        self.held.insert(held).ok()
     }
 
     // Whether the connection under a key is reported from now on.
@@ -345,8 +363,38 @@ impl<'a> Post<'a> {
 
 // Lets the connection under a key go.
 fn let_go(held: &mut Slab<Held<'_>>, tally: &Tally, key: usize) {
-    if held.try_remove(key).is_some() {
+    if drops(held, key) {
         tally.give_place();
+    }
+}
+
+// Drops the connection under a key, and answers whether there was one.
+fn drops(held: &mut Slab<Held<'_>>, key: usize) -> bool {
+    if !held.contains(key) {
+        return false;
+    }
+    drop(held.remove(key));
+    true
+}
+
+// Has the connection under a token go on, if there is one; where it has ended it is let go.
+fn serve_one<R: time::Clock, N: Counter, G: Gate>(
+    held: &mut Slab<Held<'_>>,
+    alloc: Global,
+    tally: &Tally,
+    worker: &mut Worker<SystemClock<'_, R>, N, G>,
+    buffer: &mut [u8],
+    registry: &Registry,
+    token: Token,
+    now: Instant,
+)
+    ensures seat { N.seat worker.new.counter ≡ N.seat worker.old.counter }
+{
+    let Some(connection) = held.get_mut(token.0) else {
+        return;
+    };
+    if !connection.serve(alloc, worker, buffer, registry, token, now) {
+        let_go(held, tally, token.0);
     }
 }
 

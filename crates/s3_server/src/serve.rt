@@ -1,6 +1,7 @@
 //! A server from its options to its end.
 
 ghost use Rattle.std.specs.Prelude.{◌≡◌, ◌⊎◌, IfOk, IfErr};
+ghost use Rattle.std.specs.Vec.{vec_len};
 ghost use Rattle.s3_desk.specs.Desk.{base_of};
 ghost use Rattle.s3_desk.specs.Closing.{AreNumbered};
 ghost use Rattle.s3_settings.specs.Devices.{AppendsBeginning};
@@ -71,13 +72,94 @@ fn serve<'a, R: Wait + Threads + Net + Clock + Sync, F: Files, W: Write>(
     ensures refused { IfErr result (IsServeFault (F.known files.now) options.now) }
 {
     let (mode, config) = server_settings(alloc, options, files)?;
-    let book = opened_book(alloc, &config)?;
-    let listener = listen(rt, mode.address)?;
-    let posts = posts(rt, alloc, &mode, &config, &listener)?;
-    tell_address(alloc, &mode, &listener, output)?;
-    let tally = Tally::new(mode.connections, mode.most_held);
-    let entries = run_all(rt, alloc, &tally, book, posts)?;
+    serve_mode(rt, alloc, &mode, &config, output)
+}
+
+// Serves with these settings.
+fn serve_mode<'a, R: Wait + Threads + Net + Clock + Sync, W: Write>(
+    rt: &R,
+    alloc: Global,
+    mode: &ServeMode<'a>,
+    config: &Config,
+    output: &mut W,
+) -> Result<(), Fault<'a>>
+    ensures refused { IfErr result (IsToldFault mode.now.address) }
+{
+    let book = opened_book(alloc, config)?;
+    let entries = serve_book(rt, alloc, mode, config, book, output)?;
     tell_entries(alloc, entries, output)
+}
+
+// Serves what a book has, and answers how many commands it answered.
+fn serve_book<'a, R: Wait + Threads + Net + Clock + Sync, W: Write>(
+    rt: &R,
+    alloc: Global,
+    mode: &ServeMode<'a>,
+    config: &Config,
+    book: Book<MapRecords>,
+    output: &mut W,
+) -> Result<u64, Fault<'a>>
+    ensures refused { IfErr result (IsToldFault mode.now.address) }
+{
+    match listen(rt, mode.address) {
+        Ok(listener) => serve_listener(rt, alloc, mode, config, &listener, book, output),
+        Err(fault) => Err(fault),
+    }
+}
+
+// The same for the connections of a listener.
+fn serve_listener<'a, R: Wait + Threads + Net + Clock + Sync, W: Write>(
+    rt: &R,
+    alloc: Global,
+    mode: &ServeMode<'a>,
+    config: &Config,
+    listener: &net::TcpListener,
+    book: Book<MapRecords>,
+    output: &mut W,
+) -> Result<u64, Fault<'a>>
+    ensures refused { IfErr result (IsToldFault mode.now.address) }
+{
+    match told_posts(rt, alloc, mode, config, listener, output) {
+        Ok(posts) => serve_posts(rt, alloc, mode, book, posts),
+        Err(fault) => Err(fault),
+    }
+}
+
+// The same at these posts.
+fn serve_posts<'a, R: Wait + Threads + Clock + Sync>(
+    rt: &R,
+    alloc: Global,
+    mode: &ServeMode<'a>,
+    book: Book<MapRecords>,
+    posts: Vec<Post<'_>>,
+) -> Result<u64, Fault<'a>>
+    ensures refused { IfErr result (λ fault. fault ≡ Fault.OutOfMemory) }
+{
+    let tally = Tally::new(mode.connections, mode.most_held);
+    entries_of(run_all(rt, alloc, &tally, book, posts))
+}
+
+// How many commands were answered, where there was memory.
+fn entries_of<'a>(entries: Result<u64, NoMemory>) -> Result<u64, Fault<'a>>
+    ensures refused { IfErr result (λ fault. fault ≡ Fault.OutOfMemory) }
+{
+    Ok(entries?)
+}
+
+// The posts of a server's workers, once it is told where it listens.
+fn told_posts<'a, 'c, R: Net, W: Write>(
+    rt: &R,
+    alloc: Global,
+    mode: &ServeMode<'a>,
+    config: &'c Config,
+    listener: &net::TcpListener,
+    output: &mut W,
+) -> Result<Vec<Post<'c>>, Fault<'a>>
+    ensures refused { IfErr result (IsToldFault mode.now.address) }
+{
+    let posts = posts(rt, alloc, mode, config, listener)?;
+    tell_address(alloc, mode, listener, output)?;
+    Ok(posts)
 }
 
 // A book over a store with the opening buckets.
@@ -147,19 +229,77 @@ fn run<J: Ground + Send + Sync, R: Wait + Threads + Clock + Sync>(
     requires seats { start.seats ≡ J.parts }
 {
     let (desk, seats) = Desk::<J, MapRecords>::open(alloc, start, book)?;
+    run_at(rt, alloc, tally, desk, posts, seats)
+}
+
+// The same at a desk with all its seats.
+fn run_at<J: Ground + Send + Sync, R: Wait + Threads + Clock + Sync>(
+    rt: &R,
+    alloc: Global,
+    tally: &Tally,
+    desk: Desk<J, MapRecords>,
+    posts: Vec<Post<'_>>,
+    seats: Vec<Seat<J>>,
+) -> Result<u64, NoMemory>
+    requires all { vec_len seats ≡ J.parts }
+{
+    match worked_all(rt, alloc, tally, &desk, posts, seats) {
+        Ok(back) => Ok(closed(desk, back)),
+        Err(none) => Err(none),
+    }
+}
+
+// How many commands a desk answered, all seats of which are back.
+fn closed<J: Ground>(desk: Desk<J, MapRecords>, seats: Vec<Seat<J>>) -> u64
+    requires all { vec_len seats ≡ J.parts }
+    requires numbered { AreNumbered 0 seats.items }
+{
+    desk.close(seats).entries()
+}
+
+// The seats of the workers, which have all worked.
+fn worked_all<J: Ground + Send + Sync, R: Wait + Threads + Clock + Sync>(
+    rt: &R,
+    alloc: Global,
+    tally: &Tally,
+    desk: &Desk<J, MapRecords>,
+    posts: Vec<Post<'_>>,
+    seats: Vec<Seat<J>>,
+) -> Result<Vec<Seat<J>>, NoMemory>
+    ensures count { IfOk result (λ back. vec_len back ≡ vec_len seats) }
+    ensures numbered { IfOk result (λ back. AreNumbered 0 back.items) }
+{
     let count = seats.len();
     let places = places(alloc, posts, seats)?;
-    let shared = &desk;
     let back = thread::map_vec(
         rt,
         places,
-        &|place: (Post<'_>, Seat<J>)| { worked(rt, alloc, tally, shared, place) },
+        &|place: (Post<'_>, Seat<J>)| { worked(rt, alloc, tally, desk, place) },
     )?;
-    let seats = numbered(alloc, back)?;
+    all_back(alloc, count, back)
+}
+
+// The seats that come back in their order, where they are so many. The error comes where there is no room for their list.
+fn all_back<J: Ground>(
+    alloc: Global,
+    count: usize,
+    back: Vec<Seat<J>>,
+) -> Result<Vec<Seat<J>>, NoMemory>
+    ensures count { IfOk result (λ all. vec_len all ≡ count) }
+    ensures numbered { IfOk result (λ all. AreNumbered 0 all.items) }
+{
+    all_of(count, numbered(alloc, back)?)
+}
+
+// These seats, where they are so many.
+fn all_of<J: Ground>(count: usize, seats: Vec<Seat<J>>) -> Result<Vec<Seat<J>>, NoMemory>
+    ensures count { IfOk result (λ all. vec_len all ≡ count) }
+    ensures same { IfOk result (λ all. all ≡ seats) }
+{
     if seats.len() != count {
         return Err(NoMemory);
     }
-    Ok(desk.close(seats).entries())
+    Ok(seats)
 }
 
 // Each post with its seat.
@@ -184,12 +324,39 @@ fn worked<J: Ground, R: Wait + Clock>(
     place: (Post<'_>, Seat<J>),
 ) -> Seat<J> {
     let (mut post, seat) = place;
-    let Some(clock) = SystemClock::new(rt) else {
-        return seat;
-    };
+    worked_at(rt, alloc, tally, desk, &mut post, seat)
+}
+
+// The seat of a worker that has worked at a post.
+fn worked_at<J: Ground, R: Wait + Clock>(
+    rt: &R,
+    alloc: Global,
+    tally: &Tally,
+    desk: &Desk<J, MapRecords>,
+    post: &mut Post<'_>,
+    seat: Seat<J>,
+) -> Seat<J> {
+    match SystemClock::new(rt) {
+        Some(clock) => {
+            let counter = DeskCounter::new(rt, desk, seat);
+            seat_behind(rt, alloc, tally, post, clock, counter)
+        }
+        None => seat,
+    }
+}
+
+// The seat of a counter with which a worker has worked at a post.
+fn seat_behind<J: Ground, R: Wait + Clock>(
+    rt: &R,
+    alloc: Global,
+    tally: &Tally,
+    post: &mut Post<'_>,
+    clock: SystemClock<'_, R>,
+    counter: DeskCounter<'_, J, MapRecords, R>,
+) -> Seat<J> {
     let mut worker = Worker {
         clock,
-        counter: DeskCounter::new(rt, desk, seat),
+        counter,
         gate: NoGate,
     };
     post.work(rt, alloc, tally, &mut worker);

@@ -1,7 +1,9 @@
 //! How long a connection may keep its place while nothing comes or goes.
 
-ghost use Rattle.std.specs.Prelude.{◌≡◌};
-ghost use Rattle.s3_server.specs.Limits.{most_seconds};
+ghost use Rattle.std.specs.Prelude.{◌≡◌, ◌-◌, ◌/◌, if◌then◌else◌};
+ghost use Rattle.std.specs.Duration.{as_nanos};
+ghost use Rattle.std.specs.Time.{instant_nanos};
+ghost use Rattle.s3_server.specs.Limits.{most_seconds, is_too_long, begins_anew};
 
 use std::time::{Duration, Instant};
 
@@ -50,7 +52,9 @@ impl Awaited {
         has_read: bool,
         has_written: bool,
         now: Instant,
-    ) -> Instant {
+    ) -> Instant
+        ensures { result ≡ (if begins_anew before self has_read has_written then now else since) }
+    {
         match (before, self) {
             _ if has_written => now,
             (Awaited::Head, Awaited::Head) => since,
@@ -60,7 +64,16 @@ impl Awaited {
     }
 
     /// Whether a connection that has waited for this since a moment has waited too long now.
-    pub fn is_over(self, since: Instant, now: Instant) -> bool {
-        now.duration_since(since) >= Duration::from_secs(self.seconds())
+    pub fn is_over(self, since: Instant, now: Instant) -> bool
+        ensures { result ≡ is_too_long self ((instant_nanos now - instant_nanos since) / 1_000_000_000) }
+    {
+        self.is_too_long(now.duration_since(since))
+    }
+
+    /// Whether a wait for this is too long that lasts this long: as many whole seconds as it may, or more.
+    pub fn is_too_long(self, waited: Duration) -> bool
+        ensures { result ≡ is_too_long self (as_nanos waited / 1_000_000_000) }
+    {
+        waited.as_secs() >= self.seconds()
     }
 }

@@ -454,7 +454,8 @@ impl Session {
         self.outbox.out()
     }
 
-    /// Says that so many bytes in front were sent. They are dropped, and a body goes with its last byte. It takes no
+    /// Says that so many bytes in front were sent. They are dropped, a body goes with its last byte, and the memory of
+    /// replies is given back with the last byte of all; a command that waits keeps the room for its reply. It takes no
     /// memory.
     pub fn sent(&mut self, count: usize)
         requires within { count ≤ length (rules.unsent_of self.old) }
@@ -465,6 +466,7 @@ impl Session {
         ensures end { self.new.is_ended ≡ self.old.is_ended }
     {
         self.outbox.sent(count);
+        self.outbox.give_back();
     }
 
     /// A copy of all that it has written and not sent.

@@ -1,4 +1,5 @@
-//! What a connection has still to send: replies with and without bodies, the last text, and how they are taken.
+//! What a connection has still to send: replies with and without bodies, the last text, how they are taken, and memory
+//! that is given back.
 
 use s3_outbox::Outbox;
 use s3_segments::Body;
@@ -59,6 +60,59 @@ static CASES: &[Case] = &[
     },
 ];
 
+// A piece that goes out at once: how long it is, its first byte, and its last.
+type Piece = (usize, u8, u8);
+
+// How long a head, its body and a last text are, and the pieces in which they go out.
+struct Sizes {
+    head: usize,
+    body: usize,
+    last: usize,
+    pieces: &'static [Piece],
+}
+
+static SIZES: &[Sizes] = &[
+    Sizes {
+        head: 200,
+        body: 0,
+        last: 0,
+        pieces: &[(200, b'h', b'h')],
+    },
+    // A body goes out with its head where both fit into the room for a head.
+    Sizes {
+        head: 200,
+        body: 3_896,
+        last: 0,
+        pieces: &[(4_096, b'h', b'b')],
+    },
+    Sizes {
+        head: 200,
+        body: 3_897,
+        last: 0,
+        pieces: &[(200, b'h', b'h'), (3_897, b'b', b'b')],
+    },
+    Sizes {
+        head: 200,
+        body: 4_097,
+        last: 0,
+        pieces: &[(200, b'h', b'h'), (4_097, b'b', b'b')],
+    },
+    // The longest head.
+    Sizes {
+        head: 4_096,
+        body: 1,
+        last: 0,
+        pieces: &[(4_096, b'h', b'h'), (1, b'b', b'b')],
+    },
+    // The longest last text.
+    Sizes {
+        head: 200,
+        body: 1,
+        last: 768,
+        pieces: &[(201, b'h', b'b'), (768, b'l', b'l')],
+    },
+];
+
 // The body of a reply, if it has one.
 fn body_of(alloc: Global, reply: Reply) -> Result<Option<Body>, NoMemory> {
     match reply.1 {
@@ -68,13 +122,19 @@ fn body_of(alloc: Global, reply: Reply) -> Result<Option<Body>, NoMemory> {
 }
 
 // Puts a reply in, whose body is moved.
-fn put(alloc: Global, outbox: &mut Outbox, reply: Reply) -> Result<(), NoMemory> {
+fn put(outbox: &mut Outbox, head: &[u8], body: Option<Body>) -> Result<(), NoMemory> {
     outbox.make_room()?;
-    let body = body_of(alloc, reply)?;
-    if outbox.has_room() && !outbox.is_ended() && reply.0.len() <= 4096 {
-        outbox.push(reply.0, body);
+    if outbox.has_room() && !outbox.is_ended() && head.len() <= 4096 {
+        outbox.push(head, body);
     }
     Ok(())
+}
+
+// Puts the last text in.
+fn end(outbox: &mut Outbox, text: &[u8]) {
+    if !outbox.is_ended() && text.len() <= 768 {
+        outbox.end_with(text);
+    }
 }
 
 // Takes at most so many bytes of those that stand together in front.
@@ -86,23 +146,32 @@ fn take(outbox: &mut Outbox, most: usize, taken: &mut Vec<u8>) -> Result<(), NoM
     Ok(())
 }
 
-// Puts all of a case in, and takes at most so many bytes behind each reply.
+// How a case is taken: at most so many bytes at a time, of which some come early, behind each reply; and whether memory is
+// given back then.
+#[derive(Clone, Copy)]
+struct Way {
+    most: usize,
+    early: usize,
+    gives_back: bool,
+}
+
+// Puts all of a case in, and takes some of it behind each reply.
 fn fill(
     alloc: Global,
     case: &Case,
-    early: usize,
+    way: Way,
     outbox: &mut Outbox,
     taken: &mut Vec<u8>,
 ) -> Result<(), NoMemory> {
     for reply in case.replies {
-        put(alloc, outbox, *reply)?;
-        take(outbox, early, taken)?;
+        put(outbox, reply.0, body_of(alloc, *reply)?)?;
+        take(outbox, way.early, taken)?;
+        if way.gives_back {
+            outbox.give_back();
+        }
     }
-    if let Some(text) = case.last
-        && !outbox.is_ended()
-        && text.len() <= 4096
-    {
-        outbox.end_with(text);
+    if let Some(text) = case.last {
+        end(outbox, text);
     }
     Ok(())
 }
@@ -122,24 +191,18 @@ fn has_left(alloc: Global, outbox: &Outbox, text: &[u8], taken: usize) -> Result
 }
 
 // Takes a case through the outbox, and answers whether a copy of what was left was right.
-fn run(
-    alloc: Global,
-    case: &Case,
-    most: usize,
-    early: usize,
-    taken: &mut Vec<u8>,
-) -> Result<bool, NoMemory> {
+fn run(alloc: Global, case: &Case, way: Way, taken: &mut Vec<u8>) -> Result<bool, NoMemory> {
     let mut outbox = Outbox::new(alloc);
-    fill(alloc, case, early, &mut outbox, taken)?;
+    fill(alloc, case, way, &mut outbox, taken)?;
     let is_left = has_left(alloc, &outbox, case.sent, taken.len())?;
-    drain(&mut outbox, most, taken)?;
+    drain(&mut outbox, way.most, taken)?;
     Ok(is_left && outbox.out().is_empty())
 }
 
-// Whether all of a case is sent in its order, by at most so many bytes at a time, of which some come early.
-fn is_sent(alloc: Global, case: &Case, most: usize, early: usize) -> Result<bool, NoMemory> {
+// Whether all of a case is sent in its order.
+fn is_sent(alloc: Global, case: &Case, way: Way) -> Result<bool, NoMemory> {
     let mut taken = Vec::new(alloc);
-    let is_run = run(alloc, case, most, early, &mut taken)?;
+    let is_run = run(alloc, case, way, &mut taken)?;
     Ok(is_run && taken.as_slice() == case.sent)
 }
 
@@ -147,7 +210,70 @@ fn is_sent(alloc: Global, case: &Case, most: usize, early: usize) -> Result<bool
 fn replies_are_sent_in_their_order(rt: HostRuntime) {
     for case in CASES {
         for (most, early) in [(1, 0), (1, 1), (2, 3), (100, 0), (3, 100)] {
-            assert!(rt; is_sent(rt.alloc(), case, most, early) == Ok(true));
+            for gives_back in [false, true] {
+                let way = Way {
+                    most,
+                    early,
+                    gives_back,
+                };
+                assert!(rt; is_sent(rt.alloc(), case, way) == Ok(true));
+            }
         }
+    }
+}
+
+// So many of a byte.
+fn filled(alloc: Global, byte: u8, size: usize) -> Result<Vec<u8>, NoMemory> {
+    Ok(vec![in alloc; byte; size]?)
+}
+
+// Puts a reply of these sizes in.
+fn put_sizes(alloc: Global, sizes: &Sizes, outbox: &mut Outbox) -> Result<(), NoMemory> {
+    let body = Body::new(filled(alloc, b'b', sizes.body)?);
+    let head = filled(alloc, b'h', sizes.head)?;
+    put(outbox, head.as_slice(), Some(body))
+}
+
+// Puts a last text of so many bytes in, if there are any.
+fn end_sizes(alloc: Global, size: usize, outbox: &mut Outbox) -> Result<(), NoMemory> {
+    if size > 0 {
+        let text = filled(alloc, b'l', size)?;
+        end(outbox, text.as_slice());
+    }
+    Ok(())
+}
+
+// Whether this piece stands in front, which is sent then.
+fn is_next(outbox: &mut Outbox, piece: Piece) -> bool {
+    let out = outbox.out();
+    let count = out.len();
+    let is_right = count == piece.0
+        && out.first() == Some(&piece.1)
+        && out.last() == Some(&piece.2);
+    outbox.sent(count);
+    is_right
+}
+
+// Whether all goes out in these pieces.
+fn goes_in(outbox: &mut Outbox, pieces: &[Piece]) -> bool {
+    let mut is_right = true;
+    for piece in pieces {
+        is_right = is_next(outbox, *piece) && is_right;
+    }
+    is_right && outbox.out().is_empty()
+}
+
+// Whether a reply and a last text of these sizes go out in their pieces.
+fn is_cut(alloc: Global, sizes: &Sizes) -> Result<bool, NoMemory> {
+    let mut outbox = Outbox::new(alloc);
+    put_sizes(alloc, sizes, &mut outbox)?;
+    end_sizes(alloc, sizes.last, &mut outbox)?;
+    Ok(goes_in(&mut outbox, sizes.pieces))
+}
+
+#[test]
+fn small_bodies_go_out_with_their_heads(rt: HostRuntime) {
+    for sizes in SIZES {
+        assert!(rt; is_cut(rt.alloc(), sizes) == Ok(true));
     }
 }

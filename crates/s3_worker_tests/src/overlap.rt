@@ -125,15 +125,21 @@ fn answer_of(connection: u64) -> &'static [u8] {
     }
 }
 
-// Serves a connection, and says whether its answer is as it has to be.
-fn is_served<J: Ground, R: Wait + Clock>(
+// Whether a connection that has ended so over this stream is answered as it has to be.
+fn is_answered(outcome: Outcome, stream: &Stream<'_>, connection: u64) -> bool {
+    outcome == Outcome::Closed && stream.output.as_slice() == answer_of(connection)
+}
+
+// Serves a connection over this stream, and says whether its answer is as it has to be.
+fn is_served_over<J: Ground, R: Wait + Clock>(
     rt: &R,
     alloc: Global,
     config: &Config,
-    worker: &mut Worker<Still, DeskCounter<'_, J, R>, Overlap<'_, R>>,
+    worker: &mut Worker<Still, DeskCounter<'_, J, MapRecords, R>, Overlap<'_, R>>,
+    stream: Stream<'_>,
     connection: u64,
 ) -> bool {
-    let Some(mut device) = stream(alloc, connection).and_then(Recorded::new) else {
+    let Some(mut device) = Recorded::new(stream) else {
         return false;
     };
     let mut buffer = [0; 4096];
@@ -146,7 +152,21 @@ fn is_served<J: Ground, R: Wait + Clock>(
         connection,
         &mut buffer,
     );
-    outcome == Outcome::Closed && device.stream().output.as_slice() == answer_of(connection)
+    is_answered(outcome, device.stream(), connection)
+}
+
+// Serves a connection, and says whether its answer is as it has to be.
+fn is_served<J: Ground, R: Wait + Clock>(
+    rt: &R,
+    alloc: Global,
+    config: &Config,
+    worker: &mut Worker<Still, DeskCounter<'_, J, MapRecords, R>, Overlap<'_, R>>,
+    connection: u64,
+) -> bool {
+    match stream(alloc, connection) {
+        Some(stream) => is_served_over(rt, alloc, config, worker, stream, connection),
+        None => false,
+    }
 }
 
 // The seat of a worker that has served its connection, and whether the answer is as it has to be.
@@ -189,9 +209,26 @@ fn both_back<J: Ground>(alloc: Global, mut back: Vec<(Seat<J>, bool)>) -> Option
     ensures all { IfSome result (λ seats. vec_len seats ≡ 2) }
     ensures numbered { IfSome result (λ seats. AreNumbered 0 seats.items) }
 {
-    let other = last_back(&mut back, OTHER)?;
-    let held = last_back(&mut back, HELD)?;
-    vec![in alloc; held, other].ok()
+    match last_back(&mut back, OTHER) {
+        Some(other) => with_held(alloc, back, other),
+        None => None,
+    }
+}
+
+// The same, where that of the other one is taken out.
+fn with_held<J: Ground>(
+    alloc: Global,
+    mut back: Vec<(Seat<J>, bool)>,
+    other: Seat<J>,
+) -> Option<Vec<Seat<J>>>
+    requires { other.number ≡ 1 }
+    ensures all { IfSome result (λ seats. vec_len seats ≡ 2) }
+    ensures numbered { IfSome result (λ seats. AreNumbered 0 seats.items) }
+{
+    match last_back(&mut back, HELD) {
+        Some(held) => vec![in alloc; held, other].ok(),
+        None => None,
+    }
 }
 
 // Has each seat work in a thread of its own.
@@ -217,7 +254,33 @@ fn work_both<J: Ground + Send + Sync, R: Threads + Wait + Clock + Sync>(
     }
 }
 
+// How many entries a desk has that is closed with these seats.
+fn entries_with<J: Ground>(desk: Desk<J, MapRecords>, seats: Vec<Seat<J>>) -> u64
+    requires all { vec_len seats ≡ J.parts }
+    requires numbered { AreNumbered 0 seats.items }
+{
+    desk.close(seats).entries()
+}
+
 // How many entries a desk has once both are back.
+fn entries_of<J: Ground + Send + Sync, R: Threads + Wait + Clock + Sync>(
+    rt: &R,
+    alloc: Global,
+    config: &Config,
+    desk: Desk<J, MapRecords>,
+    marks: &Marks,
+    moment: Moment,
+    seats: Vec<Seat<J>>,
+) -> Option<u64>
+    requires { J.parts ≡ 2 }
+{
+    match work_both(rt, alloc, config, &desk, marks, moment, seats) {
+        Some(seats) => Some(entries_with(desk, seats)),
+        None => None,
+    }
+}
+
+// The same at a desk that is to be opened over a book.
 fn entries_left<J: Ground + Send + Sync, R: Threads + Wait + Clock + Sync>(
     rt: &R,
     alloc: Global,
@@ -231,21 +294,34 @@ fn entries_left<J: Ground + Send + Sync, R: Threads + Wait + Clock + Sync>(
     requires ledger { start.name ≡ J.name }
     requires seats { (start.seats ≡ J.parts) × (start.seats ≡ 2) }
 {
-    let (desk, seats) = Desk::<J, MapRecords>::open(alloc, start, book).ok()?;
-    let seats = work_both(rt, alloc, config, &desk, marks, moment, seats)?;
-    Some(desk.close(seats).entries())
+    match Desk::<J, MapRecords>::open(alloc, start, book) {
+        Ok((desk, seats)) => entries_of(rt, alloc, config, desk, marks, moment, seats),
+        Err(_) => None,
+    }
 }
 
 // The same at a desk of a new book.
+fn entries_of_book<R: Threads + Wait + Clock + Sync>(
+    rt: &R,
+    alloc: Global,
+    config: &Config,
+    marks: &Marks,
+) -> Option<u64> {
+    let moment = moment()?;
+    let book = book(alloc, config)?;
+    entries_left::<Brand, R>(rt, alloc, config, Start::new(2), book, marks, moment)
+}
+
+// The same to a server of its own.
 fn entries_of_new<R: Threads + Wait + Clock + Sync>(
     rt: &R,
     alloc: Global,
     marks: &Marks,
 ) -> Option<u64> {
-    let config = config(alloc)?;
-    let moment = moment()?;
-    let book = book(alloc, &config)?;
-    entries_left::<Brand, R>(rt, alloc, &config, Start::new(2), book, marks, moment)
+    match config(alloc) {
+        Some(config) => entries_of_book(rt, alloc, &config, marks),
+        None => None,
+    }
 }
 
 #[test]

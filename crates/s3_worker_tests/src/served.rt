@@ -87,9 +87,10 @@ pub(crate) fn worker(
     alloc: Global,
     config: &Config,
 ) -> Option<Worker<Still, BookCounter<MapRecords>, Count>> {
+    let moment = moment()?;
     let book = book(alloc, config)?;
     Some(Worker {
-        clock: Still { moment: moment()? },
+        clock: Still { moment },
         counter: BookCounter { book, seat: 0 },
         gate: Count {
             passed: Cell::new(0),
@@ -105,10 +106,24 @@ pub(crate) fn served<R: Wait>(
     bytes: &[u8],
     manner: Manner,
 ) -> Option<(Outcome, Vec<u8>, u64)> {
-    let mut worker = worker(alloc, config)?;
+    match worker(alloc, config) {
+        Some(mut worker) => served_by(rt, alloc, config, &mut worker, bytes, manner),
+        None => None,
+    }
+}
+
+// The same of a connection that this worker serves.
+fn served_by<R: Wait>(
+    rt: &R,
+    alloc: Global,
+    config: &Config,
+    worker: &mut Worker<Still, BookCounter<MapRecords>, Count>,
+    bytes: &[u8],
+    manner: Manner,
+) -> Option<(Outcome, Vec<u8>, u64)> {
     let mut device = Recorded::new(Stream::new(bytes, Vec::new(alloc), manner))?;
     let mut buffer = [0; 4096];
-    let outcome = serve(rt, alloc, config, &mut worker, &mut device, 1, &mut buffer);
+    let outcome = serve(rt, alloc, config, worker, &mut device, 1, &mut buffer);
     Some((
         outcome,
         device.into_stream().output,

@@ -61,69 +61,120 @@ fn unlike<R: Wait>(
 fn unlike_replayed<R: Wait>(
     rt: &R,
     alloc: Global,
+    config: &Config,
     bytes: &[u8],
     most: usize,
     is_slow: bool,
 ) -> Option<usize> {
-    let config = config(alloc)?;
-    let wanted = replayed(alloc, &config, bytes);
-    match wanted {
-        Some(wanted) => Some(unlike(rt, alloc, &config, bytes, &wanted, most, is_slow)),
+    match replayed(alloc, config, bytes) {
+        Some(wanted) => Some(unlike(rt, alloc, config, bytes, &wanted, most, is_slow)),
         None => None,
     }
 }
 
-// How a connection ends whose stream fails so, and how many bytes it has written, which are a beginning of what is replayed.
+// The same to a server of its own.
+fn unlike_anew<R: Wait>(
+    rt: &R,
+    alloc: Global,
+    bytes: &[u8],
+    most: usize,
+    is_slow: bool,
+) -> Option<usize> {
+    match config(alloc) {
+        Some(config) => unlike_replayed(rt, alloc, &config, bytes, most, is_slow),
+        None => None,
+    }
+}
+
+// How a connection ends whose stream fails so, and how many bytes it has written, which are a beginning of these.
+fn failed_within<R: Wait>(
+    rt: &R,
+    alloc: Global,
+    config: &Config,
+    wanted: &[u8],
+    manner: Manner,
+) -> Option<(Outcome, usize)> {
+    match served(rt, alloc, config, PUT_AND_GET, manner) {
+        Some((outcome, out, _)) if wanted.starts_with(&out) => Some((outcome, out.len())),
+        _ => None,
+    }
+}
+
+// The same, where they are a beginning of what is replayed.
+fn failed_replayed<R: Wait>(
+    rt: &R,
+    alloc: Global,
+    config: &Config,
+    manner: Manner,
+) -> Option<(Outcome, usize)> {
+    match replayed(alloc, config, PUT_AND_GET) {
+        Some(wanted) => failed_within(rt, alloc, config, &wanted, manner),
+        None => None,
+    }
+}
+
+// The same to a server of its own.
 fn failed<R: Wait>(rt: &R, alloc: Global, manner: Manner) -> Option<(Outcome, usize)> {
-    let config = config(alloc)?;
-    let wanted = replayed(alloc, &config, PUT_AND_GET)?;
-    let (outcome, out, _) = served(rt, alloc, &config, PUT_AND_GET, manner)?;
-    if wanted.starts_with(&out) {
-        Some((outcome, out.len()))
-    } else {
-        None
+    match config(alloc) {
+        Some(config) => failed_replayed(rt, alloc, &config, manner),
+        None => None,
     }
 }
 
 // What a connection passes at the gate.
-fn passed<R: Wait>(rt: &R, alloc: Global, manner: Manner) -> Option<u64> {
-    let config = config(alloc)?;
-    let (_, _, passed) = served(rt, alloc, &config, PUT_AND_GET, manner)?;
-    Some(passed)
+fn passed_by<R: Wait>(rt: &R, alloc: Global, config: &Config, manner: Manner) -> Option<u64> {
+    match served(rt, alloc, config, PUT_AND_GET, manner) {
+        Some((_, _, passed)) => Some(passed),
+        None => None,
+    }
 }
+
+// The same to a server of its own.
+fn passed<R: Wait>(rt: &R, alloc: Global, manner: Manner) -> Option<u64> {
+    match config(alloc) {
+        Some(config) => passed_by(rt, alloc, &config, manner),
+        None => None,
+    }
+}
+
+// The bytes of a connection, how many at most a stream gives or takes at a time, and whether every second write would block.
+static BLOCKED: [(&[u8], usize, bool); 6] = [
+    (PUT_AND_GET, usize::MAX, false),
+    (PUT_AND_GET, usize::MAX, true),
+    (PUT_AND_GET, 1, true),
+    (CHUNKS_AND_GET, usize::MAX, false),
+    (CHUNKS_AND_GET, usize::MAX, true),
+    (CHUNKS_AND_GET, 1, true),
+];
 
 #[test]
 fn blocked_anywhere(rt: HostRuntime) {
-    let alloc = rt.alloc();
-    let cases = [
-        (PUT_AND_GET, usize::MAX, false),
-        (PUT_AND_GET, usize::MAX, true),
-        (PUT_AND_GET, 1, true),
-        (CHUNKS_AND_GET, usize::MAX, false),
-        (CHUNKS_AND_GET, usize::MAX, true),
-        (CHUNKS_AND_GET, 1, true),
-    ];
-    for (bytes, most, is_slow) in cases {
-        assert!(rt; unlike_replayed(&rt, alloc, bytes, most, is_slow) == Some(0));
+    for (bytes, most, is_slow) in &BLOCKED {
+        assert!(rt; unlike_anew(&rt, rt.alloc(), bytes, *most, *is_slow) == Some(0));
+    }
+}
+
+// The read that fails, the write that fails, how the connection ends, and how many bytes it has written.
+static FAILURES: [(u64, u64, Outcome, usize); 4] = [
+    (1, 0, Outcome::ReadFailed, 0),
+    (2, 0, Outcome::ReadFailed, 439),
+    (0, 1, Outcome::WriteFailed, 0),
+    (0, 2, Outcome::WriteFailed, 178),
+];
+
+// A stream whose read of this number fails, and whose write of that.
+fn failing(failing_read: u64, failing_write: u64) -> Manner {
+    Manner {
+        failing_read,
+        failing_write,
+        ..PLAIN
     }
 }
 
 #[test]
 fn failures_end(rt: HostRuntime) {
-    let alloc = rt.alloc();
-    let cases = [
-        (1, 0, Some((Outcome::ReadFailed, 0))),
-        (2, 0, Some((Outcome::ReadFailed, 439))),
-        (0, 1, Some((Outcome::WriteFailed, 0))),
-        (0, 2, Some((Outcome::WriteFailed, 178))),
-    ];
-    for (failing_read, failing_write, wanted) in cases {
-        let manner = Manner {
-            failing_read,
-            failing_write,
-            ..PLAIN
-        };
-        assert!(rt; failed(&rt, alloc, manner) == wanted);
+    for (read, write, outcome, len) in &FAILURES {
+        assert!(rt; failed(&rt, rt.alloc(), failing(*read, *write)) == Some((*outcome, *len)));
     }
 }
 
@@ -142,7 +193,10 @@ fn places_are_passed(rt: HostRuntime) {
     );
 }
 
+// For how many bytes of a head an idle connection keeps memory at most.
+const HEAD_ROOM: usize = 1_024;
+
 #[test]
 fn connections_are_small(rt: HostRuntime) {
-    assert!(rt; size_of::<Connection>() <= 6_144);
+    assert!(rt; size_of::<Connection>() + HEAD_ROOM <= 4_096);
 }

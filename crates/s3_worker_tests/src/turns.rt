@@ -8,6 +8,7 @@ use s3_records::MapRecords;
 use s3_session::Still;
 use s3_workers::{BookCounter, Connection, Step, Worker};
 use std::alloc::Global;
+use std::mem::drop;
 use std::test::*;
 
 // A stream that gives and takes one byte at a time.
@@ -67,16 +68,7 @@ struct Served<'a> {
     device: Recorded<Stream<'a>>,
 }
 
-impl<'a> Served<'a> {
-    // A connection of these bytes.
-    fn new(alloc: Global, number: u64, bytes: &'a [u8]) -> Option<Served<'a>> {
-        let device = Recorded::new(Stream::new(bytes, Vec::new(alloc), BYTE_BY_BYTE))?;
-        Some(Served {
-            connection: Connection::new(alloc, number),
-            device,
-        })
-    }
-
+impl Served<'_> {
     // Makes one move, and answers whether the connection has ended.
     fn moves(
         &mut self,
@@ -91,41 +83,96 @@ impl<'a> Served<'a> {
     }
 
     // Whether it wrote this.
-    fn has_written(self, wanted: &[u8]) -> bool {
-        self.device.into_stream().output.as_slice() == wanted
+    fn has_written(&self, wanted: &[u8]) -> bool {
+        self.device.stream().output.as_slice() == wanted
     }
 }
 
-// Has both move in turns until both have ended.
-fn serve_both(
+// Adds a connection of these bytes.
+fn connect<'a>(alloc: Global, all: &mut Vec<Served<'a>>, number: u64, bytes: &'a [u8]) -> bool {
+    match Recorded::new(Stream::new(bytes, Vec::new(alloc), BYTE_BY_BYTE)) {
+        Some(device) => {
+            let connection = Connection::new(alloc, number);
+            match all.push(Served { connection, device }) {
+                Ok(()) => true,
+                Err(failed) => {
+                    drop(failed);
+                    false
+                }
+            }
+        }
+        None => false,
+    }
+}
+
+// Has each make one move, and answers whether all have ended.
+fn all_move(
     alloc: Global,
     config: &Config,
     worker: &mut Worker<Still, BookCounter<MapRecords>, Count>,
-    first: &mut Served<'_>,
-    second: &mut Served<'_>,
+    all: &mut [Served<'_>],
+) -> bool {
+    let mut have_ended = true;
+    for served in all {
+        if !served.moves(alloc, config, worker) {
+            have_ended = false;
+        }
+    }
+    have_ended
+}
+
+// Has them move in turns until all have ended.
+fn serve_all(
+    alloc: Global,
+    config: &Config,
+    worker: &mut Worker<Still, BookCounter<MapRecords>, Count>,
+    all: &mut [Served<'_>],
 ) {
     for _ in 0..STEPS {
-        let (one, other) = (
-            first.moves(alloc, config, worker),
-            second.moves(alloc, config, worker),
-        );
-        if one && other {
+        if all_move(alloc, config, worker, all) {
             return;
         }
     }
 }
 
+// Whether the two have written what they have to.
+fn have_written(all: &[Served<'_>]) -> bool {
+    match all {
+        [first, second] => first.has_written(FIRST) && second.has_written(SECOND),
+        _ => false,
+    }
+}
+
+// Whether the two are answered so by this worker.
+fn serves_both(
+    alloc: Global,
+    config: &Config,
+    worker: &mut Worker<Still, BookCounter<MapRecords>, Count>,
+) -> bool {
+    let mut all = Vec::new(alloc);
+    let are_connected = connect(alloc, &mut all, 1, PUT_AND_GET)
+        && connect(alloc, &mut all, 2, CHUNKS_AND_GET);
+    serve_all(alloc, config, worker, &mut all);
+    are_connected && have_written(&all)
+}
+
+// The same by a new worker.
+fn are_served(alloc: Global, config: &Config) -> bool {
+    match worker(alloc, config) {
+        Some(mut worker) => serves_both(alloc, config, &mut worker),
+        None => false,
+    }
+}
+
 // Whether the two are answered so.
-fn are_answered(alloc: Global) -> Option<bool> {
-    let config = config(alloc)?;
-    let mut worker = worker(alloc, &config)?;
-    let mut first = Served::new(alloc, 1, PUT_AND_GET)?;
-    let mut second = Served::new(alloc, 2, CHUNKS_AND_GET)?;
-    serve_both(alloc, &config, &mut worker, &mut first, &mut second);
-    Some(first.has_written(FIRST) && second.has_written(SECOND))
+fn are_answered(alloc: Global) -> bool {
+    match config(alloc) {
+        Some(config) => are_served(alloc, &config),
+        None => false,
+    }
 }
 
 #[test]
 fn two_in_turns(rt: HostRuntime) {
-    assert!(rt; are_answered(rt.alloc()) == Some(true));
+    assert!(rt; are_answered(rt.alloc()));
 }

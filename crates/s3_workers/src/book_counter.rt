@@ -18,11 +18,14 @@ pub struct BookCounter<R: Records + Drop> {
 }
 
 impl<R: Records + Drop> Counter for BookCounter<R> {
-    ghost use Rattle.s3_journal.specs.Book.{history_of};
+    ghost use Rattle.s3_journal.specs.Book.{entries_of_seat};
+    ghost use Rattle.s3_journal.specs.Keeper.{MayLack};
 
-    ghost entries = { λ counter. history_of counter.book.entries };
+    ghost entries = { λ counter. entries_of_seat counter.seat counter.book.entries };
 
     ghost seat = { λ counter. counter.seat };
+
+    ghost may_lack = { λ counter turn. MayLack R.is_in_memory (record { least = counter.book.least; store = counter.book.store }) turn };
 
     fn call(&mut self, turn: Turn) -> Result<Answer, NoMemory> {
         self.book.apply(self.seat, turn)
