@@ -101,14 +101,3 @@ new_push base number [] seat new is = let same : number + 0 ≡ number = omega a
 new_push base number (first ∷ seats) seat new is =
     let same : number + suc (length seats) ≡ suc number + length seats = omega arith in
     (new.0, new_push base (suc number) seats seat new.1 (is ∙ ap (new_seat base) same))
-
--- seats that are numbered in turn, and the next one
-numbered_with_next : (number : ℕ) (seats : List Seated) (seat : Seated) → AreNumbered number seats → seat.number ≡ number + length seats
-    → AreNumbered number (seats ++ seat ∷ [])
-numbered_with_next number [] seat numbered is = let same : number + 0 ≡ number = omega arith in (is ∙ same, tt)
-numbered_with_next number (first ∷ seats) seat numbered is =
-    let same : number + suc (length seats) ≡ suc number + length seats = omega arith in
-    (numbered.0, numbered_with_next (suc number) seats seat numbered.1 (is ∙ same))
-
-pub numbered_push : (seats : List Seated) (seat : Seated) → AreNumbered 0 seats → seat.number ≡ length seats → AreNumbered 0 (seats ++ seat ∷ [])
-numbered_push seats seat numbered is = numbered_with_next 0 seats seat numbered (omega (arith, is))

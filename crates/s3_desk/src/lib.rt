@@ -11,6 +11,3 @@ mod seat;
 pub use desk::Desk;
 pub use ground::{Ground, Start};
 pub use seat::Seat;
-
-#[cfg(test)]
-mod tests;

@@ -8,8 +8,6 @@ mod event;
 mod printing;
 mod reading;
 mod script;
-#[cfg(test)]
-mod tests;
 
 pub use error::EventsError;
 pub use event::Event;

@@ -11,6 +11,3 @@ pub use book::Book;
 pub use log::Describes;
 pub use machine::{Answered, AsEntry, AsItself, Entry, Machine};
 pub use recorder::{Prefix, Recorder};
-
-#[cfg(test)]
-mod tests;

@@ -10,6 +10,3 @@ mod prefix;
 pub use book::Book;
 pub use laws::books_keep_promises;
 pub use prefix::Prefix;
-
-#[cfg(test)]
-mod tests;

@@ -66,10 +66,11 @@ impl Pending {
         ensures text_stays { vec_capacity self.old.text ≤ vec_capacity self.new.text }
         ensures bodies_stay { deque_capacity self.old.bodies ≤ deque_capacity self.new.bodies }
     {
+        let is_alone = self.text.is_empty();
         let Ok(()) = self.text.extend_from_slice(head) else {
             unreachable!()
         };
-        let body = join_small(&mut self.text, body);
+        let body = join_small(&mut self.text, is_alone, body);
         place(&mut self.bodies, self.text.len(), body);
     }
 
@@ -82,8 +83,9 @@ impl Pending {
         ensures text_stays { vec_capacity self.old.text ≤ vec_capacity self.new.text }
         ensures bodies_stay { deque_capacity self.old.bodies ≤ deque_capacity self.new.bodies }
     {
+        let is_alone = self.text.is_empty();
         let body = reply.print(&mut self.text);
-        let body = join_small(&mut self.text, body);
+        let body = join_small(&mut self.text, is_alone, body);
         place(&mut self.bodies, self.text.len(), body);
     }
 

@@ -65,7 +65,7 @@ impl<'a> Head<'a> {
         }
     }
 
-    /// Appends the head, which is `HEAD_MAX` bytes long at most, and no longer than what it says needs.
+    /// Appends the head: at most `head_room` bytes, and never more than `HEAD_MAX`.
     pub(crate) fn print<R: Room>(&self, out: &mut R)
         requires fits { HasRoomFor (fields_of self.now) }
         requires room { R.size out.old + HEAD_MAX ≤ R.capacity out.old }

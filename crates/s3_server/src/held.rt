@@ -237,6 +237,7 @@ impl<'a> Held<'a> {
     {
         let awaited = match step {
             Step::Waits(wanted) => self.awaited_for(wanted),
+            Step::MayGoOn if self.is_within_head() => Awaited::Head,
             Step::MayGoOn | Step::Ended(_) => Awaited::Body,
         };
         let socket = self.socket.stream();
@@ -260,9 +261,14 @@ impl<'a> Held<'a> {
         match wanted {
             Wanted::Room => Awaited::Room,
             Wanted::Input if self.connection.is_in_body() => Awaited::Body,
-            Wanted::Input if self.connection.is_within_message() => Awaited::Head,
+            Wanted::Input if self.is_within_head() => Awaited::Head,
             Wanted::Input => Awaited::Message,
         }
+    }
+
+    // Whether a part of a head has come.
+    fn is_within_head(&self) -> bool {
+        self.connection.is_within_message() && !self.connection.is_in_body()
     }
 
     /// Since when it waits for the next message, or for its peer's end; `None` where a part of a message has come, or a reply isn't out.

@@ -140,18 +140,18 @@ impl<'a> Post<'a> {
         self.poll.poll(&mut self.events, Some(patience))?;
         let now = Instant::now(rt)?;
         self.go_on(alloc, tally, worker, now);
-        self.take_and_let_go(alloc, tally, &worker.gate, now);
+        self.take_and_give_up(alloc, tally, &worker.gate, now);
+        self.look(alloc, tally, worker, now);
         Ok(())
     }
 
-    // Takes a connection that waits, if it may, and lets those go that have to.
-    fn take_and_let_go<G: Gate>(&mut self, alloc: Global, tally: &Tally, gate: &G, now: Instant) {
+    // Takes a connection that waits, if it may, and gives one up where another worker wants its place.
+    fn take_and_give_up<G: Gate>(&mut self, alloc: Global, tally: &Tally, gate: &G, now: Instant) {
         if self.has_waiting && !tally.is_full() {
             self.take_one(tally, now);
         }
         self.let_in(alloc, tally, gate, now);
         self.give_up_one(tally, now);
-        self.look(tally, now);
     }
 
     // How long it waits for events.
@@ -337,18 +337,60 @@ impl<'a> Post<'a> {
     }
 
     // Lets go of the connections that have waited too long, if it didn't look just now.
-    fn look(&mut self, tally: &Tally, now: Instant) {
-        if let Some(looked) = self.looked {
-            if now.duration_since(looked) < Duration::from_millis(BETWEEN_LOOKS) {
-                return;
-            }
+    fn look<R: time::Clock, N: Counter, G: Gate>(
+        &mut self,
+        alloc: Global,
+        tally: &Tally,
+        worker: &mut Worker<SystemClock<'_, R>, N, G>,
+        now: Instant,
+    )
+        ensures seat { N.seat worker.new.counter ≡ N.seat worker.old.counter }
+    {
+        if !self.may_look(now) {
+            return;
         }
         self.looked = Some(now);
         self.has_waiting = true;
         for key in 0..self.held.capacity() {
             if self.is_over(key, now) {
-                let_go(&mut self.held, tally, key);
+                self.try_again(alloc, tally, worker, key, now);
             }
+        }
+    }
+
+    // Whether the last look at the time limits is long enough ago.
+    fn may_look(&self, now: Instant) -> bool {
+        match self.looked {
+            Some(looked) => now.duration_since(looked) >= Duration::from_millis(BETWEEN_LOOKS),
+            None => true,
+        }
+    }
+
+    // Has the connection under a key go on that has waited too long, and lets it go if it does so still. The system tells
+    // of room only where much of it is free, so that a peer which takes its reply slowly isn't reported for minutes.
+    fn try_again<R: time::Clock, N: Counter, G: Gate>(
+        &mut self,
+        alloc: Global,
+        tally: &Tally,
+        worker: &mut Worker<SystemClock<'_, R>, N, G>,
+        key: usize,
+        now: Instant,
+    )
+        ensures seat { N.seat worker.new.counter ≡ N.seat worker.old.counter }
+    {
+        let (buffer, registry) = (self.buffer.as_mut_slice(), self.poll.registry());
+        serve_one(
+            &mut self.held,
+            alloc,
+            tally,
+            worker,
+            buffer,
+            registry,
+            Token(key),
+            now,
+        );
+        if self.is_over(key, now) {
+            let_go(&mut self.held, tally, key);
         }
     }
 

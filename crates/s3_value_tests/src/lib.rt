@@ -1,5 +1,5 @@
-//! Tests of the crates at the bottom: texts, codes, names, calendar, settings, HMAC, bodies and payloads; what a connection
-//! has still to send; versions, records and documents. It has nothing but tests, so those crates are proved once.
+//! Tests of the crates at the bottom: texts, codes, names, calendar, settings, event lines, histories, HMAC, bodies and payloads;
+//! what a connection has still to send; versions, records and documents. It has nothing but tests, so those crates are proved once.
 #![tactic(auto)]
 
 #[cfg(test)]
@@ -8,6 +8,10 @@ mod calendar;
 mod codes;
 #[cfg(test)]
 mod digits;
+#[cfg(test)]
+mod events;
+#[cfg(test)]
+mod history;
 #[cfg(test)]
 mod hmac;
 #[cfg(test)]

@@ -63,51 +63,64 @@ static CASES: &[Case] = &[
 // A piece that goes out at once: how long it is, its first byte, and its last.
 type Piece = (usize, u8, u8);
 
-// How long a head, its body and a last text are, and the pieces in which they go out.
+// How long two heads with their bodies and a last text are, and the pieces in which they go out.
 struct Sizes {
-    head: usize,
-    body: usize,
+    first: (usize, usize),
+    second: (usize, usize),
     last: usize,
     pieces: &'static [Piece],
 }
 
 static SIZES: &[Sizes] = &[
     Sizes {
-        head: 200,
-        body: 0,
+        first: (200, 0),
+        second: (0, 0),
         last: 0,
         pieces: &[(200, b'h', b'h')],
     },
     // A body goes out with its head where both fit into the room for a head.
     Sizes {
-        head: 200,
-        body: 3_896,
+        first: (200, 3_896),
+        second: (0, 0),
         last: 0,
         pieces: &[(4_096, b'h', b'b')],
     },
     Sizes {
-        head: 200,
-        body: 3_897,
+        first: (200, 3_897),
+        second: (0, 0),
         last: 0,
         pieces: &[(200, b'h', b'h'), (3_897, b'b', b'b')],
     },
-    Sizes {
-        head: 200,
-        body: 4_097,
-        last: 0,
-        pieces: &[(200, b'h', b'h'), (4_097, b'b', b'b')],
-    },
     // The longest head.
     Sizes {
-        head: 4_096,
-        body: 1,
+        first: (4_096, 1),
+        second: (0, 0),
         last: 0,
         pieces: &[(4_096, b'h', b'h'), (1, b'b', b'b')],
     },
+    // Behind a reply that isn't out a body is never copied.
+    Sizes {
+        first: (200, 1_000),
+        second: (100, 10),
+        last: 0,
+        pieces: &[(1_300, b'h', b'h'), (10, b'b', b'b')],
+    },
+    Sizes {
+        first: (200, 5_000),
+        second: (100, 4_097),
+        last: 3,
+        pieces: &[
+            (200, b'h', b'h'),
+            (5_000, b'b', b'b'),
+            (100, b'h', b'h'),
+            (4_097, b'b', b'b'),
+            (3, b'l', b'l'),
+        ],
+    },
     // The longest last text.
     Sizes {
-        head: 200,
-        body: 1,
+        first: (200, 1),
+        second: (0, 0),
         last: 768,
         pieces: &[(201, b'h', b'b'), (768, b'l', b'l')],
     },
@@ -121,9 +134,10 @@ fn body_of(alloc: Global, reply: Reply) -> Result<Option<Body>, NoMemory> {
     }
 }
 
-// Puts a reply in, whose body is moved.
+// Puts a reply in, whose body is moved. The room for it stays where memory is given back in between.
 fn put(outbox: &mut Outbox, head: &[u8], body: Option<Body>) -> Result<(), NoMemory> {
     outbox.make_room()?;
+    outbox.give_back();
     if outbox.has_room() && !outbox.is_ended() && head.len() <= 4096 {
         outbox.push(head, body);
     }
@@ -227,10 +241,13 @@ fn filled(alloc: Global, byte: u8, size: usize) -> Result<Vec<u8>, NoMemory> {
     Ok(vec![in alloc; byte; size]?)
 }
 
-// Puts a reply of these sizes in.
-fn put_sizes(alloc: Global, sizes: &Sizes, outbox: &mut Outbox) -> Result<(), NoMemory> {
-    let body = Body::new(filled(alloc, b'b', sizes.body)?);
-    let head = filled(alloc, b'h', sizes.head)?;
+// Puts a reply with a head and a body of these sizes in; one without a head is none.
+fn put_sizes(alloc: Global, sizes: (usize, usize), outbox: &mut Outbox) -> Result<(), NoMemory> {
+    if sizes.0 == 0 {
+        return Ok(());
+    }
+    let body = Body::new(filled(alloc, b'b', sizes.1)?);
+    let head = filled(alloc, b'h', sizes.0)?;
     put(outbox, head.as_slice(), Some(body))
 }
 
@@ -243,15 +260,19 @@ fn end_sizes(alloc: Global, size: usize, outbox: &mut Outbox) -> Result<(), NoMe
     Ok(())
 }
 
-// Whether this piece stands in front, which is sent then.
+// Whether these bytes are a piece.
+fn is_piece(bytes: &[u8], piece: Piece) -> bool {
+    bytes.len() == piece.0 && bytes.first() == Some(&piece.1) && bytes.last() == Some(&piece.2)
+}
+
+// Whether this piece stands in front, which is sent then, one half of it behind the other.
 fn is_next(outbox: &mut Outbox, piece: Piece) -> bool {
-    let out = outbox.out();
-    let count = out.len();
-    let is_right = count == piece.0
-        && out.first() == Some(&piece.1)
-        && out.last() == Some(&piece.2);
-    outbox.sent(count);
-    is_right
+    let is_right = is_piece(outbox.out(), piece);
+    let count = outbox.out().len();
+    outbox.sent(count / 2);
+    let rest = outbox.out().len();
+    outbox.sent(rest);
+    is_right && rest == count - count / 2
 }
 
 // Whether all goes out in these pieces.
@@ -266,7 +287,8 @@ fn goes_in(outbox: &mut Outbox, pieces: &[Piece]) -> bool {
 // Whether a reply and a last text of these sizes go out in their pieces.
 fn is_cut(alloc: Global, sizes: &Sizes) -> Result<bool, NoMemory> {
     let mut outbox = Outbox::new(alloc);
-    put_sizes(alloc, sizes, &mut outbox)?;
+    put_sizes(alloc, sizes.first, &mut outbox)?;
+    put_sizes(alloc, sizes.second, &mut outbox)?;
     end_sizes(alloc, sizes.last, &mut outbox)?;
     Ok(goes_in(&mut outbox, sizes.pieces))
 }

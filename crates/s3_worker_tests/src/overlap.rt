@@ -15,6 +15,7 @@ use s3_session::Still;
 use s3_workers::{DeskCounter, Gate, Outcome, Place, Worker, serve};
 use std::alloc::Global;
 use std::marker::Brand;
+use std::mem::drop;
 use std::sync::Wait;
 use std::sync::atomic::{AtomicBool, AtomicU64, Ordering};
 use std::test::*;
@@ -254,12 +255,15 @@ fn work_both<J: Ground + Send + Sync, R: Threads + Wait + Clock + Sync>(
     }
 }
 
-// How many entries a desk has that is closed with these seats.
-fn entries_with<J: Ground>(desk: Desk<J, MapRecords>, seats: Vec<Seat<J>>) -> u64
+/// How many entries a desk has that is closed with these seats.
+pub(crate) fn entries_with<J: Ground>(desk: Desk<J, MapRecords>, seats: Vec<Seat<J>>) -> u64
     requires all { vec_len seats ≡ J.parts }
     requires numbered { AreNumbered 0 seats.items }
 {
-    desk.close(seats).entries()
+    let book = desk.close(seats);
+    let entries = book.entries();
+    drop(book);
+    entries
 }
 
 // How many entries a desk has once both are back.

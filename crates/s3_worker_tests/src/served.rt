@@ -82,6 +82,14 @@ pub(crate) fn book(alloc: Global, config: &Config) -> Option<Book<MapRecords>> {
     Book::new(alloc, config.min_part(), store).ok()
 }
 
+/// The same with a server of its own.
+pub(crate) fn new_book(alloc: Global) -> Option<Book<MapRecords>> {
+    match config(alloc) {
+        Some(config) => book(alloc, &config),
+        None => None,
+    }
+}
+
 /// A worker with a store of its own.
 pub(crate) fn worker(
     alloc: Global,

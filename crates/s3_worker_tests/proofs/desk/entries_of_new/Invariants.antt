@@ -1,5 +1,5 @@
 use Rattle.s3_desk.specs.Desk.{base_of}
-use Rattle.s3_desk.proofs.tests.entries_of_new.Given as goal
+use Rattle.s3_worker_tests.proofs.desk.entries_of_new.Given as goal
 
 abbrev pub ghosts-entries_left-J-Ground : goal.ghosts-entries_left-J-Ground
 ghosts-entries_left-J-Ground g a = record { base = base_of a.book }
