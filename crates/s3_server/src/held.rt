@@ -29,7 +29,8 @@ use std::time::{self, Instant};
 const MOVES: u32 = 16;
 
 /// A connection with its socket, and since when it waits for what. Contracts see its settings, the moments and the entries that
-/// are its own, and what its socket gave and took. Its type keeps that it was served step by step, and no other way.
+/// are its own, and what its socket gave and took up to its end; what is dropped behind that isn't among it. Its type keeps that it
+/// was served step by step, and no other way.
 #[derive(Drop)]
 pub struct Held<'a> {
     config: &'a Config,
@@ -146,9 +147,9 @@ impl<'a> Held<'a> {
         }
     }
 
-    /// The same; and where it has ended and is written out, but its peer still sends, it stays for some seconds in which that is
-    /// dropped. Else the system would tell the peer of a connection that was reset, and a refusal might never be seen. Answers
-    /// whether it stays.
+    /// Has it go on likewise; and where it has ended and is written out, but its peer still sends, it stays for some seconds in
+    /// which that is dropped. Else the system would tell the peer of a connection that was reset, and a refusal might never be seen.
+    /// Answers whether it stays. What it wrote is then as its type says, and of that no clause says more.
     pub fn serve<R: time::Clock, N: Counter, G: Gate>(
         &mut self,
         alloc: Global,

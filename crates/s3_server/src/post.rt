@@ -35,8 +35,11 @@ const SHORT_PATIENCE: u64 = 20;
 // Milliseconds between two looks at the time limits.
 const BETWEEN_LOOKS: u64 = 1000;
 
-// How many milliseconds a connection has waited for its next message at least before it is let go for another one.
+// How many milliseconds a connection has waited for its next message at least before it is let go for another one, and how many
+// pass before such a one is looked for again where there was none.
 const LEAST_IDLE: u64 = 1000;
+
+const BETWEEN_SEARCHES: u64 = 20;
 
 /// Where a worker works: what it waits with, what it reads into, and the connections that it holds, all with the same settings.
 #[derive(Drop)]
@@ -47,11 +50,16 @@ pub struct Post<'a> {
     events: Events,
     buffer: Vec<u8>,
     held: Slab<Held<'a>>,
-    // Whether connections may wait to be taken.
+    // Whether connections may wait to be taken; whether the listener has reported one since the last try; and whether one that it
+    // held may be let go for such a one.
     has_waiting: bool,
+    is_reported: bool,
+    may_make_room: bool,
     // One that was taken, and has no place yet; and whether the other workers were asked for one.
     door: Option<TcpStream>,
     has_asked: bool,
+    // When it found last that none of its connections was idle.
+    none_idle: Option<Instant>,
     // When the time limits were looked at last.
     looked: Option<Instant>,
 }
@@ -61,7 +69,7 @@ pub struct Post<'a> {
 pub enum NoPost {
     /// There was no memory.
     OutOfMemory,
-    /// The system has no more descriptors.
+    /// The system gave none of its own means, as where it has no more descriptors.
     NoDescriptor,
 }
 
@@ -97,8 +105,11 @@ impl<'a> Post<'a> {
             buffer,
             held: Slab::new(alloc),
             has_waiting: true,
+            is_reported: false,
+            may_make_room: true,
             door: None,
             has_asked: false,
+            none_idle: None,
             looked: None,
         })
     }
@@ -181,6 +192,7 @@ impl<'a> Post<'a> {
             let token = event.token();
             if token == LISTENER {
                 self.has_waiting = true;
+                self.is_reported = true;
                 continue;
             }
             let (buffer, registry) = (self.buffer.as_mut_slice(), self.poll.registry());
@@ -198,7 +210,7 @@ impl<'a> Post<'a> {
     }
 
     // Takes a connection that waits, if none is at the door. Whoever has less to do takes the others: a worker that took all
-    // that wait would serve them alone. Where the system has no more descriptors, it lets a connection go for the next one.
+    // that wait would serve them alone.
     fn take_one(&mut self, tally: &Tally, now: Instant) {
         if self.door.is_some() {
             return;
@@ -206,15 +218,49 @@ impl<'a> Post<'a> {
         match self.listener.accept() {
             Ok((stream, _)) => {
                 self.door = Some(stream);
+                self.may_make_room = true;
             }
-            Err(error) => {
-                self.has_waiting = match error.kind() {
-                    ErrorKind::WouldBlock => false,
-                    ErrorKind::ConnectionAborted | ErrorKind::Interrupted => true,
-                    _ => self.lets_one_go(tally, now),
-                };
-            }
+            Err(error) => self.has_waiting = self.may_take(error.kind(), tally, now),
         }
+        self.is_reported = false;
+    }
+
+    // Whether one may be taken at once after that was refused so. Beside what passes by itself, the system lacks descriptors or
+    // memory.
+    fn may_take(&mut self, refused: ErrorKind, tally: &Tally, now: Instant) -> bool {
+        match refused {
+            ErrorKind::WouldBlock => false,
+            ErrorKind::ConnectionAborted
+            | ErrorKind::Interrupted
+            | ErrorKind::NetworkDown
+            | ErrorKind::NetworkUnreachable
+            | ErrorKind::HostUnreachable => true,
+            _ => self.makes_room(tally, now),
+        }
+    }
+
+    // Lets a connection go for one that the system can't hand over, and answers whether it did: once, and if that was no help,
+    // again after the next look. The system says that it lacks descriptors where nobody waits, too: where the listener has
+    // reported nobody it is asked to.
+    fn makes_room(&mut self, tally: &Tally, now: Instant) -> bool {
+        if !self.is_reported {
+            self.has_waiting_reported();
+            return false;
+        }
+        if !self.may_make_room {
+            return false;
+        }
+        self.may_make_room = false;
+        self.lets_one_go(tally, now)
+    }
+
+    // Has the listener report who waits already. If the system can't, the next look tries again.
+    fn has_waiting_reported(&mut self) {
+        drop(
+            self.poll
+                .registry()
+                .reregister(&mut self.listener, LISTENER, Interest::READABLE),
+        );
     }
 
     // Lets the connection in that is at the door, if there is a place for it; where the server takes no more, it ends.
@@ -222,7 +268,11 @@ impl<'a> Post<'a> {
         if tally.is_full() {
             self.door = None;
         }
-        if self.door.is_none() || !self.has_place(tally, now) {
+        if self.door.is_none() {
+            self.asks_no_more(tally);
+            return;
+        }
+        if !self.has_place(tally, now) {
             return;
         }
         let is_held = match (self.door.take(), tally.count_one()) {
@@ -241,10 +291,7 @@ impl<'a> Post<'a> {
     // message. Where it holds none such, the other workers are asked.
     fn has_place(&mut self, tally: &Tally, now: Instant) -> bool {
         if tally.take_place() || (self.lets_one_go(tally, now) && tally.take_place()) {
-            if self.has_asked {
-                tally.take_wish();
-                self.has_asked = false;
-            }
+            self.asks_no_more(tally);
             return true;
         }
         if !self.has_asked {
@@ -254,23 +301,43 @@ impl<'a> Post<'a> {
         false
     }
 
-    // Lets the connection go that has waited longest for its next message, where another worker wants a place.
+    // Takes back that it asked the other workers for a place, if it did.
+    fn asks_no_more(&mut self, tally: &Tally) {
+        if self.has_asked {
+            tally.want_no_place();
+            self.has_asked = false;
+        }
+    }
+
+    // Lets the connection go that has waited longest for its next message, where another worker wants a place and none is free.
     fn give_up_one(&mut self, tally: &Tally, now: Instant) {
-        if self.door.is_none() && tally.is_wanted() && self.longest_idle(now).is_some() {
-            if tally.take_wish() {
-                self.lets_one_go(tally, now);
-            }
+        if self.door.is_none() && tally.lacks_places() {
+            self.lets_one_go(tally, now);
         }
     }
 
     // Lets the connection go that has waited longest for its next message, and answers whether there was one.
     fn lets_one_go(&mut self, tally: &Tally, now: Instant) -> bool {
+        if !self.may_search(now) {
+            return false;
+        }
         match self.longest_idle(now) {
             Some(key) => {
                 let_go(&mut self.held, tally, key);
                 true
             }
-            None => false,
+            None => {
+                self.none_idle = Some(now);
+                false
+            }
+        }
+    }
+
+    // Whether one of its connections may be idle by now. To look through all of them takes time where there are thousands.
+    fn may_search(&self, now: Instant) -> bool {
+        match self.none_idle {
+            Some(at) => now.duration_since(at) >= Duration::from_millis(BETWEEN_SEARCHES),
+            None => true,
         }
     }
 
@@ -288,8 +355,9 @@ impl<'a> Post<'a> {
         longest.map(|(key, _)| key)
     }
 
-    // Lets all go.
+    // Lets all go, and asks for nothing more.
     fn let_all_go(&mut self, tally: &Tally) {
+        self.asks_no_more(tally);
         for key in 0..self.held.capacity() {
             let_go(&mut self.held, tally, key);
         }
@@ -336,7 +404,7 @@ impl<'a> Post<'a> {
         }
     }
 
-    // Lets go of the connections that have waited too long, if it didn't look just now.
+    // Has each connection that has waited too long go on once more, and lets it go if it waits still, if it didn't look just now.
     fn look<R: time::Clock, N: Counter, G: Gate>(
         &mut self,
         alloc: Global,
@@ -351,6 +419,7 @@ impl<'a> Post<'a> {
         }
         self.looked = Some(now);
         self.has_waiting = true;
+        self.may_make_room = true;
         for key in 0..self.held.capacity() {
             if self.is_over(key, now) {
                 self.try_again(alloc, tally, worker, key, now);

@@ -37,8 +37,9 @@ const DONE: u8 = 0;
 const FAILED: u8 = 1;
 
 /// Serves as the options say, and answers the exit status: 0 after the last connection, and 1 otherwise, with one line on
-/// `errors`. A worker whose waiting fails ends with its connections, and the others go on. `output` is told `listening ADDR`, with the port that was taken, and at the end `entries K`, the number of commands
-/// that the store answered.
+/// `errors`. A worker whose waiting fails ends with its connections, and the others go on; after the last such worker the status is
+/// 0 too. `output` is told `listening ADDR`, with the port that was taken, and at the end `entries K`, the number of commands that the
+/// store answered.
 pub fn serve_words<R: Wait + Threads + Net + Clock + Sync, F: Files, W: Write, E: Write>(
     rt: &R,
     alloc: Global,

@@ -2,8 +2,8 @@
 
 use std::sync::atomic::{AtomicU64, Ordering};
 
-/// How many connections came and are held, what the most is of both, and how many want a place that another worker may give. All
-/// workers count in one.
+/// How many connections came and are held, what the most is of both, and how many workers want a place that another one may give.
+/// All workers count in one.
 #[derive(Drop)]
 pub struct Tally {
     came: AtomicU64,
@@ -61,25 +61,20 @@ impl Tally {
     pub fn give_place(&self) {
         self.held.fetch_sub(1, Ordering::SeqCst);
     }
-    /// Asks the other workers for a place.
+
+    /// Counts a worker that wants a place which another one may give, until it takes that back.
     pub fn want_place(&self) {
         self.wants.fetch_add(1, Ordering::SeqCst);
     }
 
-    /// Whether some worker wants a place.
-    pub fn is_wanted(&self) -> bool {
-        self.wants.load(Ordering::SeqCst) > 0
+    /// Counts such a worker no more.
+    pub fn want_no_place(&self) {
+        self.wants.fetch_sub(1, Ordering::SeqCst);
     }
 
-    /// Takes one wish back, or upon the asker of this, and answers whether there was one.
-    pub fn take_wish(&self) -> bool {
-        let wants = self.wants.load(Ordering::SeqCst);
-        match wants.checked_sub(1) {
-            Some(fewer) => self
-                .wants
-                .compare_exchange(wants, fewer, Ordering::SeqCst, Ordering::SeqCst)
-                .is_ok(),
-            None => false,
-        }
+    /// Whether more workers want a place than there are free ones.
+    pub fn lacks_places(&self) -> bool {
+        let held = self.held.load(Ordering::SeqCst);
+        self.wants.load(Ordering::SeqCst) > self.most_held.saturating_sub(held)
     }
 }
