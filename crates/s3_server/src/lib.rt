@@ -14,4 +14,5 @@ mod tally;
 mod time_limits;
 
 pub use serve::serve_words;
+pub use tally::Tally;
 pub use time_limits::Awaited;
