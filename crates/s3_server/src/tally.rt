@@ -3,7 +3,7 @@
 use std::sync::atomic::{AtomicU64, Ordering};
 
 /// How many connections came and are held, what the most is of both, and how many workers want a place that another one may give.
-/// All workers count in one.
+/// All workers count in one, so that no clause can tell what a call finds; tests tell it of one worker.
 #[derive(Drop)]
 pub struct Tally {
     came: AtomicU64,
