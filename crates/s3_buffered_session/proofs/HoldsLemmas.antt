@@ -375,20 +375,6 @@ module _ (b : Buffered) (settings : Settings) (moments : List ℕ) (input : Inpu
 
 -- ---- a turn is handed out, and answered
 
-pub holds_handed : (b : Buffered) (settings : Settings) (moments : List ℕ) (input : Input) (entries : List Entry) (sent : List ℕ) (turn : Turn)
-    → b.stage ≡ stages.Waiting turn → Holds b settings moments input entries [] sent
-    → Holds (record b { stage = stages.HandedOut }) settings moments input entries (turn ∷ []) sent
-holds_handed b settings moments input entries sent turn at h =
-    let one : listed (turn_of b) ++ [] ≡ turn ∷ [] = rw at refl in
-    record {
-      past = h.past;
-      behind = h.behind;
-      carries = subst (λ (ts : List Turn). Carries b.session b.moments settings moments h.past entries ts sent) one h.carries;
-      came = h.came;
-      ended = h.ended;
-      left = h.left;
-    }
-
 module _ (b : Buffered) (settings : Settings) (moments : List ℕ) (input : Input) (entries : List Entry) (turn : Turn) (sent : List ℕ)
     (h : Holds b settings moments input entries (turn ∷ []) sent) (at : b.stage ≡ stages.HandedOut) where
   carries_pending : Carries b.session b.moments settings moments h.past entries (turn ∷ []) sent

@@ -31,10 +31,6 @@ pub json_of-text : (body text : List ℕ) (value : Data) → text ≡ body → I
 json_of-text body text value same valid is =
     ap (λ b. if b then read body else None) (is_utf8-from_IsUtf8 body valid) ∙ ap read (sym same) ∙ is
 
-pub json_of-none : (body text : List ℕ) → text ≡ body → IsUtf8 body → read text ≡ None → json_of body ≡ None
-json_of-none body text same valid is =
-    ap (λ b. if b then read body else None) (is_utf8-from_IsUtf8 body valid) ∙ ap read (sym same) ∙ is
-
 pub json_of-bytes : (body : List ℕ) → ¬ (IsUtf8 body) → json_of body ≡ None
 json_of-bytes body invalid =
     ap (λ b. if b then read body else None) (false_from_ne_true (is_utf8 body) (λ valid. invalid (IsUtf8-from_is_utf8 body valid)))

@@ -5,7 +5,7 @@ use Rattle.std.proofs.lemmas.List.{take_more, drop_more, length-drop}
 use Rattle.s3_text.specs.Lines.{IsFirstBadLine}
 use Rattle.s3_events.specs.declared.script.Script.{Script}
 use Rattle.s3_events.specs.Lines.{Said, connection, are_moments, line_of, all_said, are_event_lines, AreEventLines}
-use Rattle.s3_events.specs.Script.{connections, AsksRoom}
+use Rattle.s3_events.specs.Script.{connections}
 use Rattle.s3_events.specs.Reading.{is_named, may_follow, Collects}
 use Rattle.s3_events.proofs.SaidLemmas.{said_with, right_with_last}
 
@@ -45,12 +45,6 @@ first_bad lines rest line n is right may =
       bad = λ all. cc (sym wrong ∙ all);
       before = λ k less. right k (omega arith);
     }
-
--- where it is right, so is the first line
-pub room_asked : (lines rest : List (List ℕ)) (line : List ℕ) (n : ℕ) → drop n lines ≡ line ∷ rest → ((k : ℕ) → k ≤ n → are_event_lines (take k lines) ≡ true) → may_follow (all_said (take n lines)) (line_of line) ≡ true → AsksRoom lines
-room_asked lines rest line n is right may =
-    let next = next_line lines rest line n is in
-    record { some = omega (arith, next.within); right = right_more lines rest line n is right may 1 (omega arith) }
 
 -- what is collected with it
 unless_named : (b : Bool) → not b ≡ true → b ≡ false

@@ -9,7 +9,6 @@ pub mod ReadBackLemmas
 pub mod ReceivingLemmas
 pub mod ReplayLemmas
 pub mod ServesLemmas
-pub mod ShorterLemmas
 pub mod SoundLemmas
 pub mod StandsLemmas
 pub mod StayLemmas

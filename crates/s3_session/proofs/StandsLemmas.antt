@@ -208,10 +208,6 @@ module _ (stay : VerdictsStay) (invited : InvitationsStay) (settings : Settings)
         end = unended ∙ sym end;
       }
 
--- nothing went through
-pub fed_nothing : (past : Past) → fed past [] [] [] ≡ past
-fed_nothing past = rw (append-nil past.bytes, append-nil past.moments, append-nil past.turns) refl
-
 -- ---- what a call finds
 
 -- no head has come

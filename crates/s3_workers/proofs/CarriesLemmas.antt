@@ -200,12 +200,6 @@ more_reads Waiting is = absurd is
 more_reads Over is = absurd is
 more_reads Dead is = absurd is
 
-pub turn_waits : (turn : Turn) (standing : Standing) → Needs (needs.Turn turn) standing → is_waiting standing ≡ true
-turn_waits turn Reading is = absurd is
-turn_waits turn Waiting is = refl
-turn_waits turn Over is = absurd is
-turn_waits turn Dead is = absurd is
-
 closed_over : (standing : Standing) → Needs needs.Close standing → (is_waiting standing ≡ false) × (is_closed standing ≡ true)
 closed_over Reading is = absurd is
 closed_over Waiting is = absurd is

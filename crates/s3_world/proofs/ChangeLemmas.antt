@@ -1,5 +1,5 @@
 -- One connection of several changed.
-use Rattle.std.proofs.Common.{◌≡◌, ◌≢◌, ◌<◌, ◌≤◌, ◌&&◌, not, ℕ, zero, suc, Bool, true, false, Option, Some, None, is_some, Result, Ok, Err, IfOk, OnOk, OnErr, List, [], ◌∷◌, ◌++◌, length, get_or, set, refl, sym, ap, subst, ◌∙◌, arith, IsTrue, inl, inr}
+use Rattle.std.proofs.Common.{◌≡◌, ◌≢◌, ◌<◌, ◌≤◌, ◌&&◌, not, ℕ, zero, suc, Bool, true, false, Option, Some, is_some, Result, Ok, Err, IfOk, OnOk, OnErr, List, [], ◌∷◌, ◌++◌, length, get_or, set, refl, sym, ap, subst, ◌∙◌, arith, IsTrue, inl, inr}
 use Rattle.std.specs.Global.{Vec}
 use Rattle.std.specs.List.{slice_get}
 use Rattle.std.specs.Vec.{with_items}
@@ -18,7 +18,7 @@ use Rattle.s3_session.specs.Output as standings
 use Rattle.s3_session.specs.Session.{is_closed}
 use Rattle.s3_buffered_session.specs.Output.{Input}
 use Rattle.s3_buffered_session.specs.Buffered.{Buffered, Holds, entries_with, is_handed_out, standing_of, turn_of, unanswered}
-use Rattle.s3_world.specs.World.{HasTaken, IsChangedAt, IsChangedIn, IsEntered, IsFedWith, IsRecorded, IsTurnTaken, standing_at, turn_in, waiting_at}
+use Rattle.s3_world.specs.World.{HasTaken, IsChangedAt, IsChangedIn, IsEntered, IsFedWith, IsRecorded, IsTurnTaken, standing_at}
 
 -- ---- the list
 
@@ -142,15 +142,3 @@ entered_by in_memory old new seat turn told waits (Ok answer) value is entry mem
     (inl (ap length entry ∙ length_push old.entries (record { seat = seat; entry = record { command = turn.command; moment = turn.moment; answer = answer } })))
 entered_by in_memory old new seat turn told waits (Err e) value is entry memory room =
     subst (IsEntered in_memory old new) (sym is ∙ value) (inr (λ rows number. (memory rows number, room rows number)))
-
-pub entered_none : (in_memory : Bool) (old new : Journal) (told waits : Option Turn) → told ≡ waits → told ≡ None → IsEntered in_memory old new waits
-entered_none in_memory old new told waits value is = subst (IsEntered in_memory old new) (sym is ∙ value) tt
-
-pub entered_at : (in_memory : Bool) (old new : Journal) (connections : List Buffered) (c : ℕ) (b : Buffered) → c < length connections
-    → IsEntered in_memory old new (turn_of (get_or connections c b)) → IsEntered in_memory old new (waiting_at connections c)
-entered_at in_memory old new connections c b less entered =
-    subst (λ (x : Option Buffered). IsEntered in_memory old new (turn_in x)) (sym (slice_get-get_or connections c b less)) entered
-
-pub entered_nowhere : (in_memory : Bool) (old new : Journal) (connections : List Buffered) (c : ℕ) → length connections ≤ c → IsEntered in_memory old new (waiting_at connections c)
-entered_nowhere in_memory old new connections c past =
-    subst (λ (x : Option Buffered). IsEntered in_memory old new (turn_in x)) (sym (slice_get_past connections c past)) tt

@@ -7,9 +7,6 @@ use Rattle.s3_machine.specs.Step.{State}
 use Rattle.s3_machine.specs.History.{Entry, IsAnswer, Legal, after, after_entry}
 use Rattle.s3_journal.specs.Book.{Recorded, entries_of_seat, history_of}
 
-is_of : ℕ → Recorded → Bool
-is_of seat r = eqb r.seat seat
-
 -- the entries of one, with one entry more
 seat_more : (seat : ℕ) (entries : List Recorded) (r : Recorded)
     → entries_of_seat seat (entries ++ r ∷ []) ≡ entries_of_seat seat entries ++ history_of (cond (eqb r.seat seat) (r ∷ []) [])
