@@ -1,2 +1,1 @@
-pub mod HeldLemmas
 pub mod SeatLemmas

@@ -1,4 +1,1 @@
-pub mod Clock
-pub mod Held
-pub mod Limits
 pub mod Serve

@@ -2,15 +2,13 @@
 
 ghost use Rattle.std.specs.Prelude.{◌≡◌};
 
-use crate::clock::SystemClock;
-use crate::held::Held;
-use crate::socket::Socket;
+use crate::connections::Connections;
 use crate::tally::Tally;
 use mio::net::{TcpListener, TcpStream};
-use mio::{Events, Interest, Poll, Registry, Token};
+use mio::{Events, Interest, Poll, Token};
 use s3_config::Config;
+use s3_connections::{Held, Socket, SystemClock};
 use s3_workers::{Counter, Gate, Place, Worker};
-use slab::Slab;
 use std::alloc::{AllocError, Global};
 use std::io::{self, ErrorKind};
 use std::net::{self, Net};
@@ -35,10 +33,7 @@ const SHORT_PATIENCE: u64 = 20;
 // Milliseconds between two looks at the time limits.
 const BETWEEN_LOOKS: u64 = 1000;
 
-// How many milliseconds a connection has waited for its next message at least before it is let go for another one, and how many
-// pass before such a one is looked for again where there was none.
-const LEAST_IDLE: u64 = 1000;
-
+// How many milliseconds pass before an idle connection is looked for again where there was none.
 const BETWEEN_SEARCHES: u64 = 20;
 
 /// Where a worker works: what it waits with, what it reads into, and the connections that it holds, all with the same settings.
@@ -49,7 +44,7 @@ pub struct Post<'a> {
     listener: TcpListener,
     events: Events,
     buffer: Vec<u8>,
-    held: Slab<Held<'a>>,
+    held: Connections<'a>,
     // Whether connections may wait to be taken; whether the listener has reported one since the last try; and whether one that it
     // held may be let go for such a one.
     has_waiting: bool,
@@ -103,7 +98,7 @@ impl<'a> Post<'a> {
             listener,
             events,
             buffer,
-            held: Slab::new(alloc),
+            held: Connections::new(alloc),
             has_waiting: true,
             is_reported: false,
             may_make_room: true,
@@ -151,23 +146,31 @@ impl<'a> Post<'a> {
         self.poll.poll(&mut self.events, Some(patience))?;
         let now = Instant::now(rt)?;
         self.go_on(alloc, tally, worker, now);
-        self.take_and_give_up(alloc, tally, &worker.gate, now);
+        self.take_and_give_up(alloc, tally, worker, now);
         self.look(alloc, tally, worker, now);
         Ok(())
     }
 
     // Takes a connection that waits, if it may, and gives one up where another worker wants its place.
-    fn take_and_give_up<G: Gate>(&mut self, alloc: Global, tally: &Tally, gate: &G, now: Instant) {
+    fn take_and_give_up<R: time::Clock, N: Counter, G: Gate>(
+        &mut self,
+        alloc: Global,
+        tally: &Tally,
+        worker: &mut Worker<SystemClock<'_, R>, N, G>,
+        now: Instant,
+    )
+        ensures seat { N.seat worker.new.counter ≡ N.seat worker.old.counter }
+    {
         if self.has_waiting && !tally.is_full() {
-            self.take_one(tally, now);
+            self.take_one(alloc, tally, worker, now);
         }
-        self.let_in(alloc, tally, gate, now);
-        self.give_up_one(tally, now);
+        self.let_in(alloc, tally, worker, now);
+        self.give_up_one(alloc, tally, worker, now);
     }
 
     // How long it waits for events.
     fn patience(&self, tally: &Tally) -> Duration {
-        Duration::from_millis(if self.door.is_some() {
+        Duration::from_millis(if self.door.is_some() || tally.lacks_places() {
             SHORT_PATIENCE
         } else if self.has_waiting && !tally.is_full() {
             0
@@ -196,22 +199,22 @@ impl<'a> Post<'a> {
                 continue;
             }
             let (buffer, registry) = (self.buffer.as_mut_slice(), self.poll.registry());
-            serve_one(
-                &mut self.held,
-                alloc,
-                tally,
-                worker,
-                buffer,
-                registry,
-                token,
-                now,
-            );
+            self.held
+                .serve(alloc, tally, worker, buffer, registry, token.0, now);
         }
     }
 
     // Takes a connection that waits, if none is at the door. Whoever has less to do takes the others: a worker that took all
     // that wait would serve them alone.
-    fn take_one(&mut self, tally: &Tally, now: Instant) {
+    fn take_one<R: time::Clock, N: Counter, G: Gate>(
+        &mut self,
+        alloc: Global,
+        tally: &Tally,
+        worker: &mut Worker<SystemClock<'_, R>, N, G>,
+        now: Instant,
+    )
+        ensures seat { N.seat worker.new.counter ≡ N.seat worker.old.counter }
+    {
         if self.door.is_some() {
             return;
         }
@@ -220,14 +223,25 @@ impl<'a> Post<'a> {
                 self.door = Some(stream);
                 self.may_make_room = true;
             }
-            Err(error) => self.has_waiting = self.may_take(error.kind(), tally, now),
+            Err(error) => {
+                self.has_waiting = self.may_take(alloc, tally, worker, error.kind(), now);
+            }
         }
         self.is_reported = false;
     }
 
     // Whether one may be taken at once after that was refused so. Beside what passes by itself, the system lacks descriptors or
     // memory.
-    fn may_take(&mut self, refused: ErrorKind, tally: &Tally, now: Instant) -> bool {
+    fn may_take<R: time::Clock, N: Counter, G: Gate>(
+        &mut self,
+        alloc: Global,
+        tally: &Tally,
+        worker: &mut Worker<SystemClock<'_, R>, N, G>,
+        refused: ErrorKind,
+        now: Instant,
+    ) -> bool
+        ensures seat { N.seat worker.new.counter ≡ N.seat worker.old.counter }
+    {
         match refused {
             ErrorKind::WouldBlock => false,
             ErrorKind::ConnectionAborted
@@ -235,14 +249,22 @@ impl<'a> Post<'a> {
             | ErrorKind::NetworkDown
             | ErrorKind::NetworkUnreachable
             | ErrorKind::HostUnreachable => true,
-            _ => self.makes_room(tally, now),
+            _ => self.makes_room(alloc, tally, worker, now),
         }
     }
 
     // Lets a connection go for one that the system can't hand over, and answers whether it did: once, and if that was no help,
     // again after the next look. The system says that it lacks descriptors where nobody waits, too: where the listener has
     // reported nobody it is asked to.
-    fn makes_room(&mut self, tally: &Tally, now: Instant) -> bool {
+    fn makes_room<R: time::Clock, N: Counter, G: Gate>(
+        &mut self,
+        alloc: Global,
+        tally: &Tally,
+        worker: &mut Worker<SystemClock<'_, R>, N, G>,
+        now: Instant,
+    ) -> bool
+        ensures seat { N.seat worker.new.counter ≡ N.seat worker.old.counter }
+    {
         if !self.is_reported {
             self.has_waiting_reported();
             return false;
@@ -251,7 +273,13 @@ impl<'a> Post<'a> {
             return false;
         }
         self.may_make_room = false;
-        self.lets_one_go(tally, now)
+        match self.spare_key(alloc, tally, worker, now) {
+            Some(key) => {
+                self.held.let_go(tally, key);
+                true
+            }
+            None => false,
+        }
     }
 
     // Has the listener report who waits already. If the system can't, the next look tries again.
@@ -264,7 +292,15 @@ impl<'a> Post<'a> {
     }
 
     // Lets the connection in that is at the door, if there is a place for it; where the server takes no more, it ends.
-    fn let_in<G: Gate>(&mut self, alloc: Global, tally: &Tally, gate: &G, now: Instant) {
+    fn let_in<R: time::Clock, N: Counter, G: Gate>(
+        &mut self,
+        alloc: Global,
+        tally: &Tally,
+        worker: &mut Worker<SystemClock<'_, R>, N, G>,
+        now: Instant,
+    )
+        ensures seat { N.seat worker.new.counter ≡ N.seat worker.old.counter }
+    {
         if tally.is_full() {
             self.door = None;
         }
@@ -272,9 +308,13 @@ impl<'a> Post<'a> {
             self.asks_no_more(tally);
             return;
         }
-        if !self.has_place(tally, now) {
-            return;
+        if self.has_place(alloc, tally, worker, now) {
+            self.take_in(alloc, tally, &worker.gate, now);
         }
+    }
+
+    // Holds the connection that is at the door, for which a place is taken.
+    fn take_in<G: Gate>(&mut self, alloc: Global, tally: &Tally, gate: &G, now: Instant) {
         let is_held = match (self.door.take(), tally.count_one()) {
             (Some(stream), Some(number)) => {
                 gate.pass(Place::Accepted, number);
@@ -287,18 +327,44 @@ impl<'a> Post<'a> {
         }
     }
 
-    // Whether it has taken a place for one more: a free one, or that of the connection which has waited longest for its next
-    // message. Where it holds none such, the other workers are asked.
-    fn has_place(&mut self, tally: &Tally, now: Instant) -> bool {
-        if tally.take_place() || (self.lets_one_go(tally, now) && tally.take_place()) {
-            self.asks_no_more(tally);
+    // Whether it has taken a place for the connection at the door: a free one, or that of the connection which has waited longest
+    // for its next message. Where it holds none such, the other workers are asked. It asks no more before it takes one, so that
+    // they offer none behind that; and no place is given up for a connection that has gone, which counts as one that came.
+    fn has_place<R: time::Clock, N: Counter, G: Gate>(
+        &mut self,
+        alloc: Global,
+        tally: &Tally,
+        worker: &mut Worker<SystemClock<'_, R>, N, G>,
+        now: Instant,
+    ) -> bool
+        ensures seat { N.seat worker.new.counter ≡ N.seat worker.old.counter }
+    {
+        self.asks_no_more(tally);
+        if tally.take_place() {
             return true;
         }
-        if !self.has_asked {
-            tally.want_place();
-            self.has_asked = true;
+        if self.is_nobody_there() {
+            self.door = None;
+            let _ = tally.count_one();
+            return false;
         }
+        if let Some(key) = self.spare_key(alloc, tally, worker, now) {
+            self.held.let_go(tally, key);
+        }
+        if tally.take_place() {
+            return true;
+        }
+        tally.want_place();
+        self.has_asked = true;
         false
+    }
+
+    // Whether the connection at the door has gone.
+    fn is_nobody_there(&self) -> bool {
+        match &self.door {
+            Some(stream) => has_gone(stream),
+            None => true,
+        }
     }
 
     // Takes back that it asked the other workers for a place, if it did.
@@ -309,27 +375,50 @@ impl<'a> Post<'a> {
         }
     }
 
-    // Lets the connection go that has waited longest for its next message, where another worker wants a place and none is free.
-    fn give_up_one(&mut self, tally: &Tally, now: Instant) {
-        if self.door.is_none() && tally.lacks_places() {
-            self.lets_one_go(tally, now);
+    // Lets the connection go that has waited longest for its next message, where another worker wants a place, none is free, and
+    // no third one lets one go for it.
+    fn give_up_one<R: time::Clock, N: Counter, G: Gate>(
+        &mut self,
+        alloc: Global,
+        tally: &Tally,
+        worker: &mut Worker<SystemClock<'_, R>, N, G>,
+        now: Instant,
+    )
+        ensures seat { N.seat worker.new.counter ≡ N.seat worker.old.counter }
+    {
+        if self.door.is_some() || tally.is_full() || !tally.lacks_places() {
+            return;
+        }
+        if let Some(key) = self.spare_key(alloc, tally, worker, now) {
+            if tally.offer_place() {
+                self.held.let_go(tally, key);
+                tally.offer_no_place();
+            }
         }
     }
 
-    // Lets the connection go that has waited longest for its next message, and answers whether there was one.
-    fn lets_one_go(&mut self, tally: &Tally, now: Instant) -> bool {
+    // The key of the connection that has waited longest for its next message, and waits for it still where it has gone on once
+    // more: a request may just have come.
+    fn spare_key<R: time::Clock, N: Counter, G: Gate>(
+        &mut self,
+        alloc: Global,
+        tally: &Tally,
+        worker: &mut Worker<SystemClock<'_, R>, N, G>,
+        now: Instant,
+    ) -> Option<usize>
+        ensures seat { N.seat worker.new.counter ≡ N.seat worker.old.counter }
+    {
         if !self.may_search(now) {
-            return false;
+            return None;
         }
-        match self.longest_idle(now) {
-            Some(key) => {
-                let_go(&mut self.held, tally, key);
-                true
-            }
-            None => {
-                self.none_idle = Some(now);
-                false
-            }
+        let Some(key) = self.held.longest_idle(now) else {
+            self.none_idle = Some(now);
+            return None;
+        };
+        self.serve_key(alloc, tally, worker, key, now);
+        match self.held.idle_since(key, now) {
+            Some(_) => Some(key),
+            None => None,
         }
     }
 
@@ -341,35 +430,12 @@ impl<'a> Post<'a> {
         }
     }
 
-    // The key of the connection that has waited longest for its next message, and not just begun to.
-    fn longest_idle(&self, now: Instant) -> Option<usize> {
-        let mut longest: Option<(usize, Instant)> = None;
-        for key in 0..self.held.capacity() {
-            if let Some(since) = self.idle_since(key, now) {
-                longest = match longest {
-                    Some((_, before)) if before <= since => longest,
-                    _ => Some((key, since)),
-                };
-            }
-        }
-        longest.map(|(key, _)| key)
-    }
-
     // Lets all go, and asks for nothing more.
     fn let_all_go(&mut self, tally: &Tally) {
         self.asks_no_more(tally);
         for key in 0..self.held.capacity() {
-            let_go(&mut self.held, tally, key);
+            self.held.let_go(tally, key);
         }
-    }
-
-    // Since when the connection under a key waits for its next message, if not for so short a time that it may be on its way.
-    fn idle_since(&self, key: usize, now: Instant) -> Option<Instant> {
-        let since = self.held.get(key)?.idle_since()?;
-        if now.duration_since(since) < Duration::from_millis(LEAST_IDLE) {
-            return None;
-        }
-        Some(since)
     }
 
     // Whether it holds a connection that came; one for which there is no memory is let go.
@@ -377,10 +443,10 @@ impl<'a> Post<'a> {
         let Some(key) = self.key_of(alloc, number, stream, now) else {
             return false;
         };
-        if self.is_registered(key) {
+        if self.held.is_registered(self.poll.registry(), key) {
             return true;
         }
-        drops(&mut self.held, key);
+        self.held.drops(key);
         false
     }
 
@@ -393,15 +459,7 @@ impl<'a> Post<'a> {
         now: Instant,
     ) -> Option<usize> {
         let held = Held::new(alloc, self.config, number, Socket::new(stream), now)?;
-        self.held.insert(held).ok()
-    }
-
-    // Whether the connection under a key is reported from now on.
-    fn is_registered(&self, key: usize) -> bool {
-        match self.held.get(key) {
-            Some(held) => held.register(self.poll.registry(), Token(key)).is_ok(),
-            None => false,
-        }
+        self.held.add(held)
     }
 
     // Has each connection that has waited too long go on once more, and lets it go if it waits still, if it didn't look just now.
@@ -421,7 +479,7 @@ impl<'a> Post<'a> {
         self.has_waiting = true;
         self.may_make_room = true;
         for key in 0..self.held.capacity() {
-            if self.is_over(key, now) {
+            if self.held.is_over(key, now) {
                 self.try_again(alloc, tally, worker, key, now);
             }
         }
@@ -447,65 +505,34 @@ impl<'a> Post<'a> {
     )
         ensures seat { N.seat worker.new.counter ≡ N.seat worker.old.counter }
     {
+        self.serve_key(alloc, tally, worker, key, now);
+        if self.held.is_over(key, now) {
+            self.held.let_go(tally, key);
+        }
+    }
+
+    // Has the connection under a key go on, if there is one.
+    fn serve_key<R: time::Clock, N: Counter, G: Gate>(
+        &mut self,
+        alloc: Global,
+        tally: &Tally,
+        worker: &mut Worker<SystemClock<'_, R>, N, G>,
+        key: usize,
+        now: Instant,
+    )
+        ensures seat { N.seat worker.new.counter ≡ N.seat worker.old.counter }
+    {
         let (buffer, registry) = (self.buffer.as_mut_slice(), self.poll.registry());
-        serve_one(
-            &mut self.held,
-            alloc,
-            tally,
-            worker,
-            buffer,
-            registry,
-            Token(key),
-            now,
-        );
-        if self.is_over(key, now) {
-            let_go(&mut self.held, tally, key);
-        }
-    }
-
-    // Whether the connection under a key has waited too long.
-    fn is_over(&self, key: usize, now: Instant) -> bool {
-        match self.held.get(key) {
-            Some(held) => held.is_over(now),
-            None => false,
-        }
+        self.held
+            .serve(alloc, tally, worker, buffer, registry, key, now);
     }
 }
 
-// Lets the connection under a key go.
-fn let_go(held: &mut Slab<Held<'_>>, tally: &Tally, key: usize) {
-    if drops(held, key) {
-        tally.give_place();
-    }
-}
-
-// Drops the connection under a key, and answers whether there was one.
-fn drops(held: &mut Slab<Held<'_>>, key: usize) -> bool {
-    if !held.contains(key) {
-        return false;
-    }
-    drop(held.remove(key));
-    true
-}
-
-// Has the connection under a token go on, if there is one; where it has ended it is let go.
-fn serve_one<R: time::Clock, N: Counter, G: Gate>(
-    held: &mut Slab<Held<'_>>,
-    alloc: Global,
-    tally: &Tally,
-    worker: &mut Worker<SystemClock<'_, R>, N, G>,
-    buffer: &mut [u8],
-    registry: &Registry,
-    token: Token,
-    now: Instant,
-)
-    ensures seat { N.seat worker.new.counter ≡ N.seat worker.old.counter }
-{
-    let Some(connection) = held.get_mut(token.0) else {
-        return;
-    };
-    if !connection.serve(alloc, worker, buffer, registry, token, now) {
-        let_go(held, tally, token.0);
+// Whether the peer of a connection from which nothing was read has gone: nothing came, and nothing will.
+fn has_gone(stream: &TcpStream) -> bool {
+    match stream.peek(&mut [0]) {
+        Ok(count) => count == 0,
+        Err(error) => !matches!(error.kind(), ErrorKind::WouldBlock | ErrorKind::Interrupted),
     }
 }
 

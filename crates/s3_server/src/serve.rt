@@ -9,11 +9,11 @@ ghost use Rattle.s3_settings.specs.Fault.{line_of};
 ghost use Rattle.s3_settings.specs.declared.fault.Fault.{Fault};
 ghost use Rattle.s3_server.specs.Serve.{IsServeFault, IsToldFault, IsListenFault};
 
-use crate::clock::SystemClock;
 use crate::listener::listen;
 use crate::post::{NoPost, Post};
 use crate::tally::Tally;
 use s3_config::Config;
+use s3_connections::SystemClock;
 use s3_desk::{Desk, Ground, Seat, Start};
 use s3_journal::Book;
 use s3_options::ServeOptions;

@@ -2,7 +2,8 @@
 
 use std::sync::atomic::{AtomicU64, Ordering};
 
-/// How many connections came and are held, what the most is of both, and how many workers want a place that another one may give.
+/// How many connections came and are held, what the most is of both, how many workers want a place that another one may give, and
+/// how many offer one.
 /// All workers count in one, so that no clause can tell what a call finds; tests tell it of one worker.
 #[derive(Drop)]
 pub struct Tally {
@@ -11,6 +12,7 @@ pub struct Tally {
     held: AtomicU64,
     most_held: u64,
     wants: AtomicU64,
+    offers: AtomicU64,
 }
 
 impl Tally {
@@ -23,6 +25,7 @@ impl Tally {
             held: AtomicU64::new(0),
             most_held,
             wants: AtomicU64::new(0),
+            offers: AtomicU64::new(0),
         }
     }
 
@@ -50,6 +53,9 @@ impl Tally {
 
     /// Takes the place of one that is held, and answers whether there was one.
     pub fn take_place(&self) -> bool {
+        if self.held.load(Ordering::SeqCst) >= self.most_held {
+            return false;
+        }
         if self.held.fetch_add(1, Ordering::SeqCst) < self.most_held {
             return true;
         }
@@ -72,9 +78,31 @@ impl Tally {
         self.wants.fetch_sub(1, Ordering::SeqCst);
     }
 
-    /// Whether more workers want a place than there are free ones.
+    /// Whether more workers want a place than there are free and offered ones.
     pub fn lacks_places(&self) -> bool {
+        self.lacks_beside(self.offers.load(Ordering::SeqCst))
+    }
+
+    /// Counts a worker that offers the place of a connection, until it takes that back, if more workers want a place than there are
+    /// free and offered ones; answers whether it did.
+    pub fn offer_place(&self) -> bool {
+        let offers = self.offers.fetch_add(1, Ordering::SeqCst);
+        let lacks = self.lacks_beside(offers);
+        if !lacks {
+            self.offer_no_place();
+        }
+        lacks
+    }
+
+    /// Counts such a worker no more.
+    pub fn offer_no_place(&self) {
+        self.offers.fetch_sub(1, Ordering::SeqCst);
+    }
+
+    // Whether more workers want a place than there are free ones and these that are offered.
+    fn lacks_beside(&self, offers: u64) -> bool {
         let held = self.held.load(Ordering::SeqCst);
-        self.wants.load(Ordering::SeqCst) > self.most_held.saturating_sub(held)
+        let free = self.most_held.saturating_sub(held);
+        self.wants.load(Ordering::SeqCst) > free.saturating_add(offers)
     }
 }

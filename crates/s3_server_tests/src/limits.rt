@@ -1,5 +1,5 @@
 //! How long a connection may wait for what.
-use s3_server::Awaited;
+use s3_connections::Awaited;
 use std::test::*;
 use std::time::Duration;
 

@@ -3,18 +3,20 @@ use s3_server::Tally;
 use std::test::*;
 
 // What a worker does: it takes the place of a connection, gives one back, wants one that another worker may give, or wants none any
-// more.
+// more; it offers one, or offers none any more.
 #[derive(Clone, Copy)]
 enum Deed {
     Take,
     Give,
     Want,
     WantNone,
+    Offer,
+    OfferNone,
 }
 
 // What is done in turn where two connections may be held, whether it could be, and whether more workers want a place then than there
-// are free ones.
-const DEEDS: [(Deed, bool, bool); 12] = [
+// are free and offered ones.
+const DEEDS: [(Deed, bool, bool); 20] = [
     (Deed::Take, true, false),
     (Deed::Take, true, false),
     (Deed::Take, false, false),
@@ -27,6 +29,14 @@ const DEEDS: [(Deed, bool, bool); 12] = [
     (Deed::Take, true, true),
     (Deed::WantNone, true, false),
     (Deed::Take, false, false),
+    (Deed::Offer, false, false),
+    (Deed::Want, true, true),
+    (Deed::Offer, true, false),
+    (Deed::Offer, false, false),
+    (Deed::Want, true, true),
+    (Deed::OfferNone, true, true),
+    (Deed::WantNone, true, true),
+    (Deed::Offer, true, false),
 ];
 
 // Does it, and answers whether it could.
@@ -36,6 +46,8 @@ fn does(tally: &Tally, deed: Deed) -> bool {
         Deed::Give => tally.give_place(),
         Deed::Want => tally.want_place(),
         Deed::WantNone => tally.want_no_place(),
+        Deed::Offer => return tally.offer_place(),
+        Deed::OfferNone => tally.offer_no_place(),
     }
     true
 }

@@ -8,8 +8,8 @@ use Rattle.s3_workers.specs.Connection as workers
 use Rattle.s3_workers.specs.Connection.{IsHeld, MayRest}
 use Rattle.s3_devices.specs.Device.{Traffic}
 use Rattle.s3_devices.specs.Recorded.{no_traffic}
-use Rattle.s3_server.specs.Clock.{Tells}
-use Rattle.s3_server.specs.Held.{added, own_behind, own_of}
+use Rattle.s3_connections.specs.Clock.{Tells}
+use Rattle.s3_connections.specs.Held.{added, own_behind, own_of}
 
 -- what was added is what was added
 added_is : {A : Type 0} → (old new more : List A) → new ≡ old ++ more → added old new ≡ more

@@ -40,7 +40,7 @@ impl<'a, R: time::Clock> SystemClock<'a, R> {
 }
 
 impl<R: time::Clock> Clock for SystemClock<'_, R> {
-    ghost use Rattle.s3_server.specs.Clock.{Tells};
+    ghost use Rattle.s3_connections.specs.Clock.{Tells};
 
     // No clause knows what the system gives.
     ghost gives = { Tells };

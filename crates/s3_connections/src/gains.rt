@@ -1,7 +1,7 @@
 //! What a connection came to have of its own in a step, as its history tells it.
 
 ghost use Rattle.std.specs.Prelude.{◌≡◌};
-ghost use Rattle.s3_server.specs.Held.{added};
+ghost use Rattle.s3_connections.specs.Held.{added};
 
 use crate::clock::SystemClock;
 use s3_history::Describes;

@@ -3,7 +3,7 @@
 ghost use Rattle.std.specs.Prelude.{◌≡◌, ◌-◌, ◌/◌, if◌then◌else◌};
 ghost use Rattle.std.specs.Duration.{as_nanos};
 ghost use Rattle.std.specs.Time.{instant_nanos};
-ghost use Rattle.s3_server.specs.Limits.{most_seconds, is_too_long, begins_anew};
+ghost use Rattle.s3_connections.specs.Limits.{most_seconds, is_too_long, begins_anew};
 
 use std::time::{Duration, Instant};
 

@@ -2,10 +2,10 @@ use Rattle.std.proofs.Common.{◌≡◌, ◌∙◌, ap, sym, subst}
 use Rattle.s3_workers.specs.Around.{Own, around, since, with_own}
 use Rattle.s3_workers.specs.Connection.{IsHeld, MayRest}
 use Rattle.s3_devices.specs.Recorded.{no_traffic}
-use Rattle.s3_server.specs.Held.{Held, added, own_of}
-use Rattle.s3_server.specs.Clock.{Tells}
-use Rattle.s3_server.proofs.HeldLemmas.{grown, held_on, own_push}
-use Rattle.s3_server.proofs.held.Held.step.Goals as goal
+use Rattle.s3_connections.specs.Held.{Held, added, own_of}
+use Rattle.s3_connections.specs.Clock.{Tells}
+use Rattle.s3_connections.proofs.HeldLemmas.{grown, held_on, own_push}
+use Rattle.s3_connections.proofs.held.Held.step.Goals as goal
 
 -- what was recorded of the step
 gained : (g : _) (c : goal.After-drop-between g)

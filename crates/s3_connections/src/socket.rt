@@ -25,7 +25,7 @@ pub struct Socket {
 
 /// What is left of a socket whose bytes are dropped.
 #[derive(Clone, Copy, PartialEq, Eq)]
-pub enum Left {
+pub(crate) enum Left {
     /// Nothing: no more come.
     Nothing,
     /// Perhaps more, which it will report.
@@ -48,44 +48,44 @@ impl Socket {
     }
 
     /// Has the socket reported under a token when bytes may come or go.
-    pub fn register(&self, registry: &Registry, token: Token) -> io::Result<()> {
+    pub(crate) fn register(&self, registry: &Registry, token: Token) -> io::Result<()> {
         let fd = self.stream.as_raw_fd();
         registry.register(&mut SourceFd(&fd), token, both_ways())
     }
 
     /// Has it reported once more, if it is ready.
-    pub fn ask_again(&self, registry: &Registry, token: Token) -> io::Result<()> {
+    pub(crate) fn ask_again(&self, registry: &Registry, token: Token) -> io::Result<()> {
         let fd = self.stream.as_raw_fd();
         registry.reregister(&mut SourceFd(&fd), token, both_ways())
     }
 
     /// Whether bytes came since this was last asked.
-    pub fn take_read(&self) -> bool {
+    pub(crate) fn take_read(&self) -> bool {
         self.has_read.replace(false)
     }
 
     /// Whether bytes went since this was last asked.
-    pub fn take_written(&self) -> bool {
+    pub(crate) fn take_written(&self) -> bool {
         self.has_written.replace(false)
     }
 
     /// Whether a read or a write was interrupted since this was last asked.
-    pub fn take_interrupted(&self) -> bool {
+    pub(crate) fn take_interrupted(&self) -> bool {
         self.is_interrupted.replace(false)
     }
 
     /// Whether its end was read.
-    pub fn is_ended(&self) -> bool {
+    pub(crate) fn is_ended(&self) -> bool {
         self.is_ended.get()
     }
 
     /// Tells the peer that nothing more is written, and answers whether that could be told.
-    pub fn end_writing(&self) -> bool {
+    pub(crate) fn end_writing(&self) -> bool {
         self.stream.shutdown(Shutdown::Write).is_ok()
     }
 
     /// Reads what has come and drops it.
-    pub fn drop_input(&self, buffer: &mut [u8]) -> Left {
+    pub(crate) fn drop_input(&self, buffer: &mut [u8]) -> Left {
         for _ in 0..DROPPED {
             match (&self.stream).read(buffer) {
                 Ok(0) => return Left::Nothing,

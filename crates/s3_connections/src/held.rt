@@ -4,8 +4,8 @@ ghost use Rattle.std.specs.Prelude.{◌≡◌, ◌≢◌, ◌<◌, ◌++◌, [],
 ghost use Rattle.s3_workers.specs.Around.{Ends, Fails, around, nothing_own, with_own};
 ghost use Rattle.s3_devices.specs.Recorded.{no_traffic};
 ghost use Rattle.s3_workers.specs.declared.outcome.Outcome.{Outcome};
-ghost use Rattle.s3_server.specs.Clock.{Tells};
-ghost use Rattle.s3_server.specs.Held.{added, begun};
+ghost use Rattle.s3_connections.specs.Clock.{Tells};
+ghost use Rattle.s3_connections.specs.Held.{added, begun};
 
 use crate::clock::SystemClock;
 use crate::gains::{AsGained, Between, Gained};
@@ -42,8 +42,8 @@ pub struct Held<'a> {
 }
 
 impl<'a> Model for Held<'a> {
-    ghost use Rattle.s3_server.specs.Held as rules;
-    ghost use Rattle.s3_server.specs.Held.{own_of};
+    ghost use Rattle.s3_connections.specs.Held as rules;
+    ghost use Rattle.s3_connections.specs.Held.{own_of};
 
     ghost Value = { rules.Held };
 

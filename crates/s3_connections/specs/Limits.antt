@@ -1,7 +1,7 @@
 -- How long a connection may keep its place while nothing comes or goes.
 use Rattle.std.specs.Prelude.{ℕ, Bool, true, false, not, ◌&&◌, ◌||◌, nat_lt}
-use Rattle.s3_server.specs.declared.time_limits.Awaited.{Awaited}
-use Rattle.s3_server.specs.declared.time_limits.Awaited.TheVariants.{Message, Head, Body, Room, End}
+use Rattle.s3_connections.specs.declared.time_limits.Awaited.{Awaited}
+use Rattle.s3_connections.specs.declared.time_limits.Awaited.TheVariants.{Message, Head, Body, Room, End}
 
 -- how many seconds: five minutes between two messages, and one for a head, for a body of which nothing comes, and where the peer
 -- takes nothing; and five seconds for what it still sends behind the end
