@@ -2,7 +2,7 @@
 use Rattle.std.specs.Prelude.{◌≡◌, ℕ, Bool, false, List, [], ◌∷◌, ◌++◌, map}
 use Rattle.s3_config.specs.Settings.{Settings}
 use Rattle.s3_machine.specs.History.{Entry}
-use Rattle.s3_machine.specs.declared.outcome.Answer.{Answer}
+use Rattle.s3_machine.specs.declared.command.Answer.{Answer}
 use Rattle.s3_machine.specs.declared.turn.Turn.{Turn}
 use Rattle.s3_session.specs.Output.{Past, Standing, Writes, is_dead}
 use Rattle.s3_session.specs.Output as standings

@@ -1,7 +1,7 @@
 -- What a call of a seat does.
 use Rattle.std.specs.Prelude.{◌≡◌, ℕ, ◌+◌, Bool, List, [], ◌∷◌, ◌++◌, length}
 use mathlib.Core.List.{IsPrefix}
-use Rattle.s3_machine.specs.declared.outcome.Answer.{Answer}
+use Rattle.s3_machine.specs.declared.command.Answer.{Answer}
 use Rattle.s3_machine.specs.declared.turn.Turn.{Turn}
 use Rattle.s3_machine.specs.History.{Entry, Legal}
 use Rattle.s3_journal.specs.Book.{Journal, KeepsHistory, Recorded, history_of}

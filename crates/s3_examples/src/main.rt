@@ -1,13 +1,14 @@
-//! Runs the examples: the event files of `data/`. Tells of each whether
-//! `s3d replay --events` answers it as its file of answers says, its pieces whole and byte by byte.
+//! Runs the examples: the event files of `data/`. Tells of each whether `s3d replay --events` answers it as its file of
+//! answers says, with its bytes in the pieces of the file, byte by byte and, where the file is short, with one cut more, at
+//! each place in turn.
 //!
-//! `args` has three words for an example: the bucket that is there from the start, the file of its events, and that of
-//! its answers.
+//! `args` has two words for an example: the bucket that is there from the start, and the name of its files, which is NAME
+//! where the events stand in `NAME.events` and what they are answered in `NAME.out`.
 #![tactic(auto)]
 
 mod cut;
 
-use cut::byte_by_byte;
+use cut::{Cut, recut};
 use s3_devices::{Recorded, Streams};
 use s3_settings::Files;
 use s3_tasks::{Ran, run_words};
@@ -17,6 +18,9 @@ use std::process::ExitCode;
 use std::sync::Wait;
 use std::{env, fs};
 
+// How long a file of events is at most that is cut at each place.
+const SHORT: usize = 4_096;
+
 // The files of the system.
 #[derive(Clone, Copy)]
 struct SystemFiles<'a>(&'a HostRuntime);
@@ -25,6 +29,14 @@ impl Files for SystemFiles<'_> {
     fn read(&self, _alloc: Global, path: &str) -> io::Result<Vec<u8>> {
         fs::read(self.0, path)
     }
+}
+
+// An example: the bucket that is there from the start, what happens, and what is answered.
+#[derive(Clone, Copy)]
+struct Example<'a> {
+    bucket: &'a str,
+    events: &'a [u8],
+    answers: &'a [u8],
 }
 
 // The words of this process.
@@ -64,78 +76,68 @@ fn answers<W: Wait>(waits: &W, rt: &HostRuntime, bucket: &str, events: &[u8]) ->
     }
 }
 
-// Whether these events are answered so.
-fn are_answered<W: Wait>(
-    waits: &W,
-    rt: &HostRuntime,
-    bucket: &str,
-    events: &[u8],
-    answered: &[u8],
-) -> bool {
-    match answers(waits, rt, bucket, events) {
-        Some(answers) => answers.as_slice() == answered,
+// Whether an example is answered as it has to be, its bytes in these cuts.
+fn is_answered<W: Wait>(waits: &W, rt: &HostRuntime, example: Example, cut: Cut) -> bool {
+    let Ok(events) = recut(rt.alloc(), example.events, cut) else {
+        return false;
+    };
+    match answers(waits, rt, example.bucket, events.as_slice()) {
+        Some(answers) => answers.as_slice() == example.answers,
         None => false,
     }
 }
 
-// Whether these events are answered so, their pieces whole and byte by byte.
-fn are_answered_both_ways<W: Wait>(
-    waits: &W,
-    rt: &HostRuntime,
-    bucket: &str,
-    events: &[u8],
-    answered: &[u8],
-) -> bool {
-    match byte_by_byte(rt.alloc(), events) {
-        Ok(cut) => {
-            are_answered(waits, rt, bucket, events, answered)
-                && are_answered(waits, rt, bucket, cut.as_slice(), answered)
-        }
-        Err(_) => false,
+// Whether an example is answered so in each way: as it stands, byte by byte and, where it is short, with one cut more.
+fn is_answered_each_way<W: Wait>(waits: &W, rt: &HostRuntime, example: Example) -> bool {
+    let len = example.events.len();
+    if !is_answered(waits, rt, example, Cut { first: 0, size: 1 }) {
+        return false;
     }
+    let places = if len <= SHORT { len / 2 } else { 1 };
+    for first in 0..places {
+        if !is_answered(waits, rt, example, Cut { first, size: len }) {
+            return false;
+        }
+    }
+    true
 }
 
-// Whether the events of one file are answered as the other says.
-fn is_answered<W: Wait>(
-    waits: &W,
-    rt: &HostRuntime,
-    bucket: &str,
-    events: &str,
-    answered: &str,
-) -> bool {
-    match (fs::read(rt, events), fs::read(rt, answered)) {
-        (Ok(events), Ok(answered)) => {
-            are_answered_both_ways(waits, rt, bucket, events.as_slice(), answered.as_slice())
+// The bytes of the file of this name.
+fn file(rt: &HostRuntime, name: &str, ending: &str) -> Option<Vec<u8>> {
+    let path = format!(in rt.alloc(); "{name}{ending}").ok()?;
+    fs::read(rt, path.as_str()).ok()
+}
+
+// Whether the example of this bucket and this name is answered as it has to be, in each way.
+fn holds<W: Wait>(waits: &W, rt: &HostRuntime, bucket: &str, name: &str) -> bool {
+    match (file(rt, name, ".events"), file(rt, name, ".out")) {
+        (Some(events), Some(answers)) => {
+            let example = Example {
+                bucket,
+                events: events.as_slice(),
+                answers: answers.as_slice(),
+            };
+            is_answered_each_way(waits, rt, example)
         }
         _ => false,
     }
 }
 
 // Tells of an example whether it is answered as it has to be; whether it is, and could be told.
-fn tell<W: Wait>(waits: &W, rt: &HostRuntime, bucket: &str, events: &str, answered: &str) -> bool {
-    let is_right = is_answered(waits, rt, bucket, events, answered);
-    let word = if is_right {
-        "as expected, whole and byte by byte"
-    } else {
-        "otherwise"
-    };
-    write!(rt.stdout(), "{events}: answered {word}\n").is_ok() && is_right
+fn tell<W: Wait>(waits: &W, rt: &HostRuntime, bucket: &str, name: &str) -> bool {
+    let is_right = holds(waits, rt, bucket, name);
+    let word = if is_right { "as expected" } else { "otherwise" };
+    write!(rt.stdout(), "{name}: answered {word}\n").is_ok() && is_right
 }
 
 // Runs all examples; whether each was answered as it has to be.
 fn run_all<W: Wait>(waits: &W, rt: &HostRuntime, words: &[String]) -> bool {
     let mut all = true;
-    for number in 0..words.len() / 3 {
-        let [bucket, events, answered] = &words[3 * number..3 * number + 3] else {
+    for example in words.chunks(2) {
+        let [bucket, name] = example else {
             return false;
         };
-        all = tell(
-            waits,
-            rt,
-            bucket.as_str(),
-            events.as_str(),
-            answered.as_str(),
-        ) && all;
+        all = tell(waits, rt, bucket.as_str(), name.as_str()) && all;
     }
     all
 }

@@ -3,7 +3,7 @@ use Rattle.std.proofs.Common.{◌≡◌, ◌+◌, suc, List, [], ◌∷◌, leng
 use Rattle.s3_history.specs.declared.machine.Entry.{Entry}
 use Rattle.s3_history.specs.Log.{Origin}
 use Rattle.s3_history.specs.Runs.{Run}
-use Rattle.s3_machine.specs.declared.outcome.Answer.{Answer}
+use Rattle.s3_machine.specs.declared.command.Answer.{Answer}
 use Rattle.s3_machine.specs.declared.turn.Turn.{Turn}
 use Rattle.s3_machine.specs.Step.{State, step}
 use Rattle.s3_machine.specs.History.{Legal, after, after_entry}

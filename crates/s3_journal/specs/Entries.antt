@@ -1,6 +1,6 @@
 -- The entries of a store's history, as those of a book.
 use Rattle.s3_history.specs.declared.machine.Entry.{Entry}
-use Rattle.s3_machine.specs.declared.outcome.Answer.{Answer}
+use Rattle.s3_machine.specs.declared.command.Answer.{Answer}
 use Rattle.s3_machine.specs.declared.turn.Turn.{Turn}
 use Rattle.s3_journal.specs.Book.{Recorded}
 

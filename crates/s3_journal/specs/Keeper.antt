@@ -1,9 +1,9 @@
 -- A store as a machine: what a turn does to it, what it is answered, and when memory may be lacking.
 use Rattle.std.specs.Prelude.{◌≡◌, ◌≢◌, IsTrue, ℕ, Bool, true, false}
-use Rattle.s3_machine.specs.declared.outcome.Answer.{Answer}
+use Rattle.s3_machine.specs.Effects.{is_refused, takes_room}
+use Rattle.s3_machine.specs.declared.command.Answer.{Answer}
 use Rattle.s3_machine.specs.declared.turn.Turn.{Turn}
-use Rattle.s3_machine.specs.Laws.{is_refused}
-use Rattle.s3_store.specs.Steps.{Standing, after_step, outcome_of, takes_room}
+use Rattle.s3_store.specs.Steps.{Standing, after_step, outcome_of}
 
 -- a store, and the least size of a part that each of its steps is given
 pub record LimitedStore : Type 0 where

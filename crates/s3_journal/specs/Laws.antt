@@ -4,10 +4,9 @@ use Rattle.s3_names.specs.declared.ids.VersionId.{VersionId}
 use Rattle.s3_segments.specs.Payload.{tag_of}
 use Rattle.s3_terms.specs.declared.code.Code.TheVariants.{NoSuchKey}
 use Rattle.s3_records.specs.Catalogue.{opening}
-use Rattle.s3_machine.specs.declared.outcome.Found.{Found}
-use Rattle.s3_machine.specs.declared.outcome.Outcome.TheVariants as outcomes
-use Rattle.s3_machine.specs.Laws.{is_refused, only_reads}
-use Rattle.s3_machine.specs.Effects.{Address, Contents, Asked, brings, reads, given, acknowledged, touched}
+use Rattle.s3_machine.specs.declared.command.Found.{Found}
+use Rattle.s3_machine.specs.declared.command.Outcome.TheVariants as outcomes
+use Rattle.s3_machine.specs.Effects.{Address, Contents, Asked, brings, reads, given, acknowledged, touched, is_refused, only_reads}
 use Rattle.s3_machine.specs.History.{Entry, after}
 use Rattle.s3_machine.specs.Kept.{Puts, LeavesKey, ReadsKey, IsGiven, SparesVersion, ReadsVersion, WasPut, Marks}
 use Rattle.s3_journal.specs.Book.{Journal, KeepsHistory, history_of}

@@ -2,8 +2,8 @@
 ghost use Rattle.std.specs.Prelude.{◌≡◌, ◌≢◌, ◌++◌, ◌∷◌, [], true, false, length, IfOk, OnErr, IsTrue};
 ghost use mathlib.Core.List.{IsPrefix};
 ghost use Rattle.s3_journal.specs.Book.{KeepsHistory};
-ghost use Rattle.s3_machine.specs.Laws.{is_refused};
-ghost use Rattle.s3_store.specs.Steps.{after_step, outcome_of, takes_room};
+ghost use Rattle.s3_store.specs.Steps.{after_step, outcome_of};
+ghost use Rattle.s3_machine.specs.Effects.{is_refused, takes_room};
 
 use crate::keeper::Keeper;
 use crate::prefix::Prefix;

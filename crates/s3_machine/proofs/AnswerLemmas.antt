@@ -1,6 +1,5 @@
 -- What right answers say, and how a delete marker hides.
-use Rattle.std.proofs.Common.{◌≡◌, refl, sym, ap, subst, ◌∙◌, Bool, true, false, not, ℕ, IsTrue, List, [], ◌∷◌, ◌++◌, append_assoc, Option, Some, None, is_some, Result, Ok, Err}
-use Rattle.std.specs.Prelude.{option_map}
+use Rattle.std.proofs.Common.{◌≡◌, refl, sym, ap, subst, ◌∙◌, true, false, not, ℕ, List, ◌∷◌, ◌++◌, append_assoc, Some, None, is_some, Result, Ok, Err}
 use Rattle.std.proofs.lemmas.Bool.{false≢true}
 use Rattle.s3_terms.specs.declared.code.Code.TheVariants.{NoSuchBucket, NoSuchKey}
 use Rattle.s3_names.specs.declared.ids.VersionId.{VersionId}
@@ -11,7 +10,7 @@ use Rattle.s3_versions.specs.declared.version.Data.{Data}
 use Rattle.s3_versions.specs.declared.version.Version.{Version}
 use Rattle.s3_versions.specs.declared.version.Versioning.{Versioning}
 use Rattle.s3_versions.specs.declared.version.Versioning.TheVariants.{Unversioned, Enabled, Suspended}
-use Rattle.s3_versions.specs.Rules.{made, new_id, pick, current, asked_for, after_delete}
+use Rattle.s3_versions.specs.Rules.{made, new_id, pick, current, after_delete}
 use Rattle.s3_versions.specs.Laws as versions
 use Rattle.s3_records.specs.Catalogue.{has_bucket, versions_of, versioning_of}
 use Rattle.s3_records.specs.Laws.{ChangesFollowRules}
@@ -19,18 +18,16 @@ use Rattle.s3_records.specs.Places.{ChangesAreByPlace}
 use Rattle.s3_machine.specs.declared.command.Command.{Command}
 use Rattle.s3_machine.specs.declared.command.Command.TheVariants as commands
 use Rattle.s3_machine.specs.declared.command.KeyCommand.TheVariants as key_commands
-use Rattle.s3_machine.specs.declared.outcome.Outcome.{Outcome}
-use Rattle.s3_machine.specs.declared.outcome.Outcome.TheVariants as outcomes
-use Rattle.s3_machine.specs.Fault.{◌>>=◌}
-use Rattle.s3_machine.specs.Laws.{is_refused, RefusalsChangeNothing, ReadsChangeNothing}
-use Rattle.s3_machine.specs.Effects.{Address, Contents, Asked, writes, contents_of, brings, reads, given, acknowledged}
+use Rattle.s3_machine.specs.declared.command.Outcome.TheVariants as outcomes
+use Rattle.s3_terms.specs.Fault.{◌>>=◌}
+use Rattle.s3_machine.specs.Effects.{Address, Asked, brings, reads, given, acknowledged, is_refused}
 use Rattle.s3_machine.specs.History.{Entry, IsAnswer, Legal, after, after_entry}
-use Rattle.s3_machine.specs.Kept.{LeavesKey, ReadsKey, Marks, MarkersHide, TagsAreOfBodies, ReadsGiveOrRefuse, RefusedEntriesChangeNothing, ReadingEntriesChangeNothing}
+use Rattle.s3_machine.specs.Kept.{Marks, MarkersHide, TagsAreOfBodies, ReadsGiveOrRefuse, RefusedEntriesChangeNothing, ReadingEntriesChangeNothing}
 use Rattle.s3_machine.specs.Step.{State, Stepped, shown_in, makes_marker, found_in, key_done, done, stepped, step}
 use Rattle.s3_machine.proofs.EffectLemmas.{after_line, not_false}
 use Rattle.s3_machine.proofs.HistoryLemmas.{Legal-append}
 use Rattle.s3_machine.proofs.KeptLemmas.{versions_at, outcome_is, picked, step_reads, key_left}
-use Rattle.s3_machine.proofs.LawLemmas.{refusals_change_nothing, reads_change_nothing}
+use Rattle.s3_machine.proofs.EffectLemmas.{refusals_change_nothing, reads_change_nothing}
 
 -- a read hands out a version, or refuses
 abbrev GivesOrRefuses : Stepped → Type 0
@@ -42,14 +39,10 @@ gives_or_refuses s name (Err refusal) = refl
 
 step_gives_or_refuses : (least : ℕ) (s : State) (n t : ℕ) (command : Command) (asked : Asked) → reads command ≡ Some asked → GivesOrRefuses (step least s n t command)
 unfolding done key_done
-step_gives_or_refuses least s n t commands.ListBuckets asked is = absurd (cc)
-step_gives_or_refuses least s n t (commands.Bucket name what) asked is = absurd (cc)
-step_gives_or_refuses least s n t (commands.Key name key (key_commands.Put content_type metadata payload)) asked is = absurd (cc)
-step_gives_or_refuses least s n t (commands.Key name key (key_commands.Head version)) asked is = absurd (cc)
-step_gives_or_refuses least s n t (commands.Key name key (key_commands.Delete version)) asked is = absurd (cc)
 step_gives_or_refuses least s n t (commands.Key name key (key_commands.Get version)) asked is =
     after_line GivesOrRefuses s (not (has_bucket s name)) NoSuchBucket (key_done s n t name key (key_commands.Get version)) refl
     (λ there. gives_or_refuses s name (pick version (versions_of s name key)))
+step_gives_or_refuses least s n t _ asked is = absurd (cc)
 
 pub reads_give_or_refuse : ReadsGiveOrRefuse
 reads_give_or_refuse least s n e asked answer is =
@@ -59,16 +52,12 @@ reads_give_or_refuse least s n e asked answer is =
 -- an accepted body is under its tag
 step_acknowledges : (least : ℕ) (s : State) (n t : ℕ) (command : Command) (body : List ℕ) → brings command ≡ Some body → is_refused (step least s n t command).1 ≡ false → acknowledged (step least s n t command).1 ≡ Some (tag_of body)
 unfolding done key_done
-step_acknowledges least s n t commands.ListBuckets body is = absurd (cc)
-step_acknowledges least s n t (commands.Bucket name what) body is = absurd (cc)
-step_acknowledges least s n t (commands.Key name key (key_commands.Get version)) body is = absurd (cc)
-step_acknowledges least s n t (commands.Key name key (key_commands.Head version)) body is = absurd (cc)
-step_acknowledges least s n t (commands.Key name key (key_commands.Delete version)) body is = absurd (cc)
 step_acknowledges least s n t (commands.Key name key (key_commands.Put content_type metadata payload)) body is =
     let same : payload ≡ body = cc in
     after_line (λ st. is_refused st.1 ≡ false → acknowledged st.1 ≡ Some (tag_of body)) s (not (has_bucket s name)) NoSuchBucket (key_done s n t name key (key_commands.Put content_type metadata payload))
     (λ accepted. absurd (false≢true (sym accepted)))
     (λ there accepted. ap (λ b. Some (tag_of b)) same)
+step_acknowledges least s n t _ body is = absurd (cc)
 
 pub tags_are_of_bodies : TagsAreOfBodies
 tags_are_of_bodies least s n e body answer brought accepted =

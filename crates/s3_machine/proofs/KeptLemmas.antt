@@ -1,5 +1,5 @@
 -- What was put comes back, by its key and by its version.
-use Rattle.std.proofs.Common.{◌≡◌, ◌≢◌, refl, sym, ap, subst, ◌∙◌, Bool, true, false, not, ℕ, ◌⊎◌, inl, inr, IsTrue, List, [], ◌∷◌, ◌++◌, append_assoc, Option, Some, None, is_some, Result, Ok, Err}
+use Rattle.std.proofs.Common.{◌≡◌, ◌≢◌, refl, sym, ap, subst, ◌∙◌, Bool, true, false, not, ℕ, ◌⊎◌, inl, inr, List, [], ◌∷◌, ◌++◌, append_assoc, Option, Some, None, is_some, Result, Ok, Err}
 use Rattle.std.proofs.lemmas.Bool.{false≢true}
 use Rattle.std.specs.Cmp.{eq_by_cmp_equiv}
 use Rattle.std.specs.Cmp.Lexicographic.{nat_list_cmp_total}
@@ -7,7 +7,7 @@ use Rattle.std.specs.FinMap as map
 use Rattle.std.specs.Ordering.{eq_by_cmp}
 use Rattle.s3_text.specs.Order.{byte_order}
 use Rattle.s3_text.proofs.MapLemmas.{tied_equal}
-use Rattle.s3_terms.specs.declared.code.Code.TheVariants.{NoSuchBucket, NoSuchKey}
+use Rattle.s3_terms.specs.declared.code.Code.TheVariants.{NoSuchBucket}
 use Rattle.s3_names.specs.declared.ids.VersionId.{VersionId}
 use Rattle.s3_versions.specs.declared.picking.Refusal.{Refusal}
 use Rattle.s3_versions.specs.declared.version.Content.TheVariants.{Stored}
@@ -15,25 +15,24 @@ use Rattle.s3_versions.specs.declared.version.Data.{Data}
 use Rattle.s3_versions.specs.declared.version.Version.{Version}
 use Rattle.s3_versions.specs.declared.version.Versioning.{Versioning}
 use Rattle.s3_versions.specs.declared.version.Versioning.TheVariants.{Unversioned, Enabled, Suspended}
-use Rattle.s3_versions.specs.Rules.{made, new_id, stored, pick, asked_for, judged, read_as, after_put, after_delete}
+use Rattle.s3_versions.specs.Rules.{made, pick, asked_for, judged, after_put}
 use Rattle.s3_versions.specs.Laws.{PutsAreCurrent}
 use Rattle.s3_records.specs.Catalogue.{Bucket, has_bucket, versions_in, versions_of, versioning_of}
 use Rattle.s3_records.specs.Laws.{ChangesFollowRules}
 use Rattle.s3_records.specs.Places.{version_at, ChangesAreByPlace}
 use Rattle.s3_machine.specs.declared.command.Command.{Command}
 use Rattle.s3_machine.specs.declared.command.Command.TheVariants as commands
-use Rattle.s3_machine.specs.declared.command.KeyCommand.{KeyCommand}
 use Rattle.s3_machine.specs.declared.command.KeyCommand.TheVariants as key_commands
-use Rattle.s3_machine.specs.declared.outcome.Found.{Found}
-use Rattle.s3_machine.specs.declared.outcome.Outcome.{Outcome}
-use Rattle.s3_machine.specs.declared.outcome.Outcome.TheVariants as outcomes
-use Rattle.s3_machine.specs.Fault.{refuse, ◌>>◌, ◌>>=◌}
-use Rattle.s3_machine.specs.Laws.{is_refused}
-use Rattle.s3_machine.specs.Effects.{Address, Contents, Asked, data_from, writes, contents_of, reads, given, touched}
+use Rattle.s3_machine.specs.declared.command.Found.{Found}
+use Rattle.s3_machine.specs.declared.command.Outcome.{Outcome}
+use Rattle.s3_machine.specs.declared.command.Outcome.TheVariants as outcomes
+use Rattle.s3_terms.specs.Fault.{◌>>◌, ◌>>=◌}
+use Rattle.s3_machine.specs.Fault.{refuse}
+use Rattle.s3_machine.specs.Effects.{Address, Contents, Asked, data_from, writes, reads, given, touched, is_refused}
 use Rattle.s3_machine.specs.History.{Entry, IsAnswer, Legal, after, after_entry}
-use Rattle.s3_machine.specs.Kept.{Leaves, LeavesKey, Spares, SparesVersion, Puts, IsMadeOf, ReadsKey, ReadsVersion, IsGiven, PutsAreKept, VersionsAreKept}
+use Rattle.s3_machine.specs.Kept.{Leaves, LeavesKey, Spares, SparesVersion, Puts, IsMadeOf, PutsAreKept, VersionsAreKept}
 use Rattle.s3_machine.specs.Step.{State, Stepped, found_in, key_done, done, stepped, step}
-use Rattle.s3_machine.proofs.EffectLemmas.{Same, Changes, Does, step_does}
+use Rattle.s3_machine.proofs.EffectLemmas.{Changes, Does, step_does}
 use Rattle.s3_machine.proofs.HistoryLemmas.{Legal-append}
 
 -- the versions under an address, and the one of an id
@@ -101,11 +100,6 @@ past_line s true next is = absurd (false≢true (sym is))
 pub step_reads : (least : ℕ) (s : State) (n t : ℕ) (command : Command) (asked : Asked) (v : Version (List ℕ)) → reads command ≡ Some asked → asked_for asked.version (versions_at s asked.address) ≡ Some v
     → (step least s n t command).1 ≡ picked s asked.address.bucket (pick asked.version (versions_at s asked.address))
 unfolding done key_done
-step_reads least s n t commands.ListBuckets asked v is found = absurd (cc)
-step_reads least s n t (commands.Bucket name what) asked v is found = absurd (cc)
-step_reads least s n t (commands.Key name key (key_commands.Put content_type metadata payload)) asked v is found = absurd (cc)
-step_reads least s n t (commands.Key name key (key_commands.Head version)) asked v is found = absurd (cc)
-step_reads least s n t (commands.Key name key (key_commands.Delete version)) asked v is found = absurd (cc)
 step_reads least s n t (commands.Key name key (key_commands.Get version)) asked v is found =
     let a : Address = record { bucket = name; key = key } in
     let same : ◌≡◌ {A = Asked} (record { address = a; version = version }) asked = cc in
@@ -115,6 +109,7 @@ step_reads least s n t (commands.Key name key (key_commands.Get version)) asked 
     ap (λ (st : Stepped). st.1) (past_line s (not (has_bucket s name)) (key_done s n t name key (key_commands.Get version)) (ap not there))
     ∙ got s name (pick version (versions_of s name key))
     ∙ ap (λ (q : Asked). picked s q.address.bucket (pick q.version (versions_at s q.address))) same
+step_reads least s n t _ asked v is found = absurd (cc)
 
 module _ (places : ChangesAreByPlace (List ℕ)) (rules : ChangesFollowRules (List ℕ)) (least : ℕ) where
   -- what an entry did

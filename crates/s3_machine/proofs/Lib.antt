@@ -2,5 +2,4 @@ pub mod AnswerLemmas
 pub mod EffectLemmas
 pub mod HistoryLemmas
 pub mod KeptLemmas
-pub mod LawLemmas
 pub mod OriginLemmas

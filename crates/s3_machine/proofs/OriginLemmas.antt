@@ -1,5 +1,5 @@
 -- Each version of the state was put by an entry of the history.
-use Rattle.std.proofs.Common.{◌≡◌, ◌≢◌, refl, sym, ap, subst, ◌∙◌, ◌==◌, Bool, true, false, not, cond, ℕ, suc, ◌⊎◌, inl, inr, IsTrue, List, [], ◌∷◌, ◌++◌, append_assoc, append-nil, Option, Some, None, arith, Result, Ok, Err, find}
+use Rattle.std.proofs.Common.{◌≡◌, ◌≢◌, refl, sym, ap, subst, ◌∙◌, ◌==◌, Bool, true, false, not, cond, ℕ, suc, ◌⊎◌, inl, inr, List, [], ◌∷◌, ◌++◌, append_assoc, append-nil, Option, Some, None, arith, Result, Ok, Err, find}
 use Rattle.std.proofs.lemmas.Bool.{eqb-true}
 use Rattle.std.proofs.lemmas.Bool.Decides.{nat_tests}
 use Rattle.s3_names.specs.declared.ids.VersionId.{VersionId}
@@ -17,18 +17,16 @@ use Rattle.s3_versions.specs.Laws.{IdsAreTold}
 use Rattle.s3_records.specs.Catalogue.{opening, has_bucket, versions_of, versioning_of}
 use Rattle.s3_records.specs.Laws.{ChangesFollowRules, OpeningIsEmpty}
 use Rattle.s3_records.specs.Places.{version_at, ChangesAreByPlace}
-use Rattle.s3_machine.specs.declared.outcome.Found.{Found}
-use Rattle.s3_machine.specs.declared.outcome.Outcome.{Outcome}
-use Rattle.s3_machine.specs.declared.outcome.Outcome.TheVariants as outcomes
-use Rattle.s3_machine.specs.Laws.{is_refused}
-use Rattle.s3_machine.specs.Effects.{Address, Contents, Asked, data_from, writes, contents_of, reads, given, touched}
+use Rattle.s3_machine.specs.declared.command.Found.{Found}
+use Rattle.s3_machine.specs.declared.command.Outcome.TheVariants as outcomes
+use Rattle.s3_machine.specs.Effects.{Address, Contents, Asked, data_from, writes, reads, given, touched, is_refused}
 use Rattle.s3_machine.specs.History.{Entry, IsAnswer, Legal, after, after_entry}
-use Rattle.s3_machine.specs.Kept.{Spares, SparesVersion, Puts, IsMadeOf, WasPut, OnlyPutsAreGiven}
+use Rattle.s3_machine.specs.Kept.{Spares, SparesVersion, Puts, OnlyPutsAreGiven}
 use Rattle.s3_machine.specs.declared.command.Command.{Command}
 use Rattle.s3_machine.specs.declared.command.Command.TheVariants as commands
 use Rattle.s3_machine.specs.declared.command.KeyCommand.TheVariants as key_commands
-use Rattle.s3_machine.specs.Fault.{◌>>=◌}
-use Rattle.s3_machine.specs.Step.{State, Stepped, found_in, shown_in, key_done, done, stepped, step}
+use Rattle.s3_terms.specs.Fault.{◌>>=◌}
+use Rattle.s3_machine.specs.Step.{State, found_in, shown_in, key_done, done, stepped, step}
 use Rattle.s3_machine.proofs.EffectLemmas.{Changes, after_line}
 use Rattle.s3_machine.proofs.HistoryLemmas.{Legal-append}
 use Rattle.s3_machine.proofs.KeptLemmas.{versions_at, outcome_is, same_address, entry_does, version_left}
@@ -238,11 +236,6 @@ given_of s name (Err refusal) found is = absurd (cc)
 step_given : (least : ℕ) (s : State) (n t : ℕ) (command : Command) (asked : Asked) (found : Found (List ℕ)) → reads command ≡ Some asked → given (step least s n t command).1 ≡ Some found
     → (read : Version (List ℕ) × Data (List ℕ)) × (pick asked.version (versions_at s asked.address) ≡ Ok read) × (found_in (versioning_of s asked.address.bucket) read ≡ found)
 unfolding done key_done
-step_given least s n t commands.ListBuckets asked found is gives = absurd (cc)
-step_given least s n t (commands.Bucket name what) asked found is gives = absurd (cc)
-step_given least s n t (commands.Key name key (key_commands.Put content_type metadata payload)) asked found is gives = absurd (cc)
-step_given least s n t (commands.Key name key (key_commands.Head version)) asked found is gives = absurd (cc)
-step_given least s n t (commands.Key name key (key_commands.Delete version)) asked found is gives = absurd (cc)
 step_given least s n t (commands.Key name key (key_commands.Get version)) asked found is gives =
     let same : ◌≡◌ {A = Asked} (record { address = record { bucket = name; key = key }; version = version }) asked = cc in
     let goal = λ (q : Asked). (read : Version (List ℕ) × Data (List ℕ)) × (pick q.version (versions_at s q.address) ≡ Ok read) × (found_in (versioning_of s q.address.bucket) read ≡ found) in
@@ -251,6 +244,7 @@ step_given least s n t (commands.Key name key (key_commands.Get version)) asked 
     (key_done s n t name key (key_commands.Get version))
     (λ none. absurd (cc))
     (λ there ok. given_of s name (pick version (versions_of s name key)) found ok) gives)
+step_given least s n t _ asked found is gives = absurd (cc)
 
 reads_found : IdsAreTold (List ℕ) → (least : ℕ) (s : State) (n t : ℕ) (command : Command) (asked : Asked) (found : Found (List ℕ)) → reads command ≡ Some asked → given (step least s n t command).1 ≡ Some found → Reads s asked found
 reads_found ids least s n t command asked found is gives =

@@ -1,7 +1,7 @@
 -- Histories of the machine: which answers are right, given all that was answered before.
 use Rattle.std.specs.Prelude.{◌≡◌, ℕ, suc, List, [], ◌∷◌}
 use Rattle.s3_machine.specs.declared.command.Command.{Command}
-use Rattle.s3_machine.specs.declared.outcome.Answer.{Answer}
+use Rattle.s3_machine.specs.declared.command.Answer.{Answer}
 use Rattle.s3_machine.specs.Step.{State, step}
 
 -- a command that took its turn, its moment, and the answer that it was given

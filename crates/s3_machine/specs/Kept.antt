@@ -1,6 +1,6 @@
 -- What the machine keeps: what was acknowledged comes back and nothing else does, by its key and by its version; a
 -- delete marker hides and takes nothing away; what was refused or only read changes nothing.
-use Rattle.std.specs.Prelude.{◌≡◌, ◌≢◌, ℕ, true, false, not, List, ◌∷◌, ◌++◌, Option, Some, None, is_some}
+use Rattle.std.specs.Prelude.{◌≡◌, ◌≢◌, ℕ, true, false, not, List, ◌∷◌, ◌++◌, Some, None, is_some}
 use Rattle.std.specs.List.{AllByRecursion}
 use Rattle.s3_terms.specs.declared.code.Code.TheVariants.{NoSuchKey}
 use Rattle.s3_names.specs.declared.ids.VersionId.{VersionId}
@@ -8,11 +8,10 @@ use Rattle.s3_segments.specs.Payload.{tag_of}
 use Rattle.s3_records.specs.Catalogue.{opening}
 use Rattle.s3_machine.specs.declared.command.Command.TheVariants as commands
 use Rattle.s3_machine.specs.declared.command.KeyCommand.TheVariants as key_commands
-use Rattle.s3_machine.specs.declared.outcome.Found.{Found}
-use Rattle.s3_machine.specs.declared.outcome.Outcome.TheVariants as outcomes
+use Rattle.s3_machine.specs.declared.command.Found.{Found}
+use Rattle.s3_machine.specs.declared.command.Outcome.TheVariants as outcomes
 use Rattle.s3_machine.specs.Step.{State}
-use Rattle.s3_machine.specs.Laws.{is_refused, only_reads}
-use Rattle.s3_machine.specs.Effects.{Address, Contents, Asked, data_from, writes, contents_of, brings, reads, given, acknowledged, touched}
+use Rattle.s3_machine.specs.Effects.{Address, Contents, Asked, data_from, writes, contents_of, brings, reads, given, acknowledged, touched, is_refused, only_reads}
 use Rattle.s3_machine.specs.History.{Entry, IsAnswer, Legal, after_entry}
 
 -- the entry, if it may change the versions of the address, is refused

@@ -1,8 +1,11 @@
-//! What takes a turn at the machine.
+//! What takes a turn at the machine, and what it is answered.
 
-use s3_names::{BucketName, Key, VersionId};
-use s3_segments::Payload;
-use s3_versions::{ContentType, Metadata, VersioningStatus};
+use crate::BucketList;
+use s3_calendar::Moment;
+use s3_names::{BucketName, Key, Tag, VersionId};
+use s3_segments::{Body, Payload};
+use s3_terms::Code;
+use s3_versions::{ContentType, Data, Metadata, Versioning, VersioningStatus};
 
 /// An operation with its arguments and the body that came with it, by what it addresses.
 #[derive(Drop)]
@@ -58,4 +61,67 @@ pub enum KeyCommand {
     Delete {
         version: Option<VersionId>,
     },
+}
+
+/// The machine's answer to one command.
+#[derive(Drop)]
+pub struct Answer {
+    /// The number of the entry: how many commands the machine has answered before this one.
+    pub number: u64,
+    pub outcome: Outcome,
+}
+
+/// What came of a command. A version's id is shown where the bucket's versioning was ever set.
+#[derive(Drop)]
+pub enum Outcome {
+    /// All buckets, by name in the order of bytes.
+    Buckets {
+        buckets: BucketList,
+    },
+    /// The bucket of this name is made.
+    BucketMade {
+        name: BucketName,
+    },
+    /// The bucket is there.
+    BucketFound,
+    /// The bucket is dropped.
+    BucketDropped,
+    /// The bucket's versioning is set.
+    VersioningSet,
+    /// The bucket's versioning.
+    BucketVersioning {
+        versioning: Versioning,
+    },
+    /// The object is stored, under this tag and as a version of this id.
+    Put {
+        tag: Tag,
+        shown: Option<VersionId>,
+    },
+    /// The version with its bytes.
+    Got {
+        found: Found<Body>,
+    },
+    /// What is told of the version beside its bytes.
+    HeadGot {
+        found: Found<()>,
+    },
+    /// What was to be deleted is not there now: the id is that of the delete marker that was made, or the one
+    /// that the request named. Says whether a delete marker was made or is gone.
+    Deleted {
+        shown: Option<VersionId>,
+        is_delete_marker: bool,
+    },
+    /// The machine refuses, and is as it was. Says whether what was asked for is a delete marker.
+    Refused {
+        code: Code,
+        is_delete_marker: bool,
+    },
+}
+
+/// A version that was read: when it was made, and what a put stored.
+#[derive(Drop)]
+pub struct Found<B> {
+    pub shown: Option<VersionId>,
+    pub moment: Moment,
+    pub stored: Data<B>,
 }

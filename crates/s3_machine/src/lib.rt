@@ -6,14 +6,12 @@ mod bucket_list;
 mod command;
 mod history;
 mod laws;
-mod outcome;
 mod turn;
 
 pub use bucket_list::BucketList;
-pub use command::{BucketCommand, Command, KeyCommand};
+pub use command::{Answer, BucketCommand, Command, Found, KeyCommand, Outcome};
 pub use history::{
     delete_markers_hide, entries_change_nothing, one_more_entry, only_puts_are_given, puts_are_kept,
 };
 pub use laws::nothing_changes;
-pub use outcome::{Answer, Found, Outcome};
 pub use turn::Turn;

@@ -70,23 +70,16 @@ impl<'a> Stream<'a> {
 
     // How many of so many bytes it moves now.
     fn moved(&mut self, most: usize) -> io::Result<usize> {
+        self.was_late = !self.was_late;
         match self.manner {
             Manner::Able | Manner::Unflushed => Ok(most),
-            Manner::Halting => self.one_later(most, ErrorKind::Interrupted),
-            Manner::Blocking => self.one_later(most, ErrorKind::WouldBlock),
+            Manner::Halting if self.was_late => Err(io::Error::from(ErrorKind::Interrupted)),
+            Manner::Blocking if self.was_late => Err(io::Error::from(ErrorKind::WouldBlock)),
+            Manner::Halting | Manner::Blocking => Ok(most.min(1)),
             Manner::Unwilling => Ok(0),
             Manner::Broken => Err(io::Error::from(ErrorKind::BrokenPipe)),
             Manner::Full => Err(io::Error::from(ErrorKind::OutOfMemory)),
         }
-    }
-
-    // One of so many bytes, if it answered this just now; else it does.
-    fn one_later(&mut self, most: usize, kind: ErrorKind) -> io::Result<usize> {
-        self.was_late = !self.was_late;
-        if self.was_late {
-            return Err(io::Error::from(kind));
-        }
-        Ok(most.min(1))
     }
 }
 
@@ -146,50 +139,16 @@ pub fn files<'a>(is_full: bool) -> Shelf<'a> {
     }
 }
 
-/// The status of a run on these files, over a device of the input and the output; where the words ask for a server, 255.
-pub fn run<R: Wait>(
+/// A run on these words and files, over a device of the input and the output; `None` where there is no device.
+pub fn run<'a, R: Wait>(
     rt: &R,
     alloc: Global,
-    words: &[&str],
-    input: &mut Stream,
-    output: &mut Stream,
-    errors: &mut Stream,
-) -> u8 {
-    run_on(rt, alloc, words, &files(false), input, output, errors)
-}
-
-/// The same on other files.
-pub fn run_on<R: Wait>(
-    rt: &R,
-    alloc: Global,
-    words: &[&str],
+    words: &'a [&'a str],
     files: &Shelf,
     input: &mut Stream,
     output: &mut Stream,
     errors: &mut Stream,
-) -> u8 {
-    match Recorded::new(Streams { input, output }) {
-        Some(mut device) => status(run_words(rt, alloc, words, files, &mut device, errors)),
-        None => u8::MAX,
-    }
-}
-
-// The status of a run; where its words ask for a server, 255.
-fn status(ran: Ran) -> u8 {
-    match ran {
-        Ran::Ended(status) => status,
-        Ran::Serve(_) => u8::MAX,
-    }
-}
-
-/// The status of a run on these files and no input, whose output is let go.
-pub fn run_on_nothing<R: Wait>(rt: &R, alloc: Global, words: &[&str], errors: &mut Stream) -> u8 {
-    let mut input = Stream::new(alloc, Manner::Able, b"");
-    let mut output = Stream::new(alloc, Manner::Able, b"");
-    run(rt, alloc, words, &mut input, &mut output, errors)
-}
-
-/// Whether two texts are the same.
-pub fn is_same(text: &[u8], other: &[u8]) -> bool {
-    text == other
+) -> Option<Ran<'a>> {
+    let mut device = Recorded::new(Streams { input, output })?;
+    Some(run_words(rt, alloc, words, files, &mut device, errors))
 }

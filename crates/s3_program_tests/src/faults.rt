@@ -1,55 +1,21 @@
 //! Wrong words, wrong settings and keys, and devices that fail or are slow.
-use crate::devices::{Manner, Stream, files, is_same, run_on, run_on_nothing};
+use crate::devices::Manner;
+use crate::runs::{QUIET, Run, comes_to_that};
 use std::alloc::Global;
-use std::str;
 use std::sync::Wait;
 
-// The text has the part somewhere.
-fn holds(text: &[u8], part: &str) -> bool {
-    match str::from_utf8(text) {
-        Ok(text) => text.contains(part),
-        Err(_) => false,
-    }
-}
-
-// The text is the line that tells this fault.
-fn is_line(text: &[u8], fault: &str) -> bool {
-    let Some(text) = text.strip_prefix(b"s3d: ".as_slice()) else {
-        return false;
-    };
-    text.strip_suffix(b"\n".as_slice()) == Some(fault.as_bytes())
-}
-
-// The run has this status, and this of its text for the user: a part where it is 2, and else the fault in one line.
-fn is_said(status: u8, text: &[u8], wanted: u8, told: &str) -> bool {
-    match wanted {
-        2 => status == 2 && holds(text, told),
-        _ => status == wanted && is_line(text, told),
-    }
-}
-
-// A run on these words, and on no input, has this status and tells this.
-fn is_run<R: Wait>(rt: &R, alloc: Global, words: &[&str], wanted: u8, told: &str) -> bool {
-    let mut errors = Stream::new(alloc, Manner::Able, b"");
-    let status = run_on_nothing(rt, alloc, words, &mut errors);
-    is_said(status, errors.taken.as_slice(), wanted, told)
-}
-
-// The same of words with one space between two; an empty text has none.
-fn is_run_of<R: Wait>(rt: &R, alloc: Global, words: &str, wanted: u8, told: &str) -> bool {
-    if words.is_empty() {
-        return is_run(rt, alloc, &[], wanted, told);
-    }
-    match words.split(' ').collect::<Vec<&str>>(alloc) {
-        Ok(words) => is_run(rt, alloc, words.as_slice(), wanted, told),
-        Err(_) => false,
-    }
-}
-
-// The same of a row: the words, a bar, and what is told.
-fn is_row<R: Wait>(rt: &R, alloc: Global, row: &str, wanted: u8) -> bool {
+// A run on the words of a row, and on no input, has this status and tells what stands behind the row's bar.
+fn is_row<R: Wait>(rt: &R, alloc: Global, row: &str, status: u8) -> bool {
     match row.split_once('|') {
-        Some((words, told)) => is_run_of(rt, alloc, words, wanted, told),
+        Some((words, said)) => {
+            let run = Run {
+                words,
+                status,
+                said,
+                ..QUIET
+            };
+            comes_to_that(rt, alloc, &run)
+        }
         None => false,
     }
 }
@@ -71,13 +37,6 @@ const USAGES: &str = "\
     s3d serve --keys keys --listen localhost:0 --events|error: unexpected argument '--events' found\n;\
     s3d --version|s3d 0.1.0\n;\
     s3d remove|error: unrecognized subcommand 'remove'\n";
-
-#[test]
-fn usage_faults(rt: HostRuntime) {
-    for row in USAGES.split(';') {
-        assert!(rt; is_row(&rt, rt.alloc(), row, 2), "at {row}");
-    }
-}
 
 // Where two things are wrong the first in order is told.
 const FAULTS: &str = "\
@@ -136,7 +95,10 @@ const FAULTS: &str = "\
     s3d sign --keys keys --id id --moment 0 --method GET --target / --host h --chunk 3 --body body content-encoding:gzip|cannot read body";
 
 #[test]
-fn one_line_faults(rt: HostRuntime) {
+fn faults(rt: HostRuntime) {
+    for row in USAGES.split(';') {
+        assert!(rt; is_row(&rt, rt.alloc(), row, 2), "at {row}");
+    }
     for row in FAULTS.split(';') {
         assert!(rt; is_row(&rt, rt.alloc(), row, 1), "at {row}");
     }
@@ -154,32 +116,13 @@ const MALFORMED_ANSWER: &[u8] = b"HTTP/1.1 400 Bad Request\r\n\
     \r\n\
     {\"Code\":\"MalformedHead\",\"Message\":\"The head is malformed.\"}";
 
-// A run on that head: its words, how files and devices do their work, and what comes of it.
-#[derive(Clone, Copy)]
-struct Run<'a> {
-    name: &'a str,
-    words: &'a [&'a str],
-    // Whether there is no memory for files.
-    is_full: bool,
-    input: Manner,
-    output: Manner,
-    errors: Manner,
-    status: u8,
-    written: &'a [u8],
-    said: &'a [u8],
-}
-
 // A replay where all is as it should be.
 const ABLE: Run = Run {
     name: "able devices",
-    words: &["s3d", "replay", "--keys", "keys", "--moment", "0"],
-    is_full: false,
-    input: Manner::Able,
-    output: Manner::Able,
-    errors: Manner::Able,
-    status: 0,
+    words: "s3d replay --keys keys --moment 0",
+    given: MALFORMED,
     written: MALFORMED_ANSWER,
-    said: b"",
+    ..QUIET
 };
 
 // The input fails.
@@ -188,7 +131,7 @@ const INPUT_FAILED: Run = Run {
     input: Manner::Broken,
     status: 1,
     written: b"",
-    said: b"s3d: input failed\n",
+    said: "input failed",
     ..ABLE
 };
 
@@ -198,7 +141,7 @@ const OUTPUT_FAILED: Run = Run {
     output: Manner::Broken,
     status: 1,
     written: b"",
-    said: b"s3d: output failed\n",
+    said: "output failed",
     ..ABLE
 };
 
@@ -207,15 +150,12 @@ const OUT_OF_MEMORY: Run = Run {
     name: "no memory",
     status: 1,
     written: b"",
-    said: b"s3d: out of memory\n",
+    said: "out of memory",
     ..ABLE
 };
 
 // The words of a signing.
-const SIGN: &[&str] = &[
-    "s3d", "sign", "--keys", "keys", "--id", "id", "--moment", "0", "--method", "GET", "--target",
-    "/", "--host", "h",
-];
+const SIGN: &str = "s3d sign --keys keys --id id --moment 0 --method GET --target / --host h";
 
 static RUNS: [Run; 15] = [
     ABLE,
@@ -247,13 +187,13 @@ static RUNS: [Run; 15] = [
     Run {
         name: "a failing input and failing errors",
         errors: Manner::Broken,
-        said: b"",
+        said: "",
         ..INPUT_FAILED
     },
     Run {
         name: "a failing input and unwilling errors",
         errors: Manner::Unwilling,
-        said: b"",
+        said: "",
         ..INPUT_FAILED
     },
     OUTPUT_FAILED,
@@ -292,26 +232,6 @@ static RUNS: [Run; 15] = [
         ..OUT_OF_MEMORY
     },
 ];
-
-// The run comes to that.
-fn comes_to_that<R: Wait>(rt: &R, alloc: Global, run: &Run) -> bool {
-    let mut input = Stream::new(alloc, run.input, MALFORMED);
-    let mut output = Stream::new(alloc, run.output, b"");
-    let mut errors = Stream::new(alloc, run.errors, b"");
-    let files = files(run.is_full);
-    let status = run_on(
-        rt,
-        alloc,
-        run.words,
-        &files,
-        &mut input,
-        &mut output,
-        &mut errors,
-    );
-    status == run.status
-        && is_same(output.taken.as_slice(), run.written)
-        && is_same(errors.taken.as_slice(), run.said)
-}
 
 #[test]
 fn devices(rt: HostRuntime) {

@@ -9,6 +9,8 @@ mod events;
 #[cfg(test)]
 mod faults;
 #[cfg(test)]
+mod runs;
+#[cfg(test)]
 mod serving;
 #[cfg(test)]
 mod signing;

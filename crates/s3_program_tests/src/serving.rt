@@ -1,8 +1,8 @@
 //! Words that ask for a server, and what it is started with.
-use crate::devices::{Manner, Stream, files, is_same};
-use s3_devices::{Recorded, Streams};
+use crate::devices::{Manner, Stream, files, run};
+use crate::runs::words_of;
 use s3_settings::{Fault, ServeMode, server_settings};
-use s3_tasks::{Ran, run_words};
+use s3_tasks::Ran;
 use std::alloc::Global;
 use std::sync::Wait;
 
@@ -41,50 +41,45 @@ fn mode_text(alloc: Global, mode: &ServeMode) -> Option<String> {
     text.ok()
 }
 
-// The server that the words ask for, or why there is none.
-fn server_text<R: Wait>(rt: &R, alloc: Global, words: &[&str]) -> Option<String> {
-    let mut device = Recorded::new(Streams {
-        input: Stream::new(alloc, Manner::Broken, b""),
-        output: Stream::new(alloc, Manner::Broken, b""),
-    })?;
-    let mut errors = Stream::new(alloc, Manner::Broken, b"");
-    let files = files(false);
-    match run_words(rt, alloc, words, &files, &mut device, &mut errors) {
-        Ran::Serve(options) => match server_settings(alloc, &options, &files) {
-            Ok((mode, _config)) => mode_text(alloc, &mode),
-            Err(fault) => fault_text(alloc, fault),
-        },
-        Ran::Ended(_) => None,
-    }
-}
-
 // The text of a fault.
-fn fault_text(alloc: Global, fault: Fault) -> Option<String> {
+fn fault_text(alloc: Global, fault: &Fault) -> Option<String> {
     format!(in alloc; "{fault}").ok()
 }
 
-// The server of the words is told like that.
-fn is_told<R: Wait>(rt: &R, alloc: Global, words: &str, told: &str) -> bool {
-    match words.split(' ').collect::<Vec<&str>>(alloc) {
-        Ok(words) => match server_text(rt, alloc, words.as_slice()) {
-            Some(text) => is_same(text.as_bytes(), told.as_bytes()),
-            None => false,
+// The server that the words ask for, or why there is none; nothing is read or written for it.
+fn server_text<R: Wait>(rt: &R, alloc: Global, words: &[&str]) -> Option<String> {
+    let mut input = Stream::new(alloc, Manner::Broken, b"");
+    let mut output = Stream::new(alloc, Manner::Broken, b"");
+    let mut errors = Stream::new(alloc, Manner::Broken, b"");
+    let files = files(false);
+    match run(
+        rt,
+        alloc,
+        words,
+        &files,
+        &mut input,
+        &mut output,
+        &mut errors,
+    ) {
+        Some(Ran::Serve(options)) => match server_settings(alloc, &options, &files) {
+            Ok((mode, _config)) => mode_text(alloc, &mode),
+            Err(fault) => fault_text(alloc, &fault),
         },
-        Err(_) => false,
+        _ => None,
     }
 }
 
-// The same of a row.
-fn is_row<R: Wait>(rt: &R, alloc: Global, row: &str) -> bool {
-    match row.split_once('|') {
-        Some((words, told)) => is_told(rt, alloc, words, told),
-        None => false,
-    }
+// The server of a row's words is told like that; `None` says that there is none.
+fn is_row<R: Wait>(rt: &R, alloc: Global, row: &str) -> Option<bool> {
+    let (words, told) = row.split_once('|')?;
+    let words = words_of(alloc, words, "")?;
+    let text = server_text(rt, alloc, words.as_slice())?;
+    Some(text.as_str() == told)
 }
 
 #[test]
 fn servers(rt: HostRuntime) {
     for row in SERVERS.split(';') {
-        assert!(rt; is_row(&rt, rt.alloc(), row), "at {row}");
+        assert!(rt; is_row(&rt, rt.alloc(), row) == Some(true), "at {row}");
     }
 }

@@ -12,11 +12,11 @@ use Rattle.s3_records.specs.declared.records.ListedBucket.{ListedBucket}
 use Rattle.s3_documents.specs.Buckets.{IsBucketsText}
 use Rattle.s3_documents.specs.Laws.{OneTextForBuckets}
 use Rattle.s3_documents.specs.Versioning.{versioning_text}
-use Rattle.s3_machine.specs.declared.outcome.Answer.{Answer}
-use Rattle.s3_machine.specs.declared.outcome.Found.{Found}
-use Rattle.s3_machine.specs.declared.outcome.Outcome.{Outcome}
-use Rattle.s3_machine.specs.declared.outcome.Outcome.TheVariants.{Buckets, BucketMade, BucketFound, BucketDropped, VersioningSet, BucketVersioning, Put, Got, HeadGot, Deleted, Refused}
-use Rattle.s3_machine.specs.Laws.{is_refused}
+use Rattle.s3_machine.specs.Effects.{is_refused}
+use Rattle.s3_machine.specs.declared.command.Answer.{Answer}
+use Rattle.s3_machine.specs.declared.command.Found.{Found}
+use Rattle.s3_machine.specs.declared.command.Outcome.{Outcome}
+use Rattle.s3_machine.specs.declared.command.Outcome.TheVariants.{Buckets, BucketVersioning, Got, HeadGot, Refused}
 use Rattle.s3_replies.specs.declared.context.Context.{Context}
 use Rattle.s3_terms.specs.Code.{status_of}
 use Rattle.s3_terms.specs.declared.status.Status.{Status}
@@ -42,20 +42,13 @@ PrintsOutcome_unique : OneTextForBuckets → (number : ℕ) (outcome : Outcome) 
 PrintsOutcome_unique one number (Buckets buckets) context date t u h k =
     let print = λ (document : List ℕ). print_reply (document_fields number context.closes date) context.head_only document in
     h.2 ∙ ap print (one buckets h.0 k.0 h.1 k.1) ∙ sym k.2
-PrintsOutcome_unique one number (BucketMade name) context date t u h k = h ∙ sym k
-PrintsOutcome_unique one number BucketFound context date t u h k = h ∙ sym k
-PrintsOutcome_unique one number BucketDropped context date t u h k = h ∙ sym k
-PrintsOutcome_unique one number VersioningSet context date t u h k = h ∙ sym k
-PrintsOutcome_unique one number (BucketVersioning versioning) context date t u h k = h ∙ sym k
-PrintsOutcome_unique one number (Put tag shown) context date t u h k = h ∙ sym k
 PrintsOutcome_unique one number (Got found) context date t u h k =
     let print = λ (modified : List ℕ). print_reply (got_fields found number context.closes date modified) context.head_only found.stored.body in
     h.2 ∙ ap print (IsHttpDate_unique found.moment h.0 k.0 h.1 k.1) ∙ sym k.2
 PrintsOutcome_unique one number (HeadGot found) context date t u h k =
     let print = λ (modified : List ℕ). print_head (got_fields found number context.closes date modified) in
     h.2 ∙ ap print (IsHttpDate_unique found.moment h.0 k.0 h.1 k.1) ∙ sym k.2
-PrintsOutcome_unique one number (Deleted shown is_delete_marker) context date t u h k = h ∙ sym k
-PrintsOutcome_unique one number (Refused code is_delete_marker) context date t u h k = h ∙ sym k
+PrintsOutcome_unique one number _ context date t u h k = h ∙ sym k
 
 pub Prints_unique : OneTextForBuckets → (answer : Answer) (context : Context) (t u : List ℕ) → Prints answer context t → Prints answer context u → t ≡ u
 Prints_unique one answer context t u h k =
@@ -72,53 +65,47 @@ list_printed one number buckets context date head document told is = λ bytes bo
 
 -- ---- what a client sees of it
 
-ok_succeeds : (more : List ℕ) → tells_success (status_line statuses.Ok ++ more) ≡ true
-unfolding status_line digits
-ok_succeeds more = refl
+-- the statuses that tell of success
+abbrev succeeds : Status → Bool
+succeeds statuses.Ok = true
+succeeds statuses.NoContent = true
+succeeds statuses.PartialContent = true
+succeeds other = false
 
-no_content_succeeds : (more : List ℕ) → tells_success (status_line statuses.NoContent ++ more) ≡ true
+status_shows : (status : Status) (more : List ℕ) → tells_success (status_line status ++ more) ≡ succeeds status
 unfolding status_line digits
-no_content_succeeds more = refl
+status_shows statuses.Ok more = refl
+status_shows _ more = refl
 
-refusal_fails : (code : Code) (more : List ℕ) → tells_success (status_line (status_of code) ++ more) ≡ false
-unfolding status_line digits
-refusal_fails MalformedHead more = refl
-refusal_fails _ more = refl
+refusal_fails : (code : Code) → succeeds (status_of code) ≡ false
+refusal_fails MalformedHead = refl
+refusal_fails _ = refl
 
 -- all of a reply stands behind its status line
 behind_status : (status : Status) (lines end body : List ℕ) → status_line status ++ lines ++ end ++ body ≡ status_line status ++ (lines ++ end ++ body)
 behind_status status lines end body =
     ap (λ r. r ++ body) (append_assoc (status_line status) lines end) ∙ append_assoc (status_line status) (lines ++ end) body
 
--- what the status line shows, a reply that is a head shows, and one with a body
-Shows : Status → Bool → Type 0
-Shows status success = (more : List ℕ) → tells_success (status_line status ++ more) ≡ success
+-- what the status shows, a reply that is a head shows, and one with a body
+head_shows : (head : Fields) (text : List ℕ) → text ≡ print_head head → tells_success text ≡ succeeds head.status
+unfolding print_head
+head_shows head text is = ap tells_success (is ∙ append_assoc (status_line head.status) _ crlf) ∙ status_shows head.status _
 
-head_shows : (head : Fields) (text : List ℕ) (success : Bool) → Shows head.status success → text ≡ print_head head → tells_success text ≡ success
-unfolding print_head Shows
-head_shows head text success shows is = ap tells_success (is ∙ append_assoc (status_line head.status) _ crlf) ∙ shows _
-
-reply_shows : (head : Fields) (head_only : Bool) (body text : List ℕ) (success : Bool) → Shows head.status success → text ≡ print_reply head head_only body → tells_success text ≡ success
-unfolding print_head Shows
-reply_shows head head_only body text success shows is = ap tells_success (is ∙ behind_status head.status _ _ _) ∙ shows _
+reply_shows : (head : Fields) (head_only : Bool) (body text : List ℕ) → text ≡ print_reply head head_only body → tells_success text ≡ succeeds head.status
+unfolding print_head
+reply_shows head head_only body text is = ap tells_success (is ∙ behind_status head.status _ _ _) ∙ status_shows head.status _
 
 shown : (number : ℕ) (outcome : Outcome) (context : Context) (date text : List ℕ) → PrintsOutcome number outcome context date text
     → tells_success text ≡ not (is_refused outcome)
-unfolding Shows
-shown number (Buckets buckets) context date text is = reply_shows (document_fields number context.closes date) context.head_only is.0 text true ok_succeeds is.2
-shown number (BucketMade name) context date text is = head_shows _ text true ok_succeeds is
-shown number BucketFound context date text is = head_shows _ text true ok_succeeds is
-shown number BucketDropped context date text is = head_shows _ text true no_content_succeeds is
-shown number VersioningSet context date text is = head_shows _ text true ok_succeeds is
+shown number (Buckets buckets) context date text is = reply_shows (document_fields number context.closes date) context.head_only is.0 text is.2
 shown number (BucketVersioning versioning) context date text is =
-    reply_shows (document_fields number context.closes date) context.head_only (versioning_text versioning) text true ok_succeeds is
-shown number (Put tag id) context date text is = head_shows _ text true ok_succeeds is
+    reply_shows (document_fields number context.closes date) context.head_only (versioning_text versioning) text is
 shown number (Got found) context date text is =
-    reply_shows (got_fields found number context.closes date is.0) context.head_only found.stored.body text true ok_succeeds is.2
-shown number (HeadGot found) context date text is = head_shows _ text true ok_succeeds is.2
-shown number (Deleted id is_delete_marker) context date text is = head_shows _ text true no_content_succeeds is
+    reply_shows (got_fields found number context.closes date is.0) context.head_only found.stored.body text is.2
+shown number (HeadGot found) context date text is = head_shows _ text is.2
 shown number (Refused code is_delete_marker) context date text is =
-    reply_shows (error_fields code is_delete_marker number context.closes date) context.head_only (error_document code) text false (refusal_fails code) is
+    reply_shows (error_fields code is_delete_marker number context.closes date) context.head_only (error_document code) text is ∙ refusal_fails code
+shown number _ context date text is = head_shows _ text is
 
 pub success_is_shown : SuccessIsShown
 success_is_shown answer context text prints = shown answer.number answer.outcome context prints.0 text prints.2

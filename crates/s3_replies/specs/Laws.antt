@@ -8,10 +8,10 @@ use Rattle.s3_text.specs.Characters.{crlf, carriage_return}
 use Rattle.s3_terms.specs.declared.code.Code.{Code}
 use Rattle.s3_segments.specs.Payload.{tag_of}
 use Rattle.s3_versions.specs.declared.version.Data.{Data}
-use Rattle.s3_machine.specs.declared.outcome.Answer.{Answer}
-use Rattle.s3_machine.specs.declared.outcome.Found.{Found}
-use Rattle.s3_machine.specs.declared.outcome.Outcome.TheVariants.{Got, HeadGot}
-use Rattle.s3_machine.specs.Laws.{is_refused}
+use Rattle.s3_machine.specs.Effects.{is_refused}
+use Rattle.s3_machine.specs.declared.command.Answer.{Answer}
+use Rattle.s3_machine.specs.declared.command.Found.{Found}
+use Rattle.s3_machine.specs.declared.command.Outcome.TheVariants.{Got, HeadGot}
 use Rattle.s3_machine.specs.Step.{head_of}
 use Rattle.s3_replies.specs.declared.context.Context.{Context}
 use Rattle.s3_replies.specs.Lines.{Line, print_line, print_lines, metadata_line}

@@ -9,10 +9,10 @@ use Rattle.s3_names.specs.Ids.{version_id_text}
 use Rattle.s3_names.specs.declared.ids.VersionId.{VersionId}
 use Rattle.s3_documents.specs.Buckets.{IsBucketsText}
 use Rattle.s3_documents.specs.Versioning.{versioning_text}
-use Rattle.s3_machine.specs.declared.outcome.Answer.{Answer}
-use Rattle.s3_machine.specs.declared.outcome.Found.{Found}
-use Rattle.s3_machine.specs.declared.outcome.Outcome.{Outcome}
-use Rattle.s3_machine.specs.declared.outcome.Outcome.TheVariants as outcomes
+use Rattle.s3_machine.specs.declared.command.Answer.{Answer}
+use Rattle.s3_machine.specs.declared.command.Found.{Found}
+use Rattle.s3_machine.specs.declared.command.Outcome.{Outcome}
+use Rattle.s3_machine.specs.declared.command.Outcome.TheVariants as outcomes
 use Rattle.s3_replies.specs.declared.context.Context.{Context}
 use Rattle.s3_terms.specs.declared.status.Status.TheVariants as statuses
 use Rattle.s3_replies.specs.Date.{IsHttpDate}

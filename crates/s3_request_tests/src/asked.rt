@@ -1,55 +1,57 @@
-//! What tests ask of a head, and whether it is so.
-use crate::canonical::{are_joined, has_hash, has_query, has_uri};
-use crate::heads::{has_parts, is_framing};
-use crate::routing::{is_routed, is_unknown};
-use crate::targets::{Case, Pair, has_count, is_read_of};
+//! What is asked of a head, and the text that tells the answer.
+//!
+//! A row is the text of a head, a bar, and what is told of it: the answer, or the name of its refusal. A `^` stands between
+//! two rows: one text costs less to prove than a table. `{t*255}` stands for 255 times `t`.
+use crate::canonical::{hash_text, joined_text, query_text, uri_text};
+use crate::heads::{has_parts, length_text};
+use crate::plans::{description_text, operation_text, route_text};
+use crate::targets::{parameters_text, target_text};
 use s3_http_heads::Head;
 use s3_terms::Code;
 use std::alloc::Global;
 
-/// A text that is wanted, or the refusal in its place.
-pub(crate) type Text = Result<&'static [u8], Code>;
+/// A text that tells of something, or the refusal in its place.
+pub(crate) type Told = Result<Vec<u8>, Code>;
 
-/// What a head should be, or be answered.
-#[derive(Clone, Copy)]
-pub(crate) enum Asked {
-    /// The text is no head.
-    Malformed,
+/// What is asked of a head.
+pub(crate) enum Question {
     /// Whether the connection ends with the reply.
-    Closes(bool),
+    Closes,
+    /// Whether a reply is asked for before the body.
+    Expects,
     /// How many header lines there are.
-    Lines(usize),
-    /// The parts of the head that `heads` prints.
+    Lines,
+    /// Whether it has the parts of the head that `heads` prints.
     Parts,
-    /// What `framing` says at a limit of 100 bytes.
-    Framed(Result<u64, Code>),
-    /// What the target says.
-    Says(&'static Case),
-    /// How many parameters the target has, none of which is called `b`.
-    Parameters(usize),
-    /// It is routed with this refusal.
-    Refused(Code),
-    /// It asks for an operation.
-    Routed,
-    /// It asks for the operation of this name (Amazon S3 API Reference), of the bucket `pail` and its key `k` where it is
-    /// about them, and of no version.
-    Asks(&'static [u8]),
-    /// The same of the version of this id.
-    AsksOf(&'static [u8], &'static [u8]),
-    /// It asks to put this key in this bucket.
-    Puts(&'static [u8], &'static [u8]),
-    /// It asks to get this key from this bucket.
-    Gets(&'static [u8], &'static [u8]),
-    /// It asks to put an object of this media type, with these names of metadata and their values.
-    Stores(&'static [u8], &'static [Pair]),
+    /// The length of the body, where a body may have 100 bytes.
+    Length,
+    /// What the target says, a line each: the path, the bucket, the key, `?` where there is a query, and each parameter, as
+    /// its name, a colon and its value.
+    Target,
+    /// How many parameters the target has, or `b` where one of them is called so.
+    Parameters,
     /// The canonical URI.
-    Uri(Text),
+    Uri,
     /// The canonical query.
-    Query(Text),
-    /// The values of one name are joined, and a name that is not there has none.
+    Query,
+    /// The canonical lines of a name that is not there and of one that is.
     Joined,
-    /// The hash of the published example.
+    /// Whether the hash is that of the published example.
     Hash,
+    /// The operation (Amazon S3 API Reference), its bucket, its key, and the id of the version that is asked for.
+    Route,
+    /// The operation alone.
+    Operation,
+    /// What a put says of its object: the media type, and in a line each the names of metadata, a colon, and their values.
+    Description,
+}
+
+/// Texts of heads and what is told of them, with what stands before and behind each of these texts.
+pub(crate) struct Table {
+    pub(crate) question: Question,
+    pub(crate) front: &'static str,
+    pub(crate) rows: &'static str,
+    pub(crate) end: &'static str,
 }
 
 /// Whether two texts are the same.
@@ -57,60 +59,122 @@ pub(crate) fn is_same(text: &[u8], other: &[u8]) -> bool {
     text == other
 }
 
-// Whether the head is so. What is asked of the route and of the canonical request stands in other functions.
-fn is_head_so(alloc: Global, head: &Head, asked: &Asked) -> bool {
-    match asked {
-        Asked::Malformed => false,
-        Asked::Closes(closes) => head.closes() == *closes,
-        Asked::Lines(count) => head.header_count() == *count,
-        Asked::Parts => has_parts(head),
-        Asked::Framed(wanted) => is_framing(head, wanted),
-        Asked::Says(case) => is_read_of(head, case),
-        Asked::Parameters(count) => has_count(head, *count),
-        Asked::Uri(wanted) => has_uri(alloc, head, wanted),
-        Asked::Query(wanted) => has_query(alloc, head, wanted),
-        Asked::Joined => are_joined(alloc, head),
-        Asked::Hash => has_hash(alloc, head),
-        _ => is_routed(alloc, head, asked),
+/// The word.
+pub(crate) fn word(alloc: Global, word: &str) -> Told {
+    Ok(Vec::from_slice(alloc, word.as_bytes())?)
+}
+
+// Whether it is so, in a word.
+fn whether(alloc: Global, is_so: bool) -> Told {
+    word(alloc, if is_so { "yes" } else { "no" })
+}
+
+/// The number in decimal digits.
+pub(crate) fn number(alloc: Global, number: u64) -> Told {
+    match format!(in alloc; "{number}") {
+        Ok(text) => Ok(text.into_bytes()),
+        Err(_) => Err(Code::InternalError),
     }
 }
 
-/// Whether the head of this text is so.
-pub(crate) fn is_so(alloc: Global, text: &[u8], asked: &Asked) -> bool {
-    match Head::read(alloc, text) {
-        Ok(head) => is_head_so(alloc, &head, asked),
-        Err(code) => is_unknown(code, asked),
+// The answer to the question.
+fn answer(alloc: Global, head: &Head, question: &Question) -> Told {
+    match question {
+        Question::Closes => whether(alloc, head.closes()),
+        Question::Expects => whether(alloc, head.expects_continue()),
+        Question::Lines => number(alloc, head.header_count() as u64),
+        Question::Parts => whether(alloc, has_parts(head)),
+        Question::Length => length_text(alloc, head),
+        Question::Target => target_text(alloc, head),
+        Question::Parameters => parameters_text(alloc, head),
+        Question::Uri => uri_text(alloc, head),
+        Question::Query => query_text(alloc, head),
+        Question::Joined => joined_text(alloc, head),
+        Question::Hash => hash_text(alloc, head),
+        Question::Route => route_text(alloc, head),
+        Question::Operation => operation_text(alloc, head),
+        Question::Description => description_text(alloc, head),
     }
 }
 
-/// A head's text, and what it should be.
-pub(crate) type Row = (&'static [u8], Asked);
+// The answer for the head of this text.
+fn answer_of(alloc: Global, question: &Question, text: &[u8]) -> Told {
+    let head = Head::read(alloc, text)?;
+    let told = answer(alloc, &head, question);
+    drop(head);
+    told
+}
 
-/// Whether the heads of all texts are so.
-pub(crate) fn are_so(alloc: Global, rows: &[Row]) -> bool {
-    for row in rows {
-        if !is_so(alloc, row.0, &row.1) {
-            return false;
+/// Whether this is what is told.
+pub(crate) fn is_told(told: &Told, wanted: &[u8]) -> bool {
+    match told {
+        Ok(text) => is_same(text, wanted),
+        Err(code) => is_same(code.name().as_bytes(), wanted),
+    }
+}
+
+/// Whether that is told of the head of this text.
+pub(crate) fn is_so(alloc: Global, question: &Question, text: &[u8], wanted: &[u8]) -> bool {
+    is_told(&answer_of(alloc, question, text), wanted)
+}
+
+// The front, the copies of the piece, which are told by their number, and the end.
+fn repeated(alloc: Global, front: &str, copies: &str, end: &str) -> Option<Vec<u8>> {
+    let (piece, count) = copies.split_once('*')?;
+    let count = count.parse::<usize>().ok()?;
+    crate::texts::repeated(
+        alloc,
+        front.as_bytes(),
+        piece.as_bytes(),
+        count,
+        end.as_bytes(),
+    )
+    .ok()
+}
+
+// The text that this one stands for; `None` where there is no memory for it.
+fn spelled(alloc: Global, text: &str) -> Option<Vec<u8>> {
+    match text.split_once('{') {
+        Some((front, rest)) => {
+            let (copies, end) = rest.split_once('}')?;
+            repeated(alloc, front, copies, end)
+        }
+        None => Vec::from_slice(alloc, text.as_bytes()).ok(),
+    }
+}
+
+// The text of a row's head.
+fn text_of(alloc: Global, table: &Table, text: &str) -> Option<Vec<u8>> {
+    let text = spelled(alloc, text)?;
+    [table.front.as_bytes(), &text, table.end.as_bytes()]
+        .concat(alloc)
+        .ok()
+}
+
+// Whether the row of this table holds; `None` says that it isn't well written.
+fn holds(alloc: Global, table: &Table, row: &str) -> Option<bool> {
+    let (text, wanted) = row.split_once('|')?;
+    let text = text_of(alloc, table, text)?;
+    Some(is_so(alloc, &table.question, &text, wanted.as_bytes()))
+}
+
+// The first row of this table that doesn't hold.
+fn first_in(alloc: Global, table: &Table) -> Option<&'static str> {
+    for row in table.rows.split('^') {
+        if holds(alloc, table, row) != Some(true) {
+            return Some(row);
         }
     }
-    true
+    None
 }
 
-/// Whether the head with this method and this target, and no header lines, is so.
-pub(crate) fn is_so_at(alloc: Global, method: &[u8], target: &[u8], asked: &Asked) -> bool {
-    match [method, b" ", target, b" HTTP/1.1\r\n\r\n"].concat(alloc) {
-        Ok(text) => is_so(alloc, &text, asked),
-        Err(_) => false,
+/// The first row of these tables that doesn't hold.
+pub(crate) fn first_other(alloc: Global, tables: &[Table]) -> Option<&'static str> {
+    for table in tables {
+        let other = first_in(alloc, table);
+        if other.is_some() {
+            return other;
+        }
     }
-}
-
-/// A front, a piece, how many copies of it follow, an end, and what the head of their text should be.
-pub(crate) type Long = (&'static [u8], &'static [u8], usize, &'static [u8], Asked);
-
-/// Whether it is so.
-pub(crate) fn is_long_so(alloc: Global, long: &Long) -> bool {
-    match crate::texts::repeated(alloc, long.0, long.1, long.2, long.3) {
-        Ok(text) => is_so(alloc, &text, &long.4),
-        Err(_) => false,
-    }
+    None
 }

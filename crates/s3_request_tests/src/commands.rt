@@ -1,203 +1,152 @@
 //! The commands of requests: what becomes of their bodies.
-use crate::asked::is_same;
-use crate::store_commands::payload_of;
+use crate::asked::{Told, is_same, is_told, word};
+use md5::{Digest, Md5};
 use s3_http_heads::Head;
 use s3_requests::{BucketCommand, Command, KeyCommand, Plan, command, route};
-use s3_segments::Payload;
+use s3_segments::{Body, Payload};
 use s3_terms::Code;
 use s3_versions::VersioningStatus;
 use std::alloc::Global;
 
+// The lines of a head behind its first one.
+const LINES: &[u8] = b" HTTP/1.1\r\ncontent-type: text/plain\r\nx-amz-meta-colour: red\r\n\r\n";
+
+// What a request of this method and target asks for.
+fn plan_of(alloc: Global, line: &str) -> Result<Plan, Code> {
+    let text = [line.as_bytes(), LINES].concat(alloc)?;
+    let head = Head::read(alloc, &text)?;
+    let plan = route(alloc, &head);
+    drop(head);
+    plan
+}
+
+// The payload of these bytes.
+fn payload_of(alloc: Global, bytes: &[u8]) -> Result<Payload, Code> {
+    let digest = Md5::digest(bytes);
+    let body = Body::new(Vec::from_slice(alloc, bytes)?);
+    Ok(Payload::new(body, digest.into()))
+}
+
+// The command of a plan and of this body.
+fn planned(alloc: Global, plan: Plan, body: &[u8]) -> Result<Command, Code> {
+    command(alloc, plan, payload_of(alloc, body)?)
+}
+
+/// The command of a request with this method and target, and this body. It says that its body is text, and has one name of
+/// metadata, `colour`, with the value `red`.
+pub(crate) fn command_of(alloc: Global, line: &str, body: &[u8]) -> Result<Command, Code> {
+    planned(alloc, plan_of(alloc, line)?, body)
+}
+
+/// The method and target of a request, and the body behind the first `<`, if there is one.
+pub(crate) fn cut(asked: &str) -> (&str, &str) {
+    asked.split_once('<').unwrap_or((asked, ""))
+}
+
+// What a command does to a bucket.
+fn bucket_text(asked: BucketCommand) -> &'static str {
+    match asked {
+        BucketCommand::Create => "CreateBucket",
+        BucketCommand::Head => "HeadBucket",
+        BucketCommand::Delete => "DeleteBucket",
+        BucketCommand::PutVersioning {
+            status: VersioningStatus::Enabled,
+        } => "PutBucketVersioning Enabled",
+        BucketCommand::PutVersioning {
+            status: VersioningStatus::Suspended,
+        } => "PutBucketVersioning Suspended",
+        BucketCommand::GetVersioning => "GetBucketVersioning",
+    }
+}
+
 // The tag of the bytes `hello`, as md5sum tells it.
 const HELLO_TAG: &[u8] = b"5d41402abc4b2a76b9719d911017c592";
 
-// What a command does to a bucket.
-fn bucket_text(asked: BucketCommand) -> &'static [u8] {
-    match asked {
-        BucketCommand::Create => b"CreateBucket",
-        BucketCommand::Head => b"HeadBucket",
-        BucketCommand::Delete => b"DeleteBucket",
-        BucketCommand::PutVersioning {
-            status: VersioningStatus::Enabled,
-        } => b"PutBucketVersioning Enabled",
-        BucketCommand::PutVersioning {
-            status: VersioningStatus::Suspended,
-        } => b"PutBucketVersioning Suspended",
-        BucketCommand::GetVersioning => b"GetBucketVersioning",
-    }
-}
-
 // What is put.
-fn put_text(payload: &Payload) -> &'static [u8] {
+fn put_text(payload: &Payload) -> &'static str {
     if is_same(&payload.tag().text(), HELLO_TAG) {
-        b"PutObject hello"
+        "PutObject hello"
     } else {
-        b"PutObject"
+        "PutObject"
     }
-}
-
-// Which version is meant.
-fn version_text(
-    version: bool,
-    of_version: &'static [u8],
-    of_current: &'static [u8],
-) -> &'static [u8] {
-    if version { of_version } else { of_current }
 }
 
 // What a command does to a key.
-fn key_text(asked: &KeyCommand) -> &'static [u8] {
+fn key_text(asked: &KeyCommand) -> &'static str {
     match asked {
         KeyCommand::Put { payload, .. } => put_text(payload),
-        KeyCommand::Get { version } => {
-            version_text(version.is_some(), b"GetObject of a version", b"GetObject")
-        }
-        KeyCommand::Head { version } => {
-            version_text(version.is_some(), b"HeadObject of a version", b"HeadObject")
-        }
-        KeyCommand::Delete { version } => {
-            version_text(
-                version.is_some(),
-                b"DeleteObject of a version",
-                b"DeleteObject",
-            )
-        }
+        KeyCommand::Get { version: None } => "GetObject",
+        KeyCommand::Get { version: Some(_) } => "GetObject of a version",
+        KeyCommand::Head { version: None } => "HeadObject",
+        KeyCommand::Head { version: Some(_) } => "HeadObject of a version",
+        KeyCommand::Delete { version: None } => "DeleteObject",
+        KeyCommand::Delete { version: Some(_) } => "DeleteObject of a version",
     }
 }
 
 // The command as a text.
-fn text_of(command: &Command) -> &'static [u8] {
+fn text_of(command: &Command) -> &'static str {
     match command {
-        Command::ListBuckets => b"ListBuckets",
+        Command::ListBuckets => "ListBuckets",
         Command::Bucket { asked, .. } => bucket_text(*asked),
         Command::Key { asked, .. } => key_text(asked),
     }
 }
 
-// What a request of this method and target asks for.
-fn plan_of(alloc: Global, line: &[u8]) -> Result<Plan, Code> {
-    let text = [line, b" HTTP/1.1\r\n\r\n"].concat(alloc)?;
-    let head = Head::read(alloc, &text)?;
-    route(alloc, &head)
+// What a request asks for with this body.
+fn command_text(alloc: Global, line: &str, body: &[u8]) -> Told {
+    let command = command_of(alloc, line, body)?;
+    let text = text_of(&command);
+    drop(command);
+    word(alloc, text)
 }
 
-// The text of what is planned with this payload, and its refusal where nothing is.
-fn command_text(alloc: Global, plan: Plan, payload: Payload) -> Result<&'static [u8], Code> {
-    let command = command(alloc, plan, payload)?;
-    Ok(text_of(&command))
+// Whether the request asks for that with this body.
+fn is_asked(alloc: Global, line: &str, body: &[u8], wanted: &str) -> bool {
+    is_told(&command_text(alloc, line, body), wanted.as_bytes())
 }
 
-// The same with this body.
-fn planned_text(alloc: Global, plan: Plan, body: &[u8]) -> Result<&'static [u8], Code> {
-    command_text(alloc, plan, payload_of(alloc, body)?)
+// Requests, and what they ask for. A `^` stands between two rows.
+const ROWS: &str = "\
+    GET /<hello|ListBuckets^\
+    PUT /pail<hello|CreateBucket^\
+    HEAD /pail<hello|HeadBucket^\
+    DELETE /pail<hello|DeleteBucket^\
+    GET /pail?versioning<hello|GetBucketVersioning^\
+    PUT /pail/k<hello|PutObject hello^\
+    PUT /pail/k|PutObject^\
+    PUT /pail/k?versionId=null<hello|PutObject hello^\
+    GET /pail/k<hello|GetObject^\
+    HEAD /pail/k<hello|HeadObject^\
+    DELETE /pail/k<hello|DeleteObject^\
+    GET /pail/k?versionId=null|GetObject of a version^\
+    HEAD /pail/k?versionId=null|HeadObject of a version^\
+    DELETE /pail/k?versionId=null|DeleteObject of a version^\
+    PUT /pail?versioning<{\"Status\":\"Enabled\"}|PutBucketVersioning Enabled^\
+    PUT /pail?versioning< {\"Status\" : \"Suspended\"}\n|PutBucketVersioning Suspended^\
+    PUT /pail?versioning<{\"Status\":\"Enabled\",\"MFADelete\":[],\"Status\":\"Suspended\"}|PutBucketVersioning Suspended^\
+    PUT /pail?versioning|MalformedBody^\
+    PUT /pail?versioning<{}|MalformedBody^\
+    PUT /pail?versioning<\"Enabled\"|MalformedBody^\
+    PUT /pail?versioning<{\"Status\":\"enabled\"}|MalformedBody^\
+    PUT /pail?versioning<{\"Status\":\"Enabled\"|MalformedBody^\
+    PUT /pail?versioning<<Status>Enabled</Status>|MalformedBody";
+
+// Whether a row holds; `None` says that it has no bar.
+fn holds(alloc: Global, row: &str) -> Option<bool> {
+    let (asked, wanted) = row.split_once('|')?;
+    let (line, body) = cut(asked);
+    Some(is_asked(alloc, line, body.as_bytes(), wanted))
 }
 
-// The text of what it asks for with this body, and its refusal where it asks for nothing.
-fn asked_of(alloc: Global, line: &[u8], body: &[u8]) -> Result<&'static [u8], Code> {
-    planned_text(alloc, plan_of(alloc, line)?, body)
-}
-
-/// A request's method and target, its body, and what it asks for, or its refusal.
-type Case = (&'static [u8], &'static [u8], Result<&'static [u8], Code>);
-
-// Whether the request asks for that.
-fn is_so(alloc: Global, case: &Case) -> bool {
-    match (asked_of(alloc, case.0, case.1), case.2) {
-        (Ok(text), Ok(wanted)) => is_same(text, wanted),
-        (Err(code), Err(wanted)) => code == wanted,
-        _ => false,
-    }
-}
-
-const MALFORMED: Result<&'static [u8], Code> = Err(Code::MalformedBody);
-
-static CASES: [Case; 24] = [
-    (b"GET /", b"hello", Ok(b"ListBuckets")),
-    (b"PUT /pail", b"hello", Ok(b"CreateBucket")),
-    (b"HEAD /pail", b"hello", Ok(b"HeadBucket")),
-    (b"DELETE /pail", b"hello", Ok(b"DeleteBucket")),
-    (
-        b"GET /pail?versioning",
-        b"hello",
-        Ok(b"GetBucketVersioning"),
-    ),
-    (b"PUT /pail/k", b"hello", Ok(b"PutObject hello")),
-    (b"PUT /pail/k", b"", Ok(b"PutObject")),
-    (
-        b"PUT /pail/k?versionId=null",
-        b"hello",
-        Ok(b"PutObject hello"),
-    ),
-    (b"GET /pail/k", b"hello", Ok(b"GetObject")),
-    (b"HEAD /pail/k", b"hello", Ok(b"HeadObject")),
-    (b"DELETE /pail/k", b"hello", Ok(b"DeleteObject")),
-    (
-        b"GET /pail/k?versionId=null",
-        b"",
-        Ok(b"GetObject of a version"),
-    ),
-    (
-        b"HEAD /pail/k?versionId=null",
-        b"",
-        Ok(b"HeadObject of a version"),
-    ),
-    (
-        b"DELETE /pail/k?versionId=null",
-        b"",
-        Ok(b"DeleteObject of a version"),
-    ),
-    (
-        b"PUT /pail?versioning",
-        b"{\"Status\":\"Enabled\"}",
-        Ok(b"PutBucketVersioning Enabled"),
-    ),
-    (
-        b"PUT /pail?versioning",
-        b" {\"Status\" : \"Suspended\"}\n",
-        Ok(b"PutBucketVersioning Suspended"),
-    ),
-    (
-        b"PUT /pail?versioning",
-        b"{\"Status\":\"Enabled\",\"MFADelete\":[],\"Status\":\"Suspended\"}",
-        Ok(b"PutBucketVersioning Suspended"),
-    ),
-    (b"PUT /pail?versioning", b"", MALFORMED),
-    (b"PUT /pail?versioning", b"{}", MALFORMED),
-    (b"PUT /pail?versioning", b"\"Enabled\"", MALFORMED),
-    (
-        b"PUT /pail?versioning",
-        b"{\"Status\":\"enabled\"}",
-        MALFORMED,
-    ),
-    (
-        b"PUT /pail?versioning",
-        b"{\"Status\":\"Enabled\"",
-        MALFORMED,
-    ),
-    (
-        b"PUT /pail?versioning",
-        b"{\"Status\":\"Enabled\",\"a\":\"\xff\"}",
-        MALFORMED,
-    ),
-    (
-        b"PUT /pail?versioning",
-        b"<Status>Enabled</Status>",
-        MALFORMED,
-    ),
-];
-
-// Whether all requests ask for what they should.
-fn are_so(alloc: Global, cases: &[Case]) -> bool {
-    for case in cases {
-        if !is_so(alloc, case) {
-            return false;
-        }
-    }
-    true
-}
+// A document that is no text.
+const NO_TEXT: &[u8] = b"{\"Status\":\"Enabled\",\"a\":\"\xff\"}";
 
 // PutBucketVersioning alone reads a document, and PutObject keeps the body; nothing else looks at it.
 #[test]
 fn bodies_of_commands(rt: HostRuntime) {
-    assert!(rt; are_so(rt.alloc(), &CASES));
+    for row in ROWS.split('^') {
+        assert!(rt; holds(rt.alloc(), row) == Some(true), "at {row}");
+    }
+    assert!(rt; is_asked(rt.alloc(), "PUT /pail?versioning", NO_TEXT, "MalformedBody"));
 }

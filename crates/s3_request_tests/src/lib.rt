@@ -23,8 +23,6 @@ mod search;
 #[cfg(test)]
 mod store;
 #[cfg(test)]
-mod store_commands;
-#[cfg(test)]
 mod targets;
 #[cfg(test)]
 mod texts;

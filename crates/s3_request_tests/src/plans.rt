@@ -1,138 +1,125 @@
-//! What plans are told by: the operation, the bucket and the key, and the version.
-use crate::asked::{Asked, is_same};
-use crate::targets::Pair;
+//! The texts of plans: the operation, the bucket and the key, the version, and what a put says of its object.
+use crate::asked::{Told, word};
+use crate::targets::push_line;
+use s3_http_heads::Head;
 use s3_names::VersionId;
-use s3_requests::{BucketPlan, KeyPlan, Plan};
-use s3_versions::Metadata;
-
-// Whether these are the names of a bucket and a key.
-fn are_names(names: (&[u8], &[u8]), bucket: &[u8], key: &[u8]) -> bool {
-    is_same(names.0, bucket) && is_same(names.1, key)
-}
-
-// Whether this is the metadata.
-fn is_metadata(metadata: &Metadata, pairs: &[Pair]) -> bool {
-    let entries = metadata.entries();
-    if entries.len() != pairs.len() {
-        return false;
-    }
-    for index in 0..entries.len() {
-        let pair = (entries[index].name(), entries[index].value());
-        if !are_names(pair, pairs[index].0, pairs[index].1) {
-            return false;
-        }
-    }
-    true
-}
+use s3_requests::{BucketPlan, KeyPlan, Plan, route};
+use s3_terms::Code;
+use s3_versions::{ContentType, Metadata};
+use std::alloc::Global;
 
 // The operation on a bucket.
-fn bucket_operation(asked: BucketPlan) -> &'static [u8] {
+fn bucket_operation(asked: BucketPlan) -> &'static str {
     match asked {
-        BucketPlan::Create => b"CreateBucket",
-        BucketPlan::Head => b"HeadBucket",
-        BucketPlan::Delete => b"DeleteBucket",
-        BucketPlan::PutVersioning => b"PutBucketVersioning",
-        BucketPlan::GetVersioning => b"GetBucketVersioning",
+        BucketPlan::Create => "CreateBucket",
+        BucketPlan::Head => "HeadBucket",
+        BucketPlan::Delete => "DeleteBucket",
+        BucketPlan::PutVersioning => "PutBucketVersioning",
+        BucketPlan::GetVersioning => "GetBucketVersioning",
     }
 }
 
-// The operation on a key.
-fn key_operation(asked: &KeyPlan) -> &'static [u8] {
+// The operation on a key, and the version that is asked for.
+fn key_operation(asked: &KeyPlan) -> (&'static str, Option<VersionId>) {
     match asked {
-        KeyPlan::Put { .. } => b"PutObject",
-        KeyPlan::Get { .. } => b"GetObject",
-        KeyPlan::Head { .. } => b"HeadObject",
-        KeyPlan::Delete { .. } => b"DeleteObject",
+        KeyPlan::Put { .. } => ("PutObject", None),
+        KeyPlan::Get { version } => ("GetObject", *version),
+        KeyPlan::Head { version } => ("HeadObject", *version),
+        KeyPlan::Delete { version } => ("DeleteObject", *version),
     }
 }
 
-// The version that is asked for.
-fn version_of(asked: &KeyPlan) -> Option<VersionId> {
-    match asked {
-        KeyPlan::Put { .. } => None,
-        KeyPlan::Get { version } => *version,
-        KeyPlan::Head { version } => *version,
-        KeyPlan::Delete { version } => *version,
-    }
-}
-
-// Whether it is the version of this id.
-fn is_version(version: Option<VersionId>, id: &[u8]) -> bool {
-    match version {
-        Some(version) => is_same(version.text().as_bytes(), id),
-        None => false,
-    }
-}
-
-// Whether what is asked of a bucket of this name is wanted.
-fn is_bucket_asked(plan: BucketPlan, name: &[u8], asked: &Asked) -> bool {
-    match asked {
-        Asked::Routed => true,
-        Asked::Asks(operation) => is_same(name, b"pail")
-            && is_same(bucket_operation(plan), operation),
-        _ => false,
-    }
-}
-
-// Whether a put says this of its object.
-fn is_stored(plan: &KeyPlan, kind: &[u8], pairs: &[Pair]) -> bool {
+// The operation.
+fn operation(plan: &Plan) -> &'static str {
     match plan {
-        KeyPlan::Put {
-            content_type,
-            metadata,
-        } => is_same(content_type.as_bytes(), kind) && is_metadata(metadata, pairs),
-        _ => false,
+        Plan::ListBuckets => "ListBuckets",
+        Plan::Bucket { asked, .. } => bucket_operation(*asked),
+        Plan::Key { asked, .. } => key_operation(asked).0,
     }
 }
 
-// Whether the plan is of that operation on the key of that bucket.
-fn is_operation(
-    plan: &KeyPlan,
-    names: (&[u8], &[u8]),
-    operation: &[u8],
-    at: (&[u8], &[u8]),
-) -> bool {
-    is_same(key_operation(plan), operation) && are_names(names, at.0, at.1)
+// An operation on a bucket.
+fn bucket_text(alloc: Global, operation: &[u8], bucket: &[u8]) -> Told {
+    Ok([operation, b" ", bucket].concat(alloc)?)
 }
 
-// Whether what is asked of a key of these names is wanted.
-fn is_key_asked(plan: &KeyPlan, names: (&[u8], &[u8]), asked: &Asked) -> bool {
-    let version = version_of(plan);
-    match asked {
-        Asked::Routed => true,
-        Asked::Asks(operation) => {
-            version.is_none() && is_operation(plan, names, operation, (b"pail", b"k"))
-        }
-        Asked::AsksOf(operation, id) => {
-            is_version(version, id) && is_operation(plan, names, operation, (b"pail", b"k"))
-        }
-        Asked::Puts(bucket, key) => is_operation(plan, names, b"PutObject", (bucket, key)),
-        Asked::Gets(bucket, key) => {
-            version.is_none() && is_operation(plan, names, b"GetObject", (bucket, key))
-        }
-        Asked::Stores(kind, pairs) => is_stored(plan, kind, pairs),
-        _ => false,
+// An operation on a key in a bucket.
+fn key_text(alloc: Global, operation: &[u8], bucket: &[u8], key: &[u8]) -> Told {
+    Ok([operation, b" ", bucket, b" ", key].concat(alloc)?)
+}
+
+// That text, and the id of the version that is asked for, if one is.
+fn with_version(mut text: Vec<u8>, version: Option<VersionId>) -> Told {
+    if let Some(id) = version {
+        text.extend_from_slice(b" ")?;
+        text.extend_from_slice(id.text().as_bytes())?;
     }
+    Ok(text)
 }
 
-// Whether the list of all buckets is wanted.
-fn is_list_asked(asked: &Asked) -> bool {
-    match asked {
-        Asked::Routed => true,
-        Asked::Asks(operation) => is_same(operation, b"ListBuckets"),
-        _ => false,
-    }
-}
-
-/// Whether the plan is asked for.
-pub(crate) fn is_plan(plan: &Plan, asked: &Asked) -> bool {
+// What is asked.
+fn plan_text(alloc: Global, plan: &Plan) -> Told {
     match plan {
-        Plan::ListBuckets => is_list_asked(asked),
-        Plan::Bucket { name, asked: plan } => is_bucket_asked(*plan, name.as_bytes(), asked),
+        Plan::ListBuckets => word(alloc, "ListBuckets"),
+        Plan::Bucket { name, asked } => {
+            bucket_text(alloc, bucket_operation(*asked).as_bytes(), name.as_bytes())
+        }
+        Plan::Key { bucket, key, asked } => {
+            let (operation, version) = key_operation(asked);
+            let text = key_text(
+                alloc,
+                operation.as_bytes(),
+                bucket.as_bytes(),
+                key.as_bytes(),
+            )?;
+            with_version(text, version)
+        }
+    }
+}
+
+/// What the head asks for.
+pub(crate) fn route_text(alloc: Global, head: &Head) -> Told {
+    let plan = route(alloc, head)?;
+    let text = plan_text(alloc, &plan);
+    drop(plan);
+    text
+}
+
+/// The operation that the head asks for.
+pub(crate) fn operation_text(alloc: Global, head: &Head) -> Told {
+    let plan = route(alloc, head)?;
+    let operation = operation(&plan);
+    drop(plan);
+    word(alloc, operation)
+}
+
+// The media type, and the names of metadata with their values.
+fn object_text(alloc: Global, content_type: &ContentType, metadata: &Metadata) -> Told {
+    let mut text = Vec::from_slice(alloc, content_type.as_bytes())?;
+    for entry in metadata.entries() {
+        push_line(&mut text, entry.name(), entry.value())?;
+    }
+    Ok(text)
+}
+
+// What a put says of the object.
+fn put_text(alloc: Global, plan: &Plan) -> Told {
+    match plan {
         Plan::Key {
-            bucket,
-            key,
-            asked: plan,
-        } => is_key_asked(plan, (bucket.as_bytes(), key.as_bytes()), asked),
+            asked: KeyPlan::Put {
+                content_type,
+                metadata,
+            },
+            ..
+        } => object_text(alloc, content_type, metadata),
+        _ => Err(Code::InvalidRequest),
     }
+}
+
+/// What the head, that of a put, says of the object.
+pub(crate) fn description_text(alloc: Global, head: &Head) -> Told {
+    let plan = route(alloc, head)?;
+    let text = put_text(alloc, &plan);
+    drop(plan);
+    text
 }

@@ -1,25 +1,392 @@
-//! The exact bytes of printed replies.
-use crate::store_commands::metadata_of_one;
+//! The exact bytes of printed replies, to requests that a store applies one after the other.
+use crate::store::{Stored, answer_to, opened};
 use s3_calendar::Moment;
-use s3_machine::{Answer, BucketList, Found, Outcome};
-use s3_names::{BucketName, Tag, VersionId};
-use s3_records::ListedBucket;
+use s3_machine::{Answer, Outcome};
+use s3_names::VersionId;
 use s3_replies::{
     Context, INTERNAL_ERROR, body_of, head_of, internal_error_reply, refusal, refusals_are_unique,
     replies_are_unique, replies_show_what_came,
 };
 use s3_segments::Body;
-use s3_terms::{Code, NoMemory};
-use s3_versions::{ContentType, Data, Versioning};
+use s3_terms::Code;
 use std::alloc::Global;
 
 /// 2013-05-24T00:00:00Z.
 const MOMENT: u64 = 1_369_353_600;
 
-/// The MD5 of `hello`, 5d41402abc4b2a76b9719d911017c592.
-const HELLO: [u8; 16] = [
-    0x5d, 0x41, 0x40, 0x2a, 0xbc, 0x4b, 0x2a, 0x76, 0xb9, 0x71, 0x9d, 0x91, 0x10, 0x17, 0xc5, 0x92,
+const DONE_REPLY: &str = "HTTP/1.1 200 OK\r\n\
+    Date: Fri, 24 May 2013 00:00:00 GMT\r\n\
+    x-amz-request-id: 0000000000000001\r\n\
+    Content-Length: 0\r\n\
+    \r\n";
+
+const PUT_VERSION_REPLY: &str = "HTTP/1.1 200 OK\r\n\
+    Date: Fri, 24 May 2013 00:00:00 GMT\r\n\
+    x-amz-request-id: 0000000000000001\r\n\
+    x-amz-version-id: v0000000000000001\r\n\
+    ETag: \"5d41402abc4b2a76b9719d911017c592\"\r\n\
+    Content-Length: 0\r\n\
+    \r\n";
+
+const ENABLED_REPLY: &str = "HTTP/1.1 200 OK\r\n\
+    Date: Fri, 24 May 2013 00:00:00 GMT\r\n\
+    x-amz-request-id: 0000000000000001\r\n\
+    Content-Type: application/json\r\n\
+    Content-Length: 20\r\n\
+    \r\n\
+    {\"Status\":\"Enabled\"}";
+
+const DELETED_VERSION_REPLY: &str = "HTTP/1.1 204 No Content\r\n\
+    Date: Fri, 24 May 2013 00:00:00 GMT\r\n\
+    x-amz-request-id: 0000000000000001\r\n\
+    x-amz-version-id: v00000000000000ff\r\n\
+    \r\n";
+
+const GET_REPLY: &str = "HTTP/1.1 200 OK\r\n\
+    Date: Fri, 24 May 2013 00:00:00 GMT\r\n\
+    x-amz-request-id: 0000000000000001\r\n\
+    x-amz-version-id: v0000000000000000\r\n\
+    ETag: \"5d41402abc4b2a76b9719d911017c592\"\r\n\
+    Last-Modified: Fri, 24 May 2013 00:00:00 GMT\r\n\
+    Accept-Ranges: bytes\r\n\
+    Content-Type: text/plain\r\n\
+    x-amz-meta-colour: red\r\n\
+    Content-Length: 5\r\n\
+    \r\n\
+    hello";
+
+const HEAD_REPLY: &str = "HTTP/1.1 200 OK\r\n\
+    Date: Fri, 24 May 2013 00:00:00 GMT\r\n\
+    x-amz-request-id: 0000000000000001\r\n\
+    x-amz-version-id: v0000000000000000\r\n\
+    ETag: \"5d41402abc4b2a76b9719d911017c592\"\r\n\
+    Last-Modified: Fri, 24 May 2013 00:00:00 GMT\r\n\
+    Accept-Ranges: bytes\r\n\
+    Content-Type: text/plain\r\n\
+    x-amz-meta-colour: red\r\n\
+    Content-Length: 5\r\n\
+    \r\n";
+
+const SUSPENDED_REPLY: &str = "HTTP/1.1 200 OK\r\n\
+    Date: Fri, 24 May 2013 00:00:00 GMT\r\n\
+    x-amz-request-id: 0000000000000001\r\n\
+    Content-Type: application/json\r\n\
+    Content-Length: 22\r\n\
+    \r\n\
+    {\"Status\":\"Suspended\"}";
+
+const MARKER_REPLY: &str = "HTTP/1.1 204 No Content\r\n\
+    Date: Fri, 24 May 2013 00:00:00 GMT\r\n\
+    x-amz-request-id: 0000000000000001\r\n\
+    x-amz-version-id: null\r\n\
+    x-amz-delete-marker: true\r\n\
+    \r\n";
+
+const UNVERSIONED_REPLY: &str = "HTTP/1.1 200 OK\r\n\
+    Date: Fri, 24 May 2013 00:00:00 GMT\r\n\
+    x-amz-request-id: 0000000000000001\r\n\
+    Content-Type: application/json\r\n\
+    Content-Length: 2\r\n\
+    \r\n\
+    {}";
+
+const PUT_REPLY: &str = "HTTP/1.1 200 OK\r\n\
+    Date: Fri, 24 May 2013 00:00:00 GMT\r\n\
+    x-amz-request-id: 0000000000000001\r\n\
+    ETag: \"5d41402abc4b2a76b9719d911017c592\"\r\n\
+    Content-Length: 0\r\n\
+    \r\n";
+
+const DELETED_REPLY: &str = "HTTP/1.1 204 No Content\r\n\
+    Date: Fri, 24 May 2013 00:00:00 GMT\r\n\
+    x-amz-request-id: 0000000000000001\r\n\
+    \r\n";
+
+const DROPPED_REPLY: &str = "HTTP/1.1 204 No Content\r\n\
+    Date: Fri, 24 May 2013 00:00:00 GMT\r\n\
+    x-amz-request-id: 0000000000000001\r\n\
+    \r\n";
+
+const MADE_REPLY: &str = "HTTP/1.1 200 OK\r\n\
+    Date: Fri, 24 May 2013 00:00:00 GMT\r\n\
+    x-amz-request-id: 0000000000000001\r\n\
+    Location: /pail\r\n\
+    Content-Length: 0\r\n\
+    \r\n";
+
+const LIST_REPLY: &str = "HTTP/1.1 200 OK\r\n\
+    Date: Fri, 24 May 2013 00:00:00 GMT\r\n\
+    x-amz-request-id: 0000000000000001\r\n\
+    Content-Type: application/json\r\n\
+    Content-Length: 71\r\n\
+    \r\n\
+    {\"Buckets\":[{\"CreationDate\":\"2013-05-24T00:00:00.000Z\",\"Name\":\"pail\"}]}";
+
+const LIST_HEAD_REPLY: &str = "HTTP/1.1 200 OK\r\n\
+    Date: Fri, 24 May 2013 00:00:00 GMT\r\n\
+    x-amz-request-id: 0000000000000001\r\n\
+    Content-Type: application/json\r\n\
+    Content-Length: 71\r\n\
+    \r\n";
+
+// A key that is not there.
+const MISSING_REPLY: &str = "HTTP/1.1 404 Not Found\r\n\
+    Date: Fri, 24 May 2013 00:00:00 GMT\r\n\
+    x-amz-request-id: 00000000000000ff\r\n\
+    Content-Type: application/json\r\n\
+    Content-Length: 56\r\n\
+    \r\n\
+    {\"Code\":\"NoSuchKey\",\"Message\":\"The key does not exist.\"}";
+
+// One with a delete marker.
+const MISSING_MARKER_REPLY: &str = "HTTP/1.1 404 Not Found\r\n\
+    Date: Fri, 24 May 2013 00:00:00 GMT\r\n\
+    x-amz-request-id: 00000000000000ff\r\n\
+    x-amz-delete-marker: true\r\n\
+    Content-Type: application/json\r\n\
+    Content-Length: 56\r\n\
+    \r\n\
+    {\"Code\":\"NoSuchKey\",\"Message\":\"The key does not exist.\"}";
+
+// To a HEAD that ends its connection.
+const LAST_REPLY: &str = "HTTP/1.1 404 Not Found\r\n\
+    Date: Thu, 01 Jan 1970 00:00:00 GMT\r\n\
+    Connection: close\r\n\
+    x-amz-request-id: 00000000000000ff\r\n\
+    Content-Type: application/json\r\n\
+    Content-Length: 56\r\n\
+    \r\n";
+
+/// A request, and the reply to what came of it.
+struct Row {
+    request: &'static str,
+    // The number of the answer, in the place of the store's.
+    number: u64,
+    seconds: u64,
+    // Whether the message is answered as a HEAD.
+    is_head: bool,
+    // Whether its connection ends.
+    closes: bool,
+    reply: &'static str,
+}
+
+const ROW: Row = Row {
+    request: "",
+    number: 1,
+    seconds: MOMENT,
+    is_head: false,
+    closes: false,
+    reply: DONE_REPLY,
+};
+
+// Requests to a bucket with versions; the one that is read is told as that of number 0.
+static VERSIONED: [Row; 11] = [
+    Row {
+        request: "PUT /pail?versioning<{\"Status\":\"Enabled\"}",
+        ..ROW
+    },
+    Row {
+        request: "PUT /pail/k<hello",
+        reply: PUT_VERSION_REPLY,
+        ..ROW
+    },
+    Row {
+        request: "GET /pail?versioning",
+        reply: ENABLED_REPLY,
+        ..ROW
+    },
+    Row {
+        request: "DELETE /pail/k?versionId=v00000000000000ff",
+        reply: DELETED_VERSION_REPLY,
+        ..ROW
+    },
+    Row {
+        request: "GET /pail/k",
+        reply: GET_REPLY,
+        ..ROW
+    },
+    Row {
+        request: "GET /pail/k",
+        is_head: true,
+        reply: HEAD_REPLY,
+        ..ROW
+    },
+    Row {
+        request: "HEAD /pail/k",
+        is_head: true,
+        reply: HEAD_REPLY,
+        ..ROW
+    },
+    Row {
+        request: "PUT /pail?versioning<{\"Status\":\"Suspended\"}",
+        ..ROW
+    },
+    Row {
+        request: "GET /pail?versioning",
+        reply: SUSPENDED_REPLY,
+        ..ROW
+    },
+    Row {
+        request: "DELETE /pail/k",
+        reply: MARKER_REPLY,
+        ..ROW
+    },
+    Row {
+        request: "GET /pail/k",
+        number: 255,
+        reply: MISSING_MARKER_REPLY,
+        ..ROW
+    },
 ];
+
+// Requests to buckets without versions.
+static UNVERSIONED: [Row; 11] = [
+    Row {
+        request: "HEAD /vat",
+        ..ROW
+    },
+    Row {
+        request: "GET /vat?versioning",
+        reply: UNVERSIONED_REPLY,
+        ..ROW
+    },
+    Row {
+        request: "GET /vat/k",
+        number: 255,
+        reply: MISSING_REPLY,
+        ..ROW
+    },
+    Row {
+        request: "HEAD /vat/k",
+        number: 255,
+        seconds: 0,
+        is_head: true,
+        closes: true,
+        reply: LAST_REPLY,
+    },
+    Row {
+        request: "PUT /vat/k<hello",
+        reply: PUT_REPLY,
+        ..ROW
+    },
+    Row {
+        request: "DELETE /vat/k",
+        reply: DELETED_REPLY,
+        ..ROW
+    },
+    Row {
+        request: "DELETE /vat",
+        reply: DROPPED_REPLY,
+        ..ROW
+    },
+    Row {
+        request: "DELETE /pail",
+        reply: DROPPED_REPLY,
+        ..ROW
+    },
+    Row {
+        request: "PUT /pail",
+        reply: MADE_REPLY,
+        ..ROW
+    },
+    Row {
+        request: "GET /",
+        reply: LIST_REPLY,
+        ..ROW
+    },
+    Row {
+        request: "GET /",
+        is_head: true,
+        reply: LIST_HEAD_REPLY,
+        ..ROW
+    },
+];
+
+// Whether a body, where there is one, has these bytes.
+fn has_bytes(body: Option<Body>, bytes: &[u8]) -> bool {
+    match body {
+        Some(body) => body.as_slice() == bytes,
+        None => bytes.is_empty(),
+    }
+}
+
+// What stands behind the head of an answer in these bytes, where it stands in front.
+fn behind_head<'a>(
+    alloc: Global,
+    answer: &Answer,
+    context: &Context,
+    bytes: &'a [u8],
+) -> Option<&'a [u8]> {
+    let mut head = Vec::with_capacity(alloc, 4096).ok()?;
+    head_of(answer, context, &mut head);
+    bytes.strip_prefix(head.as_slice())
+}
+
+// Whether an answer is sent as these bytes: its head, and behind it what stands there.
+fn is_sent(alloc: Global, answer: Answer, context: &Context, bytes: &[u8]) -> bool {
+    match behind_head(alloc, &answer, context, bytes) {
+        Some(rest) => has_bytes(body_of(answer, context), rest),
+        None => false,
+    }
+}
+
+// What the reply to a row takes from its message.
+fn context_of(row: &Row) -> Option<Context> {
+    let moment = Moment::new(row.seconds)?;
+    Some(Context {
+        moment,
+        head_only: row.is_head,
+        closes: row.closes,
+    })
+}
+
+// Gives the answer that number, and the version that it tells of, if it was read, the id of number 0.
+fn renumber(answer: &mut Answer, number: u64) {
+    answer.number = number;
+    match &mut answer.outcome {
+        Outcome::Got { found } => found.shown = Some(VersionId::of(0)),
+        Outcome::HeadGot { found } => found.shown = Some(VersionId::of(0)),
+        _ => (),
+    }
+}
+
+// Whether the request of the row is answered so by the store.
+fn is_answered(alloc: Global, store: &mut Stored, row: &Row) -> bool {
+    let Some(context) = context_of(row) else {
+        return false;
+    };
+    match answer_to(alloc, store, row.request, row.seconds) {
+        Ok(mut answer) => {
+            renumber(&mut answer, row.number);
+            is_sent(alloc, answer, &context, row.reply.as_bytes())
+        }
+        Err(_) => false,
+    }
+}
+
+// The first request of these rows that the store answers otherwise.
+fn first_in(alloc: Global, store: &mut Stored, rows: &[Row]) -> Option<&'static str> {
+    for row in rows {
+        if !is_answered(alloc, store, row) {
+            return Some(row.request);
+        }
+    }
+    None
+}
+
+// The first request of these rows that a store with nothing in its buckets answers otherwise.
+fn first_other(alloc: Global, rows: &[Row]) -> Option<&'static str> {
+    match opened(alloc) {
+        Ok(mut store) => first_in(alloc, &mut store, rows),
+        Err(_) => Some("no store"),
+    }
+}
+
+#[test]
+fn requests_are_answered(rt: HostRuntime) {
+    let other = first_other(rt.alloc(), &VERSIONED).or(first_other(rt.alloc(), &UNVERSIONED));
+    assert!(rt; other.is_none(), "at {}", other.unwrap_or(""));
+}
 
 /// Each status line, and the codes that are answered with it.
 static STATUSES: [(&str, &[Code]); 10] = [
@@ -76,410 +443,6 @@ static STATUSES: [(&str, &[Code]); 10] = [
     ("501 Not Implemented", &[Code::NotImplemented]),
 ];
 
-const MADE_REPLY: &[u8] = b"HTTP/1.1 200 OK\r\n\
-    Date: Fri, 24 May 2013 00:00:00 GMT\r\n\
-    x-amz-request-id: 0000000000000001\r\n\
-    Location: /pail\r\n\
-    Content-Length: 0\r\n\
-    \r\n";
-
-const DONE_REPLY: &[u8] = b"HTTP/1.1 200 OK\r\n\
-    Date: Fri, 24 May 2013 00:00:00 GMT\r\n\
-    x-amz-request-id: 0000000000000001\r\n\
-    Content-Length: 0\r\n\
-    \r\n";
-
-const DROPPED_REPLY: &[u8] = b"HTTP/1.1 204 No Content\r\n\
-    Date: Fri, 24 May 2013 00:00:00 GMT\r\n\
-    x-amz-request-id: 0000000000000001\r\n\
-    \r\n";
-
-const UNVERSIONED_REPLY: &[u8] = b"HTTP/1.1 200 OK\r\n\
-    Date: Fri, 24 May 2013 00:00:00 GMT\r\n\
-    x-amz-request-id: 0000000000000001\r\n\
-    Content-Type: application/json\r\n\
-    Content-Length: 2\r\n\
-    \r\n\
-    {}";
-
-const ENABLED_REPLY: &[u8] = b"HTTP/1.1 200 OK\r\n\
-    Date: Fri, 24 May 2013 00:00:00 GMT\r\n\
-    x-amz-request-id: 0000000000000001\r\n\
-    Content-Type: application/json\r\n\
-    Content-Length: 20\r\n\
-    \r\n\
-    {\"Status\":\"Enabled\"}";
-
-const SUSPENDED_REPLY: &[u8] = b"HTTP/1.1 200 OK\r\n\
-    Date: Fri, 24 May 2013 00:00:00 GMT\r\n\
-    x-amz-request-id: 0000000000000001\r\n\
-    Content-Type: application/json\r\n\
-    Content-Length: 22\r\n\
-    \r\n\
-    {\"Status\":\"Suspended\"}";
-
-const LIST_REPLY: &[u8] = b"HTTP/1.1 200 OK\r\n\
-    Date: Fri, 24 May 2013 00:00:00 GMT\r\n\
-    x-amz-request-id: 0000000000000001\r\n\
-    Content-Type: application/json\r\n\
-    Content-Length: 71\r\n\
-    \r\n\
-    {\"Buckets\":[{\"CreationDate\":\"2013-05-24T00:00:00.000Z\",\"Name\":\"pail\"}]}";
-
-const LIST_HEAD_REPLY: &[u8] = b"HTTP/1.1 200 OK\r\n\
-    Date: Fri, 24 May 2013 00:00:00 GMT\r\n\
-    x-amz-request-id: 0000000000000001\r\n\
-    Content-Type: application/json\r\n\
-    Content-Length: 71\r\n\
-    \r\n";
-
-const PUT_REPLY: &[u8] = b"HTTP/1.1 200 OK\r\n\
-    Date: Fri, 24 May 2013 00:00:00 GMT\r\n\
-    x-amz-request-id: 0000000000000001\r\n\
-    ETag: \"5d41402abc4b2a76b9719d911017c592\"\r\n\
-    Content-Length: 0\r\n\
-    \r\n";
-
-const PUT_VERSION_REPLY: &[u8] = b"HTTP/1.1 200 OK\r\n\
-    Date: Fri, 24 May 2013 00:00:00 GMT\r\n\
-    x-amz-request-id: 0000000000000001\r\n\
-    x-amz-version-id: v0000000000000001\r\n\
-    ETag: \"5d41402abc4b2a76b9719d911017c592\"\r\n\
-    Content-Length: 0\r\n\
-    \r\n";
-
-const DELETED_REPLY: &[u8] = b"HTTP/1.1 204 No Content\r\n\
-    Date: Fri, 24 May 2013 00:00:00 GMT\r\n\
-    x-amz-request-id: 0000000000000001\r\n\
-    \r\n";
-
-const DELETED_VERSION_REPLY: &[u8] = b"HTTP/1.1 204 No Content\r\n\
-    Date: Fri, 24 May 2013 00:00:00 GMT\r\n\
-    x-amz-request-id: 0000000000000001\r\n\
-    x-amz-version-id: v00000000000000ff\r\n\
-    \r\n";
-
-const MARKER_REPLY: &[u8] = b"HTTP/1.1 204 No Content\r\n\
-    Date: Fri, 24 May 2013 00:00:00 GMT\r\n\
-    x-amz-request-id: 0000000000000001\r\n\
-    x-amz-version-id: null\r\n\
-    x-amz-delete-marker: true\r\n\
-    \r\n";
-
-const GET_REPLY: &[u8] = b"HTTP/1.1 200 OK\r\n\
-    Date: Fri, 24 May 2013 00:00:00 GMT\r\n\
-    x-amz-request-id: 0000000000000001\r\n\
-    x-amz-version-id: v0000000000000000\r\n\
-    ETag: \"5d41402abc4b2a76b9719d911017c592\"\r\n\
-    Last-Modified: Fri, 24 May 2013 00:00:00 GMT\r\n\
-    Accept-Ranges: bytes\r\n\
-    Content-Type: text/plain\r\n\
-    x-amz-meta-colour: red\r\n\
-    Content-Length: 5\r\n\
-    \r\n\
-    hello";
-
-const HEAD_REPLY: &[u8] = b"HTTP/1.1 200 OK\r\n\
-    Date: Fri, 24 May 2013 00:00:00 GMT\r\n\
-    x-amz-request-id: 0000000000000001\r\n\
-    x-amz-version-id: v0000000000000000\r\n\
-    ETag: \"5d41402abc4b2a76b9719d911017c592\"\r\n\
-    Last-Modified: Fri, 24 May 2013 00:00:00 GMT\r\n\
-    Accept-Ranges: bytes\r\n\
-    Content-Type: text/plain\r\n\
-    x-amz-meta-colour: red\r\n\
-    Content-Length: 5\r\n\
-    \r\n";
-
-/// The moment, whether the message is a HEAD that ends its connection, whether a delete marker stands
-/// under the key, and the refusal of a missing key.
-type Refused = (u64, bool, bool, &'static [u8]);
-
-static REFUSALS: [Refused; 3] = [
-    (
-        MOMENT,
-        false,
-        false,
-        b"HTTP/1.1 404 Not Found\r\n\
-        Date: Fri, 24 May 2013 00:00:00 GMT\r\n\
-        x-amz-request-id: 00000000000000ff\r\n\
-        Content-Type: application/json\r\n\
-        Content-Length: 56\r\n\
-        \r\n\
-        {\"Code\":\"NoSuchKey\",\"Message\":\"The key does not exist.\"}",
-    ),
-    (
-        MOMENT,
-        false,
-        true,
-        b"HTTP/1.1 404 Not Found\r\n\
-        Date: Fri, 24 May 2013 00:00:00 GMT\r\n\
-        x-amz-request-id: 00000000000000ff\r\n\
-        x-amz-delete-marker: true\r\n\
-        Content-Type: application/json\r\n\
-        Content-Length: 56\r\n\
-        \r\n\
-        {\"Code\":\"NoSuchKey\",\"Message\":\"The key does not exist.\"}",
-    ),
-    (
-        0,
-        true,
-        false,
-        b"HTTP/1.1 404 Not Found\r\n\
-        Date: Thu, 01 Jan 1970 00:00:00 GMT\r\n\
-        Connection: close\r\n\
-        x-amz-request-id: 00000000000000ff\r\n\
-        Content-Type: application/json\r\n\
-        Content-Length: 56\r\n\
-        \r\n",
-    ),
-];
-
-fn context_at(moment: u64, head_only: bool, closes: bool) -> Option<Context> {
-    match Moment::new(moment) {
-        Some(moment) => Some(Context {
-            moment,
-            head_only,
-            closes,
-        }),
-        None => None,
-    }
-}
-
-/// Whether a body, where there is one, has these bytes.
-fn has_bytes(body: Option<Body>, bytes: &[u8]) -> bool {
-    match body {
-        Some(body) => body.as_slice() == bytes,
-        None => bytes.is_empty(),
-    }
-}
-
-/// What stands behind the head of an answer in these bytes, where it stands in front.
-fn behind_head<'a>(
-    alloc: Global,
-    answer: &Answer,
-    context: &Context,
-    bytes: &'a [u8],
-) -> Option<&'a [u8]> {
-    let mut head = Vec::with_capacity(alloc, 4096).ok()?;
-    head_of(answer, context, &mut head);
-    bytes.strip_prefix(head.as_slice())
-}
-
-/// Whether an answer is sent as these bytes: its head, and behind it what stands there.
-fn is_sent(alloc: Global, answer: Answer, context: &Context, bytes: &[u8]) -> bool {
-    match behind_head(alloc, &answer, context, bytes) {
-        Some(rest) => has_bytes(body_of(answer, context), rest),
-        None => false,
-    }
-}
-
-/// Whether this is sent as the outcome of command 1, to a message that is a HEAD or none.
-fn is_told(alloc: Global, outcome: Outcome, is_head: bool, bytes: &[u8]) -> bool {
-    let answer = Answer { number: 1, outcome };
-    match context_at(MOMENT, is_head, false) {
-        Some(context) => is_sent(alloc, answer, &context, bytes),
-        None => false,
-    }
-}
-
-/// The number of a row, the outcome that it stands for, and how that is sent.
-fn plain_outcome(row: usize) -> (Outcome, &'static [u8]) {
-    match row {
-        0 => (Outcome::BucketFound, DONE_REPLY),
-        1 => (Outcome::VersioningSet, DONE_REPLY),
-        2 => (Outcome::BucketDropped, DROPPED_REPLY),
-        3 => (versioning_of(Versioning::Unversioned), UNVERSIONED_REPLY),
-        4 => (versioning_of(Versioning::Enabled), ENABLED_REPLY),
-        5 => (versioning_of(Versioning::Suspended), SUSPENDED_REPLY),
-        6 => (put_of_hello(None), PUT_REPLY),
-        7 => (put_of_hello(Some(VersionId::of(1))), PUT_VERSION_REPLY),
-        8 => (deleted(None, false), DELETED_REPLY),
-        9 => (
-            deleted(Some(VersionId::of(255)), false),
-            DELETED_VERSION_REPLY,
-        ),
-        _ => (deleted(Some(VersionId::Null), true), MARKER_REPLY),
-    }
-}
-
-fn versioning_of(versioning: Versioning) -> Outcome {
-    Outcome::BucketVersioning { versioning }
-}
-
-fn put_of_hello(shown: Option<VersionId>) -> Outcome {
-    let tag = Tag::of_digest(HELLO);
-    Outcome::Put { tag, shown }
-}
-
-fn deleted(shown: Option<VersionId>, is_delete_marker: bool) -> Outcome {
-    Outcome::Deleted {
-        shown,
-        is_delete_marker,
-    }
-}
-
-fn is_row_told(alloc: Global, row: usize) -> bool {
-    let (outcome, bytes) = plain_outcome(row);
-    is_told(alloc, outcome, false, bytes)
-}
-
-fn are_rows_told(alloc: Global) -> bool {
-    for row in 0..11 {
-        if !is_row_told(alloc, row) {
-            return false;
-        }
-    }
-    true
-}
-
-#[test]
-fn answers_without_memory(rt: HostRuntime) {
-    assert!(rt; are_rows_told(rt.alloc()));
-}
-
-fn pail(alloc: Global) -> Result<BucketName, Code> {
-    BucketName::read(alloc, b"pail")
-}
-
-fn made_pail(alloc: Global) -> Result<Outcome, Code> {
-    let name = pail(alloc)?;
-    Ok(Outcome::BucketMade { name })
-}
-
-fn row_of_pail(alloc: Global, made: Moment) -> Result<ListedBucket, Code> {
-    let name = pail(alloc)?;
-    Ok(ListedBucket { name, made })
-}
-
-fn listed(alloc: Global, row: ListedBucket) -> Result<BucketList, NoMemory> {
-    let mut rows = Vec::new(alloc);
-    rows.push(row)?;
-    BucketList::new(alloc, rows)
-}
-
-fn list_of_pail(alloc: Global, made: Moment) -> Result<Outcome, Code> {
-    let row = row_of_pail(alloc, made)?;
-    match listed(alloc, row) {
-        Ok(buckets) => Ok(Outcome::Buckets { buckets }),
-        Err(_) => Err(Code::InternalError),
-    }
-}
-
-/// What a put of `hello` stored, with this for the bytes.
-fn hello<B: Drop>(alloc: Global, body: B) -> Result<Data<B>, Code> {
-    let content_type = ContentType::read(alloc, b"text/plain")?;
-    let metadata = metadata_of_one(alloc)?;
-    Ok(Data {
-        tag: Tag::of_digest(HELLO),
-        content_type,
-        metadata,
-        size: 5,
-        body,
-    })
-}
-
-fn found_hello<B>(stored: Data<B>, moment: Moment) -> Found<B> {
-    Found {
-        shown: Some(VersionId::of(0)),
-        moment,
-        stored,
-    }
-}
-
-fn get_of_hello(alloc: Global, moment: Moment) -> Result<Outcome, Code> {
-    let body = Body::new(b"hello".to_vec(alloc)?);
-    let found = found_hello(hello(alloc, body)?, moment);
-    Ok(Outcome::Got { found })
-}
-
-fn head_of_hello(alloc: Global, moment: Moment) -> Result<Outcome, Code> {
-    let found = found_hello(hello(alloc, ())?, moment);
-    Ok(Outcome::HeadGot { found })
-}
-
-/// The number of a row, the outcome that it stands for, at this moment.
-fn outcome_with_memory(alloc: Global, row: usize, moment: Moment) -> Result<Outcome, Code> {
-    match row {
-        0 => made_pail(alloc),
-        1 | 2 => list_of_pail(alloc, moment),
-        3 | 4 => get_of_hello(alloc, moment),
-        _ => head_of_hello(alloc, moment),
-    }
-}
-
-/// Whether the message of the row is a HEAD, and how its outcome is sent.
-fn reply_of_row(row: usize) -> (bool, &'static [u8]) {
-    match row {
-        0 => (false, MADE_REPLY),
-        1 => (false, LIST_REPLY),
-        2 => (true, LIST_HEAD_REPLY),
-        3 => (false, GET_REPLY),
-        _ => (true, HEAD_REPLY),
-    }
-}
-
-fn is_row_with_memory_told(alloc: Global, row: usize, moment: Moment) -> bool {
-    let (is_head, bytes) = reply_of_row(row);
-    match outcome_with_memory(alloc, row, moment) {
-        Ok(outcome) => is_told(alloc, outcome, is_head, bytes),
-        Err(_) => false,
-    }
-}
-
-fn are_rows_with_memory_told(alloc: Global, moment: Moment) -> bool {
-    for row in 0..6 {
-        if !is_row_with_memory_told(alloc, row, moment) {
-            return false;
-        }
-    }
-    true
-}
-
-fn are_told(alloc: Global) -> bool {
-    match Moment::new(MOMENT) {
-        Some(moment) => are_rows_with_memory_told(alloc, moment),
-        None => false,
-    }
-}
-
-// The bucket that was made, the list of it, and `hello`, the last two also to a HEAD.
-#[test]
-fn answers_with_memory(rt: HostRuntime) {
-    assert!(rt; are_told(rt.alloc()));
-}
-
-/// Whether a missing key, or one with a delete marker, is refused at this moment, to a HEAD that ends its
-/// connection or to another message that does not, with these bytes.
-fn is_refused(alloc: Global, case: &Refused) -> bool {
-    let (moment, is_last_head, is_delete_marker, bytes) = case;
-    let answer = Answer {
-        number: 255,
-        outcome: Outcome::Refused {
-            code: Code::NoSuchKey,
-            is_delete_marker: *is_delete_marker,
-        },
-    };
-    match context_at(*moment, *is_last_head, *is_last_head) {
-        Some(context) => is_sent(alloc, answer, &context, bytes),
-        None => false,
-    }
-}
-
-fn are_all_refused(alloc: Global, cases: &[Refused]) -> bool {
-    for case in cases {
-        if !is_refused(alloc, case) {
-            return false;
-        }
-    }
-    true
-}
-
-#[test]
-fn refusals_of_the_machine(rt: HostRuntime) {
-    assert!(rt; are_all_refused(rt.alloc(), &REFUSALS));
-}
-
 const MALFORMED: &[u8] = b"HTTP/1.1 400 Bad Request\r\n\
     Date: Fri, 24 May 2013 00:00:00 GMT\r\n\
     Connection: close\r\n\
@@ -489,28 +452,21 @@ const MALFORMED: &[u8] = b"HTTP/1.1 400 Bad Request\r\n\
     \r\n\
     {\"Code\":\"MalformedHead\",\"Message\":\"The head is malformed.\"}";
 
-/// Whether the refusal with the code starts with the version and then this status.
+// Whether the refusal with the code starts with the version and then this status.
 fn has_status(code: Code, status: &str, moment: Moment) -> bool {
-    let reply = refusal(code, moment, true);
-    match reply.as_slice().get(9..) {
+    match refusal(code, moment, true).as_slice().get(9..) {
         Some(shown) => shown.starts_with(status.as_bytes()),
         None => false,
     }
 }
 
-fn have_status(codes: &[Code], status: &str, moment: Moment) -> bool {
-    for code in codes {
-        if !has_status(*code, status, moment) {
-            return false;
-        }
-    }
-    true
-}
-
-fn all_have_status(statuses: &[(&str, &[Code])], moment: Moment) -> bool {
-    for case in statuses {
-        if !have_status(case.1, case.0, moment) {
-            return false;
+// Whether all of them do.
+fn have_statuses(moment: Moment) -> bool {
+    for (status, codes) in &STATUSES {
+        for code in *codes {
+            if !has_status(*code, status, moment) {
+                return false;
+            }
         }
     }
     true
@@ -518,27 +474,22 @@ fn all_have_status(statuses: &[(&str, &[Code])], moment: Moment) -> bool {
 
 fn are_refused(seconds: u64) -> bool {
     match Moment::new(seconds) {
-        Some(moment) => {
-            refusal(Code::MalformedHead, moment, false).as_slice() == MALFORMED
-                && all_have_status(&STATUSES, moment)
-        }
+        Some(moment) => refusal(Code::MalformedHead, moment, false).as_slice() == MALFORMED
+            && have_statuses(moment),
         None => false,
     }
-}
-
-// The bytes of one, and the status lines of all.
-#[test]
-fn refusals_of_connections(rt: HostRuntime) {
-    assert!(rt; are_refused(MOMENT));
 }
 
 const EXPECTED: &[u8] =
     b"HTTP/1.1 500 Internal Server Error\r\nConnection: close\r\nContent-Length: 0\r\n\
     x-amz-request-id: 0000000000000000\r\n\r\n";
 
+// The bytes of one refusal, the status lines of all, and the bytes of the reply that takes no memory.
 #[test]
-fn internal_error_bytes(rt: HostRuntime) {
-    assert!(rt; internal_error_reply() == EXPECTED && INTERNAL_ERROR == EXPECTED);
+fn refusals_of_connections(rt: HostRuntime) {
+    assert!(rt;
+        are_refused(MOMENT) && internal_error_reply() == EXPECTED && INTERNAL_ERROR == EXPECTED
+    );
     replies_are_unique();
     refusals_are_unique();
     replies_show_what_came();

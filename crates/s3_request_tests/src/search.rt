@@ -1,7 +1,6 @@
 //! Heads that arrive in pieces, cut everywhere.
 use crate::texts::repeated;
 use s3_http_heads::{Found, HeadSearch};
-use s3_terms::Code;
 use std::alloc::Global;
 
 // How many bytes are taken, what is found with them, and what is held then.
@@ -39,7 +38,7 @@ fn is_taken_in_pieces(alloc: Global, bytes: &[u8], taken: &Taken) -> bool {
     is_taken(alloc, bytes, taken, 0, 1)
 }
 
-static ARRIVALS: [(&[u8], Taken); 12] = [
+static ARRIVALS: [(&[u8], Taken); 15] = [
     (b"", (0, Found::NeedMore, b"")),
     (b"\r\n\r\n", (4, Found::NeedMore, b"")),
     (b"\r\n\r", (3, Found::NeedMore, b"\r")),
@@ -73,27 +72,35 @@ static ARRIVALS: [(&[u8], Taken); 12] = [
         b"a\r\n\rb\r\n\r\n",
         (9, Found::Head { len: 9 }, b"a\r\n\rb\r\n\r\n"),
     ),
+    // Head texts of several lines, and one that is not whole.
+    (
+        b"PUT /bucket/key HTTP/1.1\r\nHost: example.com\r\nContent-Length: 4\r\n\r\nbody",
+        (
+            66,
+            Found::Head { len: 66 },
+            b"PUT /bucket/key HTTP/1.1\r\nHost: example.com\r\nContent-Length: 4\r\n\r\n",
+        ),
+    ),
+    (
+        b"\r\n\r\nGET / HTTP/1.1\r\nHost: example.com\r\n\r\nGET / HTTP/1.1\r\n\r\n",
+        (
+            41,
+            Found::Head { len: 37 },
+            b"GET / HTTP/1.1\r\nHost: example.com\r\n\r\n",
+        ),
+    ),
+    (
+        b"\r\nGET / HTTP/1.1\r\nHost: example.com\r\n",
+        (
+            37,
+            Found::NeedMore,
+            b"GET / HTTP/1.1\r\nHost: example.com\r\n",
+        ),
+    ),
 ];
-
-#[test]
-fn heads_cut_everywhere(rt: HostRuntime) {
-    for (bytes, taken) in &ARRIVALS {
-        assert!(rt; is_taken_in_pieces(rt.alloc(), bytes, taken));
-    }
-}
 
 // A pair, that many letters and an end: how many of these bytes are taken, and what is found with them.
 type Large = (usize, &'static [u8], usize, Found);
-
-// Whether this is taken where the pair is cut, and pieces of that size come after it.
-fn is_large(alloc: Global, case: &Large, size: usize) -> Result<bool, Code> {
-    let (count, end, taken, found) = *case;
-    let bytes = repeated(alloc, b"\r\n", b"A", count, end)?;
-    match bytes.get(2..taken) {
-        Some(held) => Ok(is_taken(alloc, &bytes, &(taken, found, held), 1, size)),
-        None => Ok(false),
-    }
-}
 
 static LARGE: [Large; 5] = [
     (16_383, b"", 16_385, Found::NeedMore),
@@ -103,55 +110,44 @@ static LARGE: [Large; 5] = [
     (16_381, b"\r\n\r\n", 16_386, Found::TooLarge),
 ];
 
-#[test]
-fn large_heads_in_pieces(rt: HostRuntime) {
-    for case in &LARGE {
-        assert!(rt; is_large(rt.alloc(), case, 1) == Ok(true));
-        assert!(rt; is_large(rt.alloc(), case, 30_000) == Ok(true));
-    }
-}
-
-// Bytes with a head text of several lines, and with none that is whole.
-static ARRIVING: [&[u8]; 3] = [
-    b"PUT /bucket/key HTTP/1.1\r\nHost: example.com\r\nContent-Length: 4\r\n\r\nbody",
-    b"\r\n\r\nGET / HTTP/1.1\r\nHost: example.com\r\n\r\nGET / HTTP/1.1\r\n\r\n",
-    b"\r\nGET / HTTP/1.1\r\nHost: example.com\r\n",
-];
-
-// Whether what is taken of these bytes is what is taken of them in pieces.
-fn is_taken_alike(alloc: Global, bytes: &[u8]) -> bool {
-    let mut search = HeadSearch::new(alloc);
-    let (count, found) = search.feed(bytes);
-    match search.text() {
-        Some(text) => is_taken_in_pieces(alloc, bytes, &(count, found, text)),
+// Whether this is taken of these bytes where the pair is cut, and pieces of 1 or of 30,000 bytes come after it.
+fn is_large_of(alloc: Global, bytes: &[u8], taken: usize, found: Found) -> bool {
+    match bytes.get(2..taken) {
+        Some(held) => {
+            let taken = (taken, found, held);
+            is_taken(alloc, bytes, &taken, 1, 1) && is_taken(alloc, bytes, &taken, 1, 30_000)
+        }
         None => false,
     }
 }
 
-#[test]
-fn cuts_change_nothing(rt: HostRuntime) {
-    for bytes in &ARRIVING {
-        assert!(rt; is_taken_alike(rt.alloc(), bytes));
+fn is_large(alloc: Global, large: &Large) -> bool {
+    match repeated(alloc, b"\r\n", b"A", large.0, large.1) {
+        Ok(bytes) => is_large_of(alloc, &bytes, large.2, large.3),
+        Err(_) => false,
     }
-}
-
-// Whether this is found in the whole of these bytes, and held then.
-fn is_found(search: &mut HeadSearch, bytes: &[u8], taken: &Taken) -> bool {
-    let (count, found) = search.feed(bytes);
-    count == taken.0 && found == taken.1 && search.text() == Some(taken.2)
 }
 
 // Whether a head is found, nothing is held once it is cleared, and then the next one is found.
 fn are_found(search: &mut HeadSearch) -> bool {
     let first = search.feed(b"GET /a HTTP/1.1\r\n\r\n\r\nGET");
     search.clear();
-    search.text() == Some(b"".as_slice())
+    let is_clear = search.text() == Some(b"".as_slice());
+    let second = search.feed(b"\r\nGET /bc HTTP/1.1\r\n\r\n");
+    is_clear
         && first == (19, Found::Head { len: 19 })
-        && is_found(
-            search,
-            b"\r\nGET /bc HTTP/1.1\r\n\r\n",
-            &(22, Found::Head { len: 20 }, b"GET /bc HTTP/1.1\r\n\r\n"),
-        )
+        && second == (22, Found::Head { len: 20 })
+        && search.text() == Some(b"GET /bc HTTP/1.1\r\n\r\n")
+}
+
+#[test]
+fn heads_in_pieces(rt: HostRuntime) {
+    for (bytes, taken) in &ARRIVALS {
+        assert!(rt; is_taken_in_pieces(rt.alloc(), bytes, taken));
+    }
+    for large in &LARGE {
+        assert!(rt; is_large(rt.alloc(), large));
+    }
 }
 
 #[test]

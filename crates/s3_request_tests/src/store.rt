@@ -1,6 +1,7 @@
 //! What a store answers to commands, step by step.
+use crate::asked::{Told, is_same, is_told, number, word};
+use crate::commands::{command_of, cut};
 use crate::entries::{BUCKETS, ENABLED, SUSPENDED, UNVERSIONED};
-use crate::store_commands::{command_of, cut};
 use s3_calendar::Moment;
 use s3_machine::{Answer, Found, Outcome};
 use s3_names::{BucketName, Tag, VersionId};
@@ -14,113 +15,53 @@ use std::alloc::Global;
 /// The least size of a part, which is Amazon's: 5 MiB.
 const LEAST_PART: u64 = 5_242_880;
 
-// Whether the id is shown as this word, which is `-` where none is.
-fn is_shown(shown: Option<VersionId>, word: &str) -> bool {
+// The word, the id that is shown, or `-` where none is, and what stands behind it.
+fn shown_text(alloc: Global, word: &[u8], shown: Option<VersionId>, behind: &[u8]) -> Told {
     match shown {
-        Some(id) => id.text().as_bytes() == word.as_bytes(),
-        None => word == "-",
+        Some(id) => Ok([word, id.text().as_bytes(), behind].concat(alloc)?),
+        None => Ok([word, b"-", behind].concat(alloc)?),
     }
-}
-
-fn is_tag(tag: &Tag, word: &str) -> bool {
-    tag.text().as_slice() == word.as_bytes()
 }
 
 // Whether it has the type and the metadata that every put here brings.
 fn is_described<B>(stored: &Data<B>) -> bool {
     let entries = stored.metadata.entries();
-    stored.content_type.as_bytes() == b"text/plain".as_slice()
+    is_same(stored.content_type.as_bytes(), b"text/plain")
         && entries.len() == 1
-        && entries[0].name() == b"colour".as_slice()
-        && entries[0].value() == b"red".as_slice()
+        && is_same(entries[0].name(), b"colour")
+        && is_same(entries[0].value(), b"red")
 }
 
-fn is_number(word: &str, number: u64) -> bool {
-    word.parse::<u64>().ok() == Some(number)
-}
-
-// What is told behind the id, the moment and the tag of a version that was read, where these are so.
-fn behind<'a, B>(found: &Found<B>, told: &'a str) -> Option<&'a str> {
-    let (id, told) = cut(told);
-    let (seconds, told) = cut(told);
-    let (tag, rest) = cut(told);
-    let is_so = is_shown(found.shown, id)
-        && is_number(seconds, found.moment.seconds())
-        && is_tag(&found.stored.tag, tag)
-        && is_described(&found.stored);
-    if is_so { Some(rest) } else { None }
-}
-
-// What is told behind this word, where it stands in front.
-fn behind_word<'a>(word: &str, told: &'a str) -> Option<&'a str> {
-    let (first, rest) = cut(told);
-    if first == word { Some(rest) } else { None }
-}
-
-// What is told behind this word, and behind what is told of a version there.
-fn behind_both<'a, B>(word: &str, found: &Found<B>, told: &'a str) -> Option<&'a str> {
-    behind(found, behind_word(word, told)?)
-}
-
-fn is_made(name: &BucketName, told: &str) -> bool {
-    match behind_word("made", told) {
-        Some(rest) => name.as_bytes() == rest.as_bytes(),
-        None => false,
+// The word, the id, the seconds and the tag of a version that was read, and what stands behind them.
+fn found_text<B>(alloc: Global, word: &[u8], found: &Found<B>, behind: &[u8]) -> Told {
+    if !is_described(&found.stored) {
+        return Err(Code::InvalidRequest);
     }
+    let seconds = number(alloc, found.moment.seconds())?;
+    let tag = found.stored.tag.text();
+    let behind = [b" ".as_slice(), &seconds, b" ", &tag, b" ", behind].concat(alloc)?;
+    shown_text(alloc, word, found.shown, &behind)
 }
 
-fn is_got(found: &Found<Body>, told: &str) -> bool {
-    match behind_both("got", found, told) {
-        Some(bytes) => {
-            found.stored.body.as_slice() == bytes.as_bytes()
-                && found.stored.size == found.stored.body.size()
-        }
-        None => false,
+fn got_text(alloc: Global, found: &Found<Body>) -> Told {
+    if found.stored.size != found.stored.body.size() {
+        return Err(Code::InvalidRequest);
     }
+    found_text(alloc, b"got ", found, found.stored.body.as_slice())
 }
 
-fn is_head(found: &Found<()>, told: &str) -> bool {
-    match behind_both("head", found, told) {
-        Some(size) => is_number(size, found.stored.size),
-        None => false,
-    }
+fn head_text(alloc: Global, found: &Found<()>) -> Told {
+    let size = number(alloc, found.stored.size)?;
+    found_text(alloc, b"head ", found, &size)
 }
 
-// Whether the version is shown so, and has this tag.
-fn is_put_as(tag: &Tag, shown: Option<VersionId>, told: &str) -> bool {
-    let (id, text) = cut(told);
-    is_shown(shown, id) && is_tag(tag, text)
+fn stored_text(alloc: Global, tag: &Tag, shown: Option<VersionId>) -> Told {
+    let behind = [b" ".as_slice(), &tag.text()].concat(alloc)?;
+    shown_text(alloc, b"stored ", shown, &behind)
 }
 
-fn is_put(tag: &Tag, shown: Option<VersionId>, told: &str) -> bool {
-    match behind_word("stored", told) {
-        Some(rest) => is_put_as(tag, shown, rest),
-        None => false,
-    }
-}
-
-fn is_marked(is_delete_marker: bool, told: &str) -> bool {
-    told == if is_delete_marker { "marker" } else { "" }
-}
-
-// Whether the version is shown so, and a marker only where it is one.
-fn is_deleted_as(shown: Option<VersionId>, is_delete_marker: bool, told: &str) -> bool {
-    let (id, rest) = cut(told);
-    is_shown(shown, id) && is_marked(is_delete_marker, rest)
-}
-
-fn is_deleted(shown: Option<VersionId>, is_delete_marker: bool, told: &str) -> bool {
-    match behind_word("deleted", told) {
-        Some(rest) => is_deleted_as(shown, is_delete_marker, rest),
-        None => false,
-    }
-}
-
-fn is_refused(code: Code, is_delete_marker: bool, told: &str) -> bool {
-    match behind_word(code.name(), told) {
-        Some(rest) => is_marked(is_delete_marker, rest),
-        None => false,
-    }
+fn marker(is_delete_marker: bool) -> &'static [u8] {
+    if is_delete_marker { b" marker" } else { b"" }
 }
 
 fn name_of(versioning: Versioning) -> &'static str {
@@ -131,79 +72,65 @@ fn name_of(versioning: Versioning) -> &'static str {
     }
 }
 
-fn is_word(told: &str, word: &str) -> bool {
-    told == word
-}
-
-// Whether this came of a command that is on no key.
-fn is_bucket_outcome(outcome: &Outcome, told: &str) -> bool {
+// What came of a command.
+fn outcome_text(alloc: Global, outcome: &Outcome) -> Told {
     match outcome {
-        Outcome::Buckets { buckets } => buckets.document() == told.as_bytes(),
-        Outcome::BucketMade { name } => is_made(name, told),
-        Outcome::BucketFound => is_word(told, "found"),
-        Outcome::BucketDropped => is_word(told, "dropped"),
-        Outcome::VersioningSet => is_word(told, "set"),
-        Outcome::BucketVersioning { versioning } => is_word(told, name_of(*versioning)),
-        Outcome::Put { .. }
-        | Outcome::Got { .. }
-        | Outcome::HeadGot { .. }
-        | Outcome::Deleted { .. }
-        | Outcome::Refused { .. } => false,
-    }
-}
-
-// Whether this came of a command.
-fn is_outcome(outcome: &Outcome, told: &str) -> bool {
-    match outcome {
-        Outcome::Put { tag, shown } => is_put(tag, *shown, told),
-        Outcome::Got { found } => is_got(found, told),
-        Outcome::HeadGot { found } => is_head(found, told),
+        Outcome::Buckets { buckets } => Ok(Vec::from_slice(alloc, buckets.document())?),
+        Outcome::BucketMade { name } => Ok([b"made ".as_slice(), name.as_bytes()].concat(alloc)?),
+        Outcome::BucketFound => word(alloc, "found"),
+        Outcome::BucketDropped => word(alloc, "dropped"),
+        Outcome::VersioningSet => word(alloc, "set"),
+        Outcome::BucketVersioning { versioning } => word(alloc, name_of(*versioning)),
+        Outcome::Put { tag, shown } => stored_text(alloc, tag, *shown),
+        Outcome::Got { found } => got_text(alloc, found),
+        Outcome::HeadGot { found } => head_text(alloc, found),
         Outcome::Deleted {
             shown,
             is_delete_marker,
-        } => is_deleted(*shown, *is_delete_marker, told),
+        } => shown_text(alloc, b"deleted ", *shown, marker(*is_delete_marker)),
         Outcome::Refused {
             code,
             is_delete_marker,
-        } => is_refused(*code, *is_delete_marker, told),
-        Outcome::Buckets { .. }
-        | Outcome::BucketMade { .. }
-        | Outcome::BucketFound
-        | Outcome::BucketDropped
-        | Outcome::VersioningSet
-        | Outcome::BucketVersioning { .. } => is_bucket_outcome(outcome, told),
+        } => Ok([code.name().as_bytes(), marker(*is_delete_marker)].concat(alloc)?),
     }
 }
 
-// The answer to what is asked, at the second of this number.
-fn answer_to(
+/// A store in memory.
+pub(crate) type Stored = Store<MapRecords>;
+
+/// The answer to this request at that second.
+pub(crate) fn answer_to(
     alloc: Global,
-    store: &mut Store<MapRecords>,
-    number: u64,
+    store: &mut Stored,
     asked: &str,
+    seconds: u64,
 ) -> Result<Answer, Code> {
-    let Some(moment) = Moment::new(number) else {
-        return Err(Code::InvalidArgument);
-    };
-    let command = command_of(alloc, asked)?;
+    let (line, body) = cut(asked);
+    let moment = Moment::new(seconds).ok_or(Code::InvalidArgument)?;
+    let command = command_of(alloc, line, body.as_bytes())?;
     Ok(store.apply(alloc, LEAST_PART, command, moment)?)
 }
 
+// Whether the answer has this number and tells this.
+fn is_answer(alloc: Global, answer: &Answer, number: u64, told: &str) -> bool {
+    answer.number == number && is_told(&outcome_text(alloc, &answer.outcome), told.as_bytes())
+}
+
 // Whether a row holds, as the entry of this number; `None` says that it has no bar.
-fn holds(alloc: Global, store: &mut Store<MapRecords>, number: u64, row: &str) -> Option<bool> {
+fn holds(alloc: Global, store: &mut Stored, number: u64, row: &str) -> Option<bool> {
     let (asked, told) = row.split_once('|')?;
-    match answer_to(alloc, store, number, asked) {
-        Ok(answer) => Some(answer.number == number && is_outcome(&answer.outcome, told)),
+    match answer_to(alloc, store, asked, number) {
+        Ok(answer) => {
+            let holds = is_answer(alloc, &answer, number, told);
+            drop(answer);
+            Some(holds)
+        }
         Err(_) => Some(false),
     }
 }
 
 // The first of these rows that is answered otherwise by the store.
-fn first_in(
-    alloc: Global,
-    store: &mut Store<MapRecords>,
-    rows: &'static str,
-) -> Option<&'static str> {
+fn first_in(alloc: Global, store: &mut Stored, rows: &'static str) -> Option<&'static str> {
     let mut number = 0_u64;
     for row in rows.split(';') {
         if holds(alloc, store, number, row) != Some(true) {
@@ -214,8 +141,8 @@ fn first_in(
     None
 }
 
-// A store with the buckets `pail` and `vat`, one of which is named twice.
-fn opened(alloc: Global) -> Result<Store<MapRecords>, Code> {
+/// A store with the buckets `pail` and `vat`, one of which is named twice.
+pub(crate) fn opened(alloc: Global) -> Result<Stored, Code> {
     let mut names = Vec::new(alloc);
     for name in [b"pail".as_slice(), b"vat", b"pail"] {
         names.push(BucketName::read(alloc, name)?)?;

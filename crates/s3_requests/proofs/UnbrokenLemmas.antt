@@ -17,11 +17,11 @@ use Rattle.s3_http_heads.specs.Head.{HeadParts, LinesAreWhole, is_named, is_unbr
 use Rattle.s3_http_heads.specs.Target.{TargetParts}
 use Rattle.s3_versions.specs.ContentType.{content_type}
 use Rattle.s3_versions.specs.Metadata.{Entry, metadata, metadata_size}
-use Rattle.s3_requests.specs.declared.commands.Plan.{Plan}
-use Rattle.s3_requests.specs.declared.commands.Plan.TheVariants as plans
-use Rattle.s3_requests.specs.declared.commands.BucketPlan.{BucketPlan}
-use Rattle.s3_requests.specs.declared.commands.KeyPlan.{KeyPlan}
-use Rattle.s3_requests.specs.declared.commands.KeyPlan.TheVariants as key_plans
+use Rattle.s3_requests.specs.declared.routing.Plan.{Plan}
+use Rattle.s3_requests.specs.declared.routing.Plan.TheVariants as plans
+use Rattle.s3_requests.specs.declared.routing.BucketPlan.{BucketPlan}
+use Rattle.s3_requests.specs.declared.routing.KeyPlan.{KeyPlan}
+use Rattle.s3_requests.specs.declared.routing.KeyPlan.TheVariants as key_plans
 use Rattle.s3_requests.specs.declared.operations.Operation.{Operation}
 use Rattle.s3_requests.specs.declared.operations.Operation.TheVariants as operations
 use Rattle.s3_names.specs.Names.{object_key}
@@ -167,6 +167,17 @@ service_planned operations.ListBuckets plan is =
     subst IsUnbrokenPlan same tt
 service_planned _ plan is = absurd (cc)
 
+no_put : (operation : Operation) (version : Result (Option VersionId) Code) (kind : List ℕ) (entries : List Entry) → version_plan operation version ≡ Ok (key_plans.Put kind entries) → ⊥
+no_put operations.GetObject (Ok version) kind entries is = cc
+no_put operations.GetObject (Err code) kind entries is = cc
+no_put _ (Ok version) kind entries is = cc
+no_put _ (Err code) kind entries is = cc
+
+-- an operation on a version stores nothing
+version_unbroken : (operation : Operation) (version : Result (Option VersionId) Code) (asked : KeyPlan) → version_plan operation version ≡ Ok asked → IsUnbrokenAsk asked
+version_unbroken operation version (key_plans.Put kind entries) is = absurd (no_put operation version kind entries is)
+version_unbroken operation version _ is = tt
+
 type_unbroken : (values : List (List ℕ)) → list_all is_unbroken values ≡ true → is_unbroken (type_sent (slice_get values 0)) ≡ true
 type_unbroken [] all = refl
 type_unbroken (value ∷ values) all = (both (is_unbroken value) (list_all is_unbroken values) all).0
@@ -193,19 +204,9 @@ module _ (head : HeadParts) (lines : list_all is_whole_line head.headers ≡ tru
       let same : key_plans.Put one.0 two.0 ≡ asked = cc in
       subst IsUnbrokenAsk same (content_type_unbroken one.0 one.1, metadata_unbroken two.0 two.1)
 
-  version_unbroken : (plan : Option VersionId → KeyPlan) → ((version : Option VersionId) → IsUnbrokenAsk (plan version))
-      → (target : TargetParts) (asked : KeyPlan) → version_plan plan target ≡ Ok asked → IsUnbrokenAsk asked
-  version_unbroken plan none target asked is =
-      let one = bound (version_argument target) (λ (version : Option VersionId). Ok (plan version)) asked is in
-      let same : plan one.0 ≡ asked = cc in
-      subst IsUnbrokenAsk same (none one.0)
-
   planned_unbroken : (operation : Operation) (target : TargetParts) (asked : KeyPlan) → key_plan_for operation head target ≡ Ok asked → IsUnbrokenAsk asked
   planned_unbroken operations.PutObject target asked is = put_unbroken asked is
-  planned_unbroken operations.GetObject target asked is = version_unbroken key_plans.Get (λ version. tt) target asked is
-  planned_unbroken operations.HeadObject target asked is = version_unbroken key_plans.Head (λ version. tt) target asked is
-  planned_unbroken operations.DeleteObject target asked is = version_unbroken key_plans.Delete (λ version. tt) target asked is
-  planned_unbroken _ target asked is = absurd (cc)
+  planned_unbroken operation target asked is = version_unbroken operation (version_argument target) asked is
 
   asked_unbroken : (target : TargetParts) (asked : KeyPlan) → key_plan head target ≡ Ok asked → IsUnbrokenAsk asked
   unfolding key_plan

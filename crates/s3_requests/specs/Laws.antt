@@ -3,10 +3,10 @@ use Rattle.std.specs.Prelude.{◌≡◌, ℕ, Bool, true, ◌&&◌, List, Ok}
 use Rattle.std.specs.List.{list_all}
 use Rattle.s3_http_heads.specs.Head.{HeadParts, Says, is_unbroken}
 use Rattle.s3_versions.specs.Metadata.{Entry}
-use Rattle.s3_requests.specs.declared.commands.Plan.{Plan}
-use Rattle.s3_requests.specs.declared.commands.Plan.TheVariants as plans
-use Rattle.s3_requests.specs.declared.commands.KeyPlan.{KeyPlan}
-use Rattle.s3_requests.specs.declared.commands.KeyPlan.TheVariants as key_plans
+use Rattle.s3_requests.specs.declared.routing.Plan.{Plan}
+use Rattle.s3_requests.specs.declared.routing.Plan.TheVariants as plans
+use Rattle.s3_requests.specs.declared.routing.KeyPlan.{KeyPlan}
+use Rattle.s3_requests.specs.declared.routing.KeyPlan.TheVariants as key_plans
 use Rattle.s3_requests.specs.Routing.{route_of}
 
 -- no carriage return is in the name and the value

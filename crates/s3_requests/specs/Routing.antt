@@ -14,12 +14,12 @@ use Rattle.s3_http_heads.specs.Head.{HeadParts}
 use Rattle.s3_http_heads.specs.Target.{TargetParts, target_of, has_parameter}
 use Rattle.s3_requests.specs.declared.operations.Operation.{Operation}
 use Rattle.s3_requests.specs.declared.operations.Operation.TheVariants as operations
-use Rattle.s3_requests.specs.declared.commands.Plan.{Plan}
-use Rattle.s3_requests.specs.declared.commands.Plan.TheVariants as plans
-use Rattle.s3_requests.specs.declared.commands.BucketPlan.{BucketPlan}
-use Rattle.s3_requests.specs.declared.commands.BucketPlan.TheVariants as bucket_plans
-use Rattle.s3_requests.specs.declared.commands.KeyPlan.{KeyPlan}
-use Rattle.s3_requests.specs.declared.commands.KeyPlan.TheVariants as key_plans
+use Rattle.s3_requests.specs.declared.routing.Plan.{Plan}
+use Rattle.s3_requests.specs.declared.routing.Plan.TheVariants as plans
+use Rattle.s3_requests.specs.declared.routing.BucketPlan.{BucketPlan}
+use Rattle.s3_requests.specs.declared.routing.BucketPlan.TheVariants as bucket_plans
+use Rattle.s3_requests.specs.declared.routing.KeyPlan.{KeyPlan}
+use Rattle.s3_requests.specs.declared.routing.KeyPlan.TheVariants as key_plans
 use Rattle.s3_machine.specs.declared.command.Command.{Command}
 use Rattle.s3_machine.specs.declared.command.Command.TheVariants as commands
 use Rattle.s3_machine.specs.declared.command.BucketCommand.{BucketCommand}
@@ -88,19 +88,23 @@ put_plan head = do
   metadata ← metadata_of head
   Ok (key_plans.Put content_type metadata)
 
--- an operation of the version that is asked for
-abbrev pub version_plan : (Option VersionId → KeyPlan) → TargetParts → Result KeyPlan Code
-version_plan plan target = do
-  version ← version_argument target
-  Ok (plan version)
+-- an operation on the version that is asked for, if this server has it
+abbrev pub version_plan : Operation → Result (Option VersionId) Code → Result KeyPlan Code
+version_plan operations.GetObject asked = do
+  version ← asked
+  Ok (key_plans.Get version)
+version_plan operations.HeadObject asked = do
+  version ← asked
+  Ok (key_plans.Head version)
+version_plan operations.DeleteObject asked = do
+  version ← asked
+  Ok (key_plans.Delete version)
+version_plan other asked = Err NotImplemented
 
 -- an operation on a key with its arguments, if this server has it
 abbrev pub key_plan_for : Operation → HeadParts → TargetParts → Result KeyPlan Code
 key_plan_for operations.PutObject head target = put_plan head
-key_plan_for operations.GetObject head target = version_plan key_plans.Get target
-key_plan_for operations.HeadObject head target = version_plan key_plans.Head target
-key_plan_for operations.DeleteObject head target = version_plan key_plans.Delete target
-key_plan_for other head target = Err NotImplemented
+key_plan_for other head target = version_plan other (version_argument target)
 
 -- what is asked of a key
 unfoldable pub key_plan : HeadParts → TargetParts → Result KeyPlan Code

@@ -3,13 +3,11 @@
 #![tactic(auto)]
 
 mod arguments;
-mod commands;
 mod description;
 mod laws;
 mod operations;
 mod routing;
 
-pub use commands::{BucketPlan, KeyPlan, Plan};
 pub use laws::plans_are_unbroken;
-pub use routing::{command, route};
+pub use routing::{BucketPlan, KeyPlan, Plan, command, route};
 pub use s3_machine::{BucketCommand, Command, KeyCommand};

@@ -8,16 +8,71 @@ ghost use Rattle.s3_http_heads.specs.Target.{has_parameter};
 ghost use Rattle.s3_requests.specs.Routing as rules;
 
 use crate::arguments::version_argument;
-use crate::commands::{BucketPlan, KeyPlan, Plan};
 use crate::description::{content_type_of, metadata_of};
 use crate::operations::{Method, Operation, bucket_operation, key_operation, service_operation};
 use s3_documents::read_versioning;
 use s3_http_heads::{Head, Target};
 use s3_machine::{BucketCommand, Command, KeyCommand};
-use s3_names::{BucketName, Key};
+use s3_names::{BucketName, Key, VersionId};
 use s3_segments::Payload;
 use s3_terms::Code;
+use s3_versions::{ContentType, Metadata};
 use std::alloc::Global;
+
+/// What a head asks for, before the body is read: an operation with its arguments.
+#[derive(Drop)]
+pub enum Plan {
+    /// List all buckets (Amazon S3 API Reference, ListBuckets).
+    ListBuckets,
+    /// One about a bucket.
+    Bucket {
+        name: BucketName,
+        asked: BucketPlan,
+    },
+    /// One about the object under a key of a bucket.
+    Key {
+        bucket: BucketName,
+        key: Key,
+        asked: KeyPlan,
+    },
+}
+
+/// What is asked of a bucket, before the body is read.
+#[derive(Clone, Copy)]
+pub enum BucketPlan {
+    /// Make it (CreateBucket).
+    Create,
+    /// Ask whether it is there (HeadBucket).
+    Head,
+    /// Drop it, where nothing is in it (DeleteBucket).
+    Delete,
+    /// Set its versioning to what the body says (PutBucketVersioning).
+    PutVersioning,
+    /// Ask for its versioning (GetBucketVersioning).
+    GetVersioning,
+}
+
+/// What is asked of a key, before the body is read.
+#[derive(Drop)]
+pub enum KeyPlan {
+    /// Store the body under it, with this media type and this metadata (PutObject).
+    Put {
+        content_type: ContentType,
+        metadata: Metadata,
+    },
+    /// Give the version of this id, or the current one (GetObject).
+    Get {
+        version: Option<VersionId>,
+    },
+    /// The same without the bytes (HeadObject).
+    Head {
+        version: Option<VersionId>,
+    },
+    /// Delete it, or its version of this id (DeleteObject).
+    Delete {
+        version: Option<VersionId>,
+    },
+}
 
 /// The sub-resources of S3 that this server doesn't have, with a space between each two.
 const LACKING: &[u8] =

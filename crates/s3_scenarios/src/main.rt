@@ -25,19 +25,15 @@ fn names(rt: &HostRuntime) -> io::Result<Vec<String>> {
     Ok(words)
 }
 
-// Runs the connection of this text; whether it could be run and told.
-fn run_connection(rt: &HostRuntime, config: &Config, stamp: Stamp, text: &str) -> bool {
-    match replies(rt.alloc(), config, stamp, text) {
-        Ok(replies) => rt.stdout().write_all(replies.as_slice()).is_ok(),
-        Err(_) => false,
-    }
-}
-
 // Runs the connections of this text; whether each could be run and told.
 fn run_connections(rt: &HostRuntime, config: &Config, stamp: Stamp, text: &str) -> bool {
     let mut all = true;
     for connection in text.split("\n==\n") {
-        all = run_connection(rt, config, stamp, connection) && all;
+        let told = match replies(rt.alloc(), config, stamp, connection) {
+            Some(replies) => rt.stdout().write_all(replies.as_slice()).is_ok(),
+            None => false,
+        };
+        all = told && all;
     }
     all
 }
@@ -54,21 +50,30 @@ fn run(rt: &HostRuntime, config: &Config, stamp: Stamp, name: &str) -> bool {
     told && run_connections(rt, config, stamp, text.strip_suffix("\n").unwrap_or(text))
 }
 
-// Runs all scenarios; whether each could be run and told.
-fn run_all(rt: &HostRuntime) -> Option<bool> {
-    let config = config(rt.alloc(), b"us-east-1", 5, 67_108_864, &[b"pail"])?;
-    let stamp = Stamp::read(b"20130524T000000Z")?;
-    let names = names(rt).ok()?;
+// Runs the scenarios of these names; whether each could be run and told.
+fn run_all(rt: &HostRuntime, config: &Config, stamp: Stamp, names: &[String]) -> bool {
     let mut all = true;
-    for name in names.as_slice().iter().skip(1) {
-        all = run(rt, &config, stamp, name.as_str()) && all;
+    for name in names {
+        all = run(rt, config, stamp, name.as_str()) && all;
     }
-    Some(all)
+    all
+}
+
+// Runs the scenarios of these names, where there are a server and a moment for them; whether each could be run and told.
+fn run_scenarios(rt: &HostRuntime, names: &[String]) -> bool {
+    let Some(stamp) = Stamp::read(b"20130524T000000Z") else {
+        return false;
+    };
+    match config(rt.alloc(), b"us-east-1", 5, 67_108_864, &[b"pail"]) {
+        Some(config) => run_all(rt, &config, stamp, names),
+        None => false,
+    }
 }
 
 fn main(rt: HostRuntime) -> ExitCode {
-    match run_all(&rt) {
-        Some(true) => ExitCode::SUCCESS,
-        Some(false) | None => ExitCode::FAILURE,
+    match names(&rt) {
+        Ok(names) if run_scenarios(&rt, names.as_slice().get(1..).unwrap_or(&[])) =>
+            ExitCode::SUCCESS,
+        _ => ExitCode::FAILURE,
     }
 }

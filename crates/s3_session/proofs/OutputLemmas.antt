@@ -10,7 +10,7 @@ use Rattle.s3_http_heads.specs.declared.find.Found.TheVariants as found
 use Rattle.s3_records.specs.Catalogue.{opening}
 use Rattle.s3_machine.specs.Step.{State, step}
 use Rattle.s3_machine.specs.History.{Entry, Legal, IsAnswer, after_entry}
-use Rattle.s3_machine.specs.declared.outcome.Answer.{Answer}
+use Rattle.s3_machine.specs.declared.command.Answer.{Answer}
 use Rattle.s3_replies.specs.declared.context.Context.{Context}
 use Rattle.s3_replies.specs.Replies.{Prints, PrintsRefusal}
 use Rattle.s3_replies.specs.Laws.{RepliesAreUnique, RefusalsAreUnique}

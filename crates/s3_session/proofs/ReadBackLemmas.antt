@@ -6,18 +6,17 @@ use Rattle.s3_config.specs.Settings.{Settings}
 use Rattle.s3_names.specs.declared.ids.VersionId.{VersionId}
 use Rattle.s3_versions.specs.declared.version.Data.{Data}
 use Rattle.s3_records.specs.Catalogue.{opening}
-use Rattle.s3_requests.specs.declared.commands.Plan.{Plan}
-use Rattle.s3_requests.specs.declared.commands.Plan.TheVariants as plans
-use Rattle.s3_requests.specs.declared.commands.KeyPlan.TheVariants as key_plans
+use Rattle.s3_requests.specs.declared.routing.Plan.{Plan}
+use Rattle.s3_requests.specs.declared.routing.Plan.TheVariants as plans
+use Rattle.s3_requests.specs.declared.routing.KeyPlan.TheVariants as key_plans
 use Rattle.s3_requests.specs.Laws.{PlansAreUnbroken}
 use Rattle.s3_requests.specs.Routing.{command_of}
 use Rattle.s3_machine.specs.declared.command.Command.{Command}
-use Rattle.s3_machine.specs.declared.outcome.Found.{Found}
-use Rattle.s3_machine.specs.declared.outcome.Outcome.{Outcome}
-use Rattle.s3_machine.specs.declared.outcome.Outcome.TheVariants.{Got}
+use Rattle.s3_machine.specs.declared.command.Found.{Found}
+use Rattle.s3_machine.specs.declared.command.Outcome.{Outcome}
+use Rattle.s3_machine.specs.declared.command.Outcome.TheVariants.{Got}
 use Rattle.s3_machine.specs.Step.{State}
-use Rattle.s3_machine.specs.Laws.{is_refused}
-use Rattle.s3_machine.specs.Effects.{Address, Asked, Contents, data_from, contents_of, brings, given, touched}
+use Rattle.s3_machine.specs.Effects.{Address, Asked, Contents, data_from, contents_of, brings, given, touched, is_refused}
 use Rattle.s3_machine.specs.History.{Entry, Legal, IsAnswer, after_entry}
 use Rattle.s3_machine.specs.Kept.{LeavesKey, SparesVersion, Puts, IsGiven, IsMadeOf, PutsAreKept, VersionsAreKept, OnlyPutsAreGiven, ReadsGiveOrRefuse}
 use Rattle.s3_replies.specs.Laws.{Carries, IsUnbroken, tells_success, SuccessIsShown, ObjectsAreCarried, TagsAreUnbroken}
@@ -238,13 +237,10 @@ only_puts_are_read_back plans messages only or_refused success carried tags stan
 
 planned_payload : (plan : Plan) (came brought : List ℕ) (command : Command) → command_of plan came ≡ Ok command → brings command ≡ Some brought → brought ≡ came
 unfolding command_of
-planned_payload plans.ListBuckets came brought command made is = absurd (cc)
 planned_payload (plans.Bucket name asked) came brought command made is =
     let none : None ≡ Some brought = sym (ap (option_map (λ (contents : Contents). contents.body)) (bucket_contents name asked came command made)) ∙ is in absurd (cc)
 planned_payload (plans.Key bucket key (key_plans.Put kind metadata)) came brought command made is = cc
-planned_payload (plans.Key bucket key (key_plans.Get version)) came brought command made is = absurd (cc)
-planned_payload (plans.Key bucket key (key_plans.Head version)) came brought command made is = absurd (cc)
-planned_payload (plans.Key bucket key (key_plans.Delete version)) came brought command made is = absurd (cc)
+planned_payload _ came brought command made is = absurd (cc)
 
 pub payloads_are_brought : WholePayloadsAreBodies → PayloadsAreBrought
 payloads_are_brought law settings moment bytes rest context command brought sound is =

@@ -11,7 +11,7 @@ use Rattle.s3_http_heads.specs.Search as search
 use Rattle.s3_aws_chunked.specs.Verdict as bodies
 use Rattle.s3_payloads.specs.Laws.{PayloadsJudge}
 use Rattle.s3_payloads.specs.Verdict as payloads
-use Rattle.s3_machine.specs.declared.outcome.Answer.{Answer}
+use Rattle.s3_machine.specs.declared.command.Answer.{Answer}
 use Rattle.s3_replies.specs.declared.context.Context.{Context}
 use Rattle.s3_replies.specs.Replies.{Prints, PrintsRefusal, internal_error}
 use Rattle.s3_session.specs.Verdict as verdicts

@@ -10,10 +10,10 @@ use Rattle.s3_terms.specs.Fault.{◌>>=◌}
 use Rattle.s3_terms.specs.declared.code.Code.{Code}
 use Rattle.s3_machine.specs.declared.command.BucketCommand.{BucketCommand}
 use Rattle.s3_machine.specs.declared.command.Command.TheVariants as commands
-use Rattle.s3_requests.specs.declared.commands.BucketPlan.{BucketPlan}
-use Rattle.s3_requests.specs.declared.commands.Plan.{Plan}
-use Rattle.s3_requests.specs.declared.commands.Plan.TheVariants as plans
-use Rattle.s3_requests.specs.declared.commands.KeyPlan.TheVariants as key_plans
+use Rattle.s3_requests.specs.declared.routing.BucketPlan.{BucketPlan}
+use Rattle.s3_requests.specs.declared.routing.Plan.{Plan}
+use Rattle.s3_requests.specs.declared.routing.Plan.TheVariants as plans
+use Rattle.s3_requests.specs.declared.routing.KeyPlan.TheVariants as key_plans
 use Rattle.s3_requests.specs.Laws.{is_unbroken_entry, IsUnbrokenPlan, PlansAreUnbroken}
 use Rattle.s3_requests.specs.Routing.{bucket_command_of, command_of}
 use Rattle.s3_machine.specs.Effects.{Contents, contents_of}
@@ -48,15 +48,12 @@ bucket_contents name asked payload command made = made_of_bucket (bucket_command
 
 planned : (plan : Plan) (payload : List ℕ) (command : Command) → IsUnbrokenPlan plan → command_of plan payload ≡ Ok command → StoresUnbroken command
 unfolding command_of
-planned plans.ListBuckets payload command unbroken made contents is = absurd (cc)
 planned (plans.Bucket name asked) payload command unbroken made contents is =
     let none : None ≡ Some contents = sym (bucket_contents name asked payload command made) ∙ is in absurd (cc)
 planned (plans.Key bucket key (key_plans.Put kind metadata)) payload command unbroken made contents is =
     let same : ◌≡◌ {A = Contents} (record { content_type = kind; metadata = metadata; body = payload }) contents = cc in
     subst IsUnbrokenContents same (unbroken.0, told_whole metadata unbroken.1)
-planned (plans.Key bucket key (key_plans.Get version)) payload command unbroken made contents is = absurd (cc)
-planned (plans.Key bucket key (key_plans.Head version)) payload command unbroken made contents is = absurd (cc)
-planned (plans.Key bucket key (key_plans.Delete version)) payload command unbroken made contents is = absurd (cc)
+planned _ payload command unbroken made contents is = absurd (cc)
 
 module _ (law : PlansAreUnbroken) (messages : SoundMessages) (settings : Settings) where
   sound_unbroken : (moment : ℕ) (bytes rest : List ℕ) (context : Context) (command : Command)

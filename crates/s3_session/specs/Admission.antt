@@ -8,7 +8,7 @@ use Rattle.s3_http_heads.specs.Head.{HeadParts}
 use Rattle.s3_http_heads.specs.BodyLength.{framing_of}
 use Rattle.s3_signing.specs.Verdict.{head_verdict}
 use Rattle.s3_payloads.specs.Form.{Announced, announced_payload}
-use Rattle.s3_requests.specs.declared.commands.Plan.{Plan}
+use Rattle.s3_requests.specs.declared.routing.Plan.{Plan}
 use Rattle.s3_requests.specs.Routing.{route_of}
 
 -- what a head that nothing refuses asks for: what it announces of its body, and the operation

@@ -6,7 +6,7 @@ use Rattle.s3_terms.specs.declared.code.Code.{Code}
 use Rattle.s3_http_heads.specs.Find.{found_in}
 use Rattle.s3_http_heads.specs.declared.find.Found.{Found}
 use Rattle.s3_http_heads.specs.declared.find.Found.TheVariants as found
-use Rattle.s3_machine.specs.declared.outcome.Answer.{Answer}
+use Rattle.s3_machine.specs.declared.command.Answer.{Answer}
 use Rattle.s3_machine.specs.declared.command.Command.{Command}
 use Rattle.s3_replies.specs.declared.context.Context.{Context}
 use Rattle.s3_replies.specs.Replies.{Prints, PrintsRefusal, internal_error}

@@ -1,7 +1,11 @@
-//! Connections that keep what comes while a command waits, and whose messages have the moments of a list.
+//! Connections that keep what comes while a command waits, and whose messages have the moments of a list. In their scripts
+//! `turn` takes the turn that waits and answers it, what comes next is whether a command waits, and `feed` leaves nothing.
+ghost use Rattle.std.specs.Prelude.{◌≡◌, true, false};
+ghost use Rattle.s3_buffered_session.specs.Buffered.{is_handed_out};
+
 use crate::parts::bytes_of;
-use crate::server::config;
-use crate::steps::Names;
+use crate::server::moment;
+use crate::steps::{Tried, goes};
 use s3_buffered_session::BufferedSession;
 use s3_calendar::Moment;
 use s3_config::Config;
@@ -10,201 +14,126 @@ use s3_store::Store;
 use s3_terms::NoMemory;
 use std::alloc::Global;
 
-// What is done to a connection.
-#[derive(Clone, Copy)]
-enum Act {
-    // It is fed with a piece.
-    Feed(Names),
-    // The turn that waits is taken, and answered.
-    Turn,
-    // It is taken, and memory runs out at it.
-    Starve,
-    // No more bytes come.
-    End,
-}
-
-// What is done, whether a command waits then, and what was written.
-type Step = (Act, bool, Names);
-
-// A connection, and its moments: so many seconds after the first one.
-struct Row {
-    name: &'static str,
-    moments: &'static [u64],
-    steps: &'static [Step],
-}
-
-// A put of `hello`, with the next message behind it.
-const PUT_AND_GET: Names = &["put", "length 5", "hash", "CR LF", "hello", "get"];
-
-static ROWS: [Row; 3] = [
-    Row {
-        name: "pieces and the end while a command waits",
-        moments: &[0],
-        steps: &[
-            (Act::Feed(&["put", "length 5", "hash", "CR LF"]), false, &[]),
-            (Act::Feed(&["hello", "CR LF"]), true, &[]),
-            (Act::Feed(&[]), true, &[]),
-            (Act::Feed(&["CR LF"]), true, &[]),
-            (Act::Feed(&["get", "get"]), true, &[]),
-            (Act::End, true, &[]),
-            (Act::Feed(&["get"]), true, &[]),
-            (Act::Turn, true, &["stored"]),
-            (Act::Turn, true, &["shown"]),
-            (Act::End, true, &[]),
-        ],
-    },
-    Row {
-        name: "moments that run out",
-        moments: &[0, 1],
-        steps: &[
-            (Act::Feed(PUT_AND_GET), true, &[]),
-            (Act::Turn, true, &["stored"]),
-            (Act::Turn, false, &["shown at 1"]),
-            (
-                Act::Feed(&["put", "length 5", "hash wrongly signed", "CR LF"]),
-                false,
-                &["SignatureDoesNotMatch at 1"],
-            ),
-        ],
-    },
-    Row {
-        name: "a turn without memory",
-        moments: &[0],
-        steps: &[
-            (Act::Feed(PUT_AND_GET), true, &[]),
-            (Act::Starve, false, &["no memory"]),
-            (Act::Feed(&["get"]), false, &[]),
-            (Act::End, false, &[]),
-        ],
-    },
-];
-
-// A connection, and the store where it has its turns.
+// A connection over a store.
 #[derive(Drop)]
-struct Run<'c, 'm> {
-    alloc: Global,
+struct Buffered<'c, 'm> {
     config: &'c Config,
     session: BufferedSession<'m>,
-    store: Store<MapRecords>,
+    store: &'c mut Store<MapRecords>,
 }
 
-impl Run<'_, '_> {
-    // Feeds a piece.
-    fn feed(&mut self, names: Names) -> Option<()> {
-        let piece = bytes_of(self.alloc, names)?;
-        self.session.feed(self.alloc, self.config, &piece).ok()
+impl Buffered<'_, '_> {
+    // Feeds a piece: whether there was memory.
+    fn feed(&mut self, alloc: Global, names: &str) -> bool {
+        match bytes_of(alloc, names) {
+            Some(piece) => self.session.feed(alloc, self.config, &piece).is_ok(),
+            None => false,
+        }
     }
 
     // Takes the turn that waits, and answers it: whether one did.
-    fn answer(&mut self) -> bool {
-        let least = self.config.min_part();
+    fn answer(&mut self, alloc: Global) -> bool {
         match self.session.take_turn() {
             None => false,
             Some(turn) => {
-                let answer = self
-                    .store
-                    .apply(self.alloc, least, turn.command, turn.moment);
-                self.session.answer(self.alloc, self.config, answer);
+                let least = self.config.min_part();
+                let answer = self.store.apply(alloc, least, turn.command, turn.moment);
+                self.session.answer(alloc, self.config, answer);
+                true
+            }
+        }
+    }
+
+    // Takes the turn that waits, and drops it: whether one did.
+    fn takes_turn(&mut self) -> bool
+        ensures handed { result ≡ true → is_handed_out self.new.session ≡ true }
+        ensures same { result ≡ false → self.new.session ≡ self.old.session }
+    {
+        match self.session.take_turn() {
+            None => false,
+            Some(turn) => {
+                drop(turn);
                 true
             }
         }
     }
 
     // Takes the turn that waits, at which memory runs out: whether one did, and was handed out once.
-    fn starve(&mut self) -> bool {
-        let is_taken = self.session.take_turn().is_some();
-        if !is_taken {
+    fn starve(&mut self, alloc: Global) -> bool {
+        if !self.takes_turn() || self.takes_turn() {
             return false;
         }
-        let is_again = self.session.take_turn().is_some();
-        if is_again {
-            return false;
-        }
-        self.session.answer(self.alloc, self.config, Err(NoMemory));
+        self.session.answer(alloc, self.config, Err(NoMemory));
         true
     }
+}
 
-    // Does this: whether there was a turn, where one is taken.
-    fn act(&mut self, act: Act) -> Option<bool> {
-        match act {
-            Act::Feed(names) => {
-                self.feed(names)?;
-                Some(true)
-            }
-            Act::Turn => Some(self.answer()),
-            Act::Starve => Some(self.starve()),
-            Act::End => {
+impl Tried for Buffered<'_, '_> {
+    fn act(&mut self, alloc: Global, act: &str) -> bool {
+        let (verb, rest) = act.split_once(' ').unwrap_or((act, ""));
+        match verb {
+            "feed" => self.feed(alloc, rest),
+            "turn" => self.answer(alloc),
+            "starve" => self.starve(alloc),
+            "end" => {
                 self.session.end();
-                Some(true)
+                true
             }
+            _ => false,
         }
     }
 
-    // Takes all that was written and not taken: whether it is this.
-    fn writes(&mut self, wanted: &[u8]) -> Option<bool> {
-        let all = self.session.all(self.alloc).ok()?;
+    fn next(&self) -> &'static str {
+        if self.session.is_waiting() {
+            "waits"
+        } else {
+            "goes on"
+        }
+    }
+
+    fn wrote(&mut self, alloc: Global, wanted: &[u8]) -> bool {
+        let Ok(all) = self.session.all(alloc) else {
+            return false;
+        };
         let is_front = all.starts_with(self.session.out());
         self.session.sent(all.len());
-        Some(is_front && all.as_slice() == wanted && self.session.out().is_empty())
-    }
-
-    // Whether a step is as it has to be.
-    fn step(&mut self, step: &Step) -> Option<bool> {
-        let (act, waits, written) = *step;
-        let is_done = self.act(act)?;
-        let wanted = bytes_of(self.alloc, written)?;
-        Some(is_done && self.session.is_waiting() == waits && self.writes(&wanted)?)
-    }
-
-    // Whether all of these steps are.
-    fn steps(&mut self, steps: &[Step]) -> Option<bool> {
-        for step in steps {
-            if !self.step(step)? {
-                return Some(false);
-            }
-        }
-        Some(true)
+        is_front && all.as_slice() == wanted && self.session.out().is_empty()
     }
 }
 
-// The moments so many seconds after 2013-05-24T00:00:00Z.
-fn moments_of(alloc: Global, seconds: &[u64]) -> Option<Vec<Moment>> {
-    let mut moments = Vec::new(alloc);
-    for after in seconds {
-        let at = 1_369_353_600_u64.checked_add(*after)?;
-        moments.push(Moment::new(at)?).ok()?;
-    }
-    Some(moments)
-}
-
-// Whether a connection goes as it has to; `None` says that there was no memory, or that a part has no text.
-fn holds(alloc: Global, config: &Config, row: &Row) -> Option<bool> {
-    let moments = moments_of(alloc, row.moments)?;
-    let store = Store::open(alloc, config.buckets()).ok()?;
-    let mut run = Run {
-        alloc,
+// Whether a connection with these moments goes as a script says.
+fn goes_at(
+    alloc: Global,
+    config: &Config,
+    store: &mut Store<MapRecords>,
+    moments: &[Moment],
+    script: &str,
+) -> bool {
+    let mut buffered = Buffered {
         config,
-        session: BufferedSession::new(alloc, &moments),
+        session: BufferedSession::new(alloc, moments),
         store,
     };
-    run.steps(row.steps)
+    let goes = goes(alloc, &mut buffered, script);
+    drop(buffered);
+    goes
 }
 
-// The name of the first connection that goes otherwise than it has to.
-fn first_other(alloc: Global) -> Option<&'static str> {
-    let Some(config) = config(alloc) else {
-        return Some("no settings");
+/// The same, with the moment of the server, or with that and the next second.
+pub(crate) fn holds(
+    alloc: Global,
+    config: &Config,
+    store: &mut Store<MapRecords>,
+    is_timed: bool,
+    script: &str,
+) -> bool {
+    let Some(first) = moment() else {
+        return false;
     };
-    for row in &ROWS {
-        if holds(alloc, &config, row) != Some(true) {
-            return Some(row.name);
-        }
+    let second = Moment::new(first.seconds().saturating_add(1)).unwrap_or(first);
+    if is_timed {
+        goes_at(alloc, config, store, &[first, second], script)
+    } else {
+        goes_at(alloc, config, store, &[first], script)
     }
-    None
-}
-
-#[test]
-fn connections_keep_what_comes(rt: HostRuntime) {
-    let other = first_other(rt.alloc());
-    assert!(rt; other == None, "at {}", other.unwrap_or(""));
 }

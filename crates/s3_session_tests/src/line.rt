@@ -1,12 +1,13 @@
-//! A connection to a server that has nothing in its buckets, and the turn that its command waits for.
+//! A connection with its clock, and the turn that its command waits for.
 ghost use Rattle.std.specs.Prelude.{◌≡◌, is_some};
 ghost use Rattle.s3_session.specs.Output.{is_waiting};
 ghost use Rattle.s3_session.specs.Session.{standing_of};
 
+use crate::clock::Counting;
 use s3_config::Config;
 use s3_machine::Turn;
 use s3_records::MapRecords;
-use s3_session::{Clock, Need, Session};
+use s3_session::{Need, Session};
 use s3_store::Store;
 use s3_terms::NoMemory;
 use std::alloc::Global;
@@ -26,45 +27,74 @@ pub(crate) enum Then {
     Ended,
 }
 
-/// A connection, the turn that its command waits for, and the store where it has its turns.
+/// A connection with its clock, the turn that its command waits for, and the store where it has its turns.
 #[derive(Drop)]
-pub(crate) struct Line {
+pub(crate) struct Line<'a> {
+    alloc: Global,
+    config: &'a Config,
+    clock: Counting,
     session: Session,
     waiting: Option<Turn>,
     has_ended: bool,
-    store: Store<MapRecords>,
+    then: Then,
+    store: &'a mut Store<MapRecords>,
     ghost waits: { is_waiting (standing_of session) ≡ is_some waiting },
     ghost ends: { session.is_ended ≡ has_ended },
 }
 
-impl Line {
-    /// A connection of which nothing has come, to a server with nothing in its buckets.
-    pub(crate) fn open(alloc: Global, config: &Config) -> Option<Line> {
-        let store = Store::open(alloc, config.buckets()).ok()?;
-        Some(Line {
+impl<'a> Line<'a> {
+    /// A connection of which nothing has come, with this clock, over this store.
+    pub(crate) fn new(
+        alloc: Global,
+        config: &'a Config,
+        clock: Counting,
+        store: &'a mut Store<MapRecords>,
+    ) -> Line<'a> {
+        Line {
+            alloc,
+            config,
+            clock,
             session: Session::new(alloc),
             waiting: None,
             has_ended: false,
+            then: Then::Head,
             store,
-        })
+        }
     }
 
-    /// Feeds a piece: how many of its bytes were taken, and what comes next. Where a command waits, or the bytes have
-    /// ended, nothing is fed.
-    pub(crate) fn feed<C: Clock>(
-        &mut self,
-        alloc: Global,
-        config: &Config,
-        clock: &mut C,
-        piece: &[u8],
-    ) -> (usize, Then) {
+    /// How often its clock was asked.
+    pub(crate) fn asked(&self) -> usize {
+        self.clock.asked
+    }
+
+    /// Whether the body of a message is open.
+    pub(crate) fn in_body(&self) -> bool {
+        self.session.in_body()
+    }
+
+    /// What comes next, as it was told when it was fed last.
+    pub(crate) fn then(&self) -> Then {
+        self.then
+    }
+
+    /// Feeds a piece: how many of its bytes were taken. Where a command waits, or the bytes have ended, nothing is fed.
+    pub(crate) fn feed(&mut self, piece: &[u8]) -> usize {
+        let (len, then) = self.fed(piece);
+        self.then = then;
+        len
+    }
+
+    // The same, with what comes next.
+    fn fed(&mut self, piece: &[u8]) -> (usize, Then) {
         if self.waiting.is_some() {
             return (0, Then::Turn);
         }
         if self.has_ended {
             return (0, Then::Ended);
         }
-        let (len, need) = self.session.feed(alloc, config, clock, piece);
+        let (len, need) = self
+            .session
+            .feed(self.alloc, self.config, &mut self.clock, piece);
         match need {
             Need::More => (len, self.reading()),
             Need::Turn(turn) => {
@@ -84,23 +114,21 @@ impl Line {
         }
     }
 
-    /// Whether the body of a message is open.
-    pub(crate) fn in_body(&self) -> bool {
-        self.session.in_body()
-    }
-
     /// Gives the turn that was asked for, if one was.
-    pub(crate) fn answer(&mut self, alloc: Global, config: &Config) {
+    pub(crate) fn answer(&mut self) {
         if let Some(turn) = self.waiting.take() {
-            let least = config.min_part();
-            let answer = self.store.apply(alloc, least, turn.command, turn.moment);
+            let least = self.config.min_part();
+            let answer = self
+                .store
+                .apply(self.alloc, least, turn.command, turn.moment);
             self.session.answer(answer);
         }
     }
 
     /// Says of the turn that was asked for, if one was, that memory ran out for it.
     pub(crate) fn starve(&mut self) {
-        if let Some(_turn) = self.waiting.take() {
+        if let Some(turn) = self.waiting.take() {
+            drop(turn);
             self.session.answer(Err(NoMemory));
         }
     }
@@ -112,8 +140,8 @@ impl Line {
     }
 
     /// Takes all that was written and not taken: whether it is this.
-    pub(crate) fn writes(&mut self, alloc: Global, wanted: &[u8]) -> bool {
-        match self.session.all(alloc) {
+    pub(crate) fn writes(&mut self, wanted: &[u8]) -> bool {
+        match self.session.all(self.alloc) {
             Ok(all) => {
                 self.session.sent(all.len());
                 all.as_slice() == wanted
@@ -122,12 +150,19 @@ impl Line {
         }
     }
 
-    /// Takes at most so many of the bytes that stand together in front; whether there were any.
-    pub(crate) fn take(&mut self, most: usize, taken: &mut Vec<u8>) -> Option<bool> {
-        let out = self.session.out();
-        let count = out.len().min(most);
-        taken.extend_from_slice(&out[..count]).ok()?;
-        self.session.sent(count);
-        Some(count > 0)
+    /// Takes all that was written and not taken, at most so many bytes at a time of what stands together: what is left of
+    /// what has to be written, if it begins so.
+    pub(crate) fn take<'w>(&mut self, most: usize, wanted: &'w [u8]) -> Option<&'w [u8]> {
+        let mut left = wanted;
+        for _ in 0..=wanted.len() {
+            let out = self.session.out();
+            let count = out.len().min(most);
+            if count == 0 {
+                return Some(left);
+            }
+            left = left.strip_prefix(&out[..count])?;
+            self.session.sent(count);
+        }
+        None
     }
 }

@@ -1,98 +1,89 @@
 //! Texts that are put together by the names of their parts.
-use crate::chunks::{announced, chunks, faults, recut, words};
-use crate::replies::{absent, answers, later, refusals, unsound};
-use crate::requests::{beginnings, bodies, example, lines};
+//!
+//! A text of parts has a tilde before each, and an equals sign between its name and what it stands for; what has none is a
+//! remark. Names stand in a list with a comma between two; a star and a number behind one say how often it stands there.
+use crate::replies::REPLIES;
+use crate::requests::REQUESTS;
 use std::alloc::Global;
 
-/// A name, and the text that it stands for.
-pub(crate) type Part = (&'static str, &'static [u8]);
-
-// The parts that have letters `a` behind their text, and how many.
-static LETTERS: [(&str, usize); 8] = [
-    ("10000", 65_536),
-    ("400", 1_024),
-    ("400 less", 1_023),
-    ("0ffff", 65_535),
-    ("401", 1_025),
-    ("shown letters", 66_560),
-    ("16383 letters", 16_383),
-    ("letter", 1),
-];
-
-// How many letters stand behind the part with this name.
-fn letters_of(name: &str) -> usize {
-    for (other, letters) in &LETTERS {
-        if *other == name {
-            return *letters;
-        }
-    }
-    0
-}
-
-// The text of the part with this name, if it is one of these.
-fn text_in(parts: &[Part], name: &str) -> Option<&'static [u8]> {
-    for (other, text) in parts {
-        if *other == name {
-            return Some(text);
+// What the part with this name stands for, if it is one of these.
+fn part_in(parts: &'static str, name: &str) -> Option<&'static str> {
+    for part in parts.split('~') {
+        match part.split_once('=') {
+            Some((other, text)) if other == name => return Some(text),
+            _ => {}
         }
     }
     None
 }
 
-// The text of the part with this name.
-fn text_of(name: &str) -> Option<&'static [u8]> {
-    text_in(beginnings(), name)
-        .or(text_in(lines(), name))
-        .or(text_in(bodies(), name))
-        .or(text_in(example(), name))
-        .or(text_in(answers(), name))
-        .or(text_in(refusals(), name))
-        .or(text_in(later(), name))
-        .or(text_in(words(), name))
-        .or(text_in(announced(), name))
-        .or(text_in(chunks(), name))
-        .or(text_in(faults(), name))
-        .or(text_in(recut(), name))
-        .or(text_in(absent(), name))
-        .or(text_in(unsound(), name))
+// What the part with this name stands for.
+fn part(name: &str) -> Option<&'static str> {
+    part_in(REQUESTS, name).or(part_in(REPLIES, name))
 }
 
-// Adds a text, and so many letters.
-fn add(bytes: &mut Vec<u8>, text: &[u8], letters: usize) -> Option<()> {
-    bytes.extend_from_slice(text).ok()?;
-    let len = bytes.len().checked_add(letters)?;
-    bytes.resize(len, b'a').ok()
-}
-
-// Adds the parts with these names.
-fn add_all(bytes: &mut Vec<u8>, names: &[&str]) -> Option<()> {
-    for name in names {
-        add(bytes, text_of(name)?, letters_of(name))?;
+// Adds 2 MiB, of which each byte is its place modulo 251.
+fn add_places(bytes: &mut Vec<u8>) -> Option<()> {
+    for place in 0..2_097_152_u32 {
+        bytes.push((place % 251) as u8).ok()?;
     }
     Some(())
 }
 
-/// The bytes of the parts with these names; `None` says that there was no memory, or that one has no text.
-pub(crate) fn bytes_of(alloc: Global, names: &[&str]) -> Option<Vec<u8>> {
-    let mut bytes = Vec::new(alloc);
-    add_all(&mut bytes, names)?;
-    Some(bytes)
+// The answer to a get of `hello` that is the command with this number.
+fn shown(alloc: Global, number: u32) -> Option<String> {
+    let (front, behind) = part("shown")?.split_once("0000000000000001")?;
+    format!(in alloc; "{front}{number:016x}{behind}").ok()
 }
 
-/// The bytes of these parts and of those behind them, and how many the first are; `None` as above.
-pub(crate) fn joined(alloc: Global, front: &[&str], behind: &[&str]) -> Option<(Vec<u8>, usize)> {
-    let mut bytes = Vec::new(alloc);
-    add_all(&mut bytes, front)?;
-    let len = bytes.len();
-    add_all(&mut bytes, behind)?;
-    Some((bytes, len))
-}
-
-/// The bytes of the parts with these names, with a comma between two; `None` as above.
-pub(crate) fn listed(alloc: Global, names: &str) -> Option<Vec<u8>> {
-    let mut bytes = Vec::new(alloc);
-    for name in names.split(',') {
-        add(&mut bytes, text_of(name)?, letters_of(name))?;
+// Adds the answers to so many gets, of which the first is the second command.
+fn add_shown(alloc: Global, bytes: &mut Vec<u8>, times: u32) -> Option<()> {
+    for number in 1..=times {
+        let answer = shown(alloc, number)?;
+        bytes.extend_from_slice(answer.as_bytes()).ok()?;
     }
+    Some(())
+}
+
+// Adds a part so many times.
+fn add_times(bytes: &mut Vec<u8>, name: &str, times: u32) -> Option<()> {
+    let text = part(name)?;
+    for _ in 0..times {
+        bytes.extend_from_slice(text.as_bytes()).ok()?;
+    }
+    Some(())
+}
+
+// Adds what a name of a list stands for.
+fn add(alloc: Global, bytes: &mut Vec<u8>, listed: &str) -> Option<()> {
+    let (name, times) = listed.split_once('*').unwrap_or((listed, "1"));
+    let times = times.parse::<u32>().ok()?;
+    match name {
+        "2 MiB" => add_places(bytes),
+        "shown each" => add_shown(alloc, bytes, times),
+        _ => add_times(bytes, name, times),
+    }
+}
+
+// Adds what all names of a list stand for.
+fn add_all(alloc: Global, bytes: &mut Vec<u8>, names: &str) -> Option<()> {
+    for name in names.split(", ") {
+        add(alloc, bytes, name)?;
+    }
+    Some(())
+}
+
+/// The bytes of the parts in a list; `None` says that there was no memory, or that one is no part.
+pub(crate) fn bytes_of(alloc: Global, names: &str) -> Option<Vec<u8>> {
+    let mut bytes = Vec::new(alloc);
+    add_all(alloc, &mut bytes, names)?;
     Some(bytes)
+}
+
+/// The bytes of the parts in two lists, one behind the other, and how many those of the first are; `None` as above.
+pub(crate) fn joined(alloc: Global, front: &str, behind: &str) -> Option<(Vec<u8>, usize)> {
+    let mut bytes = bytes_of(alloc, front)?;
+    let len = bytes.len();
+    add_all(alloc, &mut bytes, behind)?;
+    Some((bytes, len))
 }

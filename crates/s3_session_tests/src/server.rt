@@ -16,19 +16,13 @@ pub(crate) fn config(alloc: Global) -> Option<Config> {
     s3_test_servers::config(alloc, b"us-east-1", 5_242_880, 67_108_864, &buckets)
 }
 
-// What a connection of these bytes is answered at that moment; `None` where the test itself is wrong or has no memory.
-fn replayed(alloc: Global, bytes: &[u8]) -> Option<Vec<u8>> {
-    let moment = moment()?;
-    match config(alloc) {
-        Some(config) => replay_one(alloc, &config, bytes, moment).ok(),
-        None => None,
-    }
-}
-
-/// Whether a connection of these bytes is answered by those, and by nothing else.
-pub(crate) fn is_answered(alloc: Global, bytes: &[u8], wanted: &[u8]) -> bool {
-    match replayed(alloc, bytes) {
-        Some(out) => out.as_slice() == wanted,
-        None => false,
+/// Whether a connection of these bytes, all at that moment, is answered by those and by nothing else.
+pub(crate) fn is_answered(alloc: Global, config: &Config, bytes: &[u8], wanted: &[u8]) -> bool {
+    let Some(moment) = moment() else {
+        return false;
+    };
+    match replay_one(alloc, config, bytes, moment) {
+        Ok(out) => out.as_slice() == wanted,
+        Err(_) => false,
     }
 }

@@ -1,155 +1,108 @@
 //! Connections step by step: what is done to them, what they do next, and what they write.
-use crate::clock::Counting;
-use crate::ends::{ends, messages};
-use crate::invitations::{invited, uninvited};
+//!
+//! A script has its name in its first line, and a step in each line behind it, of three columns with a bar between two: what is
+//! done, what comes next, and the parts that are written meanwhile. What may be done:
+//!
+//! - `feed A + B`: it is fed with the parts A and B in one piece, takes the first and leaves the second; `feed A` leaves
+//!   nothing;
+//! - `answer`: it is given the turn that it asked for;
+//! - `starve`: it is told that memory ran out for its turn;
+//! - `end`: it is told that no more bytes come;
+//! - `asked N`: nothing; its clock was asked so often.
 use crate::line::{Line, Then};
-use crate::moments::counted;
 use crate::parts::{bytes_of, joined};
-use crate::refused::{refused, starved};
-use crate::server::config;
-use s3_config::Config;
 use std::alloc::Global;
 
-/// Names of parts, which stand behind one another.
-pub(crate) type Names = &'static [&'static str];
+/// A connection that is tried step by step.
+pub(crate) trait Tried {
+    /// Does what a step says: whether it is done so.
+    fn act(&mut self, alloc: Global, act: &str) -> bool;
 
-/// What is done to a connection.
-#[derive(Clone, Copy)]
-pub(crate) enum Act {
-    /// It is fed with both in one piece: it takes the first, and leaves the second.
-    Feed(Names, Names),
-    /// It is given the turn that it asked for.
-    Answer,
-    /// It is told that memory ran out for its turn.
-    Starve,
-    /// It is told that no more bytes come.
-    End,
+    /// What comes next, in a word.
+    fn next(&self) -> &'static str;
+
+    /// Takes all that was written and not taken: whether it is this.
+    fn wrote(&mut self, alloc: Global, wanted: &[u8]) -> bool;
 }
 
-/// What is done, what comes next, and what is written between.
-pub(crate) type Step = (Act, Then, Names);
-
-/// A connection, how many seconds its clock goes on each time that it is asked, and how often it is asked.
-pub(crate) struct Row {
-    pub(crate) name: &'static str,
-    pub(crate) pace: u64,
-    pub(crate) asked: usize,
-    pub(crate) steps: &'static [Step],
+// The columns of a step.
+fn columns(step: &str) -> Option<(&str, &str, &str)> {
+    let (act, rest) = step.split_once(" | ")?;
+    let (next, written) = rest.split_once(" | ")?;
+    Some((act, next, written))
 }
 
-// A connection with its clock.
-#[derive(Drop)]
-struct Run<'a> {
-    alloc: Global,
-    config: &'a Config,
-    line: &'a mut Line,
-    clock: Counting,
-}
-
-impl Run<'_> {
-    // Feeds a piece: how many of its bytes were taken, and what comes next.
-    fn feed(&mut self, piece: &[u8]) -> (usize, Then) {
-        self.line
-            .feed(self.alloc, self.config, &mut self.clock, piece)
+// Whether these parts are what was written and not taken.
+fn wrote<T: Tried>(alloc: Global, tried: &mut T, written: &str) -> bool {
+    match bytes_of(alloc, written) {
+        Some(wanted) => tried.wrote(alloc, &wanted),
+        None => false,
     }
+}
 
-    // Feeds parts in one piece: whether the first of them were taken and the others left, and what comes next.
-    fn feed_parts(&mut self, taken: Names, left: Names) -> Option<(bool, Then)> {
-        let (piece, wanted) = joined(self.alloc, taken, left)?;
-        let (len, then) = self.feed(&piece);
-        Some((len == wanted, then))
+// Whether a step is as it has to be.
+fn is_right<T: Tried>(alloc: Global, tried: &mut T, step: &str) -> bool {
+    let Some((act, next, written)) = columns(step) else {
+        return false;
+    };
+    tried.act(alloc, act) && tried.next() == next && wrote(alloc, tried, written)
+}
+
+/// Whether a connection goes as a script says.
+pub(crate) fn goes<T: Tried>(alloc: Global, tried: &mut T, script: &str) -> bool {
+    let (_name, steps) = script.split_once('\n').unwrap_or((script, ""));
+    for step in steps.split('\n') {
+        if !is_right(alloc, tried, step) {
+            return false;
+        }
     }
+    true
+}
 
-    // Does this: whether all was taken that had to be, and what comes next.
-    fn act(&mut self, act: Act) -> Option<(bool, Then)> {
-        match act {
-            Act::Feed(taken, left) => return self.feed_parts(taken, left),
-            Act::Answer => self.line.answer(self.alloc, self.config),
-            Act::Starve => self.line.starve(),
-            Act::End => self.line.end(),
+// Feeds parts in one piece: whether the first of them were taken and the others left.
+fn feed(alloc: Global, line: &mut Line, parts: &str) -> bool {
+    let (taken, left) = parts.split_once(" + ").unwrap_or((parts, "nothing"));
+    match joined(alloc, taken, left) {
+        Some((piece, len)) => line.feed(&piece) == len,
+        None => false,
+    }
+}
+
+// Whether this is the number.
+fn is_number(text: &str, number: usize) -> bool {
+    match text.parse::<usize>() {
+        Ok(said) => said == number,
+        Err(_) => false,
+    }
+}
+
+impl Tried for Line<'_> {
+    fn act(&mut self, alloc: Global, act: &str) -> bool {
+        let (verb, rest) = act.split_once(' ').unwrap_or((act, ""));
+        match verb {
+            "feed" => return feed(alloc, self, rest),
+            "asked" => return is_number(rest, self.asked()),
+            "answer" => self.answer(),
+            "starve" => self.starve(),
+            "end" => self.end(),
+            _ => return false,
         }
         // An empty piece changes nothing, and shows what comes next.
-        Some((true, self.feed(&[]).1))
+        self.feed(&[]) == 0
     }
 
-    // Whether these parts are what was written since this was asked.
-    fn wrote(&mut self, written: Names) -> Option<bool> {
-        let wanted = bytes_of(self.alloc, written)?;
-        Some(self.line.writes(self.alloc, &wanted))
-    }
-
-    // Whether a step is as it has to be.
-    fn step(&mut self, step: &Step) -> Option<bool> {
-        let (act, next, written) = *step;
-        let (is_taken, then) = self.act(act)?;
-        let is_in_body = self.line.in_body() == (next == Then::Body);
-        Some(is_taken && then == next && is_in_body && self.wrote(written)?)
-    }
-
-    // Whether all of these steps are.
-    fn steps(&mut self, steps: &[Step]) -> Option<bool> {
-        for step in steps {
-            if !self.step(step)? {
-                return Some(false);
-            }
-        }
-        Some(true)
-    }
-
-    // Whether the connection goes as it has to.
-    fn goes(&mut self, row: &Row) -> Option<bool> {
-        Some(self.steps(row.steps)? && self.clock.asked == row.asked)
-    }
-}
-
-// Whether a connection goes as it has to; `None` says that there was no memory, or that a part has no text.
-fn holds(alloc: Global, config: &Config, row: &Row) -> Option<bool> {
-    let clock = Counting::new(row.pace)?;
-    let mut line = Line::open(alloc, config)?;
-    let mut run = Run {
-        alloc,
-        config,
-        line: &mut line,
-        clock,
-    };
-    run.goes(row)
-}
-
-// The name of the first of these that goes otherwise.
-fn first_other(alloc: Global, config: &Config, rows: &[Row]) -> Option<&'static str> {
-    for row in rows {
-        if holds(alloc, config, row) != Some(true) {
-            return Some(row.name);
+    fn next(&self) -> &'static str {
+        match (self.then(), self.in_body()) {
+            (Then::Head, false) => "head",
+            (Then::Body, true) => "body",
+            (Then::Turn, false) => "turn",
+            (Then::Closed, false) => "closed",
+            (Then::Ended, false) => "ended",
+            _ => "a body, or none, against that",
         }
     }
-    None
-}
 
-// The name of the first of these connections that goes otherwise than it has to.
-fn first_of(alloc: Global, tables: &[&'static [Row]]) -> Option<&'static str> {
-    let Some(config) = config(alloc) else {
-        return Some("no settings");
-    };
-    for rows in tables {
-        let other = first_other(alloc, &config, rows);
-        if other.is_some() {
-            return other;
-        }
+    fn wrote(&mut self, _alloc: Global, wanted: &[u8]) -> bool {
+        self.writes(wanted)
     }
-    None
-}
-
-#[test]
-fn connections_go_step_by_step(rt: HostRuntime) {
-    let tables = [
-        invited(),
-        uninvited(),
-        messages(),
-        ends(),
-        refused(),
-        starved(),
-        counted(),
-    ];
-    let other = first_of(rt.alloc(), &tables);
-    assert!(rt; other == None, "at {}", other.unwrap_or(""));
 }

@@ -1,28 +1,31 @@
-//! A server with one key, that of the published examples, and what it says of heads.
-ghost use Rattle.std.specs.Prelude.{◌≡◌, not};
-ghost use Rattle.s3_http_heads.specs.Target.{is_unreadable};
-
-use crate::outcomes::{REGION, STAMP, is_same};
-use s3_calendar::{Moment, Stamp};
+//! What is asked of a head, and the text that tells the answer.
+use crate::server::{REGION, STAMP, authorization, verdict};
+use crate::texts::{Told, is_same, is_told, joined};
+use s3_authorization::Authorization;
 use s3_http_heads::Head;
-use s3_signing::{KeptKey, Verified, Word, sign_head, verify_head};
+use s3_signing::Verified;
 use s3_terms::Code;
-use s3_test_servers::{ID, SECRET, config};
 use std::alloc::Global;
 
-/// What a server says of a head, or how a head is signed.
-#[derive(Clone, Copy)]
-pub(crate) enum Wanted {
-    /// It is refused so.
-    Refused(Code),
-    /// It is verified.
-    Accepted,
-    /// It is verified as the published example.
-    Published,
-    /// It is verified, and says this word.
-    Says(Word),
-    /// It has no authorization, and is signed with this one by the key of the server.
-    Signed(&'static [u8]),
+/// What is asked of a text.
+pub(crate) enum Question {
+    /// What the word of the head says of its body, once a server has verified it.
+    Word,
+    /// The same, or `example` where a server verifies it as the published one.
+    Example,
+    /// The authorization of the head by the key of the server.
+    Authorization,
+    /// The id and the signed names of this text, which is that of an authorization and of no head.
+    Names,
+}
+
+/// Texts and what is told of them: names of `texts`, a bar, and the answer or the name of the refusal. A `^` stands
+/// between two rows: one text costs less to prove than a table.
+pub(crate) struct Table {
+    pub(crate) question: Question,
+    /// The second at which a server is asked.
+    pub(crate) seconds: u64,
+    pub(crate) rows: &'static str,
 }
 
 /// The key that signs AWS's published example, computed outside of this program, by Python's `hmac`.
@@ -36,7 +39,7 @@ const SEED: &[u8] = b"f0e8bdb87c964420e857bd35b5d6ed310bd44f0170aba48dd91039c603
 const EMPTY: &[u8] = b"e3b0c44298fc1c149afbf4c8996fb92427ae41e4649b934ca495991b7852b855";
 
 // Whether the example was stamped then, in the region, by that key, and says that word.
-fn is_published(verified: &Verified) -> bool {
+fn is_example(verified: &Verified) -> bool {
     is_same(verified.stamp().text(), STAMP)
         && is_same(verified.region(), REGION)
         && is_same(&verified.key(), &DAY_KEY)
@@ -44,77 +47,78 @@ fn is_published(verified: &Verified) -> bool {
         && is_same(verified.word().text(), EMPTY)
 }
 
-// Whether a head is wanted that is verified so.
-fn is_verified(verified: &Verified, wanted: &Wanted) -> bool {
-    match wanted {
-        Wanted::Refused(_) | Wanted::Signed(_) => false,
-        Wanted::Accepted => true,
-        Wanted::Published => is_published(verified),
-        Wanted::Says(word) => verified.word() == *word,
+// What is told of a head that was verified.
+fn verified_text(alloc: Global, question: &Question, verified: &Verified) -> Told {
+    match question {
+        Question::Example if is_example(verified) => Ok(Vec::from_slice(alloc, b"example")?),
+        _ => Ok(Vec::from_slice(alloc, verified.word().text())?),
     }
 }
 
-// Whether a head is wanted that is refused so.
-fn is_refused(code: Code, wanted: &Wanted) -> bool {
-    match wanted {
-        Wanted::Refused(refusal) => *refusal == code,
-        _ => false,
+// What is told of an authorization.
+fn names_text(alloc: Global, text: &[u8]) -> Told {
+    let sent = Authorization::read(text)?;
+    Ok([sent.id(), b" ", sent.signed()].concat(alloc)?)
+}
+
+// What is told of the head of this text.
+fn head_text(alloc: Global, question: &Question, region: &[u8], text: &[u8], seconds: u64) -> Told {
+    let head = Head::read(alloc, text)?;
+    match question {
+        Question::Authorization => authorization(alloc, &head),
+        _ => verified_text(alloc, question, &verdict(alloc, region, &head, seconds)?),
     }
 }
 
-// What the server in this region says of a head at that moment; an internal error where there is no such
-// server.
-fn verdict(alloc: Global, region: &[u8], head: &Head, seconds: u64) -> Result<Verified, Code> {
-    let moment = Moment::new(seconds).ok_or(Code::InternalError)?;
-    match config(alloc, region, 5, 1_024, &[]) {
-        Some(config) => verify_head(alloc, &config, head, moment, &mut KeptKey::new()),
-        None => Err(Code::InternalError),
-    }
-}
-
-// Whether the target of a head can be read.
-#[tactic(auto, unfolding(s3_http_heads::specs::Target::target_of))]
-fn is_readable(head: &Head) -> bool
-    ensures { result ≡ not (is_unreadable head.now.target) }
-{
-    head.decoded_target().is_ok()
-}
-
-// Whether a head is signed with this value.
-fn is_signed(alloc: Global, head: &Head, value: &[u8]) -> bool {
-    let Some(stamp) = Stamp::read(STAMP) else {
-        return false;
-    };
-    if !is_readable(head) || head.count(b"x-amz-content-sha256") != 1 {
-        return false;
-    }
-    match sign_head(alloc, ID, SECRET, REGION, head, stamp) {
-        Ok(text) => is_same(&text, value),
-        Err(_) => false,
-    }
-}
-
-// Whether a head is as it should be, in this region and at that moment.
-fn is_head_so(alloc: Global, region: &[u8], head: &Head, seconds: u64, wanted: &Wanted) -> bool {
-    if let Wanted::Signed(value) = wanted {
-        return is_signed(alloc, head, value);
-    }
-    match verdict(alloc, region, head, seconds) {
-        Ok(verified) => is_verified(&verified, wanted),
-        Err(code) => is_refused(code, wanted),
-    }
-}
-
-/// Whether the head of this text is as it should be, in this region and at that moment.
-pub(crate) fn is_text_so(
+/// Whether a server in this region says this at that second of the head of this text.
+pub(crate) fn is_judged(
     alloc: Global,
     region: &[u8],
     text: &[u8],
     seconds: u64,
-    wanted: &Wanted,
+    wanted: &str,
 ) -> bool {
-    match Head::read(alloc, text) {
-        Ok(head) => is_head_so(alloc, region, &head, seconds, wanted),
-        Err(_) => false,
+    is_told(
+        &head_text(alloc, &Question::Word, region, text, seconds),
+        wanted.as_bytes(),
+    )
+}
+
+// What is told of a row's text.
+fn row_text(alloc: Global, table: &Table, names: &str) -> Told {
+    let mut text = joined(alloc, names).ok_or(Code::InternalError)?;
+    match &table.question {
+        Question::Names => names_text(alloc, &text),
+        question => {
+            text.extend_from_slice(b"\r\n")?;
+            head_text(alloc, question, REGION, &text, table.seconds)
+        }
     }
+}
+
+// Whether a row holds; `None` says that it has no bar.
+fn holds(alloc: Global, table: &Table, row: &str) -> Option<bool> {
+    let (names, wanted) = row.split_once('|')?;
+    Some(is_told(&row_text(alloc, table, names), wanted.as_bytes()))
+}
+
+// The first row of this table that doesn't hold.
+fn first_in(alloc: Global, table: &Table) -> Option<&'static str> {
+    for row in table.rows.split('^') {
+        if holds(alloc, table, row) != Some(true) {
+            return Some(row);
+        }
+    }
+    None
+}
+
+/// The first row of these tables that doesn't hold.
+pub(crate) fn first_other(alloc: Global, tables: &[Table]) -> Option<&'static str> {
+    for table in tables {
+        let other = first_in(alloc, table);
+        if other.is_some() {
+            return other;
+        }
+    }
+    None
 }

@@ -5,21 +5,9 @@
 #[cfg(test)]
 mod bodies;
 #[cfg(test)]
-mod chunked;
-#[cfg(test)]
 mod chunks;
 #[cfg(test)]
-mod feeding;
-#[cfg(test)]
 mod heads;
-#[cfg(test)]
-mod outcomes;
-#[cfg(test)]
-mod published;
-#[cfg(test)]
-mod reading;
-#[cfg(test)]
-mod request;
 #[cfg(test)]
 mod server;
 #[cfg(test)]
@@ -27,4 +15,4 @@ mod signer;
 #[cfg(test)]
 mod signing;
 #[cfg(test)]
-mod small;
+mod texts;

@@ -1,29 +1,25 @@
-//! A server with one key, that of AWS's published examples, and heads that are signed with it.
+//! A server with one key, that of AWS's published examples: what it says of heads, how they are signed with its key, and
+//! its readers of bodies.
 
 ghost use Rattle.std.specs.Prelude.{◌≡◌, not};
 ghost use Rattle.s3_http_heads.specs.Target.{is_unreadable};
 
+use crate::texts::Told;
 use s3_calendar::{Moment, Stamp};
 use s3_config::Config;
 use s3_http_heads::{Head, framing};
 use s3_payloads::PayloadReader;
-use s3_signing::{KeptKey, sign_head, verify_head};
+use s3_signing::{KeptKey, Verified, sign_head, verify_head};
 use s3_terms::Code;
 use s3_test_servers::{ID, SECRET, config};
 use std::alloc::Global;
 
-const REGION: &[u8] = b"us-east-1";
+pub(crate) const REGION: &[u8] = b"us-east-1";
 
-const STAMP: &[u8] = b"20130524T000000Z";
+pub(crate) const STAMP: &[u8] = b"20130524T000000Z";
 
-const MOMENT: u64 = 1_369_353_600;
-
-// The head of these lines.
-fn head(alloc: Global, lines: &[&[u8]]) -> Result<Head, Code> {
-    let mut text = lines.concat(alloc)?;
-    text.extend_from_slice(b"\r\n")?;
-    Head::read(alloc, &text)
-}
+/// 2013-05-24T00:00:00Z.
+pub(crate) const MOMENT: u64 = 1_369_353_600;
 
 // Whether the target of a head can be read.
 #[tactic(auto, unfolding(s3_http_heads::specs::Target::target_of))]
@@ -33,8 +29,8 @@ fn is_readable(head: &Head) -> bool
     head.decoded_target().is_ok()
 }
 
-// The authorization of a head by the key of the server.
-fn authorization(alloc: Global, head: &Head) -> Result<Vec<u8>, Code> {
+/// The authorization of a head by the key of the server.
+pub(crate) fn authorization(alloc: Global, head: &Head) -> Told {
     let stamp = Stamp::read(STAMP).ok_or(Code::InternalError)?;
     if !is_readable(head) || head.count(b"x-amz-content-sha256") != 1 {
         return Err(Code::InvalidRequest);
@@ -42,10 +38,39 @@ fn authorization(alloc: Global, head: &Head) -> Result<Vec<u8>, Code> {
     Ok(sign_head(alloc, ID, SECRET, REGION, head, stamp)?)
 }
 
+// What the server says of a head at that second.
+fn verdict_of(alloc: Global, config: &Config, head: &Head, seconds: u64) -> Result<Verified, Code> {
+    let moment = Moment::new(seconds).ok_or(Code::InternalError)?;
+    verify_head(alloc, config, head, moment, &mut KeptKey::new())
+}
+
+/// What a server in this region says of a head at that second.
+pub(crate) fn verdict(
+    alloc: Global,
+    region: &[u8],
+    head: &Head,
+    seconds: u64,
+) -> Result<Verified, Code> {
+    match config(alloc, region, 5, 67_108_864, &[]) {
+        Some(config) => verdict_of(alloc, &config, head, seconds),
+        None => Err(Code::InternalError),
+    }
+}
+
+// The text of a head with these lines, and these behind them.
+fn head_of(alloc: Global, lines: &[u8], behind: &[&[u8]]) -> Result<Head, Code> {
+    let behind = behind.concat(alloc)?;
+    let text = [lines, &behind, b"\r\n"].concat(alloc)?;
+    Head::read(alloc, &text)
+}
+
 // The head of these lines, with its authorization.
 fn signed_head(alloc: Global, lines: &[u8]) -> Result<Head, Code> {
-    let value = authorization(alloc, &head(alloc, &[lines])?)?;
-    head(alloc, &[lines, b"authorization: ", &value, b"\r\n"])
+    let head = head_of(alloc, lines, &[])?;
+    let value = authorization(alloc, &head);
+    drop(head);
+    let value = value?;
+    head_of(alloc, lines, &[b"authorization: ", &value, b"\r\n"])
 }
 
 // The reader of the body behind this head, of the server with these settings.
@@ -55,9 +80,8 @@ fn reader_of(
     head: &Head,
     limit: u64,
 ) -> Result<PayloadReader, Code> {
-    let moment = Moment::new(MOMENT).ok_or(Code::InternalError)?;
     let _size = framing(head, limit)?;
-    let verified = verify_head(alloc, config, head, moment, &mut KeptKey::new())?;
+    let verified = verdict_of(alloc, config, head, MOMENT)?;
     PayloadReader::new(alloc, config, head, verified)
 }
 

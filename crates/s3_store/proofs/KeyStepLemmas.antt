@@ -11,23 +11,23 @@ use Rattle.s3_versions.specs.declared.version.Content.TheVariants.{DeleteMarker,
 use Rattle.s3_versions.specs.declared.version.Data.{Data}
 use Rattle.s3_versions.specs.declared.version.Version.{Version}
 use Rattle.s3_versions.specs.declared.version.Versioning.{Versioning}
-use Rattle.s3_versions.specs.declared.version.Versioning.TheVariants.{Unversioned, Enabled, Suspended}
 use Rattle.s3_versions.specs.Filling.{filled, filled_data, filled_result}
 use Rattle.s3_versions.specs.Rules.{stored, stored_in, new_id, asked_for, judged, pick, read_as}
 use Rattle.s3_records.specs.Catalogue.{has_bucket, versions_of, versioning_of}
-use Rattle.s3_records.specs.Changes.{version_put, key_deleted, version_dropped}
+use Rattle.s3_records.specs.Changes.{version_put}
+use Rattle.s3_machine.specs.Effects.{is_refused, takes_room, takes_room_at_key}
 use Rattle.s3_machine.specs.declared.command.Command.TheVariants as commands
 use Rattle.s3_machine.specs.declared.command.KeyCommand.{KeyCommand}
 use Rattle.s3_machine.specs.declared.command.KeyCommand.TheVariants as key_commands
-use Rattle.s3_machine.specs.declared.outcome.Found.{Found}
-use Rattle.s3_machine.specs.declared.outcome.Outcome.{Outcome}
-use Rattle.s3_machine.specs.declared.outcome.Outcome.TheVariants as outcomes
-use Rattle.s3_machine.specs.Fault.{refuse, ◌>>◌, ◌>>=◌}
-use Rattle.s3_machine.specs.Laws.{is_refused}
-use Rattle.s3_machine.specs.Step.{State, Stepped, key_done, done, stepped, data_of, found_in, head_of, shown_in, makes_marker, is_marker_under}
+use Rattle.s3_machine.specs.declared.command.Found.{Found}
+use Rattle.s3_machine.specs.declared.command.Outcome.{Outcome}
+use Rattle.s3_machine.specs.declared.command.Outcome.TheVariants as outcomes
+use Rattle.s3_terms.specs.Fault.{◌>>◌, ◌>>=◌}
+use Rattle.s3_machine.specs.Fault.{refuse}
+use Rattle.s3_machine.specs.Step.{State, Stepped, key_done, done, stepped, data_of, found_in, head_of, shown_in}
 use Rattle.s3_store.specs.Kept.{Kept, IsSound, body_under, state_of}
 use Rattle.s3_store.specs.Laws.{ChangesKeep, StateIsTold}
-use Rattle.s3_store.specs.Steps.{takes_room, takes_room_at_key, Steps, versioning_at, kept_put, kept_deleted, kept_dropped, read_as_found, got_of, head_got_of}
+use Rattle.s3_store.specs.Steps.{Steps, versioning_at, kept_put, read_as_found, got_of, head_got_of}
 use Rattle.s3_store.proofs.StepLemmas.{plain, versioning_there, bucket_absent, done_as, refused_as}
 
 -- the version that was asked for stores something, so it is read
@@ -57,34 +57,8 @@ pub put_accepted : (s : State) (n t : ℕ) (name key content_type : List ℕ) (m
     → is_refused (stepped s (key_done s n t name key (key_commands.Put content_type metadata bytes))).1 ≡ false
 put_accepted s n t name key content_type metadata bytes = ap (λ (d : Result Stepped Refusal). is_refused (stepped s d).1) (puts s n t name key content_type metadata bytes)
 
-deletes : (s : State) (n t : ℕ) (name key : List ℕ)
-    → key_done s n t name key (key_commands.Delete None)
-    ≡ Ok (key_deleted s name key n t, outcomes.Deleted (shown_in (versioning_of s name) (new_id (versioning_of s name) n)) (makes_marker (versioning_of s name)))
-unfolding key_done
-deletes s n t name key = refl
-
-drops : (s : State) (n t : ℕ) (name key : List ℕ) (id : VersionId)
-    → key_done s n t name key (key_commands.Delete (Some id))
-    ≡ Ok (version_dropped s name key id, outcomes.Deleted (shown_in (versioning_of s name) id) (is_marker_under id (versions_of s name key)))
-unfolding key_done
-drops s n t name key id = refl
-
-pub delete_accepted : (s : State) (n t : ℕ) (name key : List ℕ) (version : Option VersionId)
-    → is_refused (stepped s (key_done s n t name key (key_commands.Delete version))).1 ≡ false
-delete_accepted s n t name key None = ap (λ (d : Result Stepped Refusal). is_refused (stepped s d).1) (deletes s n t name key)
-delete_accepted s n t name key (Some id) = ap (λ (d : Result Stepped Refusal). is_refused (stepped s d).1) (drops s n t name key id)
-
--- a bucket whose versioning was ever set has delete markers
-marks : (v : Versioning) → (v ≡ Unversioned → ⊥) → IsTrue (makes_marker v)
-marks Unversioned set = absurd (set refl)
-marks Enabled set = refl
-marks Suspended set = refl
-
-pub delete_takes_room : (k : Kept) (name : List ℕ) (v : Versioning) → Some v ≡ versioning_at k.rows name → (versioning_of k.rows name ≡ Unversioned → ⊥) → IsTrue (makes_marker v)
-delete_takes_room k name v there set = marks v (λ is. set ((versioning_there k.rows name v there).1 ∙ is))
-
 module _ (changes : ChangesKeep) (told : StateIsTold) where
-  versioning_is : (k : Kept) (name : List ℕ) (v : Versioning) → Some v ≡ versioning_at k.rows name → v ≡ versioning_of (state_of k) name
+  pub versioning_is : (k : Kept) (name : List ℕ) (v : Versioning) → Some v ≡ versioning_at k.rows name → v ≡ versioning_of (state_of k) name
   versioning_is k name v there = sym (versioning_there k.rows name v there).1 ∙ sym ((told k name).told.versioning name)
 
   key_absent : (least : ℕ) (k : Kept) (n t : ℕ) (name key : List ℕ) (asked : KeyCommand) → has_bucket k.rows name ≡ false → done least (state_of k) n t (commands.Key name key asked) ≡ Err (plain NoSuchBucket)
@@ -108,23 +82,6 @@ module _ (changes : ChangesKeep) (told : StateIsTold) where
       done_as k new _ n _ _ _ outcome ((changes k n name sound).put (versioning_there k.rows name v there).0 key t content_type metadata bytes) same
       (puts (state_of k) n t name key content_type metadata bytes)
       (is ∙ ap (λ (x : Versioning). outcomes.Put (tag_of bytes) (shown_in x (new_id x n))) (versioning_is k name v there))
-
-  pub delete_done : (k new : Kept) (n t : ℕ) (name key : List ℕ) (v : Versioning) (outcome : Outcome)
-      → IsSound k n → Some v ≡ versioning_at k.rows name → new ≡ kept_deleted k name key n t
-      → outcome ≡ outcomes.Deleted (shown_in v (new_id v n)) (makes_marker v) → Steps k new n (key_done (state_of k) n t name key (key_commands.Delete None)) outcome
-  delete_done k new n t name key v outcome sound there same is =
-      done_as k new _ n _ _ _ outcome ((changes k n name sound).deleted (versioning_there k.rows name v there).0 key t) same
-      (deletes (state_of k) n t name key)
-      (is ∙ ap (λ (x : Versioning). outcomes.Deleted (shown_in x (new_id x n)) (makes_marker x)) (versioning_is k name v there))
-
-  pub drop_done : (k new : Kept) (n t : ℕ) (name key : List ℕ) (id : VersionId) (v : Versioning) (outcome : Outcome)
-      → IsSound k n → Some v ≡ versioning_at k.rows name → new ≡ kept_dropped k name key id
-      → outcome ≡ outcomes.Deleted (shown_in v id) (is_marker_under id (versions_of k.rows name key)) → Steps k new n (key_done (state_of k) n t name key (key_commands.Delete (Some id))) outcome
-  drop_done k new n t name key id v outcome sound there same is =
-      done_as k new _ n _ _ _ outcome ((changes k n name sound).version_gone (versioning_there k.rows name v there).0 key id) same
-      (drops (state_of k) n t name key id)
-      (is ∙ ap (λ (x : Versioning). outcomes.Deleted (shown_in x id) (is_marker_under id (versions_of k.rows name key))) (versioning_is k name v there)
-      ∙ ap (outcomes.Deleted (shown_in (versioning_of (state_of k) name) id)) (sym ((told k name).markers key id)))
 
   -- what is got of what was read
   got : State → List ℕ → Version (List ℕ) × Data (List ℕ) → Result Stepped Refusal

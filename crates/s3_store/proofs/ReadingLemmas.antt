@@ -8,7 +8,7 @@ use Rattle.s3_versions.specs.declared.version.Data.{Data}
 use Rattle.s3_versions.specs.declared.version.Version.{Version}
 use Rattle.s3_versions.specs.declared.version.Versioning.{Versioning}
 use Rattle.s3_versions.specs.Rules.{judged, read_as, stored, stored_in}
-use Rattle.s3_machine.specs.declared.outcome.Found.{Found}
+use Rattle.s3_machine.specs.declared.command.Found.{Found}
 use Rattle.s3_machine.specs.Step.{found_in}
 use Rattle.s3_store.specs.Steps.{read_as_found}
 

@@ -8,13 +8,14 @@ use Rattle.s3_versions.specs.declared.version.Versioning.{Versioning}
 use Rattle.s3_versions.specs.declared.version.VersioningStatus.{VersioningStatus}
 use Rattle.s3_records.specs.Catalogue.{Bucket, Catalogue, has_bucket, listed_buckets, is_empty_bucket, versioning_of, versioning_in}
 use Rattle.s3_records.specs.Changes.{bucket_added, bucket_dropped, versioning_changed}
+use Rattle.s3_machine.specs.Effects.{is_refused}
 use Rattle.s3_machine.specs.declared.command.BucketCommand.{BucketCommand}
 use Rattle.s3_machine.specs.declared.command.BucketCommand.TheVariants as bucket_commands
 use Rattle.s3_machine.specs.declared.command.Command.TheVariants as commands
-use Rattle.s3_machine.specs.declared.outcome.Outcome.{Outcome}
-use Rattle.s3_machine.specs.declared.outcome.Outcome.TheVariants as outcomes
-use Rattle.s3_machine.specs.Fault.{refuse, ◌>>◌}
-use Rattle.s3_machine.specs.Laws.{is_refused}
+use Rattle.s3_machine.specs.declared.command.Outcome.{Outcome}
+use Rattle.s3_machine.specs.declared.command.Outcome.TheVariants as outcomes
+use Rattle.s3_terms.specs.Fault.{◌>>◌}
+use Rattle.s3_machine.specs.Fault.{refuse}
 use Rattle.s3_machine.specs.Step.{State, Stepped, bucket_done, done, stepped}
 use Rattle.s3_store.specs.Kept.{Kept, IsSound, state_of}
 use Rattle.s3_store.specs.Laws.{Keeps, ChangesKeep, StateIsTold, with_rows}

@@ -1,5 +1,5 @@
 -- One step of a store.
-use Rattle.std.specs.Prelude.{◌≡◌, refl, IsTrue, ℕ, ◌+◌, Bool, true, false, List, length, Option, Some, None, option_map, Result, Ok, Err}
+use Rattle.std.specs.Prelude.{◌≡◌, refl, IsTrue, ℕ, ◌+◌, Bool, true, false, List, length, Option, Some, option_map, Result, Ok, Err}
 use Rattle.std.specs.FinMap as map
 use Rattle.std.specs.Coded.{Coded, code_by, coded×, coded_ℕ}
 use Rattle.s3_segments.specs.Payload.{tag_of}
@@ -15,17 +15,12 @@ use Rattle.s3_versions.specs.Filling.{filled_data}
 use Rattle.s3_records.specs.Codes.{coded_catalogue}
 use Rattle.s3_records.specs.Catalogue.{Bucket, Catalogue, versions_of, versioning_of}
 use Rattle.s3_records.specs.Changes.{version_put, key_deleted, version_dropped}
-use Rattle.s3_machine.specs.declared.command.BucketCommand.{BucketCommand}
-use Rattle.s3_machine.specs.declared.command.BucketCommand.TheVariants as bucket_commands
+use Rattle.s3_machine.specs.Effects.{is_refused}
 use Rattle.s3_machine.specs.declared.command.Command.{Command}
-use Rattle.s3_machine.specs.declared.command.Command.TheVariants as commands
-use Rattle.s3_machine.specs.declared.command.KeyCommand.{KeyCommand}
-use Rattle.s3_machine.specs.declared.command.KeyCommand.TheVariants as key_commands
-use Rattle.s3_machine.specs.declared.outcome.Found.{Found}
-use Rattle.s3_machine.specs.declared.outcome.Outcome.{Outcome}
-use Rattle.s3_machine.specs.Step.{State, Stepped, step, stepped, makes_marker, found_in, head_of}
-use Rattle.s3_machine.specs.Laws.{is_refused}
-use Rattle.s3_machine.specs.declared.outcome.Outcome.TheVariants as outcomes
+use Rattle.s3_machine.specs.declared.command.Found.{Found}
+use Rattle.s3_machine.specs.declared.command.Outcome.{Outcome}
+use Rattle.s3_machine.specs.Step.{State, Stepped, step, stepped, found_in, head_of}
+use Rattle.s3_machine.specs.declared.command.Outcome.TheVariants as outcomes
 use Rattle.s3_store.specs.Kept.{Kept, Numbered, body_under, state_of, IsSound, forgotten}
 
 -- what a store is seen as: the state, and the number of the next entry
@@ -43,26 +38,6 @@ after_step least s t command = record { state = (step least s.state s.number t c
 
 abbrev pub outcome_of : ℕ → Standing → ℕ → Command → Outcome
 outcome_of least s t command = (step least s.state s.number t command).1
-
--- the command may take memory: it makes a bucket, a version or a delete marker, or hands out what is kept
-abbrev pub takes_room_in_bucket : BucketCommand → Bool
-takes_room_in_bucket bucket_commands.Create = true
-takes_room_in_bucket bucket_commands.Head = false
-takes_room_in_bucket bucket_commands.Delete = false
-takes_room_in_bucket (bucket_commands.PutVersioning status) = false
-takes_room_in_bucket bucket_commands.GetVersioning = false
-
-abbrev pub takes_room_at_key : Versioning → KeyCommand → Bool
-takes_room_at_key versioning (key_commands.Put content_type metadata payload) = true
-takes_room_at_key versioning (key_commands.Get asked) = true
-takes_room_at_key versioning (key_commands.Head asked) = true
-takes_room_at_key versioning (key_commands.Delete None) = makes_marker versioning
-takes_room_at_key versioning (key_commands.Delete (Some id)) = false
-
-abbrev pub takes_room : State → Command → Bool
-takes_room s commands.ListBuckets = true
-takes_room s (commands.Bucket name asked) = takes_room_in_bucket asked
-takes_room s (commands.Key name key asked) = takes_room_at_key (versioning_of s name) asked
 
 -- what is kept after entry n, where the rule does this
 pub record Steps (old new : Kept) (n : ℕ) (done : Result Stepped Refusal) (outcome : Outcome) : Type 0 where

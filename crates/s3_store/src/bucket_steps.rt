@@ -1,9 +1,9 @@
 //! What the commands on buckets do.
 ghost use Rattle.std.specs.Prelude.{◌≡◌, ℕ, true, false, IfOk, OnErr, IsTrue};
-ghost use Rattle.s3_machine.specs.Laws.{is_refused};
+ghost use Rattle.s3_machine.specs.Effects.{is_refused, takes_room_in_bucket};
 ghost use Rattle.s3_machine.specs.Step.{bucket_done, stepped, done};
 ghost use Rattle.s3_store.specs.Kept.{state_of, IsSound};
-ghost use Rattle.s3_store.specs.Steps.{Steps, takes_room_in_bucket};
+ghost use Rattle.s3_store.specs.Steps.{Steps};
 
 use crate::kept::Keeping;
 use crate::laws::rows_keep_state;

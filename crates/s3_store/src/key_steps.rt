@@ -1,9 +1,9 @@
 //! What the commands on keys do.
 ghost use Rattle.std.specs.Prelude.{◌≡◌, ℕ, true, false, None, Some, IfOk, OnErr, IsTrue};
-ghost use Rattle.s3_machine.specs.Laws.{is_refused};
+ghost use Rattle.s3_machine.specs.Effects.{is_refused, takes_room, takes_room_at_key};
 ghost use Rattle.s3_machine.specs.Step.{done, key_done, stepped, makes_marker};
 ghost use Rattle.s3_store.specs.Kept.{state_of, IsSound};
-ghost use Rattle.s3_store.specs.Steps.{Steps, versioning_at, takes_room, takes_room_at_key};
+ghost use Rattle.s3_store.specs.Steps.{Steps, versioning_at};
 
 use crate::bucket_steps::refused;
 use crate::kept::Keeping;
@@ -206,6 +206,8 @@ fn delete<R: Records + Drop>(
     ensures ok { IfOk result (λ outcome. Steps kept.old kept.new number
         (key_done (state_of kept.old) number moment bucket.now key (KeyCommand.Delete version)) outcome) }
     ensures err { OnErr result (kept.new ≡ kept.old) }
+    ensures memory { OnErr result (R.is_in_memory ≡ true → is_refused (stepped (state_of kept.old)
+        (key_done (state_of kept.old) number moment bucket.now key (KeyCommand.Delete version))).1 ≡ false) }
     ensures room { OnErr result (R.is_in_memory ≡ true → IsTrue (takes_room_at_key versioning (KeyCommand.Delete version))) }
 {
     rows_keep_state();

@@ -1,8 +1,8 @@
 //! The store.
 ghost use Rattle.std.specs.Prelude.{◌≡◌, ◌≢◌, [], true, false, IfOk, OnOk, OnErr, IsTrue};
-ghost use Rattle.s3_machine.specs.Laws.{is_refused};
 ghost use Rattle.s3_records.specs.Catalogue.{opening};
-ghost use Rattle.s3_store.specs.Steps.{opened, after_step, outcome_of, takes_room};
+ghost use Rattle.s3_store.specs.Steps.{opened, after_step, outcome_of};
+ghost use Rattle.s3_machine.specs.Effects.{is_refused, takes_room};
 
 use crate::kept::Keeping;
 use crate::laws::rows_keep_state;

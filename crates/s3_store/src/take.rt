@@ -1,9 +1,9 @@
 //! What every command does.
 ghost use Rattle.std.specs.Prelude.{◌≡◌, true, false, IfOk, OnErr, IsTrue};
-ghost use Rattle.s3_machine.specs.Laws.{is_refused};
+ghost use Rattle.s3_machine.specs.Effects.{is_refused, takes_room};
 ghost use Rattle.s3_machine.specs.Step.{done, stepped};
 ghost use Rattle.s3_store.specs.Kept.{state_of, IsSound};
-ghost use Rattle.s3_store.specs.Steps.{Steps, takes_room};
+ghost use Rattle.s3_store.specs.Steps.{Steps};
 
 use crate::bucket_steps::{list, take_on_bucket};
 use crate::kept::Keeping;

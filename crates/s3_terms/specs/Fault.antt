@@ -22,14 +22,14 @@ FollowsPast early (Err code) rule = ((code ≡ InternalError) × IsOk early) ⊎
 abbrev pub FollowsToEnd : {A : Type 0} → Result A Code → Result A Code → Type 0
 FollowsToEnd result rule = FollowsPast rule result rule
 
--- one stage after another: the first that refuses decides
+-- one stage after another: the first that refuses decides, whatever tells of a refusal
 infixl 10 ◌>>=◌
-abbrev pub ◌>>=◌ : {A B : Type 0} → Result A Code → (A → Result B Code) → Result B Code
+abbrev pub ◌>>=◌ : {A B E : Type 0} → Result A E → (A → Result B E) → Result B E
 (Ok value) >>= next = next value
-(Err code) >>= next = Err code
+(Err refusal) >>= next = Err refusal
 
 -- the same where the first binds nothing
 infixl 10 ◌>>◌
-abbrev pub ◌>>◌ : {B : Type 0} → Result ⊤ Code → Result B Code → Result B Code
+abbrev pub ◌>>◌ : {B E : Type 0} → Result ⊤ E → Result B E → Result B E
 (Ok done) >> next = next
-(Err code) >> next = Err code
+(Err refusal) >> next = Err refusal

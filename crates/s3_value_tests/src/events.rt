@@ -1,6 +1,5 @@
 //! Texts of event lines, right and wrong, and the lines of outputs.
 use itoa::Buffer;
-use s3_calendar::Moment;
 use s3_events::{Event, EventsError, Script, print_output, read_events};
 use std::alloc::Global;
 use std::mem::drop;
@@ -16,15 +15,6 @@ fn add_number(out: &mut Vec<u8>, before: &[u8], number: u64) {
     add(out, Buffer::new().format(number).as_bytes());
 }
 
-// Adds the moments of a connection in brackets.
-fn add_moments(out: &mut Vec<u8>, moments: &[Moment]) {
-    add(out, b"[");
-    for moment in moments {
-        add_number(out, b" ", moment.seconds());
-    }
-    add(out, b" ]");
-}
-
 // Adds an event: its letter and connection, and a piece's bytes as they are.
 fn add_event(out: &mut Vec<u8>, event: &Event) {
     match event {
@@ -38,10 +28,14 @@ fn add_event(out: &mut Vec<u8>, event: &Event) {
     }
 }
 
-// Adds a script.
+// Adds a script: the moments of each connection in brackets, and its events.
 fn add_script(out: &mut Vec<u8>, script: &Script) {
     for moments in script.moments.as_slice() {
-        add_moments(out, moments.as_slice());
+        add(out, b"[");
+        for moment in moments.as_slice() {
+            add_number(out, b" ", moment.seconds());
+        }
+        add(out, b" ]");
     }
     for event in script.events.as_slice() {
         add_event(out, event);
@@ -114,13 +108,6 @@ static READINGS: [(&str, &str); 43] = [
     ("end 0\nend 1\nend 2\nend 64\nend", "bad 4"),
 ];
 
-#[test]
-fn readings(rt: HostRuntime) {
-    for (text, wanted) in &READINGS {
-        assert!(rt; is_read(rt.alloc(), *text, *wanted), "at {text}");
-    }
-}
-
 // Connections, each with its output.
 static OUTPUTS: [(u32, &[u8]); 3] = [(0, b""), (1, b"\x00\xfe"), (2, b"jK")];
 
@@ -134,6 +121,9 @@ fn are_printed(alloc: Global, wanted: &[u8]) -> bool {
 }
 
 #[test]
-fn outputs(rt: HostRuntime) {
+fn readings_and_outputs(rt: HostRuntime) {
+    for (text, wanted) in &READINGS {
+        assert!(rt; is_read(rt.alloc(), *text, *wanted), "at {text}");
+    }
     assert!(rt; are_printed(rt.alloc(), b"0 \n1 00fe\n2 6a4b\n"));
 }

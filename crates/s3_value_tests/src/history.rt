@@ -64,11 +64,6 @@ fn answers(first: u64, second: u64) -> Option<(u64, u64, u64)> {
     }
 }
 
-#[test]
-fn a_register_answers(rt: HostRuntime) {
-    assert!(rt; answers(5, 8) == Some((3, 5, 8)));
-}
-
 // Tells three histories as they grow, and what is known of them. False where none can be made.
 fn is_told() -> bool {
     let Some(mut recorder) = Recorder::new() else {
@@ -86,11 +81,11 @@ fn is_told() -> bool {
 }
 
 #[test]
-fn histories_take_no_room(rt: HostRuntime) {
+fn a_register_answers_and_histories_take_no_room(rt: HostRuntime) {
     let sizes = (
         size_of::<Recorder<[u64; 64]>>(),
         size_of::<Prefix<[u64; 64]>>(),
         size_of::<Book<Register>>(),
     );
-    assert!(rt; is_told() && sizes == (8, 0, 16));
+    assert!(rt; answers(5, 8) == Some((3, 5, 8)) && is_told() && sizes == (8, 0, 16));
 }

@@ -25,8 +25,6 @@ mod outbox;
 #[cfg(test)]
 mod payloads;
 #[cfg(test)]
-mod picking;
-#[cfg(test)]
 mod records;
 #[cfg(test)]
 mod segments;

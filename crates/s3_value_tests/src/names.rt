@@ -4,6 +4,7 @@ use s3_names::{BucketName, Key};
 use s3_terms::{Code, NoMemory};
 use std::alloc::Global;
 use std::collections::BTreeMap;
+use std::mem::drop;
 
 // Why the bytes name no bucket.
 fn fault_of_name(alloc: Global, name: &[u8]) -> Option<Code> {
@@ -37,13 +38,6 @@ static NAMES: [(&[u8], Option<Code>); 21] = [
     (&[b'a'; 64], INVALID),
 ];
 
-#[test]
-fn names_of_buckets(rt: HostRuntime) {
-    for case in &NAMES {
-        assert!(rt; fault_of_name(rt.alloc(), case.0) == case.1);
-    }
-}
-
 // Whether that many of one byte are a key, or this is why they are none.
 fn is_fault_of_key(alloc: Global, case: &(u8, usize, Option<Code>)) -> bool {
     match vec![in alloc; case.0; case.1] {
@@ -60,104 +54,81 @@ static KEYS: [(u8, usize, Option<Code>); 4] = [
 ];
 
 #[test]
-fn keys(rt: HostRuntime) {
+fn names_and_keys(rt: HostRuntime) {
+    for case in &NAMES {
+        assert!(rt; fault_of_name(rt.alloc(), case.0) == case.1);
+    }
     for case in &KEYS {
         assert!(rt; is_fault_of_key(rt.alloc(), case));
     }
 }
 
-// Whether a copy of the name has these bytes, and is the same name.
-fn has_copy(name: &BucketName, bytes: &[u8]) -> bool {
-    match name.copy() {
-        Ok(copied) => copied.as_bytes() == bytes && copied == *name,
-        Err(_) => false,
-    }
-}
-
+// Whether a copy of the name of these bytes has them, and is the same name.
 fn copies_name(alloc: Global, bytes: &[u8]) -> bool {
     match BucketName::read(alloc, bytes) {
-        Ok(name) => has_copy(&name, bytes),
+        Ok(name) => match name.copy() {
+            Ok(copied) => (copied.as_bytes(), &copied) == (bytes, &name),
+            Err(_) => false,
+        },
         Err(_) => false,
     }
 }
 
-// Whether a copy of the key has these bytes.
-fn has_copied_key(key: &Key, bytes: &[u8]) -> bool {
-    match key.copy() {
-        Ok(copied) => copied.as_bytes() == bytes,
+// Whether a copy of the key of these bytes has them.
+fn copies_key(alloc: Global, bytes: &[u8]) -> bool {
+    match Key::read(alloc, bytes) {
+        Ok(key) => match key.copy() {
+            Ok(copied) => copied.as_bytes() == bytes,
+            Err(_) => false,
+        },
         Err(_) => false,
     }
 }
 
-fn copies_key(alloc: Global, text: &[u8], bytes: &[u8]) -> bool {
-    match Key::read(alloc, text) {
-        Ok(key) => has_copied_key(&key, bytes),
-        Err(_) => false,
-    }
-}
-
-#[test]
-fn copies(rt: HostRuntime) {
-    let text = "k\u{e9}".as_bytes();
-    assert!(rt; copies_name(rt.alloc(), b"pail") && copies_key(rt.alloc(), text, b"k\xc3\xa9"));
-}
-
-// Whether a map that has a value at `key` alone answers it at `same`, and none at `other`.
-fn is_found<K: Ord + Drop>(alloc: Global, key: K, same: &K, other: &K) -> bool {
-    let mut values = BTreeMap::new(alloc);
-    values.insert(key, 7_u8).is_ok() && tells_apart(&values, same, other)
-}
-
-fn tells_apart<K: Ord>(values: &BTreeMap<K, u8>, same: &K, other: &K) -> bool {
-    values.get(same) == Some(&7) && values.get(other).is_none()
-}
-
-// Whether the first is below the second, and a map that has a copy of it tells them apart.
+// Whether the first is below the second, and a map that has a value at a copy of the first alone answers it there, and none at the
+// second.
 fn are_in_order<K: Ord + Drop>(
     alloc: Global,
     copied: Result<K, NoMemory>,
     low: &K,
     high: &K,
 ) -> bool {
-    match copied {
-        Ok(copy) => *low < *high && is_found(alloc, copy, low, high),
-        Err(_) => false,
-    }
-}
-
-fn is_below_key(alloc: Global, low: &[u8], high: &Key) -> bool {
-    match Key::read(alloc, low) {
-        Ok(low) => are_in_order(alloc, low.copy(), &low, high),
-        Err(_) => false,
-    }
+    let Ok(copy) = copied else {
+        return false;
+    };
+    let mut values = BTreeMap::new(alloc);
+    drop(values.insert(copy, 7_u8));
+    let found = (values.get(low), values.get(high), *low < *high);
+    found == (Some(&7), None, true)
 }
 
 fn are_keys_in_order(alloc: Global, low: &[u8], high: &[u8]) -> bool {
     match Key::read(alloc, high) {
-        Ok(high) => is_below_key(alloc, low, &high),
-        Err(_) => false,
-    }
-}
-
-fn is_below_name(alloc: Global, low: &[u8], high: &BucketName) -> bool {
-    match BucketName::read(alloc, low) {
-        Ok(low) => are_in_order(alloc, low.copy(), &low, high),
+        Ok(high) => match Key::read(alloc, low) {
+            Ok(low) => are_in_order(alloc, low.copy(), &low, &high),
+            Err(_) => false,
+        },
         Err(_) => false,
     }
 }
 
 fn are_names_in_order(alloc: Global, low: &[u8], high: &[u8]) -> bool {
     match BucketName::read(alloc, high) {
-        Ok(high) => is_below_name(alloc, low, &high),
+        Ok(high) => match BucketName::read(alloc, low) {
+            Ok(low) => are_in_order(alloc, low.copy(), &low, &high),
+            Err(_) => false,
+        },
         Err(_) => false,
     }
 }
 
 // Byte order: `/` is below `0`.
 #[test]
-fn maps(rt: HostRuntime) {
+fn copies_and_maps(rt: HostRuntime) {
     assert!(rt;
-        are_keys_in_order(rt.alloc(), b"a/b", b"a0")
+        copies_name(rt.alloc(), b"pail")
+            && copies_key(rt.alloc(), b"k\xc3\xa9")
+            && are_keys_in_order(rt.alloc(), b"a/b", b"a0")
             && are_names_in_order(rt.alloc(), b"pail", b"tub")
     );
 }

@@ -3,8 +3,8 @@
 
 use s3_outbox::Outbox;
 use s3_segments::Body;
-use s3_terms::NoMemory;
 use std::alloc::Global;
+use std::mem::drop;
 
 type Reply = (&'static [u8], Option<&'static [u8]>);
 
@@ -127,21 +127,25 @@ static SIZES: &[Sizes] = &[
 ];
 
 // The body of a reply, if it has one.
-fn body_of(alloc: Global, reply: Reply) -> Result<Option<Body>, NoMemory> {
+fn body_of(alloc: Global, reply: &Reply) -> Option<Body> {
     match reply.1 {
-        None => Ok(None),
-        Some(bytes) => Ok(Some(Body::new(Vec::from_slice(alloc, bytes)?))),
+        Some(bytes) => match Vec::from_slice(alloc, bytes) {
+            Ok(copy) => Some(Body::new(copy)),
+            Err(_) => None,
+        },
+        None => None,
     }
 }
 
 // Puts a reply in, whose body is moved. The room for it stays where memory is given back in between.
-fn put(outbox: &mut Outbox, head: &[u8], body: Option<Body>) -> Result<(), NoMemory> {
-    outbox.make_room()?;
+fn put(outbox: &mut Outbox, head: &[u8], body: Option<Body>) {
+    drop(outbox.make_room());
     outbox.give_back();
     if outbox.has_room() && !outbox.is_ended() && head.len() <= 4096 {
         outbox.push(head, body);
+    } else {
+        drop(body);
     }
-    Ok(())
 }
 
 // Puts the last text in.
@@ -152,34 +156,79 @@ fn end(outbox: &mut Outbox, text: &[u8]) {
 }
 
 // Takes at most so many bytes of those that stand together in front.
-fn take(outbox: &mut Outbox, most: usize, taken: &mut Vec<u8>) -> Result<(), NoMemory> {
+fn take(outbox: &mut Outbox, most: usize, taken: &mut Vec<u8>) {
     let out = outbox.out();
     let count = out.len().min(most);
-    taken.extend_from_slice(&out[..count])?;
+    drop(taken.extend_from_slice(&out[..count]));
     outbox.sent(count);
-    Ok(())
 }
 
 // How a case is taken: at most so many bytes at a time, of which some come early, behind each reply; and whether memory is
 // given back then.
-#[derive(Clone, Copy)]
 struct Way {
     most: usize,
     early: usize,
     gives_back: bool,
 }
 
+static WAYS: [Way; 10] = [
+    Way {
+        most: 1,
+        early: 0,
+        gives_back: false,
+    },
+    Way {
+        most: 1,
+        early: 0,
+        gives_back: true,
+    },
+    Way {
+        most: 1,
+        early: 1,
+        gives_back: false,
+    },
+    Way {
+        most: 1,
+        early: 1,
+        gives_back: true,
+    },
+    Way {
+        most: 2,
+        early: 3,
+        gives_back: false,
+    },
+    Way {
+        most: 2,
+        early: 3,
+        gives_back: true,
+    },
+    Way {
+        most: 100,
+        early: 0,
+        gives_back: false,
+    },
+    Way {
+        most: 100,
+        early: 0,
+        gives_back: true,
+    },
+    Way {
+        most: 3,
+        early: 100,
+        gives_back: false,
+    },
+    Way {
+        most: 3,
+        early: 100,
+        gives_back: true,
+    },
+];
+
 // Puts all of a case in, and takes some of it behind each reply.
-fn fill(
-    alloc: Global,
-    case: &Case,
-    way: Way,
-    outbox: &mut Outbox,
-    taken: &mut Vec<u8>,
-) -> Result<(), NoMemory> {
+fn fill(alloc: Global, case: &Case, way: &Way, outbox: &mut Outbox, taken: &mut Vec<u8>) {
     for reply in case.replies {
-        put(outbox, reply.0, body_of(alloc, *reply)?)?;
-        take(outbox, way.early, taken)?;
+        put(outbox, reply.0, body_of(alloc, reply));
+        take(outbox, way.early, taken);
         if way.gives_back {
             outbox.give_back();
         }
@@ -187,88 +236,72 @@ fn fill(
     if let Some(text) = case.last {
         end(outbox, text);
     }
-    Ok(())
+}
+
+// Whether a copy of all that is unsent is the end of this text, and as long.
+fn has_left(alloc: Global, outbox: &Outbox, text: &[u8], taken: usize) -> bool {
+    match outbox.all(alloc) {
+        Ok(all) => {
+            let has_length = all.len().checked_add(taken) == Some(text.len());
+            has_length && text.ends_with(all.as_slice())
+        }
+        Err(_) => false,
+    }
 }
 
 // Takes all, at most so many bytes at a time. None of them is longer than 100.
-fn drain(outbox: &mut Outbox, most: usize, taken: &mut Vec<u8>) -> Result<(), NoMemory> {
+fn drain(outbox: &mut Outbox, most: usize, taken: &mut Vec<u8>) {
     for _ in 0..100 {
-        take(outbox, most, taken)?;
+        take(outbox, most, taken);
     }
-    Ok(())
-}
-
-// Whether all that is unsent is the end of this text, and as long.
-fn has_left(alloc: Global, outbox: &Outbox, text: &[u8], taken: usize) -> Result<bool, NoMemory> {
-    let all = outbox.all(alloc)?;
-    Ok(text.ends_with(all.as_slice()) && all.len().checked_add(taken) == Some(text.len()))
-}
-
-// Takes a case through the outbox, and answers whether a copy of what was left was right.
-fn run(alloc: Global, case: &Case, way: Way, taken: &mut Vec<u8>) -> Result<bool, NoMemory> {
-    let mut outbox = Outbox::new(alloc);
-    fill(alloc, case, way, &mut outbox, taken)?;
-    let is_left = has_left(alloc, &outbox, case.sent, taken.len())?;
-    drain(&mut outbox, way.most, taken)?;
-    Ok(is_left && outbox.out().is_empty())
 }
 
 // Whether all of a case is sent in its order.
-fn is_sent(alloc: Global, case: &Case, way: Way) -> Result<bool, NoMemory> {
+fn is_sent(alloc: Global, case: &Case, way: &Way) -> bool {
+    let mut outbox = Outbox::new(alloc);
     let mut taken = Vec::new(alloc);
-    let is_run = run(alloc, case, way, &mut taken)?;
-    Ok(is_run && taken.as_slice() == case.sent)
+    fill(alloc, case, way, &mut outbox, &mut taken);
+    let is_left = has_left(alloc, &outbox, case.sent, taken.len());
+    drain(&mut outbox, way.most, &mut taken);
+    let is_sent = (is_left, outbox.out(), taken.as_slice()) == (true, b"", case.sent);
+    drop(outbox);
+    drop(taken);
+    is_sent
 }
 
-#[test]
-fn replies_are_sent_in_their_order(rt: HostRuntime) {
-    for case in CASES {
-        for (most, early) in [(1, 0), (1, 1), (2, 3), (100, 0), (3, 100)] {
-            for gives_back in [false, true] {
-                let way = Way {
-                    most,
-                    early,
-                    gives_back,
-                };
-                assert!(rt; is_sent(rt.alloc(), case, way) == Ok(true));
-            }
+// Whether all of a case is sent in its order, however it is taken.
+fn is_sent_anyhow(alloc: Global, case: &Case) -> bool {
+    for way in &WAYS {
+        if !is_sent(alloc, case, way) {
+            return false;
         }
     }
+    true
 }
 
-// So many of a byte.
-fn filled(alloc: Global, byte: u8, size: usize) -> Result<Vec<u8>, NoMemory> {
-    Ok(vec![in alloc; byte; size]?)
+// So many of a byte, or none where there is no memory for them.
+fn filled(alloc: Global, byte: u8, size: usize) -> Vec<u8> {
+    match Vec::from_elem(alloc, byte, size) {
+        Ok(filled) => filled,
+        Err(_) => Vec::new(alloc),
+    }
 }
 
 // Puts a reply with a head and a body of these sizes in; one without a head is none.
-fn put_sizes(alloc: Global, sizes: (usize, usize), outbox: &mut Outbox) -> Result<(), NoMemory> {
-    if sizes.0 == 0 {
-        return Ok(());
+fn put_sizes(alloc: Global, sizes: (usize, usize), outbox: &mut Outbox) {
+    if sizes.0 > 0 {
+        let body = Body::new(filled(alloc, b'b', sizes.1));
+        let head = filled(alloc, b'h', sizes.0);
+        put(outbox, &head, Some(body));
+        drop(head);
     }
-    let body = Body::new(filled(alloc, b'b', sizes.1)?);
-    let head = filled(alloc, b'h', sizes.0)?;
-    put(outbox, head.as_slice(), Some(body))
-}
-
-// Puts a last text of so many bytes in, if there are any.
-fn end_sizes(alloc: Global, size: usize, outbox: &mut Outbox) -> Result<(), NoMemory> {
-    if size > 0 {
-        let text = filled(alloc, b'l', size)?;
-        end(outbox, text.as_slice());
-    }
-    Ok(())
-}
-
-// Whether these bytes are a piece.
-fn is_piece(bytes: &[u8], piece: Piece) -> bool {
-    bytes.len() == piece.0 && bytes.first() == Some(&piece.1) && bytes.last() == Some(&piece.2)
 }
 
 // Whether this piece stands in front, which is sent then, one half of it behind the other.
-fn is_next(outbox: &mut Outbox, piece: Piece) -> bool {
-    let is_right = is_piece(outbox.out(), piece);
-    let count = outbox.out().len();
+fn is_next(outbox: &mut Outbox, piece: &Piece) -> bool {
+    let out = outbox.out();
+    let count = out.len();
+    let is_right = (count, out.first(), out.last()) == (piece.0, Some(&piece.1), Some(&piece.2));
     outbox.sent(count / 2);
     let rest = outbox.out().len();
     outbox.sent(rest);
@@ -277,25 +310,35 @@ fn is_next(outbox: &mut Outbox, piece: Piece) -> bool {
 
 // Whether all goes out in these pieces.
 fn goes_in(outbox: &mut Outbox, pieces: &[Piece]) -> bool {
-    let mut is_right = true;
     for piece in pieces {
-        is_right = is_next(outbox, *piece) && is_right;
+        if !is_next(outbox, piece) {
+            return false;
+        }
     }
-    is_right && outbox.out().is_empty()
+    outbox.out().is_empty()
 }
 
-// Whether a reply and a last text of these sizes go out in their pieces.
-fn is_cut(alloc: Global, sizes: &Sizes) -> Result<bool, NoMemory> {
+// Whether two replies and a last text of these sizes go out in their pieces. A last text of no size is none.
+fn is_cut(alloc: Global, sizes: &Sizes) -> bool {
     let mut outbox = Outbox::new(alloc);
-    put_sizes(alloc, sizes.first, &mut outbox)?;
-    put_sizes(alloc, sizes.second, &mut outbox)?;
-    end_sizes(alloc, sizes.last, &mut outbox)?;
-    Ok(goes_in(&mut outbox, sizes.pieces))
+    put_sizes(alloc, sizes.first, &mut outbox);
+    put_sizes(alloc, sizes.second, &mut outbox);
+    if sizes.last > 0 {
+        let text = filled(alloc, b'l', sizes.last);
+        end(&mut outbox, &text);
+        drop(text);
+    }
+    let is_cut = goes_in(&mut outbox, sizes.pieces);
+    drop(outbox);
+    is_cut
 }
 
 #[test]
-fn small_bodies_go_out_with_their_heads(rt: HostRuntime) {
+fn replies_are_sent_in_their_order(rt: HostRuntime) {
+    for case in CASES {
+        assert!(rt; is_sent_anyhow(rt.alloc(), case));
+    }
     for sizes in SIZES {
-        assert!(rt; is_cut(rt.alloc(), sizes) == Ok(true));
+        assert!(rt; is_cut(rt.alloc(), sizes));
     }
 }

@@ -4,22 +4,6 @@ use md5::{Digest, Md5};
 use s3_segments::{Body, Payload};
 use std::alloc::Global;
 
-// The body of these bytes.
-fn body_of(alloc: Global, bytes: &[u8]) -> Option<Body> {
-    match bytes.to_vec(alloc) {
-        Ok(copy) => Some(Body::new(copy)),
-        Err(_) => None,
-    }
-}
-
-// Whether a copy of the body has this size and these bytes.
-fn copies(alloc: Global, body: &Body, bytes: &[u8], size: u64) -> bool {
-    match body.copy(alloc) {
-        Ok(copy) => copy.size() == size && copy.as_slice() == bytes,
-        Err(_) => false,
-    }
-}
-
 // Whether the body's payload has this tag, and these bytes for its body.
 fn has_tag(body: Body, bytes: &[u8], tag: &[u8; 32]) -> bool {
     let digest = Md5::digest(body.as_slice());
@@ -29,17 +13,24 @@ fn has_tag(body: Body, bytes: &[u8], tag: &[u8; 32]) -> bool {
 
 // Whether a copy of the body of these bytes has this size and them, and its payload has them and this tag.
 fn is_kept(alloc: Global, bytes: &[u8], size: u64, tag: &[u8; 32]) -> bool {
-    match body_of(alloc, bytes) {
-        Some(body) => copies(alloc, &body, bytes, size) && has_tag(body, bytes, tag),
-        None => false,
+    let Ok(bytes_of_body) = bytes.to_vec(alloc) else {
+        return false;
+    };
+    match Body::new(bytes_of_body).copy(alloc) {
+        Ok(copy) => (copy.size(), copy.as_slice()) == (size, bytes) && has_tag(copy, bytes, tag),
+        Err(_) => false,
     }
 }
 
-// The first MD5 is that of RFC 1321's test suite for "abc", the second is `md5sum`'s.
+// A text, its size, and its MD5: the first is that of RFC 1321's test suite, the second is `md5sum`'s.
+static CASES: [(&[u8], u64, &[u8; 32]); 2] = [
+    (b"abc", 3, b"900150983cd24fb0d6963f7d28e17f72"),
+    (b"hello", 5, b"5d41402abc4b2a76b9719d911017c592"),
+];
+
 #[test]
 fn bodies_and_payloads(rt: HostRuntime) {
-    assert!(rt;
-        is_kept(rt.alloc(), b"abc", 3, b"900150983cd24fb0d6963f7d28e17f72")
-            && is_kept(rt.alloc(), b"hello", 5, b"5d41402abc4b2a76b9719d911017c592")
-    );
+    for (bytes, size, tag) in &CASES {
+        assert!(rt; is_kept(rt.alloc(), *bytes, *size, *tag));
+    }
 }

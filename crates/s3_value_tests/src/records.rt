@@ -1,15 +1,16 @@
 //! What a keeper of records answers, step by step.
 ghost use Rattle.std.specs.Prelude.{◌≡◌, IsTrue, false};
 ghost use Rattle.s3_versions.specs.Rules.{is_new_number};
-ghost use Rattle.s3_records.specs.Catalogue.{has_bucket, is_empty_bucket, versions_of};
+ghost use Rattle.s3_records.specs.Catalogue.{has_bucket, versions_of};
 
 use crate::steps::{Known, are, is_new, moment, stored_by};
 use s3_names::{BucketName, Key, VersionId};
 use s3_records::{ListedBucket, MapRecords, Records};
-use s3_terms::Code;
+use s3_terms::{Code, NoMemory};
 use s3_test_servers::config;
 use s3_versions::VersioningStatus::{self, Enabled, Suspended};
 use std::alloc::Global;
+use std::mem::drop;
 
 /// What an entry does with a key of the bucket `pail`, or what is asked or done beside it.
 #[derive(Clone, Copy)]
@@ -42,41 +43,54 @@ const NULL: Known = (b"null", false);
 
 const MARKER: Known = (b"null", true);
 
-/// A delete while versioning is suspended.
-static SUSPENDED_DELETE: [Row; 8] = [
-    (Change::Switch(Enabled), &[]),
-    (Change::Put(b"k"), &[V1]),
-    (Change::Switch(Suspended), &[V1]),
-    (Change::Put(b"k"), &[NULL, V1]),
-    (Change::Delete, &[MARKER, V1]),
-    (Change::Put(b"j"), &[MARKER, V1]),
-    (Change::DropVersion(VersionId::Null), &[V1]),
-    (Change::DropVersion(VersionId::Numbered(1)), &[]),
-];
+/// Entries from empty records on.
+struct Scenario {
+    name: &'static str,
+    rows: &'static [Row],
+}
 
-/// A bucket that was never versioned.
-static UNVERSIONED: [Row; 6] = [
-    (Change::Put(b"k"), &[NULL]),
-    (Change::Put(b"k"), &[NULL]),
-    (Change::Put(b"j"), &[NULL]),
-    (Change::Delete, &[]),
-    (Change::Delete, &[]),
-    (Change::DropVersion(VersionId::Null), &[]),
-];
-
-/// A bucket that is made and dropped.
-static MADE_AND_DROPPED: [Row; 3] = [
-    (Change::Make, &[]),
-    (Change::List(&[b"crate", b"pail", b"vat"]), &[]),
-    (Change::Drop, &[]),
-];
-
-/// A bucket that a delete marker fills.
-static FILLED_BY_A_MARKER: [Row; 4] = [
-    (Change::AskEmpty(true), &[]),
-    (Change::Switch(Enabled), &[]),
-    (Change::Delete, &[V2_MARKER]),
-    (Change::AskEmpty(false), &[V2_MARKER]),
+static SCENARIOS: [Scenario; 4] = [
+    Scenario {
+        name: "a delete while versioning is suspended",
+        rows: &[
+            (Change::Switch(Enabled), &[]),
+            (Change::Put(b"k"), &[V1]),
+            (Change::Switch(Suspended), &[V1]),
+            (Change::Put(b"k"), &[NULL, V1]),
+            (Change::Delete, &[MARKER, V1]),
+            (Change::Put(b"j"), &[MARKER, V1]),
+            (Change::DropVersion(VersionId::Null), &[V1]),
+            (Change::DropVersion(VersionId::Numbered(1)), &[]),
+        ],
+    },
+    Scenario {
+        name: "a bucket that was never versioned",
+        rows: &[
+            (Change::Put(b"k"), &[NULL]),
+            (Change::Put(b"k"), &[NULL]),
+            (Change::Put(b"j"), &[NULL]),
+            (Change::Delete, &[]),
+            (Change::Delete, &[]),
+            (Change::DropVersion(VersionId::Null), &[]),
+        ],
+    },
+    Scenario {
+        name: "a bucket that is made and dropped",
+        rows: &[
+            (Change::Make, &[]),
+            (Change::List(&[b"crate", b"pail", b"vat"]), &[]),
+            (Change::Drop, &[]),
+        ],
+    },
+    Scenario {
+        name: "a bucket that a delete marker fills",
+        rows: &[
+            (Change::AskEmpty(true), &[]),
+            (Change::Switch(Enabled), &[]),
+            (Change::Delete, &[V2_MARKER]),
+            (Change::AskEmpty(false), &[V2_MARKER]),
+        ],
+    },
 ];
 
 /// A bucket and a key in it.
@@ -87,8 +101,8 @@ struct Place {
 }
 
 fn one_place(alloc: Global) -> Result<Place, Code> {
-    let bucket = BucketName::read(alloc, b"pail")?;
     let key = Key::read(alloc, b"k")?;
+    let bucket = BucketName::read(alloc, b"pail")?;
     Ok(Place { bucket, key })
 }
 
@@ -128,105 +142,45 @@ fn is_newer<R: Records>(
     }
 }
 
-/// Puts the key of this text, where the bucket is there and the number may be given.
-fn put<R: Records>(
+/// Puts the key of this text or deletes it, where the bucket is there and the number may be given.
+fn write<R: Records>(
     alloc: Global,
     records: &mut R,
     bucket: &BucketName,
     text: &[u8],
     number: u64,
+    is_put: bool,
 ) -> bool {
     match Key::read(alloc, text) {
-        Ok(key) => put_key(alloc, records, bucket, key, number),
+        Ok(key) => {
+            is_there(alloc, records, bucket)
+                && is_newer(alloc, records, bucket, &key, number)
+                && write_moved(alloc, records, bucket, key, number, is_put)
+        }
         Err(_) => false,
     }
 }
 
-fn put_key<R: Records>(
+fn write_moved<R: Records>(
     alloc: Global,
     records: &mut R,
     bucket: &BucketName,
     key: Key,
     number: u64,
-) -> bool {
-    is_there(alloc, records, bucket)
-        && is_newer(alloc, records, bucket, &key, number)
-        && put_moved(alloc, records, bucket, key, number)
-}
-
-fn put_moved<R: Records>(
-    alloc: Global,
-    records: &mut R,
-    bucket: &BucketName,
-    key: Key,
-    number: u64,
+    is_put: bool,
 ) -> bool
     requires there { IsTrue (has_bucket (R.catalogue records.old) bucket.now) }
     requires newer { IsTrue (is_new_number number (versions_of (R.catalogue records.old) bucket.now key)) }
 {
-    match stored_by(alloc, number) {
-        Ok(stored) => {
-            let put = records.put_version(alloc, bucket, key, number, moment(), stored);
-            put.err().is_none()
+    let written = if is_put {
+        match stored_by(alloc, number) {
+            Ok(stored) => records.put_version(alloc, bucket, key, number, moment(), stored),
+            Err(_) => Err(NoMemory),
         }
-        Err(_) => false,
-    }
-}
-
-fn delete<R: Records>(alloc: Global, records: &mut R, place: &Place, number: u64) -> bool {
-    let (bucket, key) = (&place.bucket, &place.key);
-    is_there(alloc, records, bucket)
-        && is_newer(alloc, records, bucket, key, number)
-        && delete_copy(alloc, records, bucket, key, number)
-}
-
-fn delete_copy<R: Records>(
-    alloc: Global,
-    records: &mut R,
-    bucket: &BucketName,
-    key: &Key,
-    number: u64,
-) -> bool
-    requires there { IsTrue (has_bucket (R.catalogue records.old) bucket.now) }
-    requires newer { IsTrue (is_new_number number (versions_of (R.catalogue records.old) bucket.now key.now)) }
-{
-    match key.copy() {
-        Ok(key) => {
-            let deleted = records.delete(alloc, bucket, key, number, moment());
-            deleted.err().is_none()
-        }
-        Err(_) => false,
-    }
-}
-
-fn drop_version<R: Records>(
-    alloc: Global,
-    records: &mut R,
-    bucket: &BucketName,
-    key: &Key,
-    id: VersionId,
-) -> bool {
-    is_there(alloc, records, bucket) && records.drop_version(alloc, bucket, key, id).err().is_none()
-}
-
-fn switch<R: Records>(
-    alloc: Global,
-    records: &mut R,
-    bucket: &BucketName,
-    status: VersioningStatus,
-) -> bool {
-    is_there(alloc, records, bucket) && records.set_versioning(alloc, bucket, status).is_ok()
-}
-
-/// Whether the bucket has nothing in it.
-fn is_empty<R: Records>(alloc: Global, records: &mut R, bucket: &BucketName) -> bool
-    ensures same { R.catalogue records.new ≡ R.catalogue records.old }
-    ensures empty { IsTrue result → IsTrue (is_empty_bucket (R.catalogue records.old) bucket.now) }
-{
-    match records.is_empty(alloc, bucket) {
-        Ok(is_empty) => is_empty,
-        Err(_) => false,
-    }
+    } else {
+        records.delete(alloc, bucket, key, number, moment())
+    };
+    written.err().is_none()
 }
 
 /// Whether the bucket is not there.
@@ -250,18 +204,15 @@ fn make<R: Records>(alloc: Global, records: &mut R) -> bool {
     }
 }
 
-/// The empty bucket is dropped, and is not there after.
-fn drop_empty<R: Records>(alloc: Global, records: &mut R, name: &BucketName) -> bool {
-    is_there(alloc, records, name)
-        && is_empty(alloc, records, name)
-        && records.drop_bucket(alloc, name).is_ok()
-        && is_absent(alloc, records, name)
-}
-
-/// The bucket `vat` is dropped.
+/// The bucket `vat`, which is empty, is dropped, and is not there after.
 fn drop_vat<R: Records>(alloc: Global, records: &mut R) -> bool {
     match BucketName::read(alloc, b"vat") {
-        Ok(name) => drop_empty(alloc, records, &name),
+        Ok(name) => {
+            is_there(alloc, records, &name)
+                && records.is_empty(alloc, &name) == Ok(true)
+                && records.drop_bucket(alloc, &name).is_ok()
+                && is_absent(alloc, records, &name)
+        }
         Err(_) => false,
     }
 }
@@ -287,14 +238,6 @@ fn are_listed<R: Records>(alloc: Global, records: &mut R, names: &[&[u8]]) -> bo
     }
 }
 
-/// Whether this is the answer where it is asked whether the bucket is empty.
-fn answers<R: Records>(alloc: Global, records: &mut R, bucket: &BucketName, answer: bool) -> bool {
-    match records.is_empty(alloc, bucket) {
-        Ok(is_empty) => is_empty == answer,
-        Err(_) => false,
-    }
-}
-
 /// Whether the change is made, and answered as it has to be.
 fn apply<R: Records>(
     alloc: Global,
@@ -305,11 +248,20 @@ fn apply<R: Records>(
 ) -> bool {
     let bucket = &place.bucket;
     match change {
-        Change::Switch(status) => switch(alloc, records, bucket, *status),
-        Change::Put(text) => put(alloc, records, bucket, text, number),
-        Change::Delete => delete(alloc, records, place, number),
-        Change::DropVersion(id) => drop_version(alloc, records, bucket, &place.key, *id),
-        Change::AskEmpty(answer) => answers(alloc, records, bucket, *answer),
+        Change::Switch(status) => {
+            is_there(alloc, records, bucket)
+                && records.set_versioning(alloc, bucket, *status).is_ok()
+        }
+        Change::Put(text) => write(alloc, records, bucket, text, number, true),
+        Change::Delete => write(alloc, records, bucket, b"k", number, false),
+        Change::DropVersion(id) => {
+            is_there(alloc, records, bucket)
+                && records
+                    .drop_version(alloc, bucket, &place.key, *id)
+                    .err()
+                    .is_none()
+        }
+        Change::AskEmpty(answer) => records.is_empty(alloc, bucket) == Ok(*answer),
         Change::Make => make(alloc, records),
         Change::List(names) => are_listed(alloc, records, names),
         Change::Drop => drop_vat(alloc, records),
@@ -337,23 +289,14 @@ fn has_versions<R: Records>(
     }
 }
 
-/// Whether the entry is made, and leaves these versions, the first of them as the current one.
-fn leaves<R: Records>(
-    alloc: Global,
-    records: &mut R,
-    place: &Place,
-    number: u64,
-    row: &Row,
-) -> bool {
-    apply(alloc, records, place, number, &row.0)
-        && has_current(alloc, records, place, !row.1.is_empty())
-        && has_versions(alloc, records, place, row.1)
-}
-
+/// Whether each entry is made, and leaves its versions, the first of them as the current one.
 fn all_leave<R: Records>(alloc: Global, records: &mut R, place: &Place, rows: &[Row]) -> bool {
     let mut number = 0u64;
     for row in rows {
-        if !leaves(alloc, records, place, number, row) {
+        if !apply(alloc, records, place, number, &row.0)
+            || !has_current(alloc, records, place, !row.1.is_empty())
+            || !has_versions(alloc, records, place, row.1)
+        {
             return false;
         }
         number = number.saturating_add(1);
@@ -364,7 +307,11 @@ fn all_leave<R: Records>(alloc: Global, records: &mut R, place: &Place, rows: &[
 /// Whether the entries, from empty records on, are made so in that place.
 fn is_so_in(alloc: Global, place: &Place, rows: &[Row]) -> bool {
     match opened(alloc) {
-        Some(mut records) => all_leave(alloc, &mut records, place, rows),
+        Some(mut records) => {
+            let all_leave = all_leave(alloc, &mut records, place, rows);
+            drop(records);
+            all_leave
+        }
         None => false,
     }
 }
@@ -376,14 +323,9 @@ fn is_so(alloc: Global, rows: &[Row]) -> bool {
     }
 }
 
-fn are_all_so(alloc: Global) -> bool {
-    is_so(alloc, &SUSPENDED_DELETE)
-        && is_so(alloc, &UNVERSIONED)
-        && is_so(alloc, &MADE_AND_DROPPED)
-        && is_so(alloc, &FILLED_BY_A_MARKER)
-}
-
 #[test]
 fn scenarios(rt: HostRuntime) {
-    assert!(rt; are_all_so(rt.alloc()));
+    for scenario in &SCENARIOS {
+        assert!(rt; is_so(rt.alloc(), scenario.rows), "at {}", scenario.name);
+    }
 }

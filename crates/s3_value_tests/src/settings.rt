@@ -4,6 +4,7 @@ use s3_config::{Config, Credential};
 use s3_names::BucketName;
 use s3_terms::Code;
 use std::alloc::Global;
+use std::mem::drop;
 
 fn key(alloc: Global, id: &[u8], secret: &[u8]) -> Result<Option<Credential>, Code> {
     let id = Vec::from_slice(alloc, id)?;
@@ -25,56 +26,35 @@ static CREDENTIALS: [Case; 8] = [
     (b"", b"s", false),
 ];
 
-// Whether this is no access key, or one that tells its id and its secret, as the case says.
-fn is_key_of(made: &Option<Credential>, case: &Case) -> bool {
-    match made {
-        Some(key) => case.2 && key.id() == case.0 && key.secret() == case.1,
-        None => !case.2,
-    }
-}
-
+// Whether the case's parts are an access key that tells its id and its secret, or none, as it says.
 fn is_right(alloc: Global, case: &Case) -> bool {
     match key(alloc, case.0, case.1) {
-        Ok(made) => is_key_of(&made, case),
+        Ok(Some(key)) => (case.2, key.id(), key.secret()) == (true, case.0, case.1),
+        Ok(None) => !case.2,
         Err(_) => false,
     }
 }
 
-#[test]
-fn credentials(rt: HostRuntime) {
-    for case in &CREDENTIALS {
-        assert!(rt; is_right(rt.alloc(), case));
-    }
-}
-
-fn push_key(alloc: Global, keys: &mut Vec<Credential>, id: &[u8]) -> Result<(), Code> {
-    match key(alloc, id, b"secret")? {
-        Some(key) => Ok(keys.push(key)?),
-        None => Err(Code::InvalidAccessKeyId),
-    }
-}
-
-// The keys of these ids, all with one secret.
-fn keys(alloc: Global, ids: &[&[u8]]) -> Result<Vec<Credential>, Code> {
+// The keys of these ids, all with one secret, as far as they are any.
+fn keys(alloc: Global, ids: &[&[u8]]) -> Vec<Credential> {
     let mut keys = Vec::new(alloc);
     for id in ids {
-        push_key(alloc, &mut keys, id)?;
+        if let Ok(Some(key)) = key(alloc, id, b"secret") {
+            drop(keys.push(key));
+        }
     }
-    Ok(keys)
+    keys
 }
 
-fn push_bucket(alloc: Global, buckets: &mut Vec<BucketName>, name: &[u8]) -> Result<(), Code> {
-    let name = BucketName::read(alloc, name)?;
-    buckets.push(name)?;
-    Ok(())
-}
-
-fn buckets(alloc: Global, names: &[&[u8]]) -> Result<Vec<BucketName>, Code> {
+// The names of buckets, as far as they are any.
+fn buckets(alloc: Global, names: &[&[u8]]) -> Vec<BucketName> {
     let mut buckets = Vec::new(alloc);
     for name in names {
-        push_bucket(alloc, &mut buckets, name)?;
+        if let Ok(name) = BucketName::read(alloc, name) {
+            drop(buckets.push(name));
+        }
     }
-    Ok(buckets)
+    buckets
 }
 
 // A region, the ids of keys, the greatest body, and the names of buckets.
@@ -85,11 +65,14 @@ type Parts = (
     &'static [&'static [u8]],
 );
 
-// The settings of these parts, if they are any.
+// The settings of these parts, if they are any; `InternalError` where not each part could be made.
 fn config(alloc: Global, parts: &Parts) -> Result<Option<Config>, Code> {
     let region = Vec::from_slice(alloc, parts.0)?;
-    let keys = keys(alloc, parts.1)?;
-    let buckets = buckets(alloc, parts.3)?;
+    let keys = keys(alloc, parts.1);
+    let buckets = buckets(alloc, parts.3);
+    if keys.len() != parts.1.len() || buckets.len() != parts.3.len() {
+        return Err(Code::InternalError);
+    }
     Ok(Config::new(region, keys, 5, parts.2, buckets))
 }
 
@@ -116,17 +99,6 @@ fn is_allowed(alloc: Global, case: &(Parts, bool)) -> bool {
     }
 }
 
-fn tells_its_parts(made: &Config) -> bool {
-    made.region() == b"us-east-1".as_slice()
-        && made.min_part() == 5
-        && made.body_limit() == 67_108_864
-        && made.buckets().len() == 2
-}
-
-fn tells_its_secrets(made: &Config) -> bool {
-    made.secret_of(b"two") == Some(b"secret".as_slice()) && made.secret_of(b"three").is_none()
-}
-
 static GREATEST: Parts = (
     b"us-east-1",
     &[b"one", b"two"],
@@ -134,16 +106,27 @@ static GREATEST: Parts = (
     &[b"pail", b"tub"],
 );
 
+fn tells_its_parts(made: &Config) -> bool {
+    let limits = (made.min_part(), made.body_limit(), made.buckets().len());
+    let secrets = (made.secret_of(b"two"), made.secret_of(b"three"));
+    made.region() == b"us-east-1".as_slice()
+        && limits == (5, 67_108_864, 2)
+        && secrets == (Some(b"secret".as_slice()), None)
+}
+
 // Whether those parts are settings that tell them.
 fn tells_settings(alloc: Global) -> bool {
     match config(alloc, &GREATEST) {
-        Ok(Some(made)) => tells_its_parts(&made) && tells_its_secrets(&made),
+        Ok(Some(made)) => tells_its_parts(&made),
         _ => false,
     }
 }
 
 #[test]
-fn settings(rt: HostRuntime) {
+fn credentials_and_settings(rt: HostRuntime) {
+    for case in &CREDENTIALS {
+        assert!(rt; is_right(rt.alloc(), case));
+    }
     for case in &LIMITS {
         assert!(rt; is_allowed(rt.alloc(), case));
     }

@@ -1,5 +1,5 @@
 //! Steps that puts and deletes of one key take, for tests.
-ghost use Rattle.std.specs.Prelude.{◌≡◌, IsTrue};
+ghost use Rattle.std.specs.Prelude.{◌≡◌};
 ghost use Rattle.s3_versions.specs.Rules.{is_new_number};
 
 use s3_calendar::Moment;
@@ -7,6 +7,7 @@ use s3_names::{Tag, VersionId};
 use s3_terms::{Code, NoMemory};
 use s3_versions::{ContentType, Data, Metadata, MetadataEntry, Version, Versioning, Versions};
 use std::alloc::Global;
+use std::mem::drop;
 
 /// What an entry does with a key.
 #[derive(Clone, Copy)]
@@ -55,51 +56,17 @@ pub(crate) fn is_new(number: u64, versions: &[Version<u64>]) -> bool
     versions.iter().all(|version| version.number < number)
 }
 
-// Whether the version that goes is the one that this entry made, or none goes.
-fn is_gone(version: &Option<Version<u64>>, number: Option<u64>) -> bool {
-    match (version, number) {
-        (Some(version), Some(number)) => version.number == number,
-        (None, None) => true,
-        _ => false,
+// The number of the entry that made the version that went, if one went; none where there was no memory.
+fn number_of(gone: Result<Option<Version<u64>>, NoMemory>) -> Option<Option<u64>> {
+    match gone {
+        Ok(Some(version)) => {
+            let number = version.number;
+            drop(version);
+            Some(Some(number))
+        }
+        Ok(None) => Some(None),
+        Err(_) => None,
     }
-}
-
-// Whether the step is taken, and that version goes.
-fn is_taken(taken: &Result<Option<Version<u64>>, NoMemory>, number: Option<u64>) -> bool {
-    match taken {
-        Ok(version) => is_gone(version, number),
-        Err(_) => false,
-    }
-}
-
-fn puts(
-    alloc: Global,
-    versions: &mut Versions<u64>,
-    versioning: Versioning,
-    number: u64,
-    gone: Option<u64>,
-) -> bool
-    requires { IsTrue (is_new_number number versions.old) }
-{
-    match stored_by(alloc, number) {
-        Ok(stored) => is_taken(&versions.put(versioning, number, moment(), stored), gone),
-        Err(_) => false,
-    }
-}
-
-fn deletes(
-    versions: &mut Versions<u64>,
-    versioning: Versioning,
-    number: u64,
-    gone: Option<u64>,
-) -> bool
-    requires { IsTrue (is_new_number number versions.old) }
-{
-    is_taken(&versions.delete(versioning, number, moment()), gone)
-}
-
-fn drops(versions: &mut Versions<u64>, id: VersionId, gone: Option<u64>) -> bool {
-    is_gone(&versions.delete_version(id), gone)
 }
 
 /// Takes a step with a new number, and answers whether the version goes that this entry made, or none.
@@ -113,11 +80,15 @@ pub(crate) fn takes(
     if !is_new(number, versions.as_slice()) {
         return false;
     }
-    match act {
-        Act::Put => puts(alloc, versions, versioning, number, gone),
-        Act::Delete => deletes(versions, versioning, number, gone),
-        Act::DropVersion(id) => drops(versions, id, gone),
-    }
+    let number_gone = match act {
+        Act::Put => match stored_by(alloc, number) {
+            Ok(stored) => number_of(versions.put(versioning, number, moment(), stored)),
+            Err(_) => None,
+        },
+        Act::Delete => number_of(versions.delete(versioning, number, moment())),
+        Act::DropVersion(id) => number_of(Ok(versions.delete_version(id))),
+    };
+    number_gone == Some(gone)
 }
 
 /// A version, by its id and whether it is a delete marker.

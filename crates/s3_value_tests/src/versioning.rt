@@ -39,13 +39,6 @@ fn is_read(alloc: Global, case: &Case) -> bool {
     }
 }
 
-#[test]
-fn bodies(rt: HostRuntime) {
-    for case in &BODIES {
-        assert!(rt; is_read(rt.alloc(), case));
-    }
-}
-
 static DOCUMENTS: [(Versioning, &[u8]); 3] = [
     (Versioning::Unversioned, b"{}"),
     (Versioning::Enabled, b"{\"Status\":\"Enabled\"}"),
@@ -60,7 +53,10 @@ fn is_printed(alloc: Global, versioning: Versioning, text: &[u8]) -> bool {
 }
 
 #[test]
-fn documents(rt: HostRuntime) {
+fn bodies_and_documents(rt: HostRuntime) {
+    for case in &BODIES {
+        assert!(rt; is_read(rt.alloc(), case));
+    }
     for (versioning, text) in &DOCUMENTS {
         assert!(rt; is_printed(rt.alloc(), *versioning, *text));
     }

@@ -7,74 +7,38 @@ use s3_segments::{Body, Payload};
 use s3_versions::{ContentType, Metadata};
 use std::alloc::Global;
 
-// These bytes as a payload.
-fn payload_of(alloc: Global, bytes: &[u8]) -> Option<Payload> {
-    match Vec::from_slice(alloc, bytes) {
-        Ok(copy) => Some(Payload::new(Body::new(copy), Md5::digest(bytes).into())),
-        Err(_) => None,
-    }
-}
-
-// The type of a plain text, and metadata without an entry.
-fn plain_text(alloc: Global) -> Option<(ContentType, Metadata)> {
-    let metadata = Metadata::new(Vec::new(alloc)).ok()?;
+// What stores these bytes as a plain text without metadata, or reads where there are none.
+fn asked(alloc: Global, bytes: Option<&[u8]>) -> Option<KeyCommand> {
+    let Some(bytes) = bytes else {
+        return Some(KeyCommand::Get { version: None });
+    };
+    let Ok(copy) = Vec::from_slice(alloc, bytes) else {
+        return None;
+    };
+    let payload = Payload::new(Body::new(copy), Md5::digest(bytes).into());
+    let Ok(metadata) = Metadata::new(Vec::new(alloc)) else {
+        return None;
+    };
     match ContentType::read(alloc, b"text/plain") {
-        Ok(content_type) => Some((content_type, metadata)),
-        Err(_) => None,
-    }
-}
-
-// What stores these bytes.
-fn put_of(alloc: Global, bytes: &[u8]) -> Option<KeyCommand> {
-    let payload = payload_of(alloc, bytes)?;
-    match plain_text(alloc) {
-        Some((content_type, metadata)) => Some(KeyCommand::Put {
+        Ok(content_type) => Some(KeyCommand::Put {
             content_type,
             metadata,
             payload,
         }),
-        None => None,
-    }
-}
-
-// A key in the bucket `pail`.
-fn address_of(alloc: Global, key: &[u8]) -> Option<(BucketName, Key)> {
-    match BucketName::read(alloc, b"pail") {
-        Ok(bucket) => match Key::read(alloc, key) {
-            Ok(key) => Some((bucket, key)),
-            Err(_) => None,
-        },
         Err(_) => None,
     }
 }
 
-// The turn that asks this of a key.
-fn turn_of(address: (BucketName, Key), asked: KeyCommand, moment: Moment) -> Turn {
-    let (bucket, key) = address;
+/// A turn that stores these bytes under a key, or reads what stands there where there are none.
+pub(crate) fn turn(alloc: Global, key: &[u8], bytes: Option<&[u8]>) -> Option<Turn> {
+    let moment = Moment::new(7)?;
+    let Ok(bucket) = BucketName::read(alloc, b"pail") else {
+        return None;
+    };
+    let Ok(key) = Key::read(alloc, key) else {
+        return None;
+    };
+    let asked = asked(alloc, bytes)?;
     let command = Command::Key { bucket, key, asked };
-    Turn { command, moment }
-}
-
-/// A turn that stores these bytes under a key.
-pub(crate) fn put(alloc: Global, key: &[u8], bytes: &[u8]) -> Option<Turn> {
-    let moment = Moment::new(7)?;
-    match address_of(alloc, key) {
-        Some(address) => match put_of(alloc, bytes) {
-            Some(asked) => Some(turn_of(address, asked, moment)),
-            None => None,
-        },
-        None => None,
-    }
-}
-
-/// A turn that reads what stands under a key.
-pub(crate) fn get(alloc: Global, key: &[u8]) -> Option<Turn> {
-    let moment = Moment::new(7)?;
-    match address_of(alloc, key) {
-        Some(address) => {
-            let asked = KeyCommand::Get { version: None };
-            Some(turn_of(address, asked, moment))
-        }
-        None => None,
-    }
+    Some(Turn { command, moment })
 }

@@ -1,12 +1,12 @@
 //! A book with a bucket, and three turns of two seats.
-use crate::asked::{get, put};
-use crate::served::new_book;
+use crate::asked::turn;
+use crate::served::book;
+use s3_config::Config;
 use s3_journal::{Book, books_keep_promises};
-use s3_machine::{Answer, Outcome, Turn};
+use s3_machine::Outcome;
 use s3_records::MapRecords;
 use std::alloc::Global;
 use std::mem::drop;
-use std::test::*;
 
 /// The MD5 of `hello`.
 const TAG_OF_HELLO: &[u8] = b"5d41402abc4b2a76b9719d911017c592";
@@ -28,36 +28,30 @@ fn word_of(outcome: &Outcome) -> Option<&'static str> {
     }
 }
 
-/// A turn: its seat, whether it stores `hello` or reads, its key, its number, and what comes of it.
-type Row = (u64, bool, &'static [u8], u64, &'static str);
+/// A turn: its seat, its key, what it stores if it doesn't read, its number, and what comes of it.
+type Row = (
+    u64,
+    &'static [u8],
+    Option<&'static [u8]>,
+    u64,
+    Option<&'static str>,
+);
 
 // One seat stores `hello`, another reads it, and the first finds nothing under another key.
 static TURNS: [Row; 3] = [
-    (0, true, b"a", 0, "stored"),
-    (1, false, b"a", 1, "hello"),
-    (0, false, b"b", 2, "NoSuchKey"),
+    (0, b"a", Some(b"hello"), 0, Some("stored")),
+    (1, b"a", None, 1, Some("hello")),
+    (0, b"b", None, 2, Some("NoSuchKey")),
 ];
-
-fn turn_of(alloc: Global, row: &Row) -> Option<Turn> {
-    if row.1 {
-        put(alloc, row.2, b"hello")
-    } else {
-        get(alloc, row.2)
-    }
-}
-
-fn is_answer(answer: &Answer, row: &Row) -> bool {
-    answer.number == row.3 && word_of(&answer.outcome) == Some(row.4)
-}
 
 // Whether a turn has its number, and what has to come of it does.
 fn is_answered(alloc: Global, book: &mut Book<MapRecords>, row: &Row) -> bool {
-    match turn_of(alloc, row) {
+    match turn(alloc, row.1, row.2) {
         Some(turn) => match book.apply(row.0, turn) {
             Ok(answer) => {
-                let is_wanted = is_answer(&answer, row);
+                let came = (answer.number, word_of(&answer.outcome));
                 drop(answer);
-                is_wanted
+                came == (row.3, row.4)
             }
             Err(_) => false,
         },
@@ -65,38 +59,25 @@ fn is_answered(alloc: Global, book: &mut Book<MapRecords>, row: &Row) -> bool {
     }
 }
 
-fn are_answered(alloc: Global, book: &mut Book<MapRecords>) -> bool {
+// Whether all are answered so, and there are these entries at the end, which the number of the store's next entry counts too.
+fn are_answered(alloc: Global, book: &mut Book<MapRecords>, entries: u64) -> bool {
     for row in &TURNS {
         if !is_answered(alloc, book, row) {
             return false;
         }
     }
-    true
+    book.entries() == entries && book.store().number() == entries
 }
 
-// How many entries there are at the end, and the number of the store's next entry, where all are answered so.
-fn counts_of(alloc: Global, book: &mut Book<MapRecords>) -> Option<(u64, u64)> {
-    if are_answered(alloc, book) {
-        Some((book.entries(), book.store().number()))
-    } else {
-        None
-    }
-}
-
-// The same of a new book.
-fn counts(alloc: Global) -> Option<(u64, u64)> {
-    match new_book(alloc) {
-        Some(mut book) => {
-            let counted = counts_of(alloc, &mut book);
-            drop(book);
-            counted
-        }
-        None => None,
-    }
-}
-
-#[test]
-fn two_seats_are_answered(rt: HostRuntime) {
+/// Whether two seats of a new book are answered as they have to be, with three entries.
+pub(crate) fn two_seats_are_answered(alloc: Global, config: &Config) -> bool {
     books_keep_promises();
-    assert!(rt; counts(rt.alloc()) == Some((3, 3)));
+    match book(alloc, config) {
+        Some(mut book) => {
+            let are_answered = are_answered(alloc, &mut book, 3);
+            drop(book);
+            are_answered
+        }
+        None => false,
+    }
 }

@@ -17,6 +17,15 @@ pub(crate) struct Manner {
     pub(crate) failing_write: u64,
 }
 
+/// That of a stream that gives and takes all at once.
+pub(crate) const PLAIN: Manner = Manner {
+    first: usize::MAX,
+    most: usize::MAX,
+    is_slow: false,
+    failing_read: 0,
+    failing_write: 0,
+};
+
 /// A stream over bytes in memory.
 #[derive(Drop)]
 pub(crate) struct Stream<'a> {

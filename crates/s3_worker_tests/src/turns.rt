@@ -1,24 +1,17 @@
 //! Two connections of one worker, whose messages come in turns byte by byte.
 use crate::places::Count;
-use crate::served::{CHUNKS_AND_GET, PUT_AND_GET, config, worker};
-use crate::stream::{Manner, Stream};
+use crate::served::{Sent, worker};
+use crate::stream::{Manner, PLAIN, Stream};
 use s3_config::Config;
 use s3_devices::Recorded;
 use s3_records::MapRecords;
 use s3_session::Still;
-use s3_workers::{BookCounter, Connection, Step, Worker};
+use s3_workers::{BookCounter, Connection, Worker};
 use std::alloc::Global;
 use std::mem::drop;
-use std::test::*;
 
 // A stream that gives and takes one byte at a time.
-const BYTE_BY_BYTE: Manner = Manner {
-    first: usize::MAX,
-    most: 1,
-    is_slow: false,
-    failing_read: 0,
-    failing_write: 0,
-};
+const BYTE_BY_BYTE: Manner = Manner { most: 1, ..PLAIN };
 
 // How many steps the two have at most.
 const STEPS: u32 = 10_000;
@@ -61,86 +54,49 @@ const SECOND: &[u8] = b"HTTP/1.1 200 OK\r\n\
     \r\n\
     hello";
 
-// A connection and its stream.
+// A connection, its stream, and what it has to write.
 #[derive(Drop)]
-struct Served<'a> {
+struct Served {
     connection: Connection,
-    device: Recorded<Stream<'a>>,
+    device: Recorded<Stream<'static>>,
+    wanted: &'static [u8],
 }
 
-impl Served<'_> {
-    // Makes one move, and answers whether the connection has ended.
-    fn moves(
-        &mut self,
-        alloc: Global,
-        config: &Config,
-        worker: &mut Worker<Still, BookCounter<MapRecords>, Count>,
-    ) -> bool {
-        let step = self
-            .connection
-            .step(alloc, config, worker, &mut self.device, &mut [0; 16], 1);
-        matches!(step, Step::Ended(_))
-    }
-
-    // Whether it wrote this.
-    fn has_written(&self, wanted: &[u8]) -> bool {
-        self.device.stream().output.as_slice() == wanted
+// Adds a connection that sends this, unless there is no memory for it.
+fn connect(alloc: Global, all: &mut Vec<Served>, number: u64, sent: Sent, wanted: &'static [u8]) {
+    if let Some(device) = Recorded::new(Stream::new(sent.bytes(), Vec::new(alloc), BYTE_BY_BYTE)) {
+        let connection = Connection::new(alloc, number);
+        drop(all.push(Served {
+            connection,
+            device,
+            wanted,
+        }));
     }
 }
 
-// Adds a connection of these bytes.
-fn connect<'a>(alloc: Global, all: &mut Vec<Served<'a>>, number: u64, bytes: &'a [u8]) -> bool {
-    match Recorded::new(Stream::new(bytes, Vec::new(alloc), BYTE_BY_BYTE)) {
-        Some(device) => {
-            let connection = Connection::new(alloc, number);
-            match all.push(Served { connection, device }) {
-                Ok(()) => true,
-                Err(failed) => {
-                    drop(failed);
-                    false
-                }
-            }
-        }
-        None => false,
-    }
-}
-
-// Has each make one move, and answers whether all have ended.
-fn all_move(
-    alloc: Global,
-    config: &Config,
-    worker: &mut Worker<Still, BookCounter<MapRecords>, Count>,
-    all: &mut [Served<'_>],
-) -> bool {
-    let mut have_ended = true;
-    for served in all {
-        if !served.moves(alloc, config, worker) {
-            have_ended = false;
-        }
-    }
-    have_ended
-}
-
-// Has them move in turns until all have ended.
+// Has them move in turns, until long after all have ended.
 fn serve_all(
     alloc: Global,
     config: &Config,
     worker: &mut Worker<Still, BookCounter<MapRecords>, Count>,
-    all: &mut [Served<'_>],
+    all: &mut [Served],
 ) {
     for _ in 0..STEPS {
-        if all_move(alloc, config, worker, all) {
-            return;
+        for served in &mut *all {
+            let (connection, device) = (&mut served.connection, &mut served.device);
+            connection.step(alloc, config, worker, device, &mut [0; 16], 1);
         }
     }
 }
 
-// Whether the two have written what they have to.
-fn have_written(all: &[Served<'_>]) -> bool {
-    match all {
-        [first, second] => first.has_written(FIRST) && second.has_written(SECOND),
-        _ => false,
+// Whether both have written what they have to.
+fn have_written(all: &[Served]) -> bool {
+    for served in all {
+        if served.device.stream().output.as_slice() != served.wanted {
+            return false;
+        }
     }
+    all.len() == 2
 }
 
 // Whether the two are answered so by this worker.
@@ -150,29 +106,22 @@ fn serves_both(
     worker: &mut Worker<Still, BookCounter<MapRecords>, Count>,
 ) -> bool {
     let mut all = Vec::new(alloc);
-    let are_connected = connect(alloc, &mut all, 1, PUT_AND_GET)
-        && connect(alloc, &mut all, 2, CHUNKS_AND_GET);
+    connect(alloc, &mut all, 1, Sent::PutAndGet, FIRST);
+    connect(alloc, &mut all, 2, Sent::ChunksAndGet, SECOND);
     serve_all(alloc, config, worker, &mut all);
-    are_connected && have_written(&all)
+    let have_written = have_written(&all);
+    drop(all);
+    have_written
 }
 
-// The same by a new worker.
-fn are_served(alloc: Global, config: &Config) -> bool {
+/// Whether two connections are answered so by a new worker.
+pub(crate) fn two_take_turns(alloc: Global, config: &Config) -> bool {
     match worker(alloc, config) {
-        Some(mut worker) => serves_both(alloc, config, &mut worker),
+        Some(mut worker) => {
+            let are_served = serves_both(alloc, config, &mut worker);
+            drop(worker);
+            are_served
+        }
         None => false,
     }
-}
-
-// Whether the two are answered so.
-fn are_answered(alloc: Global) -> bool {
-    match config(alloc) {
-        Some(config) => are_served(alloc, &config),
-        None => false,
-    }
-}
-
-#[test]
-fn two_in_turns(rt: HostRuntime) {
-    assert!(rt; are_answered(rt.alloc()));
 }

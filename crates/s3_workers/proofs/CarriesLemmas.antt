@@ -4,7 +4,7 @@ use Rattle.std.proofs.lemmas.List.{map_push, take-append-drop}
 use Rattle.s3_config.specs.Settings.{Settings}
 use Rattle.s3_terms.specs.declared.memory.NoMemory.{NoMemory}
 use Rattle.s3_machine.specs.History.{Entry}
-use Rattle.s3_machine.specs.declared.outcome.Answer.{Answer}
+use Rattle.s3_machine.specs.declared.command.Answer.{Answer}
 use Rattle.s3_machine.specs.declared.turn.Turn.{Turn}
 use Rattle.s3_session.specs.Output.{Past, Standing, Reading, Waiting, Over, Dead, is_dead, is_waiting}
 use Rattle.s3_session.specs.declared.session.Need.{Need}

@@ -7,11 +7,11 @@ use Rattle.std.proofs.lemmas.List.{length-set, length_push, with_items_is}
 use Rattle.std.proofs.lemmas.Option.{slice_get-get_or, slice_get_past}
 use Rattle.s3_config.specs.Settings.{Settings}
 use Rattle.s3_terms.specs.declared.memory.NoMemory.{NoMemory}
+use Rattle.s3_machine.specs.Effects.{is_refused, takes_room}
 use Rattle.s3_machine.specs.History.{Entry}
-use Rattle.s3_machine.specs.declared.outcome.Answer.{Answer}
+use Rattle.s3_machine.specs.declared.command.Answer.{Answer}
 use Rattle.s3_machine.specs.declared.turn.Turn.{Turn}
-use Rattle.s3_machine.specs.Laws.{is_refused}
-use Rattle.s3_store.specs.Steps.{outcome_of, takes_room}
+use Rattle.s3_store.specs.Steps.{outcome_of}
 use Rattle.s3_journal.specs.Book.{Journal}
 use Rattle.s3_session.specs.Output.{Standing, is_dead, is_waiting}
 use Rattle.s3_session.specs.Output as standings

@@ -5,7 +5,7 @@ use Rattle.s3_config.specs.Settings.{Settings}
 use Rattle.s3_records.specs.Catalogue.{opening}
 use Rattle.s3_machine.specs.Step.{State, step}
 use Rattle.s3_machine.specs.History.{IsAnswer, Legal, after}
-use Rattle.s3_machine.specs.declared.outcome.Answer.{Answer}
+use Rattle.s3_machine.specs.declared.command.Answer.{Answer}
 use Rattle.s3_machine.specs.declared.turn.Turn.{Turn}
 use Rattle.s3_journal.specs.Book.{Recorded, entries_of_seat, history_of}
 use Rattle.s3_session.specs.Output.{is_dead}

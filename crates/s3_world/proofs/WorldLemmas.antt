@@ -8,7 +8,7 @@ use Rattle.std.proofs.lemmas.Option.{slice_get_within}
 use Rattle.s3_config.specs.Settings.{Settings}
 use Rattle.s3_terms.specs.declared.memory.NoMemory.{NoMemory}
 use Rattle.s3_machine.specs.History.{Entry}
-use Rattle.s3_machine.specs.declared.outcome.Answer.{Answer}
+use Rattle.s3_machine.specs.declared.command.Answer.{Answer}
 use Rattle.s3_machine.specs.declared.turn.Turn.{Turn}
 use Rattle.s3_journal.specs.Book.{Journal, KeepsHistory, Recorded, entries_of_seat}
 use Rattle.s3_session.specs.Output.{Standing, Reading, Waiting, Over, Dead, is_dead, is_waiting}

@@ -8,11 +8,11 @@ use Rattle.std.specs.List.{slice_get}
 use Rattle.s3_config.specs.Settings.{Settings}
 use Rattle.s3_records.specs.Catalogue.{opening}
 use Rattle.s3_terms.specs.declared.memory.NoMemory.{NoMemory}
+use Rattle.s3_machine.specs.Effects.{is_refused, takes_room}
 use Rattle.s3_machine.specs.History.{Entry}
-use Rattle.s3_machine.specs.declared.outcome.Answer.{Answer}
+use Rattle.s3_machine.specs.declared.command.Answer.{Answer}
 use Rattle.s3_machine.specs.declared.turn.Turn.{Turn}
-use Rattle.s3_machine.specs.Laws.{is_refused}
-use Rattle.s3_store.specs.Steps.{opened, outcome_of, takes_room}
+use Rattle.s3_store.specs.Steps.{opened, outcome_of}
 use Rattle.s3_session.specs.Output.{Standing, Reading, is_dead, is_waiting}
 use Rattle.s3_journal.specs.Book.{Journal, KeepsHistory, entries_of_seat}
 use Rattle.s3_events.specs.declared.event.Event.{Event}

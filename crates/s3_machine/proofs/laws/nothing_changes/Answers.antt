@@ -1,4 +1,4 @@
-use Rattle.s3_machine.proofs.LawLemmas.{refusals_change_nothing, reads_change_nothing}
+use Rattle.s3_machine.proofs.EffectLemmas.{refusals_change_nothing, reads_change_nothing}
 use Rattle.s3_machine.proofs.laws.nothing_changes.Goals as goal
 
 pub returns-clause-refusals : goal.returns-clause-refusals

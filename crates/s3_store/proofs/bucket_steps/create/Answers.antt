@@ -1,5 +1,5 @@
 use Rattle.std.proofs.Common.{◌≡◌, ap, ◌∙◌, Some, None}
-use Rattle.s3_machine.specs.declared.outcome.Outcome.TheVariants as outcomes
+use Rattle.s3_machine.specs.declared.command.Outcome.TheVariants as outcomes
 use Rattle.s3_records.specs.Changes.{bucket_added}
 use Rattle.s3_store.specs.Laws.{with_rows}
 use Rattle.s3_store.specs.Steps.{versioning_at}

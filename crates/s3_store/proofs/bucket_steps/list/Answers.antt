@@ -1,5 +1,5 @@
 use Rattle.std.proofs.Common.{ap}
-use Rattle.s3_machine.specs.declared.outcome.Outcome.TheVariants as outcomes
+use Rattle.s3_machine.specs.declared.command.Outcome.TheVariants as outcomes
 use Rattle.s3_store.proofs.StepLemmas.{list_done}
 use Rattle.s3_store.proofs.bucket_steps.list.Goals as goal
 

@@ -1,7 +1,7 @@
 use Rattle.std.proofs.Common.{◌≡◌, sym, ap, ◌∙◌, true, false, Ok}
+use Rattle.s3_machine.specs.Effects.{is_refused}
 use Rattle.s3_machine.specs.declared.command.KeyCommand.TheVariants as key_commands
-use Rattle.s3_machine.specs.declared.outcome.Outcome.TheVariants as outcomes
-use Rattle.s3_machine.specs.Laws.{is_refused}
+use Rattle.s3_machine.specs.declared.command.Outcome.TheVariants as outcomes
 use Rattle.s3_machine.specs.Step.{key_done, stepped}
 use Rattle.s3_store.specs.Kept.{Kept, state_of}
 use Rattle.s3_store.specs.Steps.{got_of}

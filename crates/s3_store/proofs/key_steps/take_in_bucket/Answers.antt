@@ -1,6 +1,6 @@
 use Rattle.s3_store.specs.Kept.{state_of}
 use Rattle.s3_store.proofs.ResultLemmas.{on_err-if}
-use Rattle.s3_store.proofs.KeyStepLemmas.{put_accepted, delete_accepted}
+use Rattle.s3_store.proofs.KeyStepLemmas.{put_accepted}
 use Rattle.s3_store.proofs.key_steps.take_in_bucket.Goals as goal
 
 pub returns-in-Put-clause-ok : goal.returns-in-Put-clause-ok
@@ -18,7 +18,3 @@ returns-in-Delete-clause-ok g c = rw c.in-Delete.is c.delete.ensures.ok
 pub returns-in-Put-clause-memory : goal.returns-in-Put-clause-memory
 returns-in-Put-clause-memory g c =
     on_err-if c.put.result _ _ (rw c.in-Put.is (put_accepted (state_of c.args.kept.now) c.args.number c.args.moment c.args.bucket.now c.args.key _ _ _))
-
-pub returns-in-Delete-clause-memory : goal.returns-in-Delete-clause-memory
-returns-in-Delete-clause-memory g c =
-    on_err-if c.delete.result _ _ (rw c.in-Delete.is (delete_accepted (state_of c.args.kept.now) c.args.number c.args.moment c.args.bucket.now c.args.key _))

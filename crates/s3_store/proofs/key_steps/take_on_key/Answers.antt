@@ -1,6 +1,6 @@
 use Rattle.std.proofs.Common.{◌≡◌, sym, subst, false, Some, None, Result}
 use Rattle.s3_versions.specs.declared.picking.Refusal.{Refusal}
-use Rattle.s3_machine.specs.Laws.{is_refused}
+use Rattle.s3_machine.specs.Effects.{is_refused}
 use Rattle.s3_machine.specs.Step.{Stepped, key_done, stepped}
 use Rattle.s3_store.specs.Kept.{Kept, IsSound, state_of}
 use Rattle.s3_store.specs.Steps.{Steps, versioning_at}

@@ -1,6 +1,6 @@
 use Rattle.std.proofs.Common.{◌≡◌, subst, false, Result}
 use Rattle.s3_versions.specs.declared.picking.Refusal.{Refusal}
-use Rattle.s3_machine.specs.Laws.{is_refused}
+use Rattle.s3_machine.specs.Effects.{is_refused}
 use Rattle.s3_machine.specs.Step.{Stepped, stepped}
 use Rattle.s3_store.specs.Kept.{state_of}
 use Rattle.s3_store.specs.Steps.{Steps}

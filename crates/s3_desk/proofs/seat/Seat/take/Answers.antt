@@ -1,6 +1,6 @@
 use Rattle.std.proofs.Common.{◌≡◌, ◌++◌, ◌∷◌, [], refl, sym, ap, subst, ◌∙◌}
 use mathlib.Core.List.{IsPrefix}
-use Rattle.s3_machine.specs.declared.outcome.Answer.{Answer}
+use Rattle.s3_machine.specs.declared.command.Answer.{Answer}
 use Rattle.s3_desk.specs.Calls.{entry_of, entry_of_seat}
 use Rattle.s3_desk.specs.Desk.{Seated}
 use Rattle.s3_desk.proofs.PartLemmas.{seat_takes}

@@ -1,6 +1,6 @@
 use Rattle.std.proofs.Common.{◌≡◌, ◌∙◌, ap, refl, subst, sym, Result}
 use Rattle.s3_terms.specs.declared.memory.NoMemory.{NoMemory}
-use Rattle.s3_machine.specs.declared.outcome.Answer.{Answer}
+use Rattle.s3_machine.specs.declared.command.Answer.{Answer}
 use Rattle.s3_outbox.specs.Outbox.{Sending}
 use Rattle.s3_replies.specs.Replies.{Prints}
 use Rattle.s3_session.specs.Session.{Connection, IsLonger, Stands, added, answered, unsent_of}
