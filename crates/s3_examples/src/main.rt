@@ -1,151 +1,60 @@
-//! Runs the examples: the event files of `data/`. Tells of each whether `s3d replay --events` answers it as its file of
-//! answers says, with its bytes in the pieces of the file, byte by byte and, where the file is short, with one cut more, at
-//! each place in turn.
+//! Runs the examples: each file of `data/` that is one. Tells of those that aren't answered as they say, and at the end
+//! whether there are none such.
 //!
-//! `args` has two words for an example: the bucket that is there from the start, and the name of its files, which is NAME
-//! where the events stand in `NAME.events` and what they are answered in `NAME.out`.
+//! An example is data, and adding one touches nothing else. There are two forms. What is answered to the events of
+//! `NAME.events`, by `s3d replay --events`, stands in `NAME.out`: with the bytes in the pieces of the file, byte by byte and,
+//! where the file is short, with one cut more, at each place in turn. In `NAME.scenario` stand the requests of connections,
+//! and what each of these is answered (`scenario.rt`).
 #![tactic(auto)]
 
 mod cut;
+mod events;
+mod request;
+mod scenario;
 
-use cut::{Cut, recut};
-use s3_devices::{Recorded, Streams};
-use s3_settings::Files;
-use s3_tasks::{Ran, run_words};
-use std::alloc::Global;
-use std::io::{self, Write};
+use std::fs;
+use std::io::Write;
 use std::process::ExitCode;
 use std::sync::Wait;
-use std::{env, fs};
 
-// How long a file of events is at most that is cut at each place.
-const SHORT: usize = 4_096;
-
-// The files of the system.
-#[derive(Clone, Copy)]
-struct SystemFiles<'a>(&'a HostRuntime);
-
-impl Files for SystemFiles<'_> {
-    fn read(&self, _alloc: Global, path: &str) -> io::Result<Vec<u8>> {
-        fs::read(self.0, path)
+// Whether the example of this file is answered as it says; `None` where the file is none.
+fn holds<W: Wait>(waits: &W, rt: &HostRuntime, file: &str) -> Option<bool> {
+    match file.strip_suffix(".events") {
+        Some(name) => Some(events::holds(waits, rt, name)),
+        None if file.ends_with(".scenario") => Some(scenario::holds(rt, file)),
+        None => None,
     }
 }
 
-// An example: the bucket that is there from the start, what happens, and what is answered.
-#[derive(Clone, Copy)]
-struct Example<'a> {
-    bucket: &'a str,
-    events: &'a [u8],
-    answers: &'a [u8],
+// Whether the example of this file, which is told where it isn't answered as it says, is so.
+fn tell(rt: &HostRuntime, file: &str, holds: bool) -> bool {
+    let told = holds || write!(rt.stdout(), "{file}: answered otherwise\n").is_ok();
+    holds && told
 }
 
-// The words of this process.
-fn words(rt: &HostRuntime) -> io::Result<Vec<String>> {
-    let words = env::args(rt)?.collect(rt.alloc())?;
-    Ok(words)
-}
-
-// What these events are answered, where the program does its work, which may wait.
-fn answers<W: Wait>(waits: &W, rt: &HostRuntime, bucket: &str, events: &[u8]) -> Option<Vec<u8>> {
-    let alloc = rt.alloc();
-    let words = [
-        "s3d",
-        "replay",
-        "--events",
-        "--keys",
-        "keys",
-        "--min-part",
-        "5",
-        "--bucket",
-        bucket,
-    ];
-    let mut device = Recorded::new(Streams {
-        input: events,
-        output: Vec::new(alloc),
-    })?;
-    match run_words(
-        waits,
-        alloc,
-        &words,
-        &SystemFiles(rt),
-        &mut device,
-        &mut rt.stderr(),
-    ) {
-        Ran::Ended(0) => Some(device.into_stream().output),
-        _ => None,
-    }
-}
-
-// Whether an example is answered as it has to be, its bytes in these cuts.
-fn is_answered<W: Wait>(waits: &W, rt: &HostRuntime, example: Example, cut: Cut) -> bool {
-    let Ok(events) = recut(rt.alloc(), example.events, cut) else {
+// Runs the examples of this folder; whether there are some, and each was answered as it says.
+fn run_all<W: Wait>(waits: &W, rt: &HostRuntime) -> bool {
+    let Ok(folder) = fs::read_dir(rt, ".") else {
         return false;
     };
-    match answers(waits, rt, example.bucket, events.as_slice()) {
-        Some(answers) => answers.as_slice() == example.answers,
-        None => false,
-    }
-}
-
-// Whether an example is answered so in each way: as it stands, byte by byte and, where it is short, with one cut more.
-fn is_answered_each_way<W: Wait>(waits: &W, rt: &HostRuntime, example: Example) -> bool {
-    let len = example.events.len();
-    if !is_answered(waits, rt, example, Cut { first: 0, size: 1 }) {
-        return false;
-    }
-    let places = if len <= SHORT { len / 2 } else { 1 };
-    for first in 0..places {
-        if !is_answered(waits, rt, example, Cut { first, size: len }) {
-            return false;
-        }
-    }
-    true
-}
-
-// The bytes of the file of this name.
-fn file(rt: &HostRuntime, name: &str, ending: &str) -> Option<Vec<u8>> {
-    let path = format!(in rt.alloc(); "{name}{ending}").ok()?;
-    fs::read(rt, path.as_str()).ok()
-}
-
-// Whether the example of this bucket and this name is answered as it has to be, in each way.
-fn holds<W: Wait>(waits: &W, rt: &HostRuntime, bucket: &str, name: &str) -> bool {
-    match (file(rt, name, ".events"), file(rt, name, ".out")) {
-        (Some(events), Some(answers)) => {
-            let example = Example {
-                bucket,
-                events: events.as_slice(),
-                answers: answers.as_slice(),
-            };
-            is_answered_each_way(waits, rt, example)
-        }
-        _ => false,
-    }
-}
-
-// Tells of an example whether it is answered as it has to be; whether it is, and could be told.
-fn tell<W: Wait>(waits: &W, rt: &HostRuntime, bucket: &str, name: &str) -> bool {
-    let is_right = holds(waits, rt, bucket, name);
-    let word = if is_right { "as expected" } else { "otherwise" };
-    write!(rt.stdout(), "{name}: answered {word}\n").is_ok() && is_right
-}
-
-// Runs all examples; whether each was answered as it has to be.
-fn run_all<W: Wait>(waits: &W, rt: &HostRuntime, words: &[String]) -> bool {
-    let mut all = true;
-    for example in words.chunks(2) {
-        let [bucket, name] = example else {
+    let (mut some, mut all) = (false, true);
+    for file in folder {
+        let Ok(file) = file else {
             return false;
         };
-        all = tell(waits, rt, bucket.as_str(), name.as_str()) && all;
+        if let Some(holds) = holds(waits, rt, file.file_name()) {
+            some = true;
+            all = tell(rt, file.file_name(), holds) && all;
+        }
     }
-    all
+    some && all
 }
 
 fn main(rt: HostRuntime) -> ExitCode {
-    match words(&rt) {
-        Ok(words) if run_all(&rt, &rt, words.as_slice().get(1..).unwrap_or(&[])) =>
-            ExitCode::SUCCESS,
-        _ => ExitCode::FAILURE,
+    let all = run_all(&rt, &rt);
+    if all && write!(rt.stdout(), "all are answered as they say\n").is_ok() {
+        ExitCode::SUCCESS
+    } else {
+        ExitCode::FAILURE
     }
 }

@@ -1,16 +1,10 @@
-//! Tests of the program: its command line, its faults, its devices, event lines, and signed requests whose texts
-//! come from outside. They run it over files and devices of their own.
+//! Tests of the program: of its command line and what it does over files and devices, and of the server. There is nothing else
+//! here.
 #![tactic(auto)]
 
 #[cfg(test)]
-mod devices;
+mod checks;
 #[cfg(test)]
-mod events;
+mod program;
 #[cfg(test)]
-mod faults;
-#[cfg(test)]
-mod runs;
-#[cfg(test)]
-mod serving;
-#[cfg(test)]
-mod signing;
+mod server;

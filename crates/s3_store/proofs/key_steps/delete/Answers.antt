@@ -64,15 +64,6 @@ module _ (changes : ChangesKeep) (told : StateIsTold) where
       (is ∙ ap (λ (x : Versioning). outcomes.Deleted (shown_in x id) (is_marker_under id (versions_of k.rows name key))) (versioning_is changes told k name v there)
       ∙ ap (outcomes.Deleted (shown_in (versioning_of (state_of k) name) id)) (sym ((told k name).markers key id)))
 
-pub delete_key-requires : goal.delete_key-requires
-delete_key-requires g c = record {
-  there = (versioning_there c.args.kept.now.rows c.args.bucket.now c.args.versioning c.requires.there).0;
-  newer = c.requires.sound.newer c.args.bucket.now c.args.key;
-}
-
-pub drop_version-requires : goal.drop_version-requires
-drop_version-requires g c = (versioning_there c.args.kept.now.rows c.args.bucket.now c.args.versioning c.requires.there).0
-
 pub returns-in_ok-delete_key-in-None-clause-ok : goal.returns-in_ok-delete_key-in-None-clause-ok
 returns-in_ok-delete_key-in-None-clause-ok g c =
     rw c.in-None.is (delete_done c.rows_keep_state.ensures.changes c.rows_keep_state.ensures.told c.args.kept.now _ c.args.number c.args.moment c.args.bucket.now c.args.key c.args.versioning _

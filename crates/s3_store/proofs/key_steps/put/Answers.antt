@@ -1,12 +1,5 @@
-use Rattle.s3_store.proofs.StepLemmas.{versioning_there}
 use Rattle.s3_store.proofs.KeyStepLemmas.{put_done}
 use Rattle.s3_store.proofs.key_steps.put.Goals as goal
-
-pub put_version-requires : goal.put_version-requires
-put_version-requires g c = record {
-  there = (versioning_there c.args.kept.now.rows c.args.bucket.now c.args.versioning c.requires.there).0;
-  newer = c.requires.sound.newer c.args.bucket.now c.args.key;
-}
 
 pub returns-clause-ok : goal.returns-clause-ok
 returns-clause-ok g c =

@@ -1,8 +1,8 @@
-use Rattle.std.proofs.Common.{◌≡◌, sym, subst, false, Some, None, Result}
+use Rattle.std.proofs.Common.{◌≡◌, subst, false, Some, None, Result}
 use Rattle.s3_versions.specs.declared.picking.Refusal.{Refusal}
 use Rattle.s3_machine.specs.Effects.{is_refused}
 use Rattle.s3_machine.specs.Step.{Stepped, key_done, stepped}
-use Rattle.s3_store.specs.Kept.{Kept, IsSound, state_of}
+use Rattle.s3_store.specs.Kept.{Kept, state_of}
 use Rattle.s3_store.specs.Steps.{Steps, versioning_at}
 use Rattle.s3_store.proofs.ResultLemmas.{if_ok-then, on_err-then}
 use Rattle.s3_store.proofs.KeyStepLemmas.{key_absent_step, key_there, room_told}
@@ -12,14 +12,6 @@ pub returns-in-None-clause-ok : goal.returns-in-None-clause-ok
 returns-in-None-clause-ok g c least =
     let absent : None ≡ versioning_at c.args.kept.now.rows c.args.bucket.now = cc (c.in_ok-versioning.ensures.value, c.in-None.is) in
     key_absent_step c.rows_keep_state.ensures.changes c.rows_keep_state.ensures.told least c.args.kept.now _ c.args.number c.args.moment c.args.bucket.now c.args.key c.args.asked _ c.requires c.versioning.ensures.same absent c.refused.ensures
-
-pub take_in_bucket-requires : goal.take_in_bucket-requires
-take_in_bucket-requires g c =
-    let there : Some c.in-Some.versioning ≡ versioning_at c.args.kept.now.rows c.args.bucket.now = cc (c.in_ok-versioning.ensures.value, c.in-Some.is) in
-    record {
-      sound = subst (λ (k : Kept). IsSound k c.args.number) (sym c.versioning.ensures.same) c.requires;
-      there = subst (λ (k : Kept). Some c.in-Some.versioning ≡ versioning_at k.rows c.args.bucket.now) (sym c.versioning.ensures.same) there;
-    }
 
 pub returns-in-Some-clause-ok : goal.returns-in-Some-clause-ok
 returns-in-Some-clause-ok g c =

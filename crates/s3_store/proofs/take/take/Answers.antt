@@ -29,17 +29,3 @@ returns-in-Bucket-clause-memory g c =
     subst (λ (d : Result Stepped Refusal). is_refused (stepped (state_of c.args.kept.now) d).1 ≡ false)
     (on_bucket c.args.least_part (state_of c.args.kept.now) c.args.number c.args.moment c.in-Bucket.name c.in-Bucket.asked) (accepted in_memory))
     c.take_on_bucket.ensures.memory)
-
-pub returns-in-Key-clause-ok : goal.returns-in-Key-clause-ok
-returns-in-Key-clause-ok g c =
-    rw c.in-Key.is (if_ok-then c.take_on_key.result _ _ (λ outcome steps. steps c.args.least_part) c.take_on_key.ensures.ok)
-
-pub returns-in-Key-clause-memory : goal.returns-in-Key-clause-memory
-returns-in-Key-clause-memory g c =
-    rw c.in-Key.is (on_err-then c.take_on_key.result _ _ (λ accepted in_memory. accepted in_memory c.args.least_part) c.take_on_key.ensures.memory)
-
-pub returns-in-Bucket-clause-room : goal.returns-in-Bucket-clause-room
-returns-in-Bucket-clause-room g c = rw c.in-Bucket.is c.take_on_bucket.ensures.room
-
-pub returns-in-Key-clause-room : goal.returns-in-Key-clause-room
-returns-in-Key-clause-room g c = rw c.in-Key.is c.take_on_key.ensures.room

@@ -1,0 +1,168 @@
+//! A connection with its clock, and the turn that its command waits for.
+ghost use Rattle.std.specs.Prelude.{◌≡◌, is_some};
+ghost use Rattle.s3_session.specs.Output.{is_waiting};
+ghost use Rattle.s3_session.specs.Session.{standing_of};
+
+use crate::sessions::clock::Counting;
+use s3_config::Config;
+use s3_machine::Turn;
+use s3_records::MapRecords;
+use s3_session::{Need, Session};
+use s3_store::Store;
+use s3_terms::NoMemory;
+use std::alloc::Global;
+
+/// What a connection does next.
+#[derive(Clone, Copy, PartialEq, Eq)]
+pub(crate) enum Then {
+    /// It reads a head.
+    Head,
+    /// It reads a body.
+    Body,
+    /// It waits for the answer to a command.
+    Turn,
+    /// Nothing: it is closed.
+    Closed,
+    /// Nothing: its bytes have ended.
+    Ended,
+}
+
+/// A connection with its clock, the turn that its command waits for, and the store where it has its turns.
+#[derive(Drop)]
+pub(crate) struct Line<'a> {
+    alloc: Global,
+    config: &'a Config,
+    clock: Counting,
+    session: Session,
+    waiting: Option<Turn>,
+    has_ended: bool,
+    then: Then,
+    store: &'a mut Store<MapRecords>,
+    ghost waits: { is_waiting (standing_of session) ≡ is_some waiting },
+    ghost ends: { session.is_ended ≡ has_ended },
+}
+
+impl<'a> Line<'a> {
+    /// A connection of which nothing has come, with this clock, over this store.
+    pub(crate) fn new(
+        alloc: Global,
+        config: &'a Config,
+        clock: Counting,
+        store: &'a mut Store<MapRecords>,
+    ) -> Line<'a> {
+        Line {
+            alloc,
+            config,
+            clock,
+            session: Session::new(alloc),
+            waiting: None,
+            has_ended: false,
+            then: Then::Head,
+            store,
+        }
+    }
+
+    /// How often its clock was asked.
+    pub(crate) fn asked(&self) -> usize {
+        self.clock.asked
+    }
+
+    /// Whether the body of a message is open.
+    pub(crate) fn in_body(&self) -> bool {
+        self.session.in_body()
+    }
+
+    /// What comes next, as it was told when it was fed last.
+    pub(crate) fn then(&self) -> Then {
+        self.then
+    }
+
+    /// Feeds a piece: how many of its bytes were taken. Where a command waits, or the bytes have ended, nothing is fed.
+    pub(crate) fn feed(&mut self, piece: &[u8]) -> usize {
+        let (len, then) = self.fed(piece);
+        self.then = then;
+        len
+    }
+
+    // The same, with what comes next.
+    fn fed(&mut self, piece: &[u8]) -> (usize, Then) {
+        if self.waiting.is_some() {
+            return (0, Then::Turn);
+        }
+        if self.has_ended {
+            return (0, Then::Ended);
+        }
+        let (len, need) = self
+            .session
+            .feed(self.alloc, self.config, &mut self.clock, piece);
+        match need {
+            Need::More => (len, self.reading()),
+            Need::Turn(turn) => {
+                self.waiting = Some(turn);
+                (len, Then::Turn)
+            }
+            Need::Close => (len, Then::Closed),
+        }
+    }
+
+    // What is read, where something is.
+    fn reading(&self) -> Then {
+        if self.session.in_body() {
+            Then::Body
+        } else {
+            Then::Head
+        }
+    }
+
+    /// Gives the turn that was asked for, if one was.
+    pub(crate) fn answer(&mut self) {
+        if let Some(turn) = self.waiting.take() {
+            let least = self.config.min_part();
+            let answer = self
+                .store
+                .apply(self.alloc, least, turn.command, turn.moment);
+            self.session.answer(answer);
+        }
+    }
+
+    /// Says of the turn that was asked for, if one was, that memory ran out for it.
+    pub(crate) fn starve(&mut self) {
+        if let Some(turn) = self.waiting.take() {
+            drop(turn);
+            self.session.answer(Err(NoMemory));
+        }
+    }
+
+    /// Says that no more bytes come.
+    pub(crate) fn end(&mut self) {
+        self.session.end();
+        self.has_ended = true;
+    }
+
+    /// Takes all that was written and not taken: whether it is this.
+    pub(crate) fn writes(&mut self, wanted: &[u8]) -> bool {
+        match self.session.all(self.alloc) {
+            Ok(all) => {
+                self.session.sent(all.len());
+                all.as_slice() == wanted
+            }
+            Err(NoMemory) => false,
+        }
+    }
+
+    /// Takes all that was written and not taken, at most so many bytes at a time of what stands together: what is left of
+    /// what has to be written, if it begins so.
+    pub(crate) fn take<'w>(&mut self, most: usize, wanted: &'w [u8]) -> Option<&'w [u8]> {
+        let mut left = wanted;
+        for _ in 0..=wanted.len() {
+            let out = self.session.out();
+            let count = out.len().min(most);
+            if count == 0 {
+                return Some(left);
+            }
+            left = left.strip_prefix(&out[..count])?;
+            self.session.sent(count);
+        }
+        None
+    }
+}

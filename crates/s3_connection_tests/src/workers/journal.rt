@@ -1,0 +1,83 @@
+//! A book with a bucket, and three turns of two seats.
+use crate::workers::asked::turn;
+use crate::workers::served::book;
+use s3_config::Config;
+use s3_journal::{Book, books_keep_promises};
+use s3_machine::Outcome;
+use s3_records::MapRecords;
+use std::alloc::Global;
+use std::mem::drop;
+
+/// The MD5 of `hello`.
+const TAG_OF_HELLO: &[u8] = b"5d41402abc4b2a76b9719d911017c592";
+
+// What came of a command, in a word; none where it isn't what `hello` gives.
+fn word_of(outcome: &Outcome) -> Option<&'static str> {
+    match outcome {
+        Outcome::Put { tag, shown: None } if tag.text().as_slice() == TAG_OF_HELLO => {
+            Some("stored")
+        }
+        Outcome::Got { found } if found.stored.body.as_slice() == b"hello".as_slice() => {
+            Some("hello")
+        }
+        Outcome::Refused {
+            code,
+            is_delete_marker: false,
+        } => Some(code.name()),
+        _ => None,
+    }
+}
+
+/// A turn: its seat, its key, what it stores if it doesn't read, its number, and what comes of it.
+type Row = (
+    u64,
+    &'static [u8],
+    Option<&'static [u8]>,
+    u64,
+    Option<&'static str>,
+);
+
+// One seat stores `hello`, another reads it, and the first finds nothing under another key.
+static TURNS: [Row; 3] = [
+    (0, b"a", Some(b"hello"), 0, Some("stored")),
+    (1, b"a", None, 1, Some("hello")),
+    (0, b"b", None, 2, Some("NoSuchKey")),
+];
+
+// Whether a turn has its number, and what has to come of it does.
+fn is_answered(alloc: Global, book: &mut Book<MapRecords>, row: &Row) -> bool {
+    match turn(alloc, row.1, row.2) {
+        Some(turn) => match book.apply(row.0, turn) {
+            Ok(answer) => {
+                let came = (answer.number, word_of(&answer.outcome));
+                drop(answer);
+                came == (row.3, row.4)
+            }
+            Err(_) => false,
+        },
+        None => false,
+    }
+}
+
+// Whether all are answered so, and there are these entries at the end, which the number of the store's next entry counts too.
+fn are_answered(alloc: Global, book: &mut Book<MapRecords>, entries: u64) -> bool {
+    for row in &TURNS {
+        if !is_answered(alloc, book, row) {
+            return false;
+        }
+    }
+    book.entries() == entries && book.store().number() == entries
+}
+
+/// Whether two seats of a new book are answered as they have to be, with three entries.
+pub(crate) fn two_seats_are_answered(alloc: Global, config: &Config) -> bool {
+    books_keep_promises();
+    match book(alloc, config) {
+        Some(mut book) => {
+            let are_answered = are_answered(alloc, &mut book, 3);
+            drop(book);
+            are_answered
+        }
+        None => false,
+    }
+}

@@ -1,0 +1,91 @@
+//! Seats of a desk that put and get.
+use crate::workers::asked::turn;
+use s3_desk::{Desk, Ground, Seat};
+use s3_machine::Outcome;
+use s3_records::MapRecords;
+use std::alloc::Global;
+use std::mem::drop;
+use std::sync::Wait;
+
+/// How many seats there are.
+pub(crate) const SEATS: u64 = 8;
+
+// How often each puts and gets.
+const ROUNDS: u64 = 100;
+
+// The key of a seat.
+fn key_of(seat: u64) -> [u8; 1] {
+    [b'a'.wrapping_add(seat.to_le_bytes()[0])]
+}
+
+// What a seat puts in a round.
+fn bytes_of(seat: u64, round: u64) -> [u8; 16] {
+    (u128::from(seat) + u128::from(round) * 256).to_le_bytes()
+}
+
+// Whether something was stored where these bytes were put, or they were found.
+fn is_outcome(outcome: &Outcome, put: Option<&[u8]>, bytes: &[u8]) -> bool {
+    match outcome {
+        Outcome::Put { .. } => put.is_some(),
+        Outcome::Got { found } => put.is_none() && found.stored.body.as_slice() == bytes,
+        _ => false,
+    }
+}
+
+// Whether these bytes are stored under the key of a seat, or are found there where nothing is put.
+fn has<J: Ground>(
+    rt: &impl Wait,
+    alloc: Global,
+    desk: &Desk<J, MapRecords>,
+    seat: &mut Seat<J>,
+    whose: u64,
+    put: Option<&[u8]>,
+    bytes: &[u8],
+) -> bool {
+    match turn(alloc, &key_of(whose), put) {
+        Some(turn) => match desk.submit(rt, seat, turn) {
+            Ok(answer) => {
+                let is_wanted = is_outcome(&answer.outcome, put, bytes);
+                drop(answer);
+                is_wanted
+            }
+            Err(_) => false,
+        },
+        None => false,
+    }
+}
+
+/// Whether a seat reads back what it puts under its own key, in each of its rounds.
+pub(crate) fn plays<J: Ground>(
+    rt: &impl Wait,
+    alloc: Global,
+    desk: &Desk<J, MapRecords>,
+    seat: &mut Seat<J>,
+) -> bool {
+    let own = seat.number();
+    for round in 0..ROUNDS {
+        let bytes = bytes_of(own, round);
+        if !has(rt, alloc, desk, seat, own, Some(&bytes), &bytes)
+            || !has(rt, alloc, desk, seat, own, None, &bytes)
+        {
+            return false;
+        }
+    }
+    true
+}
+
+/// Whether a seat finds the last put of all others.
+pub(crate) fn finds_others<J: Ground>(
+    rt: &impl Wait,
+    alloc: Global,
+    desk: &Desk<J, MapRecords>,
+    seat: &mut Seat<J>,
+) -> bool {
+    for other in 1..SEATS {
+        let bytes = bytes_of(other, ROUNDS - 1);
+        if !has(rt, alloc, desk, seat, other, None, &bytes) {
+            return false;
+        }
+    }
+    true
+}

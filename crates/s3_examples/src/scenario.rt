@@ -1,0 +1,78 @@
+//! Scenarios: the requests of connections, each of which has a server of its own with the bucket `pail`, and what it is
+//! answered.
+//!
+//! In a file, a line `==` stands between two connections, and a line `=>` between the requests of one and what it is
+//! answered. A line `--` stands between two requests. A request is a line with its method and its target, its header lines,
+//! and behind an empty line its body; it is signed before it is sent. Each line of the answers ends with CRLF, but for one
+//! that ends with a bar: that is the end of a body, and the bar stands for nothing.
+
+use crate::request::signed;
+use s3_calendar::Stamp;
+use s3_config::Config;
+use s3_replay::replay_one;
+use s3_test_servers::config;
+use std::alloc::Global;
+use std::fs;
+
+// The bytes of the connection.
+fn sent(alloc: Global, region: &[u8], stamp: Stamp, text: &str) -> Option<Vec<u8>> {
+    let mut bytes = Vec::new(alloc);
+    for block in text.split("\n--\n") {
+        let request = signed(alloc, region, stamp, block)?;
+        bytes.extend_from_slice(request.as_slice()).ok()?;
+    }
+    Some(bytes)
+}
+
+// What a server with these settings answers to the requests of a text, all of them at the moment of the stamp; `None` says
+// that a text is no request, that one can't be signed, or that memory ran out.
+fn replies(alloc: Global, config: &Config, stamp: Stamp, text: &str) -> Option<Vec<u8>> {
+    let connection = sent(alloc, config.region(), stamp, text)?;
+    replay_one(alloc, config, connection.as_slice(), stamp.moment()).ok()
+}
+
+// The bytes that a text of answers stands for.
+fn wanted(alloc: Global, text: &str) -> Option<Vec<u8>> {
+    let mut bytes = Vec::new(alloc);
+    for line in text.split('\n') {
+        let (text, end) = match line.strip_suffix('|') {
+            Some(text) => (text, b"".as_slice()),
+            None => (line, b"\r\n".as_slice()),
+        };
+        bytes.extend_from_slice(text.as_bytes()).ok()?;
+        bytes.extend_from_slice(end).ok()?;
+    }
+    Some(bytes)
+}
+
+// Whether the connection of this text is answered as it says; `None` says that it isn't well written, or that memory ran out.
+fn is_answered(alloc: Global, config: &Config, stamp: Stamp, text: &str) -> Option<bool> {
+    let (requests, answers) = text.split_once("\n=>\n")?;
+    let replies = replies(alloc, config, stamp, requests)?;
+    Some(replies == wanted(alloc, answers)?)
+}
+
+// Whether each connection of this text is answered as it says, by servers with these settings.
+fn are_answered(alloc: Global, config: &Config, stamp: Stamp, text: &str) -> bool {
+    let mut all = true;
+    for connection in text.split("\n==\n") {
+        all = is_answered(alloc, config, stamp, connection) == Some(true) && all;
+    }
+    all
+}
+
+// The same, where the text is one and there is memory for the settings.
+fn text_holds(alloc: Global, bytes: &[u8]) -> Option<bool> {
+    let text = str::from_utf8(bytes).ok()?.strip_suffix('\n')?;
+    let stamp = Stamp::read(b"20130524T000000Z")?;
+    let config = config(alloc, b"us-east-1", 5, 67_108_864, &[b"pail"])?;
+    Some(are_answered(alloc, &config, stamp, text))
+}
+
+/// Whether each connection of this file is answered as it says.
+pub(crate) fn holds(rt: &HostRuntime, file: &str) -> bool {
+    match fs::read(rt, file) {
+        Ok(bytes) => text_holds(rt.alloc(), bytes.as_slice()) == Some(true),
+        Err(_) => false,
+    }
+}

@@ -1,0 +1,107 @@
+//! The commands of requests: what becomes of their bodies.
+use crate::checks::check;
+use crate::requests::asked::{Told, is_told, word};
+use crate::requests::operations;
+use md5::{Digest, Md5};
+use s3_http_heads::Head;
+use s3_requests::{Command, Plan, command, route};
+use s3_segments::{Body, Payload};
+use s3_terms::Code;
+use std::alloc::Global;
+
+// The lines of a head behind its first one.
+const LINES: &[u8] = b" HTTP/1.1\r\ncontent-type: text/plain\r\nx-amz-meta-colour: red\r\n\r\n";
+
+// What a request of this method and target asks for.
+fn plan_of(alloc: Global, line: &str) -> Result<Plan, Code> {
+    let text = [line.as_bytes(), LINES].concat(alloc)?;
+    let head = Head::read(alloc, &text)?;
+    let plan = route(alloc, &head);
+    drop(head);
+    plan
+}
+
+// The payload of these bytes.
+fn payload_of(alloc: Global, bytes: &[u8]) -> Result<Payload, Code> {
+    let digest = Md5::digest(bytes);
+    let body = Body::new(Vec::from_slice(alloc, bytes)?);
+    Ok(Payload::new(body, digest.into()))
+}
+
+// The command of a plan and of this body.
+fn planned(alloc: Global, plan: Plan, body: &[u8]) -> Result<Command, Code> {
+    command(alloc, plan, payload_of(alloc, body)?)
+}
+
+/// The command of a request with this method and target, and this body. It says that its body is text, and has one name of
+/// metadata, `colour`, with the value `red`.
+pub(crate) fn command_of(alloc: Global, line: &str, body: &[u8]) -> Result<Command, Code> {
+    planned(alloc, plan_of(alloc, line)?, body)
+}
+
+/// The method and target of a request, and the body behind the first `<`, if there is one.
+pub(crate) fn cut(asked: &str) -> (&str, &str) {
+    asked.split_once('<').unwrap_or((asked, ""))
+}
+
+// What a request asks for with this body.
+fn command_text(alloc: Global, line: &str, body: &[u8]) -> Told {
+    let command = command_of(alloc, line, body)?;
+    let text = operations::command_text(&command);
+    drop(command);
+    word(alloc, text)
+}
+
+// Whether the request asks for that with this body.
+fn is_asked(alloc: Global, line: &str, body: &[u8], wanted: &str) -> bool {
+    is_told(&command_text(alloc, line, body), wanted.as_bytes())
+}
+
+// Requests, and what they ask for. A `^` stands between two rows.
+const ROWS: &str = "\
+    GET /<hello|ListBuckets^\
+    PUT /pail<hello|CreateBucket^\
+    HEAD /pail<hello|HeadBucket^\
+    DELETE /pail<hello|DeleteBucket^\
+    GET /pail?versioning<hello|GetBucketVersioning^\
+    PUT /pail/k<hello|PutObject hello^\
+    PUT /pail/k|PutObject^\
+    PUT /pail/k?versionId=null<hello|PutObject hello^\
+    GET /pail/k<hello|GetObject^\
+    HEAD /pail/k<hello|HeadObject^\
+    DELETE /pail/k<hello|DeleteObject^\
+    GET /pail/k?versionId=null|GetObject of a version^\
+    HEAD /pail/k?versionId=null|HeadObject of a version^\
+    DELETE /pail/k?versionId=null|DeleteObject of a version^\
+    PUT /pail?versioning<{\"Status\":\"Enabled\"}|PutBucketVersioning Enabled^\
+    PUT /pail?versioning< {\"Status\" : \"Suspended\"}\n|PutBucketVersioning Suspended^\
+    PUT /pail?versioning<{\"Status\":\"Enabled\",\"MFADelete\":[],\"Status\":\"Suspended\"}|PutBucketVersioning Suspended^\
+    PUT /pail?versioning|MalformedBody^\
+    PUT /pail?versioning<{}|MalformedBody^\
+    PUT /pail?versioning<\"Enabled\"|MalformedBody^\
+    PUT /pail?versioning<{\"Status\":\"enabled\"}|MalformedBody^\
+    PUT /pail?versioning<{\"Status\":\"Enabled\"|MalformedBody^\
+    PUT /pail?versioning<<Status>Enabled</Status>|MalformedBody";
+
+// Whether a row holds; `None` says that it has no bar.
+fn holds(alloc: Global, row: &str) -> Option<bool> {
+    let (asked, wanted) = row.split_once('|')?;
+    let (line, body) = cut(asked);
+    Some(is_asked(alloc, line, body.as_bytes(), wanted))
+}
+
+// A document that is no text.
+const NO_TEXT: &[u8] = b"{\"Status\":\"Enabled\",\"a\":\"\xff\"}";
+
+// PutBucketVersioning alone reads a document, and PutObject keeps the body; nothing else looks at it.
+#[test]
+fn bodies_of_commands(rt: HostRuntime) {
+    for row in ROWS.split('^') {
+        check(&rt, holds(rt.alloc(), row) == Some(true), row);
+    }
+    check(
+        &rt,
+        is_asked(rt.alloc(), "PUT /pail?versioning", NO_TEXT, "MalformedBody"),
+        "a document that is no text",
+    );
+}

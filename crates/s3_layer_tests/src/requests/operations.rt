@@ -1,0 +1,209 @@
+//! How the operations of S3 are spelled in tests: what is planned, what is asked of a store, and what comes of it. An
+//! operation has its lines here and its rows in tables; no other test names it.
+use crate::requests::asked::{Told, is_same, number, word};
+use s3_machine::{Found, Outcome};
+use s3_names::{Tag, VersionId};
+use s3_requests::{BucketCommand, BucketPlan, Command, KeyCommand, KeyPlan, Plan};
+use s3_segments::{Body, Payload};
+use s3_terms::Code;
+use s3_versions::{Data, Versioning, VersioningStatus};
+use std::alloc::Global;
+
+// The operation on a bucket.
+fn bucket_operation(asked: BucketPlan) -> &'static str {
+    match asked {
+        BucketPlan::Create => "CreateBucket",
+        BucketPlan::Head => "HeadBucket",
+        BucketPlan::Delete => "DeleteBucket",
+        BucketPlan::PutVersioning => "PutBucketVersioning",
+        BucketPlan::GetVersioning => "GetBucketVersioning",
+    }
+}
+
+// The operation on a key, and the version that is asked for.
+fn key_operation(asked: &KeyPlan) -> (&'static str, Option<VersionId>) {
+    match asked {
+        KeyPlan::Put { .. } => ("PutObject", None),
+        KeyPlan::Get { version } => ("GetObject", *version),
+        KeyPlan::Head { version } => ("HeadObject", *version),
+        KeyPlan::Delete { version } => ("DeleteObject", *version),
+    }
+}
+
+/// The operation.
+pub(crate) fn operation(plan: &Plan) -> &'static str {
+    match plan {
+        Plan::ListBuckets => "ListBuckets",
+        Plan::Bucket { asked, .. } => bucket_operation(*asked),
+        Plan::Key { asked, .. } => key_operation(asked).0,
+    }
+}
+
+// An operation on a bucket.
+fn with_bucket(alloc: Global, operation: &[u8], bucket: &[u8]) -> Told {
+    Ok([operation, b" ", bucket].concat(alloc)?)
+}
+
+// An operation on a key in a bucket.
+fn with_key(alloc: Global, operation: &[u8], bucket: &[u8], key: &[u8]) -> Told {
+    Ok([operation, b" ", bucket, b" ", key].concat(alloc)?)
+}
+
+// That text, and the id of the version that is asked for, if one is.
+fn with_version(mut text: Vec<u8>, version: Option<VersionId>) -> Told {
+    if let Some(id) = version {
+        text.extend_from_slice(b" ")?;
+        text.extend_from_slice(id.text().as_bytes())?;
+    }
+    Ok(text)
+}
+
+/// The operation of a plan, its bucket, its key, and the id of the version that is asked for.
+pub(crate) fn plan_text(alloc: Global, plan: &Plan) -> Told {
+    match plan {
+        Plan::ListBuckets => word(alloc, "ListBuckets"),
+        Plan::Bucket { name, asked } => {
+            with_bucket(alloc, bucket_operation(*asked).as_bytes(), name.as_bytes())
+        }
+        Plan::Key { bucket, key, asked } => {
+            let (operation, version) = key_operation(asked);
+            let text = with_key(
+                alloc,
+                operation.as_bytes(),
+                bucket.as_bytes(),
+                key.as_bytes(),
+            )?;
+            with_version(text, version)
+        }
+    }
+}
+
+// What a command does to a bucket.
+fn bucket_text(asked: BucketCommand) -> &'static str {
+    match asked {
+        BucketCommand::Create => "CreateBucket",
+        BucketCommand::Head => "HeadBucket",
+        BucketCommand::Delete => "DeleteBucket",
+        BucketCommand::PutVersioning {
+            status: VersioningStatus::Enabled,
+        } => "PutBucketVersioning Enabled",
+        BucketCommand::PutVersioning {
+            status: VersioningStatus::Suspended,
+        } => "PutBucketVersioning Suspended",
+        BucketCommand::GetVersioning => "GetBucketVersioning",
+    }
+}
+
+// The tag of the bytes `hello`, as md5sum tells it.
+const HELLO_TAG: &[u8] = b"5d41402abc4b2a76b9719d911017c592";
+
+// What is put.
+fn put_text(payload: &Payload) -> &'static str {
+    if is_same(&payload.tag().text(), HELLO_TAG) {
+        "PutObject hello"
+    } else {
+        "PutObject"
+    }
+}
+
+// What a command does to a key.
+fn key_text(asked: &KeyCommand) -> &'static str {
+    match asked {
+        KeyCommand::Put { payload, .. } => put_text(payload),
+        KeyCommand::Get { version: None } => "GetObject",
+        KeyCommand::Get { version: Some(_) } => "GetObject of a version",
+        KeyCommand::Head { version: None } => "HeadObject",
+        KeyCommand::Head { version: Some(_) } => "HeadObject of a version",
+        KeyCommand::Delete { version: None } => "DeleteObject",
+        KeyCommand::Delete { version: Some(_) } => "DeleteObject of a version",
+    }
+}
+
+/// The operation of a command, and what is told of its body or of its version.
+pub(crate) fn command_text(command: &Command) -> &'static str {
+    match command {
+        Command::ListBuckets => "ListBuckets",
+        Command::Bucket { asked, .. } => bucket_text(*asked),
+        Command::Key { asked, .. } => key_text(asked),
+    }
+}
+
+// The word, the id that is shown, or `-` where none is, and what stands behind it.
+fn shown_text(alloc: Global, word: &[u8], shown: Option<VersionId>, behind: &[u8]) -> Told {
+    match shown {
+        Some(id) => Ok([word, id.text().as_bytes(), behind].concat(alloc)?),
+        None => Ok([word, b"-", behind].concat(alloc)?),
+    }
+}
+
+// Whether it has the type and the metadata that every put here brings.
+fn is_described<B>(stored: &Data<B>) -> bool {
+    let entries = stored.metadata.entries();
+    is_same(stored.content_type.as_bytes(), b"text/plain")
+        && entries.len() == 1
+        && is_same(entries[0].name(), b"colour")
+        && is_same(entries[0].value(), b"red")
+}
+
+// The word, the id, the seconds and the tag of a version that was read, and what stands behind them.
+fn found_text<B>(alloc: Global, word: &[u8], found: &Found<B>, behind: &[u8]) -> Told {
+    if !is_described(&found.stored) {
+        return Err(Code::InvalidRequest);
+    }
+    let seconds = number(alloc, found.moment.seconds())?;
+    let tag = found.stored.tag.text();
+    let behind = [b" ".as_slice(), &seconds, b" ", &tag, b" ", behind].concat(alloc)?;
+    shown_text(alloc, word, found.shown, &behind)
+}
+
+fn got_text(alloc: Global, found: &Found<Body>) -> Told {
+    if found.stored.size != found.stored.body.size() {
+        return Err(Code::InvalidRequest);
+    }
+    found_text(alloc, b"got ", found, found.stored.body.as_slice())
+}
+
+fn head_text(alloc: Global, found: &Found<()>) -> Told {
+    let size = number(alloc, found.stored.size)?;
+    found_text(alloc, b"head ", found, &size)
+}
+
+fn stored_text(alloc: Global, tag: &Tag, shown: Option<VersionId>) -> Told {
+    let behind = [b" ".as_slice(), &tag.text()].concat(alloc)?;
+    shown_text(alloc, b"stored ", shown, &behind)
+}
+
+fn marker(is_delete_marker: bool) -> &'static [u8] {
+    if is_delete_marker { b" marker" } else { b"" }
+}
+
+fn name_of(versioning: Versioning) -> &'static str {
+    match versioning {
+        Versioning::Unversioned => "Unversioned",
+        Versioning::Enabled => "Enabled",
+        Versioning::Suspended => "Suspended",
+    }
+}
+
+/// What came of a command.
+pub(crate) fn outcome_text(alloc: Global, outcome: &Outcome) -> Told {
+    match outcome {
+        Outcome::Buckets { buckets } => Ok(Vec::from_slice(alloc, buckets.document())?),
+        Outcome::BucketMade { name } => Ok([b"made ".as_slice(), name.as_bytes()].concat(alloc)?),
+        Outcome::BucketFound => word(alloc, "found"),
+        Outcome::BucketDropped => word(alloc, "dropped"),
+        Outcome::VersioningSet => word(alloc, "set"),
+        Outcome::BucketVersioning { versioning } => word(alloc, name_of(*versioning)),
+        Outcome::Put { tag, shown } => stored_text(alloc, tag, *shown),
+        Outcome::Got { found } => got_text(alloc, found),
+        Outcome::HeadGot { found } => head_text(alloc, found),
+        Outcome::Deleted {
+            shown,
+            is_delete_marker,
+        } => shown_text(alloc, b"deleted ", *shown, marker(*is_delete_marker)),
+        Outcome::Refused {
+            code,
+            is_delete_marker,
+        } => Ok([code.name().as_bytes(), marker(*is_delete_marker)].concat(alloc)?),
+    }
+}

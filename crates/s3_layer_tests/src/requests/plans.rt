@@ -1,0 +1,56 @@
+//! The texts of plans: the operation, the bucket and the key, the version, and what a put says of its object.
+use crate::requests::asked::{Told, word};
+use crate::requests::operations::{operation, plan_text};
+use crate::requests::targets::push_line;
+use s3_http_heads::Head;
+use s3_requests::{KeyPlan, Plan, route};
+use s3_terms::Code;
+use s3_versions::{ContentType, Metadata};
+use std::alloc::Global;
+
+/// What the head asks for.
+pub(crate) fn route_text(alloc: Global, head: &Head) -> Told {
+    let plan = route(alloc, head)?;
+    let text = plan_text(alloc, &plan);
+    drop(plan);
+    text
+}
+
+/// The operation that the head asks for.
+pub(crate) fn operation_text(alloc: Global, head: &Head) -> Told {
+    let plan = route(alloc, head)?;
+    let operation = operation(&plan);
+    drop(plan);
+    word(alloc, operation)
+}
+
+// The media type, and the names of metadata with their values.
+fn object_text(alloc: Global, content_type: &ContentType, metadata: &Metadata) -> Told {
+    let mut text = Vec::from_slice(alloc, content_type.as_bytes())?;
+    for entry in metadata.entries() {
+        push_line(&mut text, entry.name(), entry.value())?;
+    }
+    Ok(text)
+}
+
+// What a put says of the object.
+fn put_text(alloc: Global, plan: &Plan) -> Told {
+    match plan {
+        Plan::Key {
+            asked: KeyPlan::Put {
+                content_type,
+                metadata,
+            },
+            ..
+        } => object_text(alloc, content_type, metadata),
+        _ => Err(Code::InvalidRequest),
+    }
+}
+
+/// What the head, that of a put, says of the object.
+pub(crate) fn description_text(alloc: Global, head: &Head) -> Told {
+    let plan = route(alloc, head)?;
+    let text = put_text(alloc, &plan);
+    drop(plan);
+    text
+}

@@ -1,0 +1,269 @@
+//! Which operation a head asks for, and which refusal it gets where it asks for none.
+use crate::checks::{check, check_none};
+use crate::requests::asked::{Question, Table, first_other, is_so};
+use std::alloc::Global;
+
+// A table of the requests without header lines.
+const ROUTES: Table = Table {
+    question: Question::Route,
+    front: "",
+    rows: "",
+    end: " HTTP/1.1\r\n\r\n",
+};
+
+// Every method on the service, a bucket and a key.
+const METHODS: Table = Table {
+    rows: "\
+        GET /|ListBuckets^\
+        GET /pail|NotImplemented^\
+        GET /pail/k|GetObject pail k^\
+        HEAD /|MethodNotAllowed^\
+        HEAD /pail|HeadBucket pail^\
+        HEAD /pail/k|HeadObject pail k^\
+        PUT /|MethodNotAllowed^\
+        PUT /pail|CreateBucket pail^\
+        PUT /pail/k|PutObject pail k^\
+        POST /|MethodNotAllowed^\
+        POST /pail|NotImplemented^\
+        POST /pail/k|MethodNotAllowed^\
+        DELETE /|MethodNotAllowed^\
+        DELETE /pail|DeleteBucket pail^\
+        DELETE /pail/k|DeleteObject pail k^\
+        OPTIONS /|MethodNotAllowed^\
+        OPTIONS /pail|MethodNotAllowed^\
+        OPTIONS /pail/k|MethodNotAllowed^\
+        get /pail/k|MethodNotAllowed^\
+        DELETE /pail/|DeleteBucket pail",
+    ..ROUTES
+};
+
+// The rows of the table that a parameter tells apart, and parameters that tell nothing.
+const PARAMETERS: Table = Table {
+    rows: "\
+        GET /?list-type=2|ListBuckets^\
+        PUT /pail?versioning|PutBucketVersioning pail^\
+        GET /pail?versioning|GetBucketVersioning pail^\
+        GET /pail?uploads|NotImplemented^\
+        GET /pail?versions|NotImplemented^\
+        GET /pail?list-type=2|NotImplemented^\
+        GET /pail?list-type=1|NotImplemented^\
+        OPTIONS /pail?versioning|MethodNotAllowed^\
+        PUT /pail/k?partNumber=1&uploadId=u0000000000000000|NotImplemented^\
+        PUT /pail/k?partNumber=1|NotImplemented^\
+        PUT /pail/k?uploadId|NotImplemented^\
+        GET /pail/k?uploadId=u0000000000000000|NotImplemented^\
+        GET /pail/k?partNumber=1|NotImplemented^\
+        HEAD /pail/k?partNumber=1|NotImplemented^\
+        HEAD /pail/k?uploadId=u0000000000000000|HeadObject pail k^\
+        DELETE /pail/k?uploadId=u0000000000000000|NotImplemented^\
+        POST /pail/k?uploads|NotImplemented^\
+        POST /pail/k?uploadId=u0000000000000000|NotImplemented^\
+        POST /pail/k?partNumber=1|MethodNotAllowed^\
+        POST /pail/k?versionId=null|MethodNotAllowed^\
+        PUT /pail/k?x-id=PutObject|PutObject pail k^\
+        GET /pail/k?x-id=GetObject|GetObject pail k^\
+        GET /pail/k?&|GetObject pail k^\
+        GET /pail/k?ACL&partnumber=1&uploads&versions&versioning|GetObject pail k^\
+        PUT /pail/k?uploads&versions&versioning&versionId=v|PutObject pail k^\
+        GET /pail/k?a=acl&b=versionId|GetObject pail k^\
+        GET /pail/k?versionId|InvalidArgument^\
+        GET /pail/k?versionId=|InvalidArgument^\
+        GET /pail/k?versionId=v000000000000000A|InvalidArgument^\
+        GET /pail/k?versionId=NULL&versionId=null|InvalidArgument^\
+        GET /pail/k?versionId=null&versionId=NULL|GetObject pail k null^\
+        GET /pail/k?%76ersionId=v00000000000000ff|GetObject pail k v00000000000000ff^\
+        HEAD /pail/k?versionId=vffffffffffffffff|HeadObject pail k vffffffffffffffff^\
+        DELETE /pail/k?versionId=null|DeleteObject pail k null^\
+        HEAD /pail/k?versionId=|InvalidArgument^\
+        DELETE /pail/k?versionId=u00000000000000ff|InvalidArgument^\
+        DELETE /pail/k?versionId|InvalidArgument^\
+        DELETE /pail/k?partNumber=1|DeleteObject pail k^\
+        GET /?versionId=&uploads&versioning|ListBuckets^\
+        PUT /?versioning|MethodNotAllowed^\
+        PUT /pail?versionId=&uploads&list-type=2|CreateBucket pail^\
+        PUT /pail?uploads&versioning=&versionId=|PutBucketVersioning pail^\
+        GET /pail?uploads&versioning&versionId=|GetBucketVersioning pail^\
+        HEAD /pail?versioning&versionId=|HeadBucket pail^\
+        DELETE /pail?versioning&versionId=&uploadId|DeleteBucket pail^\
+        POST /pail?versioning|NotImplemented",
+    ..ROUTES
+};
+
+// Where two things are wrong, the first one refuses.
+const FAULTS: Table = Table {
+    rows: "\
+        GET pail/k?acl|InvalidURI^\
+        PUT /?acl|NotImplemented^\
+        GET /Pail/%ff?acl|NotImplemented^\
+        OPTIONS /pail/k?acl|NotImplemented^\
+        GET /pail/k?versionId=&acl|NotImplemented^\
+        GET /Pail/k|InvalidBucketName^\
+        GET //k|InvalidBucketName^\
+        GET /pail%2Fj/k|InvalidBucketName^\
+        GET /Pail/%ff|InvalidBucketName^\
+        OPTIONS /Pail|InvalidBucketName^\
+        OPTIONS /pail/%ff|InvalidURI^\
+        GET /pail/%ff?versionId=|InvalidURI^\
+        GET /pail/k?uploadId&versionId=|NotImplemented^\
+        GET /pail/k?partNumber=1&versionId=|NotImplemented^\
+        HEAD /pail/k?partNumber=1&versionId=|NotImplemented^\
+        DELETE /pail/k?uploadId&versionId=|NotImplemented^\
+        PUT /pail?versioning&policy|NotImplemented^\
+        GET /?acl|NotImplemented^\
+        DELETE /Pail|InvalidBucketName^\
+        DELETE /pail/%ff?versionId=|InvalidURI",
+    ..ROUTES
+};
+
+// A key has slashes and escapes; a bucket has escapes, and a query may be empty.
+const ESCAPES: Table = Table {
+    rows: "\
+        HEAD /p%61il/?|HeadBucket pail^\
+        GET /pail/a%2Fb/c+%20|GetObject pail a/b/c+ ^\
+        PUT /p%61il/k?|PutObject pail k",
+    ..ROUTES
+};
+
+// The sub-resources that the Amazon S3 API Reference has and this server has not.
+const SUB_RESOURCES: Table = Table {
+    question: Question::Route,
+    front: "GET /pail/k?x-id=GetObject&",
+    rows: "\
+        accelerate=1|NotImplemented^\
+        acl=1|NotImplemented^\
+        analytics=1|NotImplemented^\
+        attributes=1|NotImplemented^\
+        cors=1|NotImplemented^\
+        delete=1|NotImplemented^\
+        encryption=1|NotImplemented^\
+        intelligent-tiering=1|NotImplemented^\
+        inventory=1|NotImplemented^\
+        legal-hold=1|NotImplemented^\
+        lifecycle=1|NotImplemented^\
+        location=1|NotImplemented^\
+        logging=1|NotImplemented^\
+        metrics=1|NotImplemented^\
+        notification=1|NotImplemented^\
+        object-lock=1|NotImplemented^\
+        ownershipControls=1|NotImplemented^\
+        policy=1|NotImplemented^\
+        policyStatus=1|NotImplemented^\
+        publicAccessBlock=1|NotImplemented^\
+        replication=1|NotImplemented^\
+        requestPayment=1|NotImplemented^\
+        restore=1|NotImplemented^\
+        retention=1|NotImplemented^\
+        select=1|NotImplemented^\
+        tagging=1|NotImplemented^\
+        torrent=1|NotImplemented^\
+        website=1|NotImplemented",
+    end: " HTTP/1.1\r\n\r\n",
+};
+
+static OPERATIONS: [Table; 5] = [METHODS, PARAMETERS, FAULTS, ESCAPES, SUB_RESOURCES];
+
+#[test]
+fn the_table_of_operations(rt: HostRuntime) {
+    let other = first_other(rt.alloc(), &OPERATIONS);
+    check_none(&rt, other);
+}
+
+// A key of 1,024 bytes.
+const LONG_KEY: Table = Table {
+    question: Question::Operation,
+    front: "",
+    rows: "GET /pail/{k*1024}|GetObject",
+    end: " HTTP/1.1\r\n\r\n",
+};
+
+// Keys of 1,025 bytes, and what comes before and behind a key that is too long.
+const LONG_KEYS: Table = Table {
+    question: Question::Route,
+    front: "",
+    rows: "\
+        GET /pail/{k*1025}|KeyTooLongError^\
+        GET /pail/{%ff*1025}|InvalidURI^\
+        POST /pail/{k*1025}?versionId=|KeyTooLongError",
+    end: " HTTP/1.1\r\n\r\n",
+};
+
+// Media types and metadata at their limits, and where both are too long.
+const LONG_LINES: Table = Table {
+    question: Question::Route,
+    front: "",
+    rows: "\
+        PUT /pail/k HTTP/1.1\r\ncontent-type: {t*255}|PutObject pail k^\
+        PUT /pail/k HTTP/1.1\r\ncontent-type: {t*256}|InvalidArgument^\
+        PUT /pail/k HTTP/1.1\r\nx-amz-copy-source: /pail/j\r\ncontent-type: {t*256}|NotImplemented^\
+        GET /pail/k HTTP/1.1\r\ncontent-type: {t*256}|GetObject pail k^\
+        PUT /pail/k HTTP/1.1\r\nx-amz-meta-a: {v*2047}|PutObject pail k^\
+        PUT /pail/k HTTP/1.1\r\nx-amz-meta-a: {v*2048}|MetadataTooLarge^\
+        PUT /pail/k HTTP/1.1\r\nx-amz-meta-a: 1\r\nX-Amz-Meta-{n*2046}:|PutObject pail k^\
+        PUT /pail/k HTTP/1.1\r\nx-amz-meta-a: 1\r\nX-Amz-Meta-A: {v*2045}|PutObject pail k^\
+        PUT /pail/k HTTP/1.1\r\nx-amz-meta-a: 1\r\nX-Amz-Meta-A: {v*2046}|MetadataTooLarge^\
+        GET /pail/k HTTP/1.1\r\nx-amz-meta-a: {v*2048}|GetObject pail k^\
+        PUT /pail HTTP/1.1\r\ncontent-type: {t*256}|CreateBucket pail^\
+        HEAD /pail/k HTTP/1.1\r\nx-amz-meta-a: {v*2048}|HeadObject pail k^\
+        PUT /pail/k HTTP/1.1\r\nContent-Type: tttttttttttttttttttttttttttttttttttttttttttttttttttttttttttttttttttttttttttttttttttttttttttttttttttttttttttttttttttttttttttttttttttttttttttttttttttttttttttttttttttttttttttttttttttttttttttttttttttttttttttttttttttttttttttttttttttttttttttttttttttttttttttttttt{\r\nx-amz-meta-a: 0123456789012345678901234567890123456789*52}|InvalidArgument^\
+        PUT /pail/k HTTP/1.1\r\nContent-Type: t{\r\nx-amz-meta-a: 0123456789012345678901234567890123456789*52}|MetadataTooLarge",
+    end: "\r\n\r\n",
+};
+
+static LIMITS: [Table; 3] = [LONG_KEY, LONG_KEYS, LONG_LINES];
+
+#[test]
+fn limits(rt: HostRuntime) {
+    let other = first_other(rt.alloc(), &LIMITS);
+    check_none(&rt, other);
+}
+
+// A copy source is for puts alone.
+const COPIES: Table = Table {
+    question: Question::Route,
+    front: "",
+    rows: "\
+        PUT /pail/k|NotImplemented^\
+        PUT /pail/k?uploadId|NotImplemented^\
+        PUT /pail|CreateBucket pail^\
+        GET /pail/k|GetObject pail k",
+    end: " HTTP/1.1\r\nX-Amz-Copy-Source: /pail/j\r\n\r\n",
+};
+
+const NO_PUT: Table = Table {
+    question: Question::Route,
+    front: "",
+    rows: "GET /pail/k|GetObject pail k",
+    end: " HTTP/1.1\r\nContent-Type: a\r\nx-amz-meta-b: 1\r\n\r\n",
+};
+
+// What puts say of their objects: media types, and names of metadata with their values. These are sorted by name, which is
+// in lower case; the values of one name are joined. A shorter name comes before the one that goes on, and a name may be empty.
+const DESCRIPTIONS: Table = Table {
+    question: Question::Description,
+    front: "PUT /pail/k HTTP/1.1\r\n",
+    rows: "\
+        |binary/octet-stream^\
+        Content-Type:\r\n|^\
+        content-TYPE:  text/plain; charset=utf-8 \r\nContent-Type: b\r\n|text/plain; charset=utf-8^\
+        x-amz-meta-b:1\r\nX-AMZ-META-A: x  y \r\nhost: h\r\nx-amz-meta-b: 2\r\nX-Amz-Meta-B:\r\n|binary/octet-stream\na:x  y\nb:1,2,^\
+        x-amz-meta-ab: 1\r\nx-amz-meta-a: 2\r\nx-amz-meta-: 3\r\nx-amz-meta-a-: 4\r\n|binary/octet-stream\n:3\na:2\na-:4\nab:1",
+    end: "\r\n",
+};
+
+static SAID: [Table; 3] = [COPIES, NO_PUT, DESCRIPTIONS];
+
+// Bytes beyond ASCII stay as they are, and names that only look like it are none.
+const BEYOND_ASCII: &[u8] =
+    b"PUT /pail/k HTTP/1.1\r\nx-amz-met-a: 1\r\nx-amz-meta: 2\r\nxx-amz-meta-a: 3\r\nx-amz-meta-b: \xc3\xa9\xff\r\n\r\n";
+
+fn is_kept(alloc: Global) -> bool {
+    let wanted = b"binary/octet-stream\nb:\xc3\xa9\xff";
+    is_so(alloc, &Question::Description, BEYOND_ASCII, wanted)
+}
+
+#[test]
+fn descriptions(rt: HostRuntime) {
+    let other = first_other(rt.alloc(), &SAID);
+    check_none(&rt, other);
+    check(&rt, is_kept(rt.alloc()), "what is kept of a put");
+}

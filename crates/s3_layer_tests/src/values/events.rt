@@ -1,0 +1,134 @@
+//! Texts of event lines, right and wrong, and the lines of outputs.
+use crate::checks::check;
+use itoa::Buffer;
+use s3_events::{Event, EventsError, Script, print_output, read_events};
+use std::alloc::Global;
+use std::mem::drop;
+
+// Adds some bytes. Where there is no memory for them, the text is not as it has to be, which the tests see.
+fn add(out: &mut Vec<u8>, bytes: &[u8]) {
+    drop(out.extend_from_slice(bytes));
+}
+
+// Adds a number behind some bytes.
+fn add_number(out: &mut Vec<u8>, before: &[u8], number: u64) {
+    add(out, before);
+    add(out, Buffer::new().format(number).as_bytes());
+}
+
+// Adds an event: its letter and connection, and a piece's bytes as they are.
+fn add_event(out: &mut Vec<u8>, event: &Event) {
+    match event {
+        Event::Piece { connection, bytes } => {
+            add_number(out, b" p", u64::from(*connection));
+            add(out, b"=");
+            add(out, bytes.as_slice());
+        }
+        Event::End { connection } => add_number(out, b" e", u64::from(*connection)),
+        Event::Turn { connection } => add_number(out, b" t", u64::from(*connection)),
+    }
+}
+
+// Adds a script: the moments of each connection in brackets, and its events.
+fn add_script(out: &mut Vec<u8>, script: &Script) {
+    for moments in script.moments.as_slice() {
+        add(out, b"[");
+        for moment in moments.as_slice() {
+            add_number(out, b" ", moment.seconds());
+        }
+        add(out, b" ]");
+    }
+    for event in script.events.as_slice() {
+        add_event(out, event);
+    }
+}
+
+// Adds what a text is read as.
+fn add_reading(alloc: Global, out: &mut Vec<u8>, text: &str) {
+    match read_events(alloc, text.as_bytes()) {
+        Ok(script) => add_script(out, &script),
+        Err(EventsError::BadLine(number)) => add_number(out, b"bad ", number as u64),
+        Err(EventsError::OutOfMemory) => add(out, b"out of memory"),
+    }
+}
+
+// Whether a text is read so.
+fn is_read(alloc: Global, text: &str, wanted: &str) -> bool {
+    let mut out = Vec::new(alloc);
+    add_reading(alloc, &mut out, text);
+    out.as_slice() == wanted.as_bytes()
+}
+
+// Texts, each with what it is read as.
+static READINGS: [(&str, &str); 43] = [
+    ("", ""),
+    ("end 0", "[ ] e0"),
+    ("end 0\n", "[ ] e0"),
+    ("end 0\n\n", "bad 2"),
+    ("\n", "bad 1"),
+    ("turn 2\nend 0\n", "[ ][ ][ ] t2 e0"),
+    (
+        "end 000000000063",
+        "[ ][ ][ ][ ][ ][ ][ ][ ][ ][ ][ ][ ][ ][ ][ ][ ][ ][ ][ ][ ][ ][ ][ ][ ][ ][ ][ ][ ][ ][ ][ ][ ][ ][ ][ ][ ][ ][ ][ ][ ][ ][ ][ ][ ][ ][ ][ ][ ][ ][ ][ ][ ][ ][ ][ ][ ][ ][ ][ ][ ][ ][ ][ ][ ] e63",
+    ),
+    ("end 0000000000063", "bad 1"),
+    ("end 64", "bad 1"),
+    ("end -1", "bad 1"),
+    ("end ", "bad 1"),
+    ("end", "bad 1"),
+    ("end 0 ", "bad 1"),
+    ("end 0 0", "bad 1"),
+    ("end  0", "bad 1"),
+    ("\x20end 0", "bad 1"),
+    ("End 0", "bad 1"),
+    ("stop 0", "bad 1"),
+    ("end 0\r\n", "bad 1"),
+    ("turn 0 1", "bad 1"),
+    ("piece 1 6a4B", "[ ][ ] p1=jK"),
+    ("piece 1 6A4b\npiece 1 2e\n", "[ ][ ] p1=jK p1=."),
+    ("piece 1 6a4", "bad 1"),
+    ("piece 1 6g", "bad 1"),
+    ("piece 1 ", "bad 1"),
+    ("piece 1", "bad 1"),
+    ("piece 1 6a 4b", "bad 1"),
+    ("piece 1  6a", "bad 1"),
+    ("moments 1 5 000000000006\nturn 1\n", "[ ][ 5 6 ] t1"),
+    ("moments 0 253402300799", "[ 253402300799 ]"),
+    ("moments 0 253402300800", "bad 1"),
+    ("moments 0 0000000000000", "bad 1"),
+    ("moments 0 1 ", "bad 1"),
+    ("moments 0 1  2", "bad 1"),
+    ("moments 0 1 x", "bad 1"),
+    ("moments 0", "bad 1"),
+    ("moments 0 ", "bad 1"),
+    ("moments 1 1\nmoments 0 2 2\nend 1", "[ 2 2 ][ 1 ] e1"),
+    ("moments 0 1\nturn 0\nmoments 0 2", "bad 3"),
+    ("moments 0 1\nmoments 0 1", "bad 2"),
+    ("piece 0 00\nmoments 0 1", "bad 2"),
+    ("end 0\nmoments 1 1\nmoments 0 1\nend 64", "bad 3"),
+    ("end 0\nend 1\nend 2\nend 64\nend", "bad 4"),
+];
+
+// Connections, each with its output.
+static OUTPUTS: [(u32, &[u8]); 3] = [(0, b""), (1, b"\x00\xfe"), (2, b"jK")];
+
+// Whether they are printed so.
+fn are_printed(alloc: Global, wanted: &[u8]) -> bool {
+    let mut out = Vec::new(alloc);
+    for (connection, output) in &OUTPUTS {
+        drop(print_output(&mut out, *connection, *output));
+    }
+    out.as_slice() == wanted
+}
+
+#[test]
+fn readings_and_outputs(rt: HostRuntime) {
+    for (text, wanted) in &READINGS {
+        check(&rt, is_read(rt.alloc(), *text, *wanted), text);
+    }
+    check(
+        &rt,
+        are_printed(rt.alloc(), b"0 \n1 00fe\n2 6a4b\n"),
+        "printed outputs",
+    );
+}

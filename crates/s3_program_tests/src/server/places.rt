@@ -1,0 +1,81 @@
+//! How many connections may be held, and when workers lack a place.
+use crate::checks::check;
+use s3_server::Tally;
+use std::test::*;
+
+// What a worker does: it takes the place of a connection, gives one back, wants one that another worker may give, or wants none any
+// more; it offers one, or offers none any more.
+#[derive(Clone, Copy)]
+enum Deed {
+    Take,
+    Give,
+    Want,
+    WantNone,
+    Offer,
+    OfferNone,
+}
+
+// What is done in turn where two connections may be held, whether it could be, and whether more workers want a place then than there
+// are free and offered ones.
+const DEEDS: [(Deed, bool, bool); 20] = [
+    (Deed::Take, true, false),
+    (Deed::Take, true, false),
+    (Deed::Take, false, false),
+    (Deed::Want, true, true),
+    (Deed::Want, true, true),
+    (Deed::Give, true, true),
+    (Deed::Give, true, false),
+    (Deed::Take, true, true),
+    (Deed::WantNone, true, false),
+    (Deed::Take, true, true),
+    (Deed::WantNone, true, false),
+    (Deed::Take, false, false),
+    (Deed::Offer, false, false),
+    (Deed::Want, true, true),
+    (Deed::Offer, true, false),
+    (Deed::Offer, false, false),
+    (Deed::Want, true, true),
+    (Deed::OfferNone, true, true),
+    (Deed::WantNone, true, true),
+    (Deed::Offer, true, false),
+];
+
+// Does it, and answers whether it could.
+fn does(tally: &Tally, deed: Deed) -> bool {
+    match deed {
+        Deed::Take => return tally.take_place(),
+        Deed::Give => tally.give_place(),
+        Deed::Want => tally.want_place(),
+        Deed::WantNone => tally.want_no_place(),
+        Deed::Offer => return tally.offer_place(),
+        Deed::OfferNone => tally.offer_no_place(),
+    }
+    true
+}
+
+#[test]
+fn places(rt: HostRuntime) {
+    let tally = Tally::new(None, 2);
+    for (deed, could, lacks) in DEEDS {
+        let is_right = does(&tally, deed) == could && tally.lacks_places() == lacks;
+        check(&rt, is_right, "places");
+    }
+}
+
+// The most connections that come, and the numbers of the next three.
+const NUMBERS: [(Option<u64>, [Option<u64>; 3]); 4] = [
+    (None, [Some(1), Some(2), Some(3)]),
+    (Some(3), [Some(1), Some(2), Some(3)]),
+    (Some(2), [Some(1), Some(2), None]),
+    (Some(1), [Some(1), None, None]),
+];
+
+#[test]
+fn numbers(rt: HostRuntime) {
+    for (most, numbers) in NUMBERS {
+        let tally = Tally::new(most, 1);
+        for number in numbers {
+            check(&rt, tally.count_one() == number, "numbers");
+        }
+    }
+}

@@ -1,8 +1,0 @@
-use Rattle.s3_desk.specs.Desk.{base_of}
-use Rattle.s3_worker_tests.proofs.seats.entries_of_new.Given as goal
-
-abbrev pub ghosts-entries_left-J-Ground : goal.ghosts-entries_left-J-Ground
-ghosts-entries_left-J-Ground g a = record { base = base_of a.book }
-
-abbrev pub ghosts-entries_left-J-Ledger : goal.ghosts-entries_left-J-Ledger
-ghosts-entries_left-J-Ledger g a = record { name = a.start.name; parts = a.start.seats }
