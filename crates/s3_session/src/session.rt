@@ -62,6 +62,14 @@ pub(crate) enum Stage {
     Closed(Closing),
 }
 
+// Goes on at the next stage. What the one before holds is dropped, which costs the proof of a function that names a stage more
+// than all else in it, so that this stands here alone.
+fn go_to(stage: &mut Stage, next: Stage)
+    ensures { stage.new ≡ next }
+{
+    *stage = next;
+}
+
 /// A connection, which is fed with bytes in any pieces and writes the same for every cut, as long as memory does not
 /// run out.
 ///
@@ -272,7 +280,7 @@ impl Session {
     {
         match progress {
             Progress::Open(incoming) => {
-                self.stage = Stage::Body(incoming);
+                go_to(&mut self.stage, Stage::Body(incoming));
                 Need::More
             }
             Progress::Whole(command) => self.ask(context, command),
@@ -298,7 +306,7 @@ impl Session {
         let moment = context.moment;
         match self.outbox.make_room() {
             Ok(()) => {
-                self.stage = Stage::Waiting(context);
+                go_to(&mut self.stage, Stage::Waiting(context));
                 Need::Turn(Turn { command, moment })
             }
             Err(NoMemory) => {
@@ -318,7 +326,7 @@ impl Session {
     {
         let text = refusal(code, moment, head_only);
         self.outbox.end_with(text.as_slice());
-        self.stage = Stage::Closed(Closing::Refused(moment));
+        go_to(&mut self.stage, Stage::Closed(Closing::Refused(moment)));
     }
 
     // Writes what stands for a reply to a message of this moment, for which memory ran out, and ends.
@@ -329,7 +337,7 @@ impl Session {
         ensures end { self.new.is_ended ≡ self.old.is_ended }
     {
         self.outbox.end_with(internal_error_reply());
-        self.stage = Stage::Closed(Closing::Died(moment));
+        go_to(&mut self.stage, Stage::Closed(Closing::Died(moment)));
     }
 
     /// Answers the turn that was asked for: the reply is written, or, where memory ran out at the turn, what stands
@@ -361,10 +369,10 @@ impl Session {
         ensures end { self.new.is_ended ≡ self.old.is_ended }
     {
         if closes {
-            self.stage = Stage::Closed(Closing::Replied);
+            go_to(&mut self.stage, Stage::Closed(Closing::Replied));
         } else {
             self.search.clear();
-            self.stage = Stage::Reading;
+            go_to(&mut self.stage, Stage::Reading);
         }
     }
 
