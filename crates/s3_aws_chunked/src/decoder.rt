@@ -6,7 +6,7 @@ ghost use Rattle.s3_signing.specs.Chain.{Link};
 use crate::phase::{Event, Phase, read};
 use crate::place::Place;
 use crate::span::Span;
-use s3_segments::Sink;
+use s3_bodies::Sink;
 use s3_signing::ChunkChain;
 use s3_terms::NoMemory;
 use sha2::{Digest, Sha256};

@@ -15,5 +15,5 @@ mod write;
 pub use finality::{open_bodies_are_short, refusals_stand, verdicts_are_final};
 pub use laws::{readers_judge, writings_are_accepted};
 pub use reader::ChunkReader;
-pub use s3_segments::Sink;
+pub use s3_bodies::Sink;
 pub use write::{CHUNK_MAX, write_chunks, written_length};

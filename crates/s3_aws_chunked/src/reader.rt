@@ -6,7 +6,7 @@ ghost use Rattle.s3_aws_chunked.specs.Verdict.{Judges, Terms, accepts};
 
 use crate::decoder::Decoder;
 use crate::phase::{Fault, Phase};
-use s3_segments::Sink;
+use s3_bodies::Sink;
 use s3_signing::{ChunkChain, Verified};
 use s3_terms::Code;
 

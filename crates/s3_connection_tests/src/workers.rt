@@ -9,6 +9,7 @@ mod calls;
 mod connections;
 mod gate_overlap;
 mod journal;
+mod old_bytes;
 mod places;
 mod play;
 mod seats;

@@ -5,8 +5,9 @@ ghost use Rattle.std.specs.Prelude.{◌≡◌};
 use mio::net::TcpStream;
 use mio::unix::SourceFd;
 use mio::{Interest, Registry, Token};
+use s3_devices::WriteParts;
 use std::cell::Cell;
-use std::io::{self, ErrorKind, Read, Write};
+use std::io::{self, ErrorKind, IoSlice, Read, Write};
 use std::net::Shutdown;
 use std::os::fd::AsRawFd;
 
@@ -102,6 +103,14 @@ impl Socket {
         Left::More
     }
 
+    // Notes what came of a write.
+    fn note_write(&self, went: &io::Result<usize>) {
+        match went {
+            Ok(_) => self.has_written.set(true),
+            Err(e) => self.note_error(e),
+        }
+    }
+
     // Notes that a read or a write was interrupted, if it was.
     fn note_error(&self, error: &io::Error) {
         if error.kind() == ErrorKind::Interrupted {
@@ -125,15 +134,21 @@ impl Read for Socket {
 impl Write for Socket {
     fn write(&mut self, buf: &[u8]) -> io::Result<usize> {
         let went = self.stream.write(buf);
-        match &went {
-            Ok(_) => self.has_written.set(true),
-            Err(e) => self.note_error(e),
-        }
+        self.note_write(&went);
         went
     }
 
     fn flush(&mut self) -> io::Result<()> {
         Ok(())
+    }
+}
+
+/// All parts go out in one call, as far as the system takes them.
+impl WriteParts for Socket {
+    fn write_parts(&mut self, parts: &[IoSlice<'_>]) -> io::Result<usize> {
+        let went = self.stream.write_vectored(parts);
+        self.note_write(&went);
+        went
     }
 }
 

@@ -1,7 +1,10 @@
 //! The other end of a connection, as a worker sees it.
 
 ghost use Rattle.std.specs.Prelude.{◌≡◌, ◌≢◌, ◌<◌, [], length};
+ghost use Rattle.std.specs.Io.Slices.{io_slices_bytes};
 ghost use Rattle.s3_devices.specs.Device.{Reads, Traffic, Writes};
+
+use std::io::IoSlice;
 
 /// What came of a read.
 #[derive(Clone, Copy, Debug)]
@@ -48,10 +51,10 @@ pub trait Device {
         requires room { 0 < length buffer.old }
         ensures reads { Reads result (traffic self.old) (traffic self.new) buffer.new };
 
-    /// Writes some of these bytes, those in front.
-    fn write(&mut self, bytes: &[u8]) -> Writing
-        requires some { bytes.now ≢ [] }
-        ensures writes { Writes result (traffic self.old) (traffic self.new) bytes.now };
+    /// Writes some of the bytes of these parts, which stand one behind another: those in front.
+    fn write(&mut self, parts: &[IoSlice<'_>]) -> Writing
+        requires some { io_slices_bytes parts.now ≢ [] }
+        ensures writes { Writes result (traffic self.old) (traffic self.new) (io_slices_bytes parts.now) };
 
     /// Waits for this. A device that never answers `Later` needs none; one that does, and is served by `serve`, has to wait
     /// here, or its worker asks it again and again.

@@ -1,9 +1,12 @@
 //! What a device did, as its history tells it.
 
+ghost use Rattle.std.specs.Prelude.{take};
+ghost use Rattle.std.specs.Io.Slices.{io_slices_bytes};
 ghost use Rattle.s3_devices.specs.declared.events.DeviceEvent.TheVariants as events;
 
 use s3_history::Describes;
 use std::collections::LinkedList;
+use std::io::IoSlice;
 
 /// What a device did. No value of it is made: a history consists of them, which stands in the proofs alone.
 pub enum DeviceEvent {
@@ -23,10 +26,17 @@ pub enum DeviceEvent {
     WriteLater,
 }
 
-// Some bytes that came or went.
+// Some bytes that came.
 #[derive(Clone, Copy)]
 pub(crate) struct Piece<'a> {
     pub(crate) bytes: &'a [u8],
+}
+
+// Some of the bytes in front of these parts.
+#[derive(Clone, Copy)]
+pub(crate) struct Front<'a> {
+    pub(crate) parts: &'a [IoSlice<'a>],
+    pub(crate) count: usize,
 }
 
 // These bytes came.
@@ -39,8 +49,8 @@ impl<'a> Describes<Piece<'a>, DeviceEvent> for AsGiven {
 // These bytes went.
 pub(crate) struct AsTaken;
 
-impl<'a> Describes<Piece<'a>, DeviceEvent> for AsTaken {
-    ghost entry = { λ piece. events.Took piece.bytes.now };
+impl<'a> Describes<Front<'a>, DeviceEvent> for AsTaken {
+    ghost entry = { λ front. events.Took (take front.count (io_slices_bytes front.parts.now)) };
 }
 
 // The end came.

@@ -5,10 +5,12 @@
 
 mod device;
 mod events;
+mod parts;
 mod recorded;
 mod streams;
 
 pub use device::{Device, Reading, Wanted, Writing};
 pub use events::DeviceEvent;
+pub use parts::WriteParts;
 pub use recorded::Recorded;
 pub use streams::Streams;

@@ -6,10 +6,11 @@ ghost use Rattle.s3_devices.specs.Recorded.{no_traffic};
 use crate::device::{Device, Reading, Writing};
 use crate::events::{
     AsEnd, AsFailedRead, AsFailedWrite, AsGiven, AsLateRead, AsLateWrite, AsTaken, DeviceEvent,
-    Piece,
+    Front, Piece,
 };
+use crate::parts::WriteParts;
 use s3_history::Recorder;
-use std::io::{ErrorKind, Read, Write};
+use std::io::{ErrorKind, IoSlice, Read};
 use std::marker::Model;
 
 /// A device over a stream that is a reader and a writer. What it gave and took is told by a history that stands in the proofs
@@ -58,7 +59,7 @@ impl<S> Recorded<S> {
     }
 }
 
-impl<S: Read + Write> Device for Recorded<S> {
+impl<S: Read + WriteParts> Device for Recorded<S> {
     ghost traffic = { λ device. device };
 
     fn read(&mut self, buffer: &mut [u8]) -> Reading {
@@ -87,17 +88,15 @@ impl<S: Read + Write> Device for Recorded<S> {
         }
     }
 
-    fn write(&mut self, bytes: &[u8]) -> Writing {
-        match self.stream.write(bytes) {
+    fn write(&mut self, parts: &[IoSlice<'_>]) -> Writing {
+        match self.stream.write_parts(parts) {
             Ok(0) => {
                 self.recorder.record::<(), AsFailedWrite>(&());
                 Writing::Failed
             }
             Ok(count) => {
-                let piece = Piece {
-                    bytes: &bytes[..count],
-                };
-                self.recorder.record::<Piece<'_>, AsTaken>(&piece);
+                let front = Front { parts, count };
+                self.recorder.record::<Front<'_>, AsTaken>(&front);
                 Writing::Took(count)
             }
             Err(e) => match e.kind() {

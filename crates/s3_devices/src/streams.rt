@@ -2,6 +2,7 @@
 
 ghost use Rattle.std.specs.Prelude.{◌≡◌};
 
+use crate::parts::WriteParts;
 use std::io::{self, ErrorKind, Read, Write};
 
 /// An input and an output as one stream, such as the standard ones of a program: reads are of the one, and writes to the
@@ -38,3 +39,5 @@ impl<R, W: Write> Write for Streams<R, W> {
         self.output.flush()
     }
 }
+
+impl<R, W: Write> WriteParts for Streams<R, W> {}

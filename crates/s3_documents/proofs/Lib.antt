@@ -1,4 +1,6 @@
+pub mod CalendarLemmas
 pub mod DateLemmas
-pub mod RowLemmas
-pub mod TextLemmas
 pub mod LawLemmas
+pub mod PrinterLemmas
+pub mod TextLemmas
+pub mod TokenLemmas

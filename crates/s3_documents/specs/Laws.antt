@@ -1,13 +1,21 @@
 -- What is known of all documents.
-use Rattle.std.specs.Prelude.{◌≡◌, ℕ, List}
+use Rattle.std.specs.Prelude.{◌≡◌, IsTrue, ℕ, ◌≤◌, List}
+use Rattle.s3_calendar.specs.Moment.{is_stamp, last_moment, stamp_seconds}
 use Rattle.s3_records.specs.declared.records.ListedBucket.{ListedBucket}
+use Rattle.serde_json.specs.Written.{compact_text}
 use Rattle.s3_documents.specs.Buckets.{IsBucketsText}
-use Rattle.s3_documents.specs.Timestamp.{IsTimestamp}
+use Rattle.s3_documents.specs.Json.{tree_data}
+use Rattle.s3_documents.specs.Timestamp.{spelled_out, timestamp}
+use Rattle.s3_documents.specs.Tree.{Tree, tree_text}
 
--- documents write a moment in one way
-abbrev pub OneTimestampForEachMoment : Type 0
-OneTimestampForEachMoment =
-    (moment : ℕ) (first second : List ℕ) → IsTimestamp moment first → IsTimestamp moment second → first ≡ second
+-- the text of a tree is what `serde_json` prints of it, compact
+abbrev pub TreesAreJson : Type 0
+TreesAreJson = (tree : Tree) → compact_text (tree_data tree) ≡ tree_text tree
+
+-- a moment is written as the stamp that names it, spelled out
+abbrev pub TimestampsSpellStamps : Type 0
+TimestampsSpellStamps =
+    (stamp : List ℕ) → IsTrue (is_stamp stamp) → stamp_seconds stamp ≤ last_moment → timestamp (stamp_seconds stamp) ≡ spelled_out stamp
 
 -- buckets have one document
 abbrev pub OneTextForBuckets : Type 0

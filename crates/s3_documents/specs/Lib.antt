@@ -1,4 +1,7 @@
 pub mod Buckets
+pub mod Json
 pub mod Laws
+pub mod Printed
 pub mod Timestamp
+pub mod Tree
 pub mod Versioning

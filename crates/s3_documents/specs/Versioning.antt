@@ -1,8 +1,8 @@
 -- The versioning of a bucket, as JSON documents tell it (Amazon S3 API Reference, GetBucketVersioning and
 -- PutBucketVersioning, whose documents are XML there).
-use Rattle.std.specs.Prelude.{ℕ, List, codes, if◌then◌else◌, Option, Some, None, ok_or, option_and_then, Result}
+use Rattle.std.specs.Prelude.{ℕ, List, [], ◌∷◌, codes, if◌then◌else◌, Option, Some, None, ok_or, option_and_then, Result}
 use Rattle.std.specs.Str.{is_utf8, bytes_eq}
-use Rattle.serde_json.specs.Data.{Data, string, object, member, no_members}
+use Rattle.serde_json.specs.Data.{Data}
 use Rattle.serde_json.specs.Find.{get, as_str}
 use Rattle.serde_json.specs.Read.{read}
 use Rattle.s3_terms.specs.Fault.{◌>>=◌}
@@ -12,6 +12,7 @@ use Rattle.s3_versions.specs.declared.version.Versioning.{Versioning}
 use Rattle.s3_versions.specs.declared.version.Versioning.TheVariants.{Unversioned, Enabled, Suspended}
 use Rattle.s3_versions.specs.declared.version.VersioningStatus.{VersioningStatus}
 use Rattle.s3_versions.specs.declared.version.VersioningStatus.TheVariants as status
+use Rattle.s3_documents.specs.Tree.{text, leaf, Tree, tree_text}
 
 -- the JSON that a body is, if it is UTF-8 and JSON
 abbrev pub json_of : List ℕ → Option Data
@@ -34,14 +35,11 @@ versioning_read body = do
   value ← ok_or (json_of body) MalformedBody
   ok_or (status_in value) MalformedBody
 
--- the document of a GetBucketVersioning: no status where none was ever set
-abbrev pub versioning_text : Versioning → List ℕ
-versioning_text Unversioned = codes "{}"
-versioning_text Enabled = codes "{\"Status\":\"Enabled\"}"
-versioning_text Suspended = codes "{\"Status\":\"Suspended\"}"
+-- what the document of a GetBucketVersioning tells: no status where none was ever set
+abbrev pub versioning_tree : Versioning → Tree
+versioning_tree Unversioned = []
+versioning_tree Enabled = (codes "Status", leaf (text (codes "Enabled"))) ∷ []
+versioning_tree Suspended = (codes "Status", leaf (text (codes "Suspended"))) ∷ []
 
--- the same as a value, which has that text
-abbrev pub versioning_data : Versioning → Data
-versioning_data Unversioned = object no_members
-versioning_data Enabled = object (member (codes "Status") (string (codes "Enabled")) no_members)
-versioning_data Suspended = object (member (codes "Status") (string (codes "Suspended")) no_members)
+abbrev pub versioning_text : Versioning → List ℕ
+versioning_text versioning = tree_text (versioning_tree versioning)

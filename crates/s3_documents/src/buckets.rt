@@ -1,61 +1,56 @@
 //! The list of buckets, as a document.
-ghost use Rattle.std.specs.Prelude.{◌≡◌, IsAscii, IfOk, map};
-ghost use Rattle.serde_json.specs.View.{view};
-ghost use Rattle.s3_documents.specs.Buckets.{IsRow, AreRows, IsBucketsText, row_data, list_data};
+ghost use Rattle.std.specs.Prelude.{◌≡◌, IfOk};
+ghost use Rattle.s3_documents.specs.Buckets.{bucket_row, IsBucketsText};
+ghost use Rattle.s3_documents.specs.Printed.{fields_of};
 
-use crate::timestamp::timestamp;
+use crate::printer::{Field, Leaf, Printer, Row, text_of};
 use s3_records::ListedBucket;
 use s3_terms::NoMemory;
-use serde_json::{Value, json};
 use std::alloc::{AllocError, Global};
-use std::str;
+
+/// No row is longer, with its comma: a name has at most 63 bytes.
+const ROW_MAX: usize = 128;
+
+/// What stands round the rows is no longer.
+const FRAME_MAX: usize = 16;
 
 /// The document of a ListBuckets, as a text: the rows in their order.
 pub fn buckets_document(alloc: Global, rows: &[ListedBucket]) -> Result<Vec<u8>, NoMemory>
     ensures { IfOk result (λ text. IsBucketsText rows.now text.items) }
 {
-    let list = row_values(alloc, rows)?;
-    let value = list_value(alloc, list)?;
-    Ok(value.to_vec(alloc)?)
+    let room = rows.len().saturating_mul(ROW_MAX).saturating_add(FRAME_MAX);
+    let mut printer = Printer::new(alloc, room)?;
+    printer.rows("Buckets", rows)?;
+    Ok(printer.finish()?)
 }
 
-// The list of these rows.
-fn list_value(alloc: Global, rows: Vec<Value>) -> Result<Value, AllocError>
-    ensures { IfOk result (λ value. view value ≡ list_data (map view rows.items)) }
-{
-    let list = Value::Array(rows);
-    json!(in alloc; {"Buckets": list})
-}
+impl Row for ListedBucket {
+    ghost told = { bucket_row };
 
-fn row_values(alloc: Global, rows: &[ListedBucket]) -> Result<Vec<Value>, AllocError>
-    ensures { IfOk result (λ values. AreRows rows.now (map view values.items)) }
-{
-    let mut values = Vec::new(alloc);
-    for row in rows {
-        let value = row_value(alloc, row)?;
-        values.push(value)?;
+    fn print(&self, printer: &mut Printer) -> Result<(), AllocError> {
+        printer.row(&row_of(self))?;
+        Ok(())
     }
-    Ok(values)
 }
 
-fn row_value(alloc: Global, row: &ListedBucket) -> Result<Value, AllocError>
-    ensures { IfOk result (λ value. IsRow row.now (view value)) }
+fn row_of(bucket: &ListedBucket) -> [Field<'_>; 2]
+    ensures { fields_of result ≡ bucket_row bucket.now }
 {
-    let date = timestamp(row.made);
-    row_of(alloc, &date, row.name.as_bytes())
+    [
+        Field {
+            name: "CreationDate",
+            value: Leaf::Moment(bucket.made),
+        },
+        Field {
+            name: "Name",
+            value: Leaf::Text(name_of(bucket)),
+        },
+    ]
 }
 
-// A row with these texts.
-fn row_of(alloc: Global, date: &[u8], name: &[u8]) -> Result<Value, AllocError>
-    requires date { IsAscii date.now }
-    requires name { IsAscii name.now }
-    ensures { IfOk result (λ value. view value ≡ row_data date.now name.now) }
+#[tactic(auto, using(crate::proofs::PrinterLemmas::names))]
+fn name_of(bucket: &ListedBucket) -> &str
+    ensures { result.now ≡ bucket.now.name }
 {
-    let Ok(date) = str::from_utf8(date) else {
-        unreachable!()
-    };
-    let Ok(name) = str::from_utf8(name) else {
-        unreachable!()
-    };
-    json!(in alloc; {"CreationDate": date, "Name": name})
+    text_of(bucket.name.as_bytes())
 }

@@ -1,11 +1,13 @@
 //! What is known of all documents: laws, with nothing to run.
-ghost use Rattle.s3_documents.specs.Laws.{OneTimestampForEachMoment, OneTextForBuckets};
+ghost use Rattle.s3_documents.specs.Laws.{TreesAreJson, TimestampsSpellStamps, OneTextForBuckets};
 
 use s3_calendar::stamps_of_a_moment;
 
-/// A law: documents write a moment in one way, and buckets have one document.
+/// A law: a document is what `serde_json` prints of its tree, a moment in it is the stamp that names it, spelled out,
+/// and buckets have one document.
 pub fn documents_are_one()
-    ensures timestamps { OneTimestampForEachMoment }
+    ensures json { TreesAreJson }
+    ensures timestamps { TimestampsSpellStamps }
     ensures buckets { OneTextForBuckets }
 {
     stamps_of_a_moment();

@@ -1,12 +1,14 @@
-//! The documents of requests and replies, as JSON: what is read from the body of a request, and the exact text of
-//! a reply's body, which `serde_json` prints, compact and with its members in the order of their bytes.
+//! The documents of requests and replies, as JSON: what is read from the body of a request, and what the body of a
+//! reply tells, a tree, with its one text, which is printed without a tree of values.
 #![tactic(auto)]
 
 mod buckets;
 mod laws;
+mod printer;
 mod timestamp;
 mod versioning;
 
 pub use buckets::buckets_document;
 pub use laws::documents_are_one;
+pub use printer::{Field, Leaf, Printer, Row, text_of};
 pub use versioning::{read_versioning, versioning_document};

@@ -1,14 +1,16 @@
 //! Moments, as documents write them.
-ghost use Rattle.std.specs.Prelude.{◌≡◌, IsAscii, length};
-ghost use Rattle.s3_documents.specs.Timestamp.{IsTimestamp, spelled_out};
+ghost use Rattle.std.specs.Prelude.{◌≡◌, IsUtf8, length};
+ghost use Rattle.s3_documents.specs.Timestamp.{timestamp, spelled_out};
 
-use s3_calendar::{Moment, Stamp};
+use s3_calendar::{Moment, Stamp, stamps_of_a_moment};
 
 /// The moment as documents write it, as `2013-05-24T00:00:00.000Z`.
 pub(crate) fn timestamp(moment: Moment) -> [u8; 24]
-    ensures value { IsTimestamp moment result }
-    ensures ascii { IsAscii result }
+    ensures value { result ≡ timestamp moment }
+    ensures utf8 { IsUtf8 result }
 {
+    let _bound = moment.seconds();
+    stamps_of_a_moment();
     let stamp = Stamp::at(moment);
     spelled(stamp.text())
 }

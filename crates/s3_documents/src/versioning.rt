@@ -2,13 +2,19 @@
 ghost use Rattle.std.specs.Prelude.{◌≡◌, ◌<◌, ◌⊎◌, length, Some, None, IfOk, IfErr};
 ghost use Rattle.serde_json.specs.View.{view};
 ghost use Rattle.s3_terms.specs.Fault.{Follows};
-ghost use Rattle.s3_documents.specs.Versioning.{json_of, status_in, status_named, versioning_read, versioning_data, versioning_text};
+ghost use Rattle.s3_documents.specs.Printed.{fields_of};
+ghost use Rattle.s3_documents.specs.Tree.{leaves};
+ghost use Rattle.s3_documents.specs.Versioning.{json_of, status_in, status_named, versioning_read, versioning_tree, versioning_text};
 
+use crate::printer::{Field, Leaf, Printer};
 use s3_terms::{Code, NoMemory};
 use s3_versions::{Versioning, VersioningStatus};
-use serde_json::{Value, json};
-use std::alloc::{AllocError, Global};
+use serde_json::Value;
+use std::alloc::Global;
 use std::str;
+
+/// No document that tells of a versioning is longer.
+const DOCUMENT_MAX: usize = 32;
 
 /// The status that the body of a PutBucketVersioning asks for: its member `Status`, the last one where there are
 /// several; other members are ignored. `MalformedBody` where it is no JSON, or asks for neither status.
@@ -28,17 +34,29 @@ pub fn read_versioning(alloc: Global, body: &[u8]) -> Result<VersioningStatus, C
 pub fn versioning_document(alloc: Global, versioning: Versioning) -> Result<Vec<u8>, NoMemory>
     ensures { IfOk result (λ text. text.items ≡ versioning_text versioning) }
 {
-    let value = versioning_value(alloc, versioning)?;
-    Ok(value.to_vec(alloc)?)
+    let mut printer = Printer::new(alloc, DOCUMENT_MAX)?;
+    printer.fields(&told(versioning))?;
+    Ok(printer.finish()?)
 }
 
-fn versioning_value(alloc: Global, versioning: Versioning) -> Result<Value, AllocError>
-    ensures { IfOk result (λ value. view value ≡ versioning_data versioning) }
+// What the document of a versioning tells.
+fn told(versioning: Versioning) -> [Field<'static>; 1]
+    ensures { leaves (fields_of result) ≡ versioning_tree versioning }
 {
+    let name = "Status";
     match versioning {
-        Versioning::Unversioned => json!(in alloc; {}),
-        Versioning::Enabled => json!(in alloc; {"Status": "Enabled"}),
-        Versioning::Suspended => json!(in alloc; {"Status": "Suspended"}),
+        Versioning::Unversioned => [Field {
+            name,
+            value: Leaf::Absent,
+        }],
+        Versioning::Enabled => [Field {
+            name,
+            value: Leaf::Text("Enabled"),
+        }],
+        Versioning::Suspended => [Field {
+            name,
+            value: Leaf::Text("Suspended"),
+        }],
     }
 }
 

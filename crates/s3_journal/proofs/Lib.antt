@@ -1,3 +1,2 @@
 pub mod PrefixLemmas
 pub mod RunLemmas
-pub mod SplitLemmas

@@ -1,25 +1,31 @@
 //! What is known of every book: laws, with nothing to run.
-ghost use Rattle.s3_journal.specs.Laws.{BooksKeepPuts, BooksKeepVersions, BooksTagBodies, BooksGiveOnlyPuts, BooksGiveOrRefuse, BooksHideMarked, BooksStay};
+ghost use Rattle.s3_machine.specs.Kept.{StoredIsKept, VersionsAreKept, StoredIsTold, OnlyStoredStands, OnlyStoredIsGiven, ReadsGiveOrFail, MarkersHide, QuietEntriesChangeNothing, PutsAreKept, PutVersionsAreKept, BodiesAreTagged};
+ghost use Rattle.s3_journal.specs.Laws.{EveryBook};
 
 use s3_machine::{
-    delete_markers_hide, entries_change_nothing, one_more_entry, only_puts_are_given, puts_are_kept,
+    delete_markers_hide, entries_change_nothing, only_stored_is_given, puts_are_kept,
+    stored_is_kept,
 };
 
 /// A law, with nothing to run: what the machine promises of legal histories holds of the history of every book. What was
-/// put and acknowledged comes back, by its key and by its version, and nothing else does; a delete marker hides its key;
+/// stored and acknowledged comes back, by its key and by its version, and nothing else does; a delete marker hides its key;
 /// what was refused or only read changes nothing.
 pub fn books_keep_promises()
-    ensures by_key { BooksKeepPuts }
-    ensures by_version { BooksKeepVersions }
-    ensures tagged { BooksTagBodies }
-    ensures given { BooksGiveOnlyPuts }
-    ensures or_refused { BooksGiveOrRefuse }
-    ensures hidden { BooksHideMarked }
-    ensures stays { BooksStay }
+    ensures by_key { EveryBook StoredIsKept }
+    ensures by_version { EveryBook VersionsAreKept }
+    ensures told { EveryBook StoredIsTold }
+    ensures stands { EveryBook OnlyStoredStands }
+    ensures given { EveryBook OnlyStoredIsGiven }
+    ensures or_fails { EveryBook ReadsGiveOrFail }
+    ensures hidden { EveryBook MarkersHide }
+    ensures quiet { EveryBook QuietEntriesChangeNothing }
+    ensures puts { EveryBook PutsAreKept }
+    ensures put_versions { EveryBook PutVersionsAreKept }
+    ensures tagged { EveryBook BodiesAreTagged }
 {
-    puts_are_kept();
-    only_puts_are_given();
+    stored_is_kept();
+    only_stored_is_given();
     delete_markers_hide();
     entries_change_nothing();
-    one_more_entry();
+    puts_are_kept();
 }

@@ -1,19 +1,19 @@
 //! Tests of the crates at the bottom: texts, codes, names, calendar, settings, event lines, histories, HMAC, bodies and payloads;
 //! what a connection has still to send; versions, records and documents.
 
+mod bodies;
 mod calendar;
 mod codes;
 mod digits;
+mod documents;
 mod events;
 mod history;
 mod hmac;
 mod ids;
-mod listed_buckets;
 mod names;
 mod outbox;
 mod payloads;
 mod records;
-mod segments;
 mod settings;
 mod steps;
 mod versioning;

@@ -1,9 +1,8 @@
 -- What right answers say, and how a delete marker hides.
-use Rattle.std.proofs.Common.{◌≡◌, refl, sym, ap, subst, ◌∙◌, true, false, not, ℕ, List, ◌∷◌, ◌++◌, append_assoc, Some, None, is_some, Result, Ok, Err}
-use Rattle.std.proofs.lemmas.Bool.{false≢true}
+use Rattle.std.proofs.Common.{◌≡◌, refl, sym, ap, subst, ◌∙◌, true, false, not, ℕ, ⊎_elim, List, ◌∷◌, ◌++◌, append_assoc, Option, Some, None, option_map, is_some, Result, Ok, Err}
 use Rattle.s3_terms.specs.declared.code.Code.TheVariants.{NoSuchBucket, NoSuchKey}
 use Rattle.s3_names.specs.declared.ids.VersionId.{VersionId}
-use Rattle.s3_segments.specs.Payload.{tag_of}
+use Rattle.s3_bodies.specs.Payload.{tag_of}
 use Rattle.s3_versions.specs.declared.picking.Refusal.{Refusal}
 use Rattle.s3_versions.specs.declared.version.Content.TheVariants.{DeleteMarker}
 use Rattle.s3_versions.specs.declared.version.Data.{Data}
@@ -20,14 +19,13 @@ use Rattle.s3_machine.specs.declared.command.Command.TheVariants as commands
 use Rattle.s3_machine.specs.declared.command.KeyCommand.TheVariants as key_commands
 use Rattle.s3_machine.specs.declared.command.Outcome.TheVariants as outcomes
 use Rattle.s3_terms.specs.Fault.{◌>>=◌}
-use Rattle.s3_machine.specs.Effects.{Address, Asked, brings, reads, given, acknowledged, is_refused}
-use Rattle.s3_machine.specs.History.{Entry, IsAnswer, Legal, after, after_entry}
-use Rattle.s3_machine.specs.Kept.{Marks, MarkersHide, TagsAreOfBodies, ReadsGiveOrRefuse, RefusedEntriesChangeNothing, ReadingEntriesChangeNothing}
-use Rattle.s3_machine.specs.Step.{State, Stepped, shown_in, makes_marker, found_in, key_done, done, stepped, step}
-use Rattle.s3_machine.proofs.EffectLemmas.{after_line, not_false}
-use Rattle.s3_machine.proofs.HistoryLemmas.{Legal-append}
+use Rattle.s3_machine.specs.Effects.{Address, Object, writes, brought, brings, object_of, stored_by, whole, reads, given, is_refused, succeeds}
+use Rattle.s3_machine.specs.History.{Entry, IsAnswer, after, after_entry}
+use Rattle.s3_machine.specs.Kept.{SparesVersion, ReadsVersion, Source, Put, Marks, EveryHistory, StoredIsKept, VersionsAreKept, StoredIsTold, ReadsGiveOrFail, MarkersHide, QuietEntriesChangeNothing, PutsAreKept, PutVersionsAreKept, BodiesAreTagged, PutsStoreTheirContents, StoredHasSource}
+use Rattle.s3_machine.specs.Step.{State, Stepped, data_of, shown_in, makes_marker, found_in, key_done, done, stepped, step}
+use Rattle.s3_machine.proofs.EffectLemmas.{after_line, not_false, refusals_change_nothing, reads_change_nothing}
+use Rattle.s3_machine.proofs.HistoryLemmas.{after-push, parts_of, right_at}
 use Rattle.s3_machine.proofs.KeptLemmas.{versions_at, outcome_is, picked, step_reads, key_left}
-use Rattle.s3_machine.proofs.EffectLemmas.{refusals_change_nothing, reads_change_nothing}
 
 -- a read hands out a version, or refuses
 abbrev GivesOrRefuses : Stepped → Type 0
@@ -37,39 +35,88 @@ gives_or_refuses : (s : State) (name : List ℕ) (read : Result (Version (List �
 gives_or_refuses s name (Ok read) = refl
 gives_or_refuses s name (Err refusal) = refl
 
-step_gives_or_refuses : (least : ℕ) (s : State) (n t : ℕ) (command : Command) (asked : Asked) → reads command ≡ Some asked → GivesOrRefuses (step least s n t command)
+step_gives_or_refuses : (least : ℕ) (s : State) (n t : ℕ) (command : Command) (a : Address) (version : Option VersionId)
+    → reads command ≡ Some (whole a version) → GivesOrRefuses (step least s n t command)
 unfolding done key_done
-step_gives_or_refuses least s n t (commands.Key name key (key_commands.Get version)) asked is =
-    after_line GivesOrRefuses s (not (has_bucket s name)) NoSuchBucket (key_done s n t name key (key_commands.Get version)) refl
-    (λ there. gives_or_refuses s name (pick version (versions_of s name key)))
-step_gives_or_refuses least s n t _ asked is = absurd (cc)
+step_gives_or_refuses least s n t (commands.Key name key (key_commands.Get asked)) a version is =
+    after_line GivesOrRefuses s (not (has_bucket s name)) NoSuchBucket (key_done s n t name key (key_commands.Get asked)) refl
+    (λ there. gives_or_refuses s name (pick asked (versions_of s name key)))
+step_gives_or_refuses least s n t _ a version is = absurd (cc)
 
-pub reads_give_or_refuse : ReadsGiveOrRefuse
-reads_give_or_refuse least s n e asked answer is =
-    let outcome = outcome_is least s n e answer in
-    ap (λ o. is_some (given o)) outcome ∙ step_gives_or_refuses least s e.answer.number e.moment e.command asked is ∙ sym (ap (λ o. not (is_refused o)) outcome)
+pub reads_give_or_fail : EveryHistory ReadsGiveOrFail
+reads_give_or_fail least s n entries legal before later e address version parts is =
+    let there = after least s before in
+    let outcome = outcome_is least there _ e (right_at least s n entries before later e legal parts) in
+    ap (λ o. is_some (given o)) outcome
+    ∙ step_gives_or_refuses least there e.answer.number e.moment e.command address version is
+    ∙ sym (ap succeeds outcome)
 
--- an accepted body is under its tag
-step_acknowledges : (least : ℕ) (s : State) (n t : ℕ) (command : Command) (body : List ℕ) → brings command ≡ Some body → is_refused (step least s n t command).1 ≡ false → acknowledged (step least s n t command).1 ≡ Some (tag_of body)
-unfolding done key_done
-step_acknowledges least s n t (commands.Key name key (key_commands.Put content_type metadata payload)) body is =
+pub quiet_entries_change_nothing : EveryHistory QuietEntriesChangeNothing
+quiet_entries_change_nothing least s n entries legal before later e parts quiet =
+    let there = after least s before in
+    let outcome = outcome_is least there _ e (right_at least s n entries before later e legal parts) in
+    after-push least s before e
+    ∙ ⊎_elim (λ is. refusals_change_nothing least there e.answer.number e.moment e.command (sym (ap is_refused outcome) ∙ is))
+    (reads_change_nothing least there e.answer.number e.moment e.command) quiet
+
+-- ---- puts
+
+key_put : (s : State) (n t : ℕ) (a : Address) (command : Command) (what : Data (List ℕ)) → writes command ≡ Some a
+    → brought command ≡ Some what → stored_by s n t command ≡ Some (object_of s n t a what)
+key_put s n t a (commands.Key bucket key (key_commands.Put content_type metadata payload)) what written brings = cc
+key_put s n t a _ what written brings = absurd (cc)
+
+pub puts_store_their_contents : PutsStoreTheirContents
+puts_store_their_contents s e address what puts =
+    record { by = key_put s e.answer.number e.moment address e.command what puts.written puts.brings; accepted = puts.accepted }
+
+-- where an object is stored, it has a source
+source_of : (s : State) (e : Entry) (command : Command) (object : Object) → e.command ≡ command
+    → stored_by s e.answer.number e.moment command ≡ Some object → is_refused e.answer.outcome ≡ false → Source s e object
+source_of s e (commands.Key bucket key (key_commands.Put content_type metadata payload)) object same is accepted =
+    Put (record {
+      written = ap writes same ∙ ap (option_map (λ (o : Object). o.address)) is;
+      brings = ap brought same ∙ ap (option_map (λ (o : Object). o.stored)) is;
+      accepted = accepted;
+    })
+source_of s e _ object same is accepted = absurd (cc)
+
+pub stored_has_source : StoredHasSource
+stored_has_source s e object stores = source_of s e e.command object refl stores.by stores.accepted
+
+-- what holds of what is stored holds of puts
+pub puts_are_kept : EveryHistory StoredIsKept → EveryHistory PutsAreKept
+puts_are_kept law least s n entries legal before between later put read address what parts puts =
+    law least s n entries legal before between later put read _ parts
+    (puts_store_their_contents (after least s before) put address what puts)
+
+pub put_versions_are_kept : EveryHistory StoredIsTold → EveryHistory VersionsAreKept → EveryHistory PutVersionsAreKept
+put_versions_are_kept tells law least s n entries legal before between later put read address what id parts puts touches spares reading =
+    let object = object_of (after least s before) put.answer.number put.moment address what in
+    let stores = puts_store_their_contents (after least s before) put address what puts in
+    let told = tells least s n entries legal before (between ++ read ∷ later) put object
+    (parts ∙ append_assoc before (put ∷ between) (read ∷ later)) stores in
+    let same : id ≡ object.id = cc (touches, told.under) in
+    law least s n entries legal before between later put read object parts stores
+    (subst (λ (i : VersionId). SparesVersion address i between) same spares)
+    (subst (λ (i : VersionId). ReadsVersion address i read) same reading)
+
+-- the bytes that are brought are accepted under their tag
+brought_tag : (command : Command) (body : List ℕ) → brings command ≡ Some body
+    → (a : Address) × (what : Data (List ℕ)) × (writes command ≡ Some a) × (brought command ≡ Some what) × (what.tag ≡ tag_of body)
+brought_tag (commands.Key bucket key (key_commands.Put content_type metadata payload)) body is =
     let same : payload ≡ body = cc in
-    after_line (λ st. is_refused st.1 ≡ false → acknowledged st.1 ≡ Some (tag_of body)) s (not (has_bucket s name)) NoSuchBucket (key_done s n t name key (key_commands.Put content_type metadata payload))
-    (λ accepted. absurd (false≢true (sym accepted)))
-    (λ there accepted. ap (λ b. Some (tag_of b)) same)
-step_acknowledges least s n t _ body is = absurd (cc)
+    (record { bucket = bucket; key = key }, data_of content_type metadata payload, refl, refl, ap tag_of same)
+brought_tag _ body is = absurd (cc)
 
-pub tags_are_of_bodies : TagsAreOfBodies
-tags_are_of_bodies least s n e body answer brought accepted =
-    let outcome = outcome_is least s n e answer in
-    ap acknowledged outcome ∙ step_acknowledges least s e.answer.number e.moment e.command body brought (sym (ap is_refused outcome) ∙ accepted)
+pub bodies_are_tagged : EveryHistory StoredIsTold → EveryHistory BodiesAreTagged
+bodies_are_tagged tells least s n entries legal before later e body parts is accepted =
+    let put = brought_tag e.command body is in
+    let stores = puts_store_their_contents (after least s before) e put.0 put.1
+    (record { written = put.2; brings = put.3; accepted = accepted }) in
+    (tells least s n entries legal before later e _ parts stores).tagged ∙ ap Some put.4
 
-pub refused_entries_change_nothing : RefusedEntriesChangeNothing
-refused_entries_change_nothing least s n e answer is =
-    refusals_change_nothing least s e.answer.number e.moment e.command (sym (ap is_refused (outcome_is least s n e answer)) ∙ is)
-
-pub reading_entries_change_nothing : ReadingEntriesChangeNothing
-reading_entries_change_nothing least s e is = reads_change_nothing least s e.answer.number e.moment e.command is
+-- ---- delete markers
 
 -- the current version of an address is a delete marker
 pub record IsHidden (s : State) (a : Address) : Type 0 where
@@ -106,15 +153,14 @@ module _ (places : ChangesAreByPlace (List ℕ)) (rules : ChangesFollowRules (Li
       subst (λ c. IsHidden (step least s e.answer.number e.moment c).0 a) (sym marks.deletes)
       (step_marks hide rules least s e.answer.number e.moment a marks.id outcome)
 
-  pub markers_hide : MarkersHide
-  markers_hide least s n before between later mark get address legal marks leaves reads =
+  pub markers_hide : EveryHistory MarkersHide
+  markers_hide least s n entries legal before between later mark read address parts marks leaves reads =
+      let at = parts_of least s n entries before between later mark read legal parts in
       let here = after least s before in
-      let joined = subst (Legal least s n) (append_assoc before (mark ∷ between) (get ∷ later)) legal in
-      let from_mark = (Legal-append least s n before (mark ∷ (between ++ get ∷ later)) joined).1 in
-      let parts = Legal-append least (after_entry least here mark) _ between (get ∷ later) from_mark.1 in
-      let left = key_left places rules least (after_entry least here mark) _ between address parts.0 leaves in
-      let hidden = entry_marks least here _ mark address from_mark.0 marks in
       let there = after least (after_entry least here mark) between in
-      outcome_is least there _ get parts.1.0
-      ∙ step_reads least there get.answer.number get.moment get.command (record { address = address; version = None }) hidden.marker reads (ap current left ∙ hidden.is_current)
+      let left = key_left places rules least (after_entry least here mark) at.k between address at.legal leaves in
+      let hidden = entry_marks least here at.m mark address at.right marks in
+      outcome_is least there at.j read at.right_last
+      ∙ step_reads least there read.answer.number read.moment read.command address None hidden.marker reads
+      (ap current left ∙ hidden.is_current)
       ∙ ap (picked there address.bucket) (ap (pick None) left ∙ hidden.told)

@@ -1,5 +1,5 @@
 -- What one step does: to the versions under keys, and that a refusal and a command that only reads do nothing.
-use Rattle.std.proofs.Common.{◌≡◌, refl, sym, ap, Bool, true, false, not, ℕ, ◌⊎◌, inl, inr, IsTrue, List, Option, Some, None, Result, Ok, Err}
+use Rattle.std.proofs.Common.{◌≡◌, refl, sym, ap, ◌∙◌, Bool, true, false, not, ℕ, ◌⊎◌, inl, inr, IsTrue, List, Option, Some, None, Result, Ok, Err}
 use Rattle.std.proofs.lemmas.Bool.{false≢true}
 use Rattle.s3_terms.specs.declared.code.Code.{Code}
 use Rattle.s3_terms.specs.declared.code.Code.TheVariants.{NoSuchBucket, BucketAlreadyOwnedByYou, BucketNotEmpty}
@@ -13,7 +13,7 @@ use Rattle.s3_versions.specs.declared.version.Versioning.TheVariants.{Unversione
 use Rattle.s3_versions.specs.Rules.{made, new_id, stored, pick, after_put}
 use Rattle.s3_versions.specs.Laws.{marker_made}
 use Rattle.s3_records.specs.Catalogue.{has_bucket, is_empty_bucket, versions_of, versioning_of}
-use Rattle.s3_records.specs.Changes.{bucket_added, bucket_dropped, versioning_changed}
+use Rattle.s3_records.specs.Changes.{bucket_added, bucket_dropped, versioning_changed, version_put}
 use Rattle.s3_records.specs.Laws.{ChangesFollowRules}
 use Rattle.s3_records.specs.Places.{SameVersions, OnePlaceChanges, ChangesAreByPlace}
 use Rattle.s3_machine.specs.declared.command.BucketCommand.{BucketCommand}
@@ -26,8 +26,8 @@ use Rattle.s3_machine.specs.declared.command.Outcome.{Outcome}
 use Rattle.s3_machine.specs.declared.command.Outcome.TheVariants as outcomes
 use Rattle.s3_terms.specs.Fault.{◌>>◌, ◌>>=◌}
 use Rattle.s3_machine.specs.Fault.{refuse}
-use Rattle.s3_machine.specs.Effects.{Address, Contents, data_from, writes, contents_of, touched, told, is_refused, only_reads_bucket, only_reads_key}
-use Rattle.s3_machine.specs.Step.{State, Stepped, shown_in, found_in, head_of, bucket_done, key_done, done, stepped, step}
+use Rattle.s3_machine.specs.Effects.{Address, writes, object_of, stored_by, acknowledged, touched, told, is_refused, only_reads_bucket, only_reads_key}
+use Rattle.s3_machine.specs.Step.{State, Stepped, data_of, shown_in, found_in, head_of, bucket_done, key_done, done, stepped, step}
 use Rattle.s3_machine.specs.Laws.{RefusalsChangeNothing, ReadsChangeNothing}
 
 -- every key has the versions that it had, and a write was refused
@@ -35,14 +35,20 @@ pub record Same (s : State) (command : Command) (st : Stepped) : Type 0 where
   pub versions : SameVersions s st.0
   pub refused : (a : Address) → writes command ≡ Some a → is_refused st.1 ≡ true
 
--- what a write stored: what a put brought, in the version that is current now; or nothing
-abbrev pub Stores : State → ℕ → ℕ → Command → Stepped → Address → Option (Version (List ℕ)) → Type 0
-Stores s n t command st a now =
-    ((contents : Contents)
-    × (contents_of command ≡ Some contents)
-    × (now ≡ Some (made (versioning_of s a.bucket) n t (Stored (data_from contents))))
-    × (versions_of st.0 a.bucket a.key ≡ after_put (versioning_of s a.bucket) n t (data_from contents) (versions_of s a.bucket a.key)))
-    ⊎ ((contents_of command ≡ None) × ((v : Version (List ℕ)) → now ≡ Some v → stored v ≡ None))
+-- a write stored these data: the object that its command stores, whose tag it tells and which is current now
+pub record Adds (s : State) (n t : ℕ) (command : Command) (st : Stepped) (a : Address) (id : VersionId)
+    (now : Option (Version (List ℕ))) : Type 0 where
+  pub what : Data (List ℕ)
+  pub by : stored_by s n t command ≡ Some (object_of s n t a what)
+  pub under : id ≡ new_id (versioning_of s a.bucket) n
+  pub tagged : acknowledged st.1 ≡ Some what.tag
+  pub makes : now ≡ Some (made (versioning_of s a.bucket) n t (Stored what))
+  pub versions : versions_of st.0 a.bucket a.key ≡ after_put (versioning_of s a.bucket) n t what (versions_of s a.bucket a.key)
+
+-- or it stored nothing
+pub record AddsNothing (s : State) (n t : ℕ) (command : Command) (now : Option (Version (List ℕ))) : Type 0 where
+  pub by : stored_by s n t command ≡ None
+  pub empty : (v : Version (List ℕ)) → now ≡ Some v → stored v ≡ None
 
 -- a write was accepted, and changed what stands at one place
 pub record Changes (s : State) (n t : ℕ) (command : Command) (st : Stepped) : Type 0 where
@@ -53,7 +59,7 @@ pub record Changes (s : State) (n t : ℕ) (command : Command) (st : Stepped) : 
   pub touches : touched command st.1 ≡ Some id
   pub now : Option (Version (List ℕ))
   pub place : OnePlaceChanges s st.0 address.bucket address.key id now
-  pub stores : Stores s n t command st address now
+  pub adds : Adds s n t command st address id now ⊎ AddsNothing s n t command now
 
 abbrev pub Does : State → ℕ → ℕ → Command → Stepped → Type 0
 Does s n t command st = Same s command st ⊎ Changes s n t command st
@@ -120,20 +126,39 @@ module _ (places : ChangesAreByPlace (List ℕ)) (rules : ChangesFollowRules (Li
   reading s n t command (Ok r) out none = unwritten s n t command none
   reading s n t command (Err refusal) out none = unwritten s n t command none
 
-  key_does : (s : State) (n t : ℕ) (name key : List ℕ) (asked : KeyCommand) → IsTrue (has_bucket s name) → Does s n t (commands.Key name key asked) (stepped s (key_done s n t name key asked))
-  unfolding key_done
-  key_does s n t name key (key_commands.Put content_type metadata payload) there =
-      let contents : Contents = record { content_type = content_type; metadata = metadata; body = payload } in
+  -- a command stores these data under a key, and tells their tag and the new id
+  stores : (s : State) (n t : ℕ) (name key : List ℕ) (command : Command) (what : Data (List ℕ)) (outcome : Outcome)
+      → IsTrue (has_bucket s name)
+      → writes command ≡ Some (record { bucket = name; key = key })
+      → stored_by s n t command ≡ Some (object_of s n t (record { bucket = name; key = key }) what)
+      → is_refused outcome ≡ false → acknowledged outcome ≡ Some what.tag
+      → touched command outcome ≡ Some (told (shown_in (versioning_of s name) (new_id (versioning_of s name) n)))
+      → Does s n t command (version_put s name key n t what, outcome)
+  stores s n t name key command what outcome there written by accepted tagged touches =
       inr (record {
         address = record { bucket = name; key = key };
-        written = refl;
-        accepted = refl;
+        written = written;
+        accepted = accepted;
         id = new_id (versioning_of s name) n;
-        touches = ap Some (told_new (versioning_of s name) n);
-        now = Some (made (versioning_of s name) n t (Stored (data_from contents)));
-        place = (places s name).put there key n t (data_from contents);
-        stores = inl (contents, refl, refl, (rules s name key there).put n t (data_from contents));
+        touches = touches ∙ ap Some (told_new (versioning_of s name) n);
+        now = Some (made (versioning_of s name) n t (Stored what));
+        place = (places s name).put there key n t what;
+        adds = inl (record {
+          what = what;
+          by = by;
+          under = refl;
+          tagged = tagged;
+          makes = refl;
+          versions = (rules s name key there).put n t what;
+        });
       })
+
+  key_does : (s : State) (n t : ℕ) (name key : List ℕ) (asked : KeyCommand) → IsTrue (has_bucket s name)
+      → Does s n t (commands.Key name key asked) (stepped s (key_done s n t name key asked))
+  unfolding key_done
+  key_does s n t name key (key_commands.Put content_type metadata payload) there =
+      stores s n t name key (commands.Key name key (key_commands.Put content_type metadata payload))
+      (data_of content_type metadata payload) _ there refl refl refl refl refl
   key_does s n t name key (key_commands.Get asked) there =
       reading s n t (commands.Key name key (key_commands.Get asked)) (pick asked (versions_of s name key)) (λ read. outcomes.Got (found_in (versioning_of s name) read)) refl
   key_does s n t name key (key_commands.Head asked) there =
@@ -147,7 +172,7 @@ module _ (places : ChangesAreByPlace (List ℕ)) (rules : ChangesFollowRules (Li
         touches = ap Some (told_new (versioning_of s name) n);
         now = marker_made (versioning_of s name) n t;
         place = (places s name).deleted there key n t;
-        stores = inr (refl, λ v is. nothing_stored (versioning_of s name) n t v is);
+        adds = inr (record { by = refl; empty = λ v is. nothing_stored (versioning_of s name) n t v is });
       })
   key_does s n t name key (key_commands.Delete (Some id)) there =
       inr (record {
@@ -158,7 +183,7 @@ module _ (places : ChangesAreByPlace (List ℕ)) (rules : ChangesFollowRules (Li
         touches = refl;
         now = None;
         place = (places s name).version_gone there key id;
-        stores = inr (refl, λ v is. absurd (cc));
+        adds = inr (record { by = refl; empty = λ v is. absurd (cc) });
       })
 
   pub step_does : (least : ℕ) (s : State) (n t : ℕ) (command : Command) → Does s n t command (step least s n t command)

@@ -1,5 +1,5 @@
 -- Histories with one more entry at the end, and histories in two parts.
-use Rattle.std.proofs.Common.{◌≡◌, refl, subst, arith, ℕ, ◌+◌, suc, List, [], ◌∷◌, ◌++◌, length}
+use Rattle.std.proofs.Common.{◌≡◌, refl, subst, ◌∙◌, arith, ℕ, ◌+◌, suc, List, [], ◌∷◌, ◌++◌, append_assoc, length}
 use Rattle.s3_machine.specs.Step.{State}
 use Rattle.s3_machine.specs.History.{Entry, IsAnswer, Legal, after, after_entry}
 
@@ -25,3 +25,30 @@ module _ (least : ℕ) where
       let same : suc n + length es ≡ n + suc (length es) = omega arith in
       let parts = Legal-append (after_entry least s x) (suc n) es fs legal.1 in
       ((legal.0, parts.0), subst (λ m. Legal least (after least (after_entry least s x) es) m fs) same parts.1)
+
+  -- an entry of a legal history has the answer of the state that those before it leave
+  pub Legal-at : (s : State) (n : ℕ) (es : List Entry) (e : Entry) (fs : List Entry) → Legal least s n (es ++ e ∷ fs)
+      → IsAnswer least (after least s es) (n + length es) e
+  Legal-at s n es e fs legal = (Legal-append s n es (e ∷ fs) legal).1.0
+
+-- a right entry, those behind it, and another right entry
+pub record Between (least : ℕ) (s : State) (before between : List Entry) (first last : Entry) : Type 0 where
+  pub m : ℕ
+  pub right : IsAnswer least (after least s before) m first
+  pub k : ℕ
+  pub legal : Legal least (after_entry least (after least s before) first) k between
+  pub j : ℕ
+  pub right_last : IsAnswer least (after least (after_entry least (after least s before) first) between) j last
+
+pub parts_of : (least : ℕ) (s : State) (n : ℕ) (entries before between later : List Entry) (first last : Entry)
+    → Legal least s n entries → entries ≡ before ++ first ∷ between ++ last ∷ later → Between least s before between first last
+parts_of least s n entries before between later first last legal parts =
+    let joined = subst (Legal least s n) (parts ∙ append_assoc before (first ∷ between) (last ∷ later)) legal in
+    let from_first = (Legal-append least s n before (first ∷ (between ++ last ∷ later)) joined).1 in
+    let behind = Legal-append least (after_entry least (after least s before) first) _ between (last ∷ later) from_first.1 in
+    record { m = _; right = from_first.0; k = _; legal = behind.0; j = _; right_last = behind.1.0 }
+
+-- one entry of a legal history is right
+pub right_at : (least : ℕ) (s : State) (n : ℕ) (entries before later : List Entry) (e : Entry)
+    → Legal least s n entries → entries ≡ before ++ e ∷ later → IsAnswer least (after least s before) (n + length before) e
+right_at least s n entries before later e legal parts = Legal-at least s n before e later (subst (Legal least s n) parts legal)

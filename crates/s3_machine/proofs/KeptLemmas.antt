@@ -1,5 +1,5 @@
 -- What was put comes back, by its key and by its version.
-use Rattle.std.proofs.Common.{◌≡◌, ◌≢◌, refl, sym, ap, subst, ◌∙◌, Bool, true, false, not, ℕ, ◌⊎◌, inl, inr, List, [], ◌∷◌, ◌++◌, append_assoc, Option, Some, None, is_some, Result, Ok, Err}
+use Rattle.std.proofs.Common.{◌≡◌, ◌≢◌, refl, sym, ap, subst, ◌∙◌, Bool, true, false, not, ℕ, ◌⊎◌, inl, inr, List, [], ◌∷◌, Option, Some, None, is_some, option_map, Result, Ok, Err}
 use Rattle.std.proofs.lemmas.Bool.{false≢true}
 use Rattle.std.specs.Cmp.{eq_by_cmp_equiv}
 use Rattle.std.specs.Cmp.Lexicographic.{nat_list_cmp_total}
@@ -22,18 +22,18 @@ use Rattle.s3_records.specs.Laws.{ChangesFollowRules}
 use Rattle.s3_records.specs.Places.{version_at, ChangesAreByPlace}
 use Rattle.s3_machine.specs.declared.command.Command.{Command}
 use Rattle.s3_machine.specs.declared.command.Command.TheVariants as commands
+use Rattle.s3_machine.specs.declared.command.KeyCommand.{KeyCommand}
 use Rattle.s3_machine.specs.declared.command.KeyCommand.TheVariants as key_commands
-use Rattle.s3_machine.specs.declared.command.Found.{Found}
 use Rattle.s3_machine.specs.declared.command.Outcome.{Outcome}
 use Rattle.s3_machine.specs.declared.command.Outcome.TheVariants as outcomes
 use Rattle.s3_terms.specs.Fault.{◌>>◌, ◌>>=◌}
 use Rattle.s3_machine.specs.Fault.{refuse}
-use Rattle.s3_machine.specs.Effects.{Address, Contents, Asked, data_from, writes, reads, given, touched, is_refused}
+use Rattle.s3_machine.specs.Effects.{Address, Object, Read, writes, object_of, key_stored, stored_at, stored_by, whole, reads, given, acknowledged, touched, is_refused}
 use Rattle.s3_machine.specs.History.{Entry, IsAnswer, Legal, after, after_entry}
-use Rattle.s3_machine.specs.Kept.{Leaves, LeavesKey, Spares, SparesVersion, Puts, IsMadeOf, PutsAreKept, VersionsAreKept}
+use Rattle.s3_machine.specs.Kept.{Leaves, LeavesKey, Spares, SparesVersion, Stores, Tells, IsGiven, EveryHistory, StoredIsKept, VersionsAreKept, StoredIsTold}
 use Rattle.s3_machine.specs.Step.{State, Stepped, found_in, key_done, done, stepped, step}
 use Rattle.s3_machine.proofs.EffectLemmas.{Changes, Does, step_does}
-use Rattle.s3_machine.proofs.HistoryLemmas.{Legal-append}
+use Rattle.s3_machine.proofs.HistoryLemmas.{parts_of, right_at}
 
 -- the versions under an address, and the one of an id
 abbrev pub versions_at : State → Address → List (Version (List ℕ))
@@ -96,20 +96,21 @@ past_line : (s : State) (fault : Bool) (next : Result Stepped Refusal) → fault
 past_line s false next is = refl
 past_line s true next is = absurd (false≢true (sym is))
 
--- a read is answered what is picked, where there is a version at all
-pub step_reads : (least : ℕ) (s : State) (n t : ℕ) (command : Command) (asked : Asked) (v : Version (List ℕ)) → reads command ≡ Some asked → asked_for asked.version (versions_at s asked.address) ≡ Some v
-    → (step least s n t command).1 ≡ picked s asked.address.bucket (pick asked.version (versions_at s asked.address))
+-- a read of all of a version is answered what is picked, where there is a version at all
+pub step_reads : (least : ℕ) (s : State) (n t : ℕ) (command : Command) (a : Address) (version : Option VersionId) (v : Version (List ℕ))
+    → reads command ≡ Some (whole a version) → asked_for version (versions_at s a) ≡ Some v
+    → (step least s n t command).1 ≡ picked s a.bucket (pick version (versions_at s a))
 unfolding done key_done
-step_reads least s n t (commands.Key name key (key_commands.Get version)) asked v is found =
-    let a : Address = record { bucket = name; key = key } in
-    let same : ◌≡◌ {A = Asked} (record { address = a; version = version }) asked = cc in
-    let here : asked_for version (versions_at s a) ≡ Some v = subst (λ (q : Asked). asked_for q.version (versions_at s q.address) ≡ Some v) (sym same) found in
-    let first = some_first version (versions_at s a) v here in
-    let there = there_with s a first.0 first.1 first.2 in
-    ap (λ (st : Stepped). st.1) (past_line s (not (has_bucket s name)) (key_done s n t name key (key_commands.Get version)) (ap not there))
-    ∙ got s name (pick version (versions_of s name key))
-    ∙ ap (λ (q : Asked). picked s q.address.bucket (pick q.version (versions_at s q.address))) same
-step_reads least s n t _ asked v is found = absurd (cc)
+step_reads least s n t (commands.Key name key (key_commands.Get asked)) a version v is found =
+    let same : whole (record { bucket = name; key = key }) asked ≡ whole a version = cc in
+    let here : asked_for asked (versions_of s name key) ≡ Some v =
+    subst (λ (q : Read). asked_for q.version (versions_at s q.address) ≡ Some v) (sym same) found in
+    let first = some_first asked (versions_of s name key) v here in
+    let there = there_with s (record { bucket = name; key = key }) first.0 first.1 first.2 in
+    ap (λ (st : Stepped). st.1) (past_line s (not (has_bucket s name)) (key_done s n t name key (key_commands.Get asked)) (ap not there))
+    ∙ got s name (pick asked (versions_of s name key))
+    ∙ ap (λ (q : Read). picked s q.address.bucket (pick q.version (versions_at s q.address))) same
+step_reads least s n t _ a version v is found = absurd (cc)
 
 module _ (places : ChangesAreByPlace (List ℕ)) (rules : ChangesFollowRules (List ℕ)) (least : ℕ) where
   -- what an entry did
@@ -176,76 +177,97 @@ picks_made Unversioned n t d id = refl
 picks_made Enabled n t d id = refl
 picks_made Suspended n t d id = refl
 
--- a read that picks what a put made is answered it
-gives : (outcome : Outcome) (s : State) (name : List ℕ) (contents : Contents) (b : Versioning) (n t : ℕ) (read : Result (Version (List ℕ) × Data (List ℕ)) Refusal)
-    → outcome ≡ picked s name read → read ≡ Ok (made b n t (Stored (data_from contents)), data_from contents)
-    → (found : Found (List ℕ)) × (given outcome ≡ Some found) × IsMadeOf contents t found
-gives outcome s name contents b n t read is picks =
-    let v = made b n t (Stored (data_from contents)) in
-    let found : Found (List ℕ) = found_in (versioning_of s name) (v, data_from contents) in
-    (found, ap given (is ∙ ap (picked s name) picks), record { stored = refl; moment = made_moment b n t (data_from contents) })
+-- a read that picks what a put made is given it
+gives : (e : Entry) (s : State) (name : List ℕ) (what : Data (List ℕ)) (b : Versioning) (n t : ℕ)
+    (read : Result (Version (List ℕ) × Data (List ℕ)) Refusal)
+    → e.answer.outcome ≡ picked s name read → read ≡ Ok (made b n t (Stored what), what) → IsGiven t what e
+gives e s name what b n t read is picks = record {
+  found = found_in (versioning_of s name) (made b n t (Stored what), what);
+  gives = ap given (is ∙ ap (picked s name) picks);
+  moment = made_moment b n t what;
+  holds = refl;
+}
 
--- what an accepted put stores
-same_contents : (c d : Contents) → ◌≡◌ {A = Option Contents} (Some c) (Some d) → c ≡ d
-same_contents c d is = cc
+-- a command writes where it stores
+stored_there : (s : State) (n t : ℕ) (a : Address) (what : Option (Data (List ℕ))) (object : Object)
+    → option_map (object_of s n t a) what ≡ Some object → a ≡ object.address
+stored_there s n t a (Some what) object is = cc
+stored_there s n t a None object is = absurd (cc)
 
-module _ (places : ChangesAreByPlace (List ℕ)) (rules : ChangesFollowRules (List ℕ)) (current : PutsAreCurrent (List ℕ)) where
-  -- the versions that a put leaves
-  put_leaves : (least : ℕ) (s : State) (n : ℕ) (e : Entry) (a : Address) (contents : Contents) → IsAnswer least s n e → Puts a contents e
-      → (versioning : Versioning) × (versions_at (after_entry least s e) a ≡ after_put versioning e.answer.number e.moment (data_from contents) (versions_at s a))
-  put_leaves least s n e a contents answer puts =
-      let changes = entry_changes places rules least s n e a answer puts.written puts.accepted in
-      let here : a ≡ changes.address = cc (puts.written, changes.written) in
-      elim changes.stores [
-        | inl stores ↦ (
-          versioning_of s changes.address.bucket,
-          subst (λ (b : Address). versions_at (after_entry least s e) b ≡ after_put (versioning_of s changes.address.bucket) e.answer.number e.moment (data_from contents) (versions_at s b)) (sym here)
-              (stores.3 ∙ ap (λ c. after_put (versioning_of s changes.address.bucket) e.answer.number e.moment (data_from c) (versions_at s changes.address)) (same_contents stores.0 contents (sym stores.1 ∙ puts.brought))),
-        )
-        | inr nothing ↦ let none = nothing.0 in let some = puts.brought in absurd (cc)
+stored_at_address : (s : State) (n t : ℕ) (a : Address) (asked : KeyCommand) (object : Object) → stored_at s n t a asked ≡ Some object
+    → Some a ≡ Some object.address
+stored_at_address s n t a asked object is = ap Some (stored_there s n t a (key_stored s a asked) object is)
+
+stored_writes : (s : State) (n t : ℕ) (command : Command) (object : Object) → stored_by s n t command ≡ Some object
+    → writes command ≡ Some object.address
+stored_writes s n t (commands.Key bucket key (key_commands.Put content_type metadata payload)) object is =
+    stored_at_address s n t (record { bucket = bucket; key = key }) (key_commands.Put content_type metadata payload) object is
+stored_writes s n t _ object is = absurd (cc)
+
+pub some_same : {X : Type 0} (x y : X) → ◌≡◌ {A = Option X} (Some x) (Some y) → x ≡ y
+some_same x y is = cc
+
+-- what an entry leaves that stores an object: its answer tells it, and it stands as the newest version of its key
+pub record Added (s now : State) (e : Entry) (object : Object) : Type 0 where
+  pub told : Tells object e
+  pub versioning : Versioning
+  pub versions : versions_at now object.address
+      ≡ after_put versioning e.answer.number object.moment object.stored (versions_at s object.address)
+  pub stands : version_at now object.address.bucket object.address.key object.id
+      ≡ Some (made versioning e.answer.number object.moment (Stored object.stored))
+
+module _ (places : ChangesAreByPlace (List ℕ)) (rules : ChangesFollowRules (List ℕ)) where
+  entry_stores : (least : ℕ) (s : State) (n : ℕ) (e : Entry) (object : Object) → IsAnswer least s n e → Stores s e object
+      → Added s (after_entry least s e) e object
+  entry_stores least s n e object answer stores =
+      let outcome = outcome_is least s n e answer in
+      let changes = entry_changes places rules least s n e object.address answer
+      (stored_writes s e.answer.number e.moment e.command object stores.by) stores.accepted in
+      elim changes.adds [
+        | inl adds ↦
+            subst (λ (o : Object). Added s (after_entry least s e) e o) (some_same _ object (sym adds.by ∙ stores.by)) (record {
+              told = record {
+                written = changes.written;
+                under = ap (touched e.command) outcome ∙ changes.touches ∙ ap Some adds.under;
+                tagged = ap acknowledged outcome ∙ adds.tagged;
+              };
+              versioning = versioning_of s changes.address.bucket;
+              versions = adds.versions;
+              stands = ap (version_at (after_entry least s e) changes.address.bucket changes.address.key) (sym adds.under)
+                  ∙ changes.place.here ∙ adds.makes;
+            })
+        | inr nothing ↦ absurd (cc (nothing.by, stores.by))
       ]
 
-  pub puts_are_kept : PutsAreKept
-  puts_are_kept least s n before between later put get address contents legal puts leaves reads =
+  pub stored_is_told : EveryHistory StoredIsTold
+  stored_is_told least s n entries legal before later write object parts stores =
+      (entry_stores least (after least s before) _ write object (right_at least s n entries before later write legal parts) stores).told
+
+  pub stored_is_kept : PutsAreCurrent (List ℕ) → EveryHistory StoredIsKept
+  stored_is_kept current least s n entries legal before between later write read object parts stores leaves reads =
+      let at = parts_of least s n entries before between later write read legal parts in
       let here = after least s before in
-      let joined = subst (Legal least s n) (append_assoc before (put ∷ between) (get ∷ later)) legal in
-      let from_put = (Legal-append least s n before (put ∷ (between ++ get ∷ later)) joined).1 in
-      let parts = Legal-append least (after_entry least here put) _ between (get ∷ later) from_put.1 in
-      let left = key_left places rules least (after_entry least here put) _ between address parts.0 leaves in
-      let made_now = put_leaves least here _ put address contents from_put.0 puts in
-      let versions = left ∙ made_now.1 in
-      let now = current made_now.0 put.answer.number put.moment (data_from contents) (versions_at here address) in
-      let there = after least (after_entry least here put) between in
-      gives get.answer.outcome there address.bucket contents made_now.0 put.answer.number put.moment (pick None (versions_at there address))
-      (outcome_is least there _ get parts.1.0 ∙ step_reads least there get.answer.number get.moment get.command (record { address = address; version = None }) _ reads (ap (asked_for None) versions ∙ now.0))
+      let there = after least (after_entry least here write) between in
+      let a = object.address in
+      let added = entry_stores least here at.m write object at.right stores in
+      let versions = key_left places rules least (after_entry least here write) at.k between a at.legal leaves ∙ added.versions in
+      let now = current added.versioning write.answer.number object.moment object.stored (versions_at here a) in
+      gives read there a.bucket object.stored added.versioning write.answer.number object.moment (pick None (versions_at there a))
+      (outcome_is least there at.j read at.right_last
+      ∙ step_reads least there read.answer.number read.moment read.command a None _ reads (ap (asked_for None) versions ∙ now.0))
       (ap (pick None) versions ∙ now.1)
 
-  -- the version that a put makes
-  put_makes : (least : ℕ) (s : State) (n : ℕ) (e : Entry) (a : Address) (contents : Contents) (id : VersionId) → IsAnswer least s n e → Puts a contents e → touched e.command e.answer.outcome ≡ Some id
-      → (versioning : Versioning) × (version_at (after_entry least s e) a.bucket a.key id ≡ Some (made versioning e.answer.number e.moment (Stored (data_from contents))))
-  put_makes least s n e a contents id answer puts touches =
-      let changes = entry_changes places rules least s n e a answer puts.written puts.accepted in
-      let here : a ≡ changes.address = cc (puts.written, changes.written) in
-      let under : id ≡ changes.id = cc (sym touches ∙ ap (touched e.command) (outcome_is least s n e answer) ∙ changes.touches) in
-      elim changes.stores [
-        | inl stores ↦ (
-          versioning_of s changes.address.bucket,
-          subst (λ (b : Address). version_at (after_entry least s e) b.bucket b.key id ≡ Some (made (versioning_of s changes.address.bucket) e.answer.number e.moment (Stored (data_from contents)))) (sym here)
-              (ap (version_at (after_entry least s e) changes.address.bucket changes.address.key) under ∙ changes.place.here ∙ stores.2
-              ∙ ap (λ c. Some (made (versioning_of s changes.address.bucket) e.answer.number e.moment (Stored (data_from c)))) (same_contents stores.0 contents (sym stores.1 ∙ puts.brought))),
-        )
-        | inr nothing ↦ let none = nothing.0 in let some = puts.brought in absurd (cc)
-      ]
-
-  pub versions_are_kept : VersionsAreKept
-  versions_are_kept least s n before between later put get address contents id legal puts touches spares reads =
+  pub versions_are_kept : EveryHistory VersionsAreKept
+  versions_are_kept least s n entries legal before between later write read object parts stores spares reads =
+      let at = parts_of least s n entries before between later write read legal parts in
       let here = after least s before in
-      let joined = subst (Legal least s n) (append_assoc before (put ∷ between) (get ∷ later)) legal in
-      let from_put = (Legal-append least s n before (put ∷ (between ++ get ∷ later)) joined).1 in
-      let parts = Legal-append least (after_entry least here put) _ between (get ∷ later) from_put.1 in
-      let made_now = put_makes least here _ put address contents id from_put.0 puts touches in
-      let there = after least (after_entry least here put) between in
-      let stands = version_spared places rules least (after_entry least here put) _ between address id parts.0 spares ∙ made_now.1 in
-      gives get.answer.outcome there address.bucket contents made_now.0 put.answer.number put.moment (pick (Some id) (versions_at there address))
-      (outcome_is least there _ get parts.1.0 ∙ step_reads least there get.answer.number get.moment get.command (record { address = address; version = Some id }) _ reads stands)
-      (ap (judged (Some id)) stands ∙ picks_made made_now.0 put.answer.number put.moment (data_from contents) id)
+      let there = after least (after_entry least here write) between in
+      let a = object.address in
+      let added = entry_stores least here at.m write object at.right stores in
+      let stands = version_spared places rules least (after_entry least here write) at.k between a object.id at.legal spares
+      ∙ added.stands in
+      gives read there a.bucket object.stored added.versioning write.answer.number object.moment
+      (pick (Some object.id) (versions_at there a))
+      (outcome_is least there at.j read at.right_last
+      ∙ step_reads least there read.answer.number read.moment read.command a (Some object.id) _ reads stands)
+      (ap (judged (Some object.id)) stands ∙ picks_made added.versioning write.answer.number object.moment object.stored object.id)

@@ -1,4 +1,4 @@
--- Each version of the state was put by an entry of the history.
+-- Each object that stands was stored by an entry of the history.
 use Rattle.std.proofs.Common.{◌≡◌, ◌≢◌, refl, sym, ap, subst, ◌∙◌, ◌==◌, Bool, true, false, not, cond, ℕ, suc, ◌⊎◌, inl, inr, List, [], ◌∷◌, ◌++◌, append_assoc, append-nil, Option, Some, None, arith, Result, Ok, Err, find}
 use Rattle.std.proofs.lemmas.Bool.{eqb-true}
 use Rattle.std.proofs.lemmas.Bool.Decides.{nat_tests}
@@ -19,52 +19,35 @@ use Rattle.s3_records.specs.Laws.{ChangesFollowRules, OpeningIsEmpty}
 use Rattle.s3_records.specs.Places.{version_at, ChangesAreByPlace}
 use Rattle.s3_machine.specs.declared.command.Found.{Found}
 use Rattle.s3_machine.specs.declared.command.Outcome.TheVariants as outcomes
-use Rattle.s3_machine.specs.Effects.{Address, Contents, Asked, data_from, writes, reads, given, touched, is_refused}
+use Rattle.s3_machine.specs.Effects.{Address, Object, Read, writes, object_of, whole, reads, given, found_object, touched, is_refused}
 use Rattle.s3_machine.specs.History.{Entry, IsAnswer, Legal, after, after_entry}
-use Rattle.s3_machine.specs.Kept.{Spares, SparesVersion, Puts, OnlyPutsAreGiven}
+use Rattle.s3_machine.specs.Kept.{Spares, SparesVersion, Stores, WasStored, Stands, IsFoundUnder, EveryHistory, OnlyStoredStands, OnlyStoredIsGiven}
 use Rattle.s3_machine.specs.declared.command.Command.{Command}
 use Rattle.s3_machine.specs.declared.command.Command.TheVariants as commands
 use Rattle.s3_machine.specs.declared.command.KeyCommand.TheVariants as key_commands
 use Rattle.s3_terms.specs.Fault.{◌>>=◌}
 use Rattle.s3_machine.specs.Step.{State, found_in, shown_in, key_done, done, stepped, step}
 use Rattle.s3_machine.proofs.EffectLemmas.{Changes, after_line}
-use Rattle.s3_machine.proofs.HistoryLemmas.{Legal-append}
-use Rattle.s3_machine.proofs.KeptLemmas.{versions_at, outcome_is, same_address, entry_does, version_left}
+use Rattle.s3_machine.proofs.HistoryLemmas.{Legal-append, after-push}
+use Rattle.s3_machine.proofs.KeptLemmas.{versions_at, outcome_is, same_address, some_same, entry_does, version_left}
 
--- a version's data was put by one of these entries under this id, which no entry behind it touched
-pub record Origin (a : Address) (id : VersionId) (v : Version (List ℕ)) (d : Data (List ℕ)) (past : List Entry) : Type 0 where
-  pub before : List Entry
-  pub put : Entry
-  pub between : List Entry
-  pub parts : past ≡ before ++ put ∷ between
-  pub contents : Contents
-  pub puts : Puts a contents put
-  pub under : touched put.command put.answer.outcome ≡ Some id
-  pub holds : d ≡ data_from contents
-  pub moment : v.moment ≡ put.moment
-  pub spared : SparesVersion a id between
-
--- each version that stores something was put by one of these entries
-abbrev pub Known : State → List Entry → Type 0
-Known s past =
-    (a : Address) (id : VersionId) (v : Version (List ℕ)) (d : Data (List ℕ)) → version_at s a.bucket a.key id ≡ Some v → stored v ≡ Some d → Origin a id v d past
+-- each object that stands behind these entries was stored by one of them
+abbrev pub Known : ℕ → State → List Entry → Type 0
+Known least s past = (object : Object) → Stands (after least s past) object → WasStored least s past object
 
 spares_push : (a : Address) (id : VersionId) (es : List Entry) (e : Entry) → SparesVersion a id es → Spares a id e → SparesVersion a id (es ++ e ∷ [])
 spares_push a id [] e spares last = (last, tt)
 spares_push a id (x ∷ es) e spares last = (spares.0, spares_push a id es e spares.1 last)
 
-origin_push : (a : Address) (id : VersionId) (v : Version (List ℕ)) (d : Data (List ℕ)) (past : List Entry) (e : Entry) → Origin a id v d past → Spares a id e → Origin a id v d (past ++ e ∷ [])
-origin_push a id v d past e known spares = record {
+stored_push : (least : ℕ) (s : State) (past : List Entry) (object : Object) (e : Entry) → WasStored least s past object
+    → Spares object.address object.id e → WasStored least s (past ++ e ∷ []) object
+stored_push least s past object e known spares = record {
   before = known.before;
-  put = known.put;
+  write = known.write;
   between = known.between ++ e ∷ [];
-  parts = ap (λ es. es ++ e ∷ []) known.parts ∙ append_assoc known.before (known.put ∷ known.between) (e ∷ []);
-  contents = known.contents;
-  puts = known.puts;
-  under = known.under;
-  holds = known.holds;
-  moment = known.moment;
-  spared = spares_push a id known.between e known.spared spares;
+  parts = ap (λ es. es ++ e ∷ []) known.parts ∙ append_assoc known.before (known.write ∷ known.between) (e ∷ []);
+  stores = known.stores;
+  spared = spares_push object.address object.id known.between e known.spared spares;
 }
 
 -- two ids are the same or not
@@ -96,35 +79,36 @@ made_when Unversioned n t e v is = cc
 made_when Enabled n t e v is = cc
 made_when Suspended n t e v is = cc
 
-some_same : {X : Type 0} (x y : X) → ◌≡◌ {A = Option X} (Some x) (Some y) → x ≡ y
-some_same x y is = cc
-
-same_version : (v w : Version (List ℕ)) → ◌≡◌ {A = Option (Version (List ℕ))} (Some v) (Some w) → v ≡ w
-same_version v w is = cc
+-- objects with the same parts are the same
+same_object : (x y : Object) → x.address ≡ y.address → x.id ≡ y.id → x.moment ≡ y.moment → x.stored ≡ y.stored → x ≡ y
+same_object x y address id moment stored_same =
+    let built = λ (a : Address) (i : VersionId) (t : ℕ) (d : Data (List ℕ)).
+    ◌≡◌ {A = Object} (record { address = a; id = i; moment = t; stored = d }) y in
+    subst (λ (a : Address). built a x.id x.moment x.stored) (sym address)
+    (subst (λ (i : VersionId). built y.address i x.moment x.stored) (sym id)
+    (subst (λ (t : ℕ). built y.address y.id t x.stored) (sym moment)
+    (subst (λ (d : Data (List ℕ)). built y.address y.id y.moment d) (sym stored_same) refl)))
 
 module _ (places : ChangesAreByPlace (List ℕ)) (rules : ChangesFollowRules (List ℕ)) (least : ℕ) where
-  -- what stands at a place that an entry changed
-  origin_here : (s : State) (n : ℕ) (past : List Entry) (e : Entry) (answer : IsAnswer least s n e) (changes : Changes s e.answer.number e.moment e.command (step least s e.answer.number e.moment e.command))
-      (v : Version (List ℕ)) (d : Data (List ℕ)) → version_at (after_entry least s e) changes.address.bucket changes.address.key changes.id ≡ Some v → stored v ≡ Some d
-      → Origin changes.address changes.id v d (past ++ e ∷ [])
-  origin_here s n past e answer changes v d here has =
-      elim changes.stores [
-        | inl stores ↦
+  -- what stands at a place that an entry changed, it stored
+  stored_here : (s : State) (n : ℕ) (e : Entry) (object : Object) (answer : IsAnswer least s n e)
+      (changes : Changes s e.answer.number e.moment e.command (step least s e.answer.number e.moment e.command))
+      → object.address ≡ changes.address → object.id ≡ changes.id → Stands (after_entry least s e) object → Stores s e object
+  stored_here s n e object answer changes place under stands =
+      let there : version_at (after_entry least s e) changes.address.bucket changes.address.key changes.id ≡ Some stands.version =
+      sym (ap (λ (b : Address). version_at (after_entry least s e) b.bucket b.key changes.id) place)
+      ∙ sym (ap (version_at (after_entry least s e) object.address.bucket object.address.key) under) ∙ stands.there in
+      elim changes.adds [
+        | inl adds ↦
             let b = versioning_of s changes.address.bucket in
-            let is = same_version _ v (sym stores.2 ∙ sym changes.place.here ∙ here) in
-            record {
-              before = past;
-              put = e;
-              between = [];
-              parts = refl;
-              contents = stores.0;
-              puts = record { written = changes.written; brought = stores.1; accepted = ap is_refused (outcome_is least s n e answer) ∙ changes.accepted };
-              under = ap (touched e.command) (outcome_is least s n e answer) ∙ changes.touches;
-              holds = made_data b e.answer.number e.moment (data_from stores.0) d (ap stored is ∙ has);
-              moment = made_when b e.answer.number e.moment (data_from stores.0) v (ap Some is);
-              spared = tt;
-            }
-        | inr nothing ↦ let none = nothing.1 v (sym changes.place.here ∙ here) in absurd (cc)
+            let is = some_same _ stands.version (sym adds.makes ∙ sym changes.place.here ∙ there) in
+            let same = same_object (object_of s e.answer.number e.moment changes.address adds.what) object
+            (sym place)
+            (sym adds.under ∙ sym under)
+            (sym (made_when b e.answer.number e.moment adds.what stands.version (ap Some is)) ∙ stands.moment)
+            (sym (made_data b e.answer.number e.moment adds.what object.stored (ap stored is ∙ stands.holds))) in
+            record { by = adds.by ∙ ap Some same; accepted = ap is_refused (outcome_is least s n e answer) ∙ changes.accepted }
+        | inr nothing ↦ let none = nothing.empty stands.version (sym changes.place.here ∙ there) in let some = stands.holds in absurd (cc)
       ]
 
   spares_same : (s : State) (n : ℕ) (e : Entry) (a : Address) (id : VersionId) (answer : IsAnswer least s n e)
@@ -143,42 +127,49 @@ module _ (places : ChangesAreByPlace (List ℕ)) (rules : ChangesFollowRules (Li
   spares_id s n e a id answer changes other written accepted touches =
       other (cc (sym touches ∙ ap (touched e.command) (outcome_is least s n e answer) ∙ changes.touches))
 
-  known_push : (s : State) (n : ℕ) (past : List Entry) (e : Entry) → Known s past → IsAnswer least s n e → Known (after_entry least s e) (past ++ e ∷ [])
-  known_push s n past e known answer a id v d here has =
-      let goes_on = λ (spares : Spares a id e). origin_push a id v d past e (known a id v d (sym (version_left places rules least s n e a id answer spares) ∙ here) has) spares in
+  -- what stands behind an entry it stored, or it stood before, and the entry didn't touch its id
+  abbrev StoredOrStood : State → Entry → Object → Type 0
+  StoredOrStood s e object = Stores s e object ⊎ (Stands s object × Spares object.address object.id e)
+
+  stood : (s : State) (n : ℕ) (e : Entry) (object : Object) → IsAnswer least s n e → Stands (after_entry least s e) object
+      → Spares object.address object.id e → StoredOrStood s e object
+  stood s n e object answer stands spares =
+      let there = sym (version_left places rules least s n e object.address object.id answer spares) ∙ stands.there in
+      inr (record { version = stands.version; there = there; moment = stands.moment; holds = stands.holds }, spares)
+
+  stored_or_stood : (s : State) (n : ℕ) (e : Entry) (object : Object) → IsAnswer least s n e → Stands (after_entry least s e) object
+      → StoredOrStood s e object
+  stored_or_stood s n e object answer stands =
+      let a = object.address in
       elim (entry_does places rules least s n e answer) [
-        | inl same ↦ goes_on (spares_same s n e a id answer same.refused)
+        | inl same ↦ stood s n e object answer stands (spares_same s n e a object.id answer same.refused)
         | inr changes ↦
             elim (same_address a changes.address) [
               | inl place ↦
-                  elim (same_id id changes.id) [
-                    | inl under ↦
-                        let there = sym (ap (λ (b : Address). version_at (after_entry least s e) b.bucket b.key changes.id) place) ∙ sym (ap (version_at (after_entry least s e) a.bucket a.key) under) ∙ here in
-                        subst (λ (b : Address). Origin b id v d (past ++ e ∷ [])) (sym place)
-                        (subst (λ (i : VersionId). Origin changes.address i v d (past ++ e ∷ [])) (sym under) (origin_here s n past e answer changes v d there has))
-                    | inr other ↦ goes_on (spares_id s n e a id answer changes other)
+                  elim (same_id object.id changes.id) [
+                    | inl under ↦ inl (stored_here s n e object answer changes place under stands)
+                    | inr other ↦ stood s n e object answer stands (spares_id s n e a object.id answer changes other)
                   ]
-              | inr other ↦ goes_on (spares_address s e a id changes other)
+              | inr other ↦ stood s n e object answer stands (spares_address s e a object.id changes other)
             ]
       ]
 
-  pub known_after : (s : State) (n : ℕ) (past es : List Entry) → Known s past → Legal least s n es → Known (after least s es) (past ++ es)
-  known_after s n past [] known legal = subst (Known s) (sym (append-nil past)) known
-  known_after s n past (e ∷ es) known legal =
-      subst (Known (after least (after_entry least s e) es)) (append_assoc past (e ∷ []) es)
-      (known_after (after_entry least s e) (suc n) (past ++ e ∷ []) es (known_push s n past e known legal.0) legal.1)
+  known_push : (s : State) (n : ℕ) (past : List Entry) (e : Entry) → Known least s past → IsAnswer least (after least s past) n e
+      → Known least s (past ++ e ∷ [])
+  known_push s n past e known answer object stands =
+      let here = after least s past in
+      elim (stored_or_stood here n e object answer (subst (λ (t : State). Stands t object) (after-push least s past e) stands)) [
+        | inl stores ↦ record { before = past; write = e; between = []; parts = refl; stores = stores; spared = tt }
+        | inr before ↦ stored_push least s past object e (known object before.0) before.1
+      ]
 
--- the version that is found, and its id
-pub record Reads (s : State) (asked : Asked) (found : Found (List ℕ)) : Type 0 where
-  pub id : VersionId
-  pub named : (v : VersionId) → asked.version ≡ Some v → v ≡ id
-  pub shown : (v : VersionId) → found.shown ≡ Some v → v ≡ id
-  pub version : Version (List ℕ)
-  pub data_of_it : Data (List ℕ)
-  pub here : version_at s asked.address.bucket asked.address.key id ≡ Some version
-  pub has : stored version ≡ Some data_of_it
-  pub gives : found.stored ≡ data_of_it
-  pub moment : found.moment ≡ version.moment
+  pub known_after : (s : State) (n : ℕ) (past es : List Entry) → Known least s past → Legal least (after least s past) n es
+      → Known least s (past ++ es)
+  known_after s n past [] known legal = subst (Known least s) (sym (append-nil past)) known
+  known_after s n past (e ∷ es) known legal =
+      subst (Known least s) (append_assoc past (e ∷ []) es)
+      (known_after s (suc n) (past ++ e ∷ []) es (known_push s n past e known legal.0)
+      (subst (λ (t : State). Legal least t (suc n) es) (sym (after-push least s past e)) legal.1))
 
 found_passes : {X : Type 0} (p : X → Bool) (xs : List X) (x : X) → find p xs ≡ Some x → p x ≡ true
 found_passes p [] x is = absurd (cc)
@@ -213,18 +204,28 @@ judged_ok (Some id) (Some v) read ok =
     let is = read_ok (record { code = MethodNotAllowed; is_delete_marker = true }) v v.content read refl ok in
     (ap Some is.0, ap stored (sym is.0) ∙ is.1)
 
--- the id of the version that is asked for
+-- the version that is asked for stands under its id, which is the one that was named
 abbrev Under : List (Version (List ℕ)) → Option VersionId → Version (List ℕ) → Type 0
-Under vs asked v =
-    (id : VersionId) × ((w : VersionId) → asked ≡ Some w → w ≡ id) × (id_of v ≡ id) × (find (is_under id) vs ≡ Some v)
+Under vs asked v = ((w : VersionId) → asked ≡ Some w → w ≡ id_of v) × (find (is_under (id_of v)) vs ≡ Some v)
 
 under : IdsAreTold (List ℕ) → (vs : List (Version (List ℕ))) (asked : Option VersionId) (v : Version (List ℕ)) → asked_for asked vs ≡ Some v → Under vs asked v
 under ids [] None v is = absurd (cc)
 under ids (first ∷ rest) None v is =
-    let same = some_same first v is in
-    (id_of first, λ w none. absurd (cc), ap id_of (sym same), first_found (is_under (id_of first)) first rest (ids.0 first) ∙ is)
+    let found = first_found (is_under (id_of first)) first rest (ids.0 first) in
+    (λ w none. absurd (cc), subst (λ (x : Version (List ℕ)). find (is_under (id_of x)) (first ∷ rest) ≡ Some x) (some_same first v is) found)
 under ids vs (Some id) v is =
-    (id, λ w named. cc, ids.1 id v (found_passes (is_under id) vs v is), is)
+    let told = ids.1 id v (found_passes (is_under id) vs v is) in
+    (λ w named. cc, subst (λ (i : VersionId). find (is_under i) vs ≡ Some v) (sym told) is)
+
+-- what is picked stands
+picked_stands : IdsAreTold (List ℕ) → (s : State) (a : Address) (asked : Option VersionId) (read : Version (List ℕ) × Data (List ℕ))
+    → pick asked (versions_at s a) ≡ Ok read
+    → ((w : VersionId) → asked ≡ Some w → w ≡ id_of read.0)
+    × Stands s (record { address = a; id = id_of read.0; moment = read.0.moment; stored = read.1 })
+picked_stands ids s a asked read picks =
+    let ok = judged_ok asked (asked_for asked (versions_at s a)) read picks in
+    let there = under ids (versions_at s a) asked read.0 ok.0 in
+    (there.0, record { version = read.0; there = there.1; moment = refl; holds = ok.1 })
 
 -- a read that hands out a version found it
 given_of : (s : State) (name : List ℕ) (result : Result (Version (List ℕ) × Data (List ℕ)) Refusal) (found : Found (List ℕ))
@@ -233,57 +234,57 @@ given_of : (s : State) (name : List ℕ) (result : Result (Version (List ℕ) ×
 given_of s name (Ok read) found is = (read, refl, cc)
 given_of s name (Err refusal) found is = absurd (cc)
 
-step_given : (least : ℕ) (s : State) (n t : ℕ) (command : Command) (asked : Asked) (found : Found (List ℕ)) → reads command ≡ Some asked → given (step least s n t command).1 ≡ Some found
+step_given : (least : ℕ) (s : State) (n t : ℕ) (command : Command) (asked : Read) (found : Found (List ℕ)) → reads command ≡ Some asked
+    → given (step least s n t command).1 ≡ Some found
     → (read : Version (List ℕ) × Data (List ℕ)) × (pick asked.version (versions_at s asked.address) ≡ Ok read) × (found_in (versioning_of s asked.address.bucket) read ≡ found)
 unfolding done key_done
 step_given least s n t (commands.Key name key (key_commands.Get version)) asked found is gives =
-    let same : ◌≡◌ {A = Asked} (record { address = record { bucket = name; key = key }; version = version }) asked = cc in
-    let goal = λ (q : Asked). (read : Version (List ℕ) × Data (List ℕ)) × (pick q.version (versions_at s q.address) ≡ Ok read) × (found_in (versioning_of s q.address.bucket) read ≡ found) in
+    let same : whole (record { bucket = name; key = key }) version ≡ asked = cc in
+    let goal = λ (q : Read). (read : Version (List ℕ) × Data (List ℕ)) × (pick q.version (versions_at s q.address) ≡ Ok read)
+    × (found_in (versioning_of s q.address.bucket) read ≡ found) in
     subst goal same
-    (after_line (λ st. given st.1 ≡ Some found → goal (record { address = record { bucket = name; key = key }; version = version })) s (not (has_bucket s name)) NoSuchBucket
+    (after_line (λ st. given st.1 ≡ Some found → goal (whole (record { bucket = name; key = key }) version)) s
+    (not (has_bucket s name)) NoSuchBucket
     (key_done s n t name key (key_commands.Get version))
     (λ none. absurd (cc))
     (λ there ok. given_of s name (pick version (versions_of s name key)) found ok) gives)
 step_given least s n t _ asked found is gives = absurd (cc)
 
-reads_found : IdsAreTold (List ℕ) → (least : ℕ) (s : State) (n t : ℕ) (command : Command) (asked : Asked) (found : Found (List ℕ)) → reads command ≡ Some asked → given (step least s n t command).1 ≡ Some found → Reads s asked found
+reads_found : IdsAreTold (List ℕ) → (least : ℕ) (s : State) (n t : ℕ) (command : Command) (asked : Read) (found : Found (List ℕ))
+    → reads command ≡ Some asked → given (step least s n t command).1 ≡ Some found
+    → (id : VersionId) × IsFoundUnder id asked found × Stands s (found_object asked.address id found)
 reads_found ids least s n t command asked found is gives =
     let read = step_given least s n t command asked found is gives in
-    let ok = judged_ok asked.version (asked_for asked.version (versions_at s asked.address)) read.0 read.1 in
-    let id = under ids (versions_at s asked.address) asked.version read.0.0 ok.0 in
-    record {
-      id = id.0;
-      named = id.1;
-      shown = λ w shows. shown_is (versioning_of s asked.address.bucket) (id_of read.0.0) w (ap (λ (f : Found (List ℕ)). f.shown) read.2 ∙ shows) ∙ id.2;
-      version = read.0.0;
-      data_of_it = read.0.1;
-      here = id.3;
-      has = ok.1;
-      gives = ap (λ (f : Found (List ℕ)). f.stored) (sym read.2);
-      moment = ap (λ (f : Found (List ℕ)). f.moment) (sym read.2);
-    }
+    let stands = picked_stands ids s asked.address asked.version read.0 read.1 in (
+      id_of read.0.0,
+      record {
+        named = stands.0;
+        shown = λ w shows. shown_is (versioning_of s asked.address.bucket) (id_of read.0.0) w
+            (ap (λ (f : Found (List ℕ)). f.shown) read.2 ∙ shows);
+      },
+      subst (λ (f : Found (List ℕ)). Stands s (found_object asked.address (id_of read.0.0) f)) read.2 stands.1,
+    )
 
-nothing_known : OpeningIsEmpty (List ℕ) → (names : List (List ℕ)) → Known (opening names) []
-nothing_known empty names a id v d here has =
-    let none = ap (asked_for (Some id)) ((empty names a.bucket).empty a.key) in absurd (cc)
+-- at the opening nothing stands
+nothing_known : OpeningIsEmpty (List ℕ) → (least : ℕ) (names : List (List ℕ)) → Known least (opening names) []
+nothing_known empty least names object stands =
+    let none = ap (asked_for (Some object.id))
+    ((empty names object.address.bucket).empty object.address.key) in let some = stands.there in absurd (cc)
 
-pub only_puts_are_given : ChangesAreByPlace (List ℕ) → ChangesFollowRules (List ℕ) → IdsAreTold (List ℕ) → OpeningIsEmpty (List ℕ) → OnlyPutsAreGiven
-only_puts_are_given places rules ids empty least names n earlier later get asked found legal is gives =
-    let parts = Legal-append least (opening names) n earlier (get ∷ later) legal in
-    let there = after least (opening names) earlier in
-    let reading = reads_found ids least there get.answer.number get.moment get.command asked found is (ap given (sym (outcome_is least there _ get parts.1.0)) ∙ gives) in
-    let origin = known_after places rules least (opening names) n [] earlier (nothing_known empty names) parts.0 asked.address reading.id reading.version reading.data_of_it reading.here reading.has in
-    record {
-      id = reading.id;
-      named = reading.named;
-      shown = reading.shown;
-      before = origin.before;
-      put = origin.put;
-      between = origin.between;
-      parts = origin.parts;
-      contents = origin.contents;
-      puts = origin.puts;
-      under = origin.under;
-      made = record { stored = reading.gives ∙ origin.holds; moment = reading.moment ∙ origin.moment };
-      spared = origin.spared;
-    }
+module _ (places : ChangesAreByPlace (List ℕ)) (rules : ChangesFollowRules (List ℕ)) (empty : OpeningIsEmpty (List ℕ)) where
+  opened : (least : ℕ) (s : State) (n : ℕ) (names : List (List ℕ)) (es : List Entry) → s ≡ opening names → Legal least s n es
+      → Known least s es
+  opened least s n names es opens =
+      subst (λ (t : State). Legal least t n es → Known least t es) (sym opens) (known_after places rules least (opening names) n [] es
+      (nothing_known empty least names))
+
+  pub only_stored_stands : EveryHistory OnlyStoredStands
+  only_stored_stands least s n entries legal names object opens stands = opened least s n names entries opens legal object stands
+
+  pub only_stored_is_given : IdsAreTold (List ℕ) → EveryHistory OnlyStoredIsGiven
+  only_stored_is_given ids least s n entries legal names earlier later read asked found opens parts is gives =
+      let legal_there = Legal-append least s n earlier (read ∷ later) (subst (Legal least s n) parts legal) in
+      let there = after least s earlier in
+      let reading = reads_found ids least there read.answer.number read.moment read.command asked found is
+      (ap given (sym (outcome_is least there _ read legal_there.1.0)) ∙ gives) in
+      (reading.0, reading.1, opened least s n names earlier opens legal_there.0 (found_object asked.address reading.0 found) reading.2)

@@ -1,11 +1,11 @@
 -- What a command asks for, and what came of it, in words that every operation shares.
-use Rattle.std.specs.Prelude.{ℕ, Bool, true, false, List, Option, Some, None, option_map}
+use Rattle.std.specs.Prelude.{ℕ, Bool, true, false, not, List, Option, Some, None, option_map}
 use Rattle.std.specs.Option.{unwrap_or}
 use Rattle.s3_names.specs.declared.ids.VersionId.{VersionId}
 use Rattle.s3_names.specs.declared.ids.VersionId.TheVariants.{Null}
-use Rattle.s3_versions.specs.Metadata.{Entry}
 use Rattle.s3_versions.specs.declared.version.Data.{Data}
 use Rattle.s3_versions.specs.declared.version.Versioning.{Versioning}
+use Rattle.s3_versions.specs.Rules.{new_id}
 use Rattle.s3_records.specs.Catalogue.{versioning_of}
 use Rattle.s3_machine.specs.declared.command.BucketCommand.{BucketCommand}
 use Rattle.s3_machine.specs.declared.command.BucketCommand.TheVariants as bucket_commands
@@ -23,16 +23,6 @@ pub record Address : Type 0 where
   pub bucket : List ℕ
   pub key : List ℕ
 
--- what a put brings to be stored: a media type, metadata and a body
-pub record Contents : Type 0 where
-  pub content_type : List ℕ
-  pub metadata : List Entry
-  pub body : List ℕ
-
--- what is stored of it
-abbrev pub data_from : Contents → Data (List ℕ)
-data_from contents = data_of contents.content_type contents.metadata contents.body
-
 -- the address whose versions a command may change
 abbrev pub key_written : Address → KeyCommand → Option Address
 key_written address (key_commands.Put content_type metadata payload) = Some address
@@ -43,30 +33,58 @@ abbrev pub writes : Command → Option Address
 writes (commands.Key bucket key asked) = key_written (record { bucket = bucket; key = key }) asked
 writes other = None
 
--- what a command brings to be stored
-abbrev pub key_contents : KeyCommand → Option Contents
-key_contents (key_commands.Put content_type metadata payload) =
-    Some (record { content_type = content_type; metadata = metadata; body = payload })
-key_contents other = None
+-- the data that a command brings along, to be stored as they are
+abbrev pub key_brought : KeyCommand → Option (Data (List ℕ))
+key_brought (key_commands.Put content_type metadata payload) = Some (data_of content_type metadata payload)
+key_brought other = None
 
-abbrev pub contents_of : Command → Option Contents
-contents_of (commands.Key bucket key asked) = key_contents asked
-contents_of other = None
+abbrev pub brought : Command → Option (Data (List ℕ))
+brought (commands.Key bucket key asked) = key_brought asked
+brought other = None
 
--- the body that a command brings along
+-- the bytes that it brings
 abbrev pub brings : Command → Option (List ℕ)
-brings command = option_map (λ (contents : Contents). contents.body) (contents_of command)
+brings command = option_map (λ (what : Data (List ℕ)). what.body) (brought command)
+
+-- what is stored: where, as the version of which id, when, and which data
+pub record Object : Type 0 where
+  pub address : Address
+  pub id : VersionId
+  pub moment : ℕ
+  pub stored : Data (List ℕ)
+
+-- these data, as entry n stores them at moment t
+abbrev pub object_of : State → ℕ → ℕ → Address → Data (List ℕ) → Object
+object_of s n t address stored =
+    record { address = address; id = new_id (versioning_of s address.bucket) n; moment = t; stored = stored }
+
+-- the data that a command stores under its key, where it isn't refused in this state
+abbrev pub key_stored : State → Address → KeyCommand → Option (Data (List ℕ))
+key_stored s address (key_commands.Put content_type metadata payload) = Some (data_of content_type metadata payload)
+key_stored s address other = None
+
+-- the object that it stores as entry n at moment t
+abbrev pub stored_at : State → ℕ → ℕ → Address → KeyCommand → Option Object
+stored_at s n t address asked = option_map (object_of s n t address) (key_stored s address asked)
+
+abbrev pub stored_by : State → ℕ → ℕ → Command → Option Object
+stored_by s n t (commands.Key bucket key asked) = stored_at s n t (record { bucket = bucket; key = key }) asked
+stored_by s n t other = None
 
 -- what a command reads with its bytes: an address, and the version that it names, if it names one
-pub record Asked : Type 0 where
+pub record Read : Type 0 where
   pub address : Address
   pub version : Option VersionId
 
-abbrev pub key_read : Address → KeyCommand → Option Asked
-key_read address (key_commands.Get version) = Some (record { address = address; version = version })
+-- a read of all of it
+abbrev pub whole : Address → Option VersionId → Read
+whole address version = record { address = address; version = version }
+
+abbrev pub key_read : Address → KeyCommand → Option Read
+key_read address (key_commands.Get version) = Some (whole address version)
 key_read address other = None
 
-abbrev pub reads : Command → Option Asked
+abbrev pub reads : Command → Option Read
 reads (commands.Key bucket key asked) = key_read (record { bucket = bucket; key = key }) asked
 reads other = None
 
@@ -108,12 +126,20 @@ abbrev pub is_refused : Outcome → Bool
 is_refused (outcomes.Refused code is_delete_marker) = true
 is_refused other = false
 
--- the version that is handed out with its bytes
+-- the command succeeds
+abbrev pub succeeds : Outcome → Bool
+succeeds outcome = not (is_refused outcome)
+
+-- the version that is handed out with all its bytes
 abbrev pub given : Outcome → Option (Found (List ℕ))
 given (outcomes.Got found) = Some found
 given other = None
 
--- the tag under which a body is stored
+-- what was found of a version of this id
+abbrev pub found_object : Address → VersionId → Found (List ℕ) → Object
+found_object address id found = record { address = address; id = id; moment = found.moment; stored = found.stored }
+
+-- the tag under which something is stored
 abbrev pub acknowledged : Outcome → Option (List ℕ)
 acknowledged (outcomes.Put tag shown) = Some tag
 acknowledged other = None
@@ -122,18 +148,12 @@ acknowledged other = None
 abbrev pub told : Option VersionId → VersionId
 told shown = unwrap_or shown Null
 
--- the id whose version a put or a delete made, replaced or deleted: the one that it named, or the one that it was told
 abbrev pub told_id : Outcome → Option VersionId
 told_id (outcomes.Put tag shown) = Some (told shown)
 told_id (outcomes.Deleted shown is_delete_marker) = Some (told shown)
 told_id other = None
 
-abbrev pub key_touched : KeyCommand → Outcome → Option VersionId
-key_touched (key_commands.Put content_type metadata payload) outcome = told_id outcome
-key_touched (key_commands.Delete None) outcome = told_id outcome
-key_touched (key_commands.Delete (Some id)) outcome = Some id
-key_touched other outcome = None
-
+-- the id whose version a command made, replaced or deleted: the one that a delete named, or the one that it was told
 abbrev pub touched : Command → Outcome → Option VersionId
-touched (commands.Key bucket key asked) outcome = key_touched asked outcome
-touched other outcome = None
+touched (commands.Key bucket key (key_commands.Delete (Some id))) outcome = Some id
+touched other outcome = told_id outcome

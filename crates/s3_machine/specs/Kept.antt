@@ -1,18 +1,22 @@
--- What the machine keeps: what was acknowledged comes back and nothing else does, by its key and by its version; a
+-- What the machine keeps: what an entry stored comes back and nothing else does, by its key and by its version; a
 -- delete marker hides and takes nothing away; what was refused or only read changes nothing.
-use Rattle.std.specs.Prelude.{◌≡◌, ◌≢◌, ℕ, true, false, not, List, ◌∷◌, ◌++◌, Some, None, is_some}
+use Rattle.std.specs.Prelude.{◌≡◌, ◌≢◌, ◌⊎◌, ℕ, true, false, List, [], ◌∷◌, ◌++◌, Option, Some, None, is_some}
 use Rattle.std.specs.List.{AllByRecursion}
 use Rattle.s3_terms.specs.declared.code.Code.TheVariants.{NoSuchKey}
 use Rattle.s3_names.specs.declared.ids.VersionId.{VersionId}
-use Rattle.s3_segments.specs.Payload.{tag_of}
+use Rattle.s3_bodies.specs.Payload.{tag_of}
+use Rattle.s3_versions.specs.declared.version.Data.{Data}
+use Rattle.s3_versions.specs.declared.version.Version.{Version}
+use Rattle.s3_versions.specs.Rules.{stored}
 use Rattle.s3_records.specs.Catalogue.{opening}
+use Rattle.s3_records.specs.Places.{version_at}
 use Rattle.s3_machine.specs.declared.command.Command.TheVariants as commands
 use Rattle.s3_machine.specs.declared.command.KeyCommand.TheVariants as key_commands
 use Rattle.s3_machine.specs.declared.command.Found.{Found}
 use Rattle.s3_machine.specs.declared.command.Outcome.TheVariants as outcomes
 use Rattle.s3_machine.specs.Step.{State}
-use Rattle.s3_machine.specs.Effects.{Address, Contents, Asked, data_from, writes, contents_of, brings, reads, given, acknowledged, touched, is_refused, only_reads}
-use Rattle.s3_machine.specs.History.{Entry, IsAnswer, Legal, after_entry}
+use Rattle.s3_machine.specs.Effects.{Address, Object, Read, writes, brought, brings, object_of, stored_by, whole, reads, given, found_object, acknowledged, touched, is_refused, succeeds, only_reads}
+use Rattle.s3_machine.specs.History.{Entry, Legal, after}
 
 -- the entry, if it may change the versions of the address, is refused
 abbrev pub Leaves : Address → Entry → Type 0
@@ -31,74 +35,62 @@ Spares address id e =
 abbrev pub SparesVersion : Address → VersionId → List Entry → Type 0
 SparesVersion address id entries = AllByRecursion (Spares address id) entries
 
--- the entry put these contents under the address, and was not refused
-pub record Puts (address : Address) (contents : Contents) (e : Entry) : Type 0 where
-  pub written : writes e.command ≡ Some address
-  pub brought : contents_of e.command ≡ Some contents
+-- in this state the entry, which was not refused, stored this object
+pub record Stores (s : State) (e : Entry) (object : Object) : Type 0 where
+  pub by : stored_by s e.answer.number e.moment e.command ≡ Some object
   pub accepted : is_refused e.answer.outcome ≡ false
 
--- a version that was found is what the put of these contents made at moment t
-pub record IsMadeOf (contents : Contents) (t : ℕ) (found : Found (List ℕ)) : Type 0 where
-  pub stored : found.stored ≡ data_from contents
-  pub moment : found.moment ≡ t
+-- the object was stored by one of the entries, and none behind that one touched its id
+pub record WasStored (least : ℕ) (s : State) (entries : List Entry) (object : Object) : Type 0 where
+  pub before : List Entry
+  pub write : Entry
+  pub between : List Entry
+  pub parts : entries ≡ before ++ write ∷ between
+  pub stores : Stores (after least s before) write object
+  pub spared : SparesVersion object.address object.id between
 
--- the entry reads the current version of the address, or the version of an id
+-- the entry tells what it stored: where it writes, the id of the version, and the tag
+pub record Tells (object : Object) (e : Entry) : Type 0 where
+  pub written : writes e.command ≡ Some object.address
+  pub under : touched e.command e.answer.outcome ≡ Some object.id
+  pub tagged : acknowledged e.answer.outcome ≡ Some object.stored.tag
+
+-- the object stands in this state
+pub record Stands (s : State) (object : Object) : Type 0 where
+  pub version : Version (List ℕ)
+  pub there : version_at s object.address.bucket object.address.key object.id ≡ Some version
+  pub moment : version.moment ≡ object.moment
+  pub holds : stored version ≡ Some object.stored
+
+-- the entry reads all of the current version of the address, or of the version of an id
 abbrev pub ReadsKey : Address → Entry → Type 0
-ReadsKey address e = reads e.command ≡ Some (record { address = address; version = None })
+ReadsKey address e = reads e.command ≡ Some (whole address None)
 
 abbrev pub ReadsVersion : Address → VersionId → Entry → Type 0
-ReadsVersion address id e = reads e.command ≡ Some (record { address = address; version = Some id })
+ReadsVersion address id e = reads e.command ≡ Some (whole address (Some id))
 
--- it is answered what the put of these contents made at moment t
-abbrev pub IsGiven : Contents → ℕ → Entry → Type 0
-IsGiven contents t e = (found : Found (List ℕ)) × (given e.answer.outcome ≡ Some found) × IsMadeOf contents t found
+-- it is given these data, of moment t
+pub record IsGiven (t : ℕ) (what : Data (List ℕ)) (e : Entry) : Type 0 where
+  pub found : Found (List ℕ)
+  pub gives : given e.answer.outcome ≡ Some found
+  pub moment : found.moment ≡ t
+  pub holds : found.stored ≡ what
 
--- By key: in a legal history, a read of a key is answered what the last entry that changed its versions put, if that
--- was a put.
-abbrev pub PutsAreKept : Type 0
-PutsAreKept =
-    (least : ℕ) (s : State) (n : ℕ) (before between later : List Entry) (put get : Entry) (address : Address) (contents : Contents)
-    → Legal least s n (before ++ put ∷ between ++ get ∷ later)
-    → Puts address contents put
-    → LeavesKey address between
-    → ReadsKey address get
-    → IsGiven contents put.moment get
-
--- By version: in a legal history, a read of the version that a put made is answered what it put, as long as no entry
--- touches its id: one of a number is never made again, so as long as nobody deletes that version.
-abbrev pub VersionsAreKept : Type 0
-VersionsAreKept =
-    (least : ℕ) (s : State) (n : ℕ) (before between later : List Entry) (put get : Entry) (address : Address) (contents : Contents) (id : VersionId)
-    → Legal least s n (before ++ put ∷ between ++ get ∷ later)
-    → Puts address contents put
-    → touched put.command put.answer.outcome ≡ Some id
-    → SparesVersion address id between
-    → ReadsVersion address id get
-    → IsGiven contents put.moment get
-
--- a version that was found was put by one of these entries, and no entry behind that touched its id
-pub record WasPut (asked : Asked) (found : Found (List ℕ)) (entries : List Entry) : Type 0 where
-  pub id : VersionId
+-- the version that was found has this id: the one that was named, if one was, and the one that is shown, if it is
+pub record IsFoundUnder (id : VersionId) (asked : Read) (found : Found (List ℕ)) : Type 0 where
   pub named : (v : VersionId) → asked.version ≡ Some v → v ≡ id
   pub shown : (v : VersionId) → found.shown ≡ Some v → v ≡ id
-  pub before : List Entry
-  pub put : Entry
-  pub between : List Entry
-  pub parts : entries ≡ before ++ put ∷ between
-  pub contents : Contents
-  pub puts : Puts asked.address contents put
-  pub under : touched put.command put.answer.outcome ≡ Some id
-  pub made : IsMadeOf contents put.moment found
-  pub spared : SparesVersion asked.address id between
 
--- And nothing else: in a legal history from the opening state, what a read is answered was put before.
-abbrev pub OnlyPutsAreGiven : Type 0
-OnlyPutsAreGiven =
-    (least : ℕ) (names : List (List ℕ)) (n : ℕ) (earlier later : List Entry) (get : Entry) (asked : Asked) (found : Found (List ℕ))
-    → Legal least (opening names) n (earlier ++ get ∷ later)
-    → reads get.command ≡ Some asked
-    → given get.answer.outcome ≡ Some found
-    → WasPut asked found earlier
+-- the entry puts these data under the address, and was not refused
+pub record Puts (address : Address) (what : Data (List ℕ)) (e : Entry) : Type 0 where
+  pub written : writes e.command ≡ Some address
+  pub brings : brought e.command ≡ Some what
+  pub accepted : is_refused e.answer.outcome ≡ false
+
+-- How an entry comes to store an object in a state. Each operation that stores one has a case: a put stores what it
+-- brings.
+pub data Source (s : State) (e : Entry) (object : Object) : Type 0 where
+  Put : Puts object.address object.stored e → Source s e object
 
 -- the entry deletes the key, names no version, and makes a delete marker
 pub record Marks (address : Address) (e : Entry) : Type 0 where
@@ -106,38 +98,123 @@ pub record Marks (address : Address) (e : Entry) : Type 0 where
   pub id : VersionId
   pub marked : e.answer.outcome ≡ outcomes.Deleted (Some id) true
 
--- A delete marker hides: a read of the key is answered that there is no such key, and that it is a delete marker, until
--- an entry changes the versions of the key. That it takes nothing away is said by version: it touches its own id alone.
-abbrev pub MarkersHide : Type 0
-MarkersHide =
-    (least : ℕ) (s : State) (n : ℕ) (before between later : List Entry) (mark get : Entry) (address : Address)
-    → Legal least s n (before ++ mark ∷ between ++ get ∷ later)
-    → Marks address mark
-    → LeavesKey address between
-    → ReadsKey address get
-    → get.answer.outcome ≡ outcomes.Refused NoSuchKey true
+-- What holds of all legal histories.
+abbrev pub EveryHistory : (ℕ → State → List Entry → Type 0) → Type 0
+EveryHistory Law = (least : ℕ) (s : State) (n : ℕ) (entries : List Entry) → Legal least s n entries → Law least s entries
 
--- a right answer that accepts a body is under the tag of that body
-abbrev pub TagsAreOfBodies : Type 0
-TagsAreOfBodies =
-    (least : ℕ) (s : State) (n : ℕ) (e : Entry) (body : List ℕ)
-    → IsAnswer least s n e → brings e.command ≡ Some body → is_refused e.answer.outcome ≡ false
-    → acknowledged e.answer.outcome ≡ Some (tag_of body)
+-- The laws, of a history that begins at a state.
+module _ (least : ℕ) (s : State) (entries : List Entry) where
+  -- By key: a read of a key is given what the last entry that changed its versions stored, if that stored something.
+  abbrev pub StoredIsKept : Type 0
+  StoredIsKept =
+      (before between later : List Entry) (write read : Entry) (object : Object)
+      → entries ≡ before ++ write ∷ between ++ read ∷ later
+      → Stores (after least s before) write object
+      → LeavesKey object.address between
+      → ReadsKey object.address read
+      → IsGiven object.moment object.stored read
 
--- a right answer to a read hands out a version, or refuses
-abbrev pub ReadsGiveOrRefuse : Type 0
-ReadsGiveOrRefuse =
-    (least : ℕ) (s : State) (n : ℕ) (e : Entry) (asked : Asked)
-    → IsAnswer least s n e → reads e.command ≡ Some asked
-    → is_some (given e.answer.outcome) ≡ not (is_refused e.answer.outcome)
+  -- By version: a read of the version that an entry stored is given it, as long as no entry touches its id: one of a
+  -- number is never made again, so as long as nobody deletes that version.
+  abbrev pub VersionsAreKept : Type 0
+  VersionsAreKept =
+      (before between later : List Entry) (write read : Entry) (object : Object)
+      → entries ≡ before ++ write ∷ between ++ read ∷ later
+      → Stores (after least s before) write object
+      → SparesVersion object.address object.id between
+      → ReadsVersion object.address object.id read
+      → IsGiven object.moment object.stored read
 
--- a right answer that refuses leaves the state as it was
-abbrev pub RefusedEntriesChangeNothing : Type 0
-RefusedEntriesChangeNothing =
-    (least : ℕ) (s : State) (n : ℕ) (e : Entry)
-    → IsAnswer least s n e → is_refused e.answer.outcome ≡ true → after_entry least s e ≡ s
+  -- What is stored is told.
+  abbrev pub StoredIsTold : Type 0
+  StoredIsTold =
+      (before later : List Entry) (write : Entry) (object : Object)
+      → entries ≡ before ++ write ∷ later
+      → Stores (after least s before) write object
+      → Tells object write
 
--- a command that only reads leaves the state as it was, whatever it is answered
-abbrev pub ReadingEntriesChangeNothing : Type 0
-ReadingEntriesChangeNothing =
-    (least : ℕ) (s : State) (e : Entry) → only_reads e.command ≡ true → after_entry least s e ≡ s
+  -- And nothing else: where nothing stood at the beginning, each object that stands at the end was stored,
+  abbrev pub OnlyStoredStands : Type 0
+  OnlyStoredStands =
+      (names : List (List ℕ)) (object : Object)
+      → s ≡ opening names
+      → Stands (after least s entries) object
+      → WasStored least s entries object
+
+  -- and what a read is given was stored before it.
+  abbrev pub OnlyStoredIsGiven : Type 0
+  OnlyStoredIsGiven =
+      (names : List (List ℕ)) (earlier later : List Entry) (read : Entry) (asked : Read) (found : Found (List ℕ))
+      → s ≡ opening names
+      → entries ≡ earlier ++ read ∷ later
+      → reads read.command ≡ Some asked
+      → given read.answer.outcome ≡ Some found
+      → (id : VersionId) × IsFoundUnder id asked found × WasStored least s earlier (found_object asked.address id found)
+
+  -- A read of all of a version hands it out, or doesn't succeed.
+  abbrev pub ReadsGiveOrFail : Type 0
+  ReadsGiveOrFail =
+      (before later : List Entry) (read : Entry) (address : Address) (version : Option VersionId)
+      → entries ≡ before ++ read ∷ later
+      → reads read.command ≡ Some (whole address version)
+      → is_some (given read.answer.outcome) ≡ succeeds read.answer.outcome
+
+  -- A delete marker hides: a read of the key is answered that there is no such key, and that it is a delete marker, until
+  -- an entry changes the versions of the key. That it takes nothing away is said by version: it touches its own id alone.
+  abbrev pub MarkersHide : Type 0
+  MarkersHide =
+      (before between later : List Entry) (mark read : Entry) (address : Address)
+      → entries ≡ before ++ mark ∷ between ++ read ∷ later
+      → Marks address mark
+      → LeavesKey address between
+      → ReadsKey address read
+      → read.answer.outcome ≡ outcomes.Refused NoSuchKey true
+
+  -- An entry that is refused leaves the state as it was, and so does one that only reads.
+  abbrev pub QuietEntriesChangeNothing : Type 0
+  QuietEntriesChangeNothing =
+      (before later : List Entry) (e : Entry)
+      → entries ≡ before ++ e ∷ later
+      → ((is_refused e.answer.outcome ≡ true) ⊎ (only_reads e.command ≡ true))
+      → after least s (before ++ e ∷ []) ≡ after least s before
+
+  -- So a put that isn't refused comes back: its type, its metadata and its bytes, by key,
+  abbrev pub PutsAreKept : Type 0
+  PutsAreKept =
+      (before between later : List Entry) (put read : Entry) (address : Address) (what : Data (List ℕ))
+      → entries ≡ before ++ put ∷ between ++ read ∷ later
+      → Puts address what put
+      → LeavesKey address between
+      → ReadsKey address read
+      → IsGiven put.moment what read
+
+  -- and by the version that it is told;
+  abbrev pub PutVersionsAreKept : Type 0
+  PutVersionsAreKept =
+      (before between later : List Entry) (put read : Entry) (address : Address) (what : Data (List ℕ)) (id : VersionId)
+      → entries ≡ before ++ put ∷ between ++ read ∷ later
+      → Puts address what put
+      → touched put.command put.answer.outcome ≡ Some id
+      → SparesVersion address id between
+      → ReadsVersion address id read
+      → IsGiven put.moment what read
+
+  -- and what it is told is the tag of its bytes.
+  abbrev pub BodiesAreTagged : Type 0
+  BodiesAreTagged =
+      (before later : List Entry) (e : Entry) (body : List ℕ)
+      → entries ≡ before ++ e ∷ later
+      → brings e.command ≡ Some body
+      → is_refused e.answer.outcome ≡ false
+      → acknowledged e.answer.outcome ≡ Some (tag_of body)
+
+-- A put that isn't refused stores what it brings.
+abbrev pub PutsStoreTheirContents : Type 0
+PutsStoreTheirContents =
+    (s : State) (e : Entry) (address : Address) (what : Data (List ℕ))
+    → Puts address what e
+    → Stores s e (object_of s e.answer.number e.moment address what)
+
+-- What an entry stores has a source.
+abbrev pub StoredHasSource : Type 0
+StoredHasSource = (s : State) (e : Entry) (object : Object) → Stores s e object → Source s e object

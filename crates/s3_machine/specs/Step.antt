@@ -2,7 +2,7 @@
 -- Guide, "Using versioning in S3 buckets").
 use Rattle.std.specs.Prelude.{ℕ, Bool, true, false, not, List, length, Option, Some, None, find, Result, Ok, Err}
 use Rattle.std.specs.Option.{option_map, unwrap_or}
-use Rattle.s3_segments.specs.Payload.{tag_of}
+use Rattle.s3_bodies.specs.Payload.{tag_of}
 use Rattle.s3_terms.specs.declared.code.Code.TheVariants.{NoSuchBucket, BucketAlreadyOwnedByYou, BucketNotEmpty}
 use Rattle.s3_names.specs.declared.ids.VersionId.{VersionId}
 use Rattle.s3_versions.specs.Metadata.{Entry}

@@ -2,9 +2,9 @@
 ghost use Rattle.std.specs.Prelude.{◌≡◌, ◌≢◌, [], IfOk};
 ghost use Rattle.s3_documents.specs.Buckets.{IsBucketsText};
 
+use s3_bodies::Body;
 use s3_documents::buckets_document;
 use s3_records::ListedBucket;
-use s3_segments::Body;
 use s3_terms::NoMemory;
 use std::alloc::Global;
 use std::marker::Model;
@@ -38,7 +38,7 @@ impl BucketList {
         let text = buckets_document(alloc, rows.as_slice())?;
         Ok(BucketList {
             rows,
-            document: Body::new(text),
+            document: Body::of(alloc, text.as_slice())?,
         })
     }
 
@@ -49,11 +49,11 @@ impl BucketList {
         self.rows.as_slice()
     }
 
-    /// The document.
-    pub fn document(&self) -> &[u8]
+    /// The document, which is shared.
+    pub fn document(&self) -> &Body
         ensures { IsBucketsText self.now result.now }
     {
-        self.document.as_slice()
+        &self.document
     }
 
     /// The document by itself, which is moved and not copied.

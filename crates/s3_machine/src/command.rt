@@ -1,9 +1,9 @@
 //! What takes a turn at the machine, and what it is answered.
 
 use crate::BucketList;
+use s3_bodies::{Body, Payload};
 use s3_calendar::Moment;
 use s3_names::{BucketName, Key, Tag, VersionId};
-use s3_segments::{Body, Payload};
 use s3_terms::Code;
 use s3_versions::{ContentType, Data, Metadata, Versioning, VersioningStatus};
 

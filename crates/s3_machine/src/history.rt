@@ -2,10 +2,10 @@
 ghost use Rattle.std.specs.Prelude.{◌≡◌, ℕ, ◌+◌, List, [], ◌∷◌, ◌++◌, length};
 ghost use Rattle.s3_machine.specs.Step.{State};
 ghost use Rattle.s3_machine.specs.History.{Entry, IsAnswer, Legal, after, after_entry};
-ghost use Rattle.s3_machine.specs.Kept.{PutsAreKept, VersionsAreKept, TagsAreOfBodies, OnlyPutsAreGiven, ReadsGiveOrRefuse, MarkersHide, RefusedEntriesChangeNothing, ReadingEntriesChangeNothing};
+ghost use Rattle.s3_machine.specs.Kept.{EveryHistory, StoredIsKept, VersionsAreKept, StoredIsTold, OnlyStoredStands, OnlyStoredIsGiven, ReadsGiveOrFail, PutsStoreTheirContents, StoredHasSource, PutsAreKept, PutVersionsAreKept, BodiesAreTagged, MarkersHide, QuietEntriesChangeNothing};
 
+use s3_bodies::Body;
 use s3_records::{changes_are_by_place, changes_follow_rules, versions_stay_in_order};
-use s3_segments::Body;
 use s3_versions::{ids_differ, puts_are_current};
 
 /// A law, with nothing to run: a legal history with one more entry, whose answer is that of the next step, is legal, and
@@ -18,26 +18,26 @@ pub fn one_more_entry()
         → after least s (es ++ e ∷ []) ≡ after_entry least (after least s es) e }
 {}
 
-/// A law, with nothing to run: in a legal history the bytes, the media type, the metadata and the moment of a put that was
-/// acknowledged come back, with the tag of the bytes, which is the one that was acknowledged. They do at each get of
-/// their key before the next entry that changes its versions, and at each get of their version by its id before an entry
-/// that makes a version of that id again or deletes it.
-pub fn puts_are_kept()
-    ensures by_key { PutsAreKept }
-    ensures by_version { VersionsAreKept }
-    ensures tagged { TagsAreOfBodies }
+/// A law, with nothing to run: in a legal history what an entry stores comes back, with its moment. It does at each read of
+/// its key before the next entry that changes the key's versions, and at each read of its version by its id before an entry
+/// that makes a version of that id again or deletes it. The entry's answer tells that id, and the tag of what is stored.
+pub fn stored_is_kept()
+    ensures by_key { EveryHistory StoredIsKept }
+    ensures by_version { EveryHistory VersionsAreKept }
+    ensures told { EveryHistory StoredIsTold }
 {
     changes_are_by_place::<Body>();
     changes_follow_rules::<Body>();
     puts_are_current::<Body>();
 }
 
-/// A law, with nothing to run: in a legal history from the opening state, what a get is answered was put by an
-/// acknowledged put to its key, and no entry behind that replaced or deleted it; and a get that is not refused is
-/// answered a version.
-pub fn only_puts_are_given()
-    ensures given { OnlyPutsAreGiven }
-    ensures or_refused { ReadsGiveOrRefuse }
+/// A law, with nothing to run: in a legal history from the opening state, what stands was stored by an entry, and so was
+/// what a read is given, and no entry behind that one replaced or deleted it. A read of all of a version is given one, or
+/// doesn't succeed.
+pub fn only_stored_is_given()
+    ensures stands { EveryHistory OnlyStoredStands }
+    ensures given { EveryHistory OnlyStoredIsGiven }
+    ensures or_fails { EveryHistory ReadsGiveOrFail }
 {
     changes_are_by_place::<Body>();
     changes_follow_rules::<Body>();
@@ -45,10 +45,27 @@ pub fn only_puts_are_given()
     versions_stay_in_order::<Body>();
 }
 
+/// A law, with nothing to run: which data an entry stores, one clause an operation: a put stores what it brings. An entry
+/// that stores something is of one of these operations.
+pub fn stored_has_a_source()
+    ensures put { PutsStoreTheirContents }
+    ensures sources { StoredHasSource }
+{}
+
+/// A law, with nothing to run: so in a legal history the bytes, the media type, the metadata and the moment of a put that was
+/// acknowledged come back, by its key and by its version, with the tag of the bytes, which is the one that was acknowledged.
+pub fn puts_are_kept()
+    ensures by_key { EveryHistory PutsAreKept }
+    ensures by_version { EveryHistory PutVersionsAreKept }
+    ensures tagged { EveryHistory BodiesAreTagged }
+{
+    stored_is_kept();
+}
+
 /// A law, with nothing to run: in a legal history a delete marker hides its key until an entry changes the key's versions.
-/// That it takes nothing away is `puts_are_kept` by version.
+/// That it takes nothing away is `stored_is_kept` by version.
 pub fn delete_markers_hide()
-    ensures hidden { MarkersHide }
+    ensures hidden { EveryHistory MarkersHide }
 {
     changes_are_by_place::<Body>();
     changes_follow_rules::<Body>();
@@ -57,6 +74,5 @@ pub fn delete_markers_hide()
 
 /// A law, with nothing to run: an entry that is refused leaves the state as it was, and so does one that only reads.
 pub fn entries_change_nothing()
-    ensures refused { RefusedEntriesChangeNothing }
-    ensures reading { ReadingEntriesChangeNothing }
+    ensures quiet { EveryHistory QuietEntriesChangeNothing }
 {}

@@ -1,2 +1,3 @@
 pub mod WovenLemmas
 pub mod SentLemmas
+pub mod PartLemmas

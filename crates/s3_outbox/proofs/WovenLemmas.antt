@@ -114,15 +114,6 @@ pub reply_waits : (text head : List ℕ) (at taken : ℕ) (bodies : List Placed)
 reply_waits text head at taken bodies body new more s e f =
     rw (f, e) (waits_reply text head at taken bodies body s)
 
--- a reply whose body is copied in part behind its head, in a text that grew twice
-pub joined_text : (text head joined grown new : List ℕ) → grown ≡ text ++ head → new ≡ grown ++ joined → new ≡ text ++ (head ++ joined)
-joined_text text head joined grown new first second =
-    second ∙ ap (λ (xs : List ℕ). xs ++ joined) first ∙ append_assoc text head joined
-
-pub joined_reply : (before head joined rest body : List ℕ) → joined ++ rest ≡ body → before ++ ((head ++ joined) ++ rest) ≡ before ++ (head ++ body)
-joined_reply before head joined rest body is =
-    ap (λ (xs : List ℕ). before ++ xs) (append_assoc head joined rest ∙ ap (λ (xs : List ℕ). head ++ xs) is)
-
 -- the text in front is among what waits
 pub front_fits : (text : List ℕ) (at taken : ℕ) (bodies : List Placed) → AreSound text at taken bodies → text_front (length text) at bodies ≤ length (woven text at taken bodies)
 front_fits text at taken [] s = omega (arith, length-drop at text)

@@ -2,8 +2,8 @@
 //! somebody who takes their bytes.
 #![tactic(auto)]
 
-mod joined;
 mod outbox;
+mod parts;
 mod pending;
 mod placed;
 mod printed;

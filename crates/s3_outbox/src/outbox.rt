@@ -1,15 +1,18 @@
 //! What a connection has still to send.
 
 ghost use Rattle.std.specs.Prelude.{◌≡◌, ℕ, ◌<◌, ◌≤◌, Bool, true, false, List, [], ◌++◌, length, take, IfOk, OnOk, OnErr};
+ghost use Rattle.std.specs.Io.Slices.{io_slices_bytes};
 ghost use Rattle.s3_outbox.specs.Pending.{bytes_of};
 ghost use Rattle.s3_outbox.specs.Outbox.{nothing, with_room, with_reply, with_end, without, given_back};
 
+use crate::parts::alone;
 use crate::pending::Pending;
 use crate::printed::PrintedReply;
 use arrayvec::ArrayVec;
-use s3_segments::Body;
+use s3_bodies::Body;
 use s3_terms::NoMemory;
 use std::alloc::Global;
+use std::io::IoSlice;
 use std::marker::Model;
 
 /// How long the last text of all may be, in bytes. It is a refusal, which has no metadata, so it is short.
@@ -150,6 +153,21 @@ impl Outbox {
             &self.last.as_slice()[self.last_sent..]
         } else {
             replies
+        }
+    }
+
+    /// A beginning of what is unsent in the parts in which it lies, for one write: a text, and up to three blocks of the body
+    /// behind it. It is empty only where all is sent.
+    #[tactic(auto, using(crate::proofs::PartLemmas::beginning_fits))]
+    pub fn parts(&self) -> [IoSlice<'_>; 4]
+        ensures beginning { take (length (io_slices_bytes result)) self.now.unsent ≡ io_slices_bytes result }
+        ensures fits { length (io_slices_bytes result) ≤ length self.now.unsent }
+        ensures empty { io_slices_bytes result ≡ [] → self.now.unsent ≡ [] }
+    {
+        if self.replies.out().is_empty() {
+            alone(&self.last.as_slice()[self.last_sent..])
+        } else {
+            self.replies.parts()
         }
     }
 

@@ -3,15 +3,17 @@
 ghost use Rattle.std.specs.Prelude.{◌≡◌, ◌≢◌, ℕ, ◌+◌, ◌-◌, ◌<◌, ◌≤◌, List, [], ◌++◌, length, take, drop, IfOk, OnOk, OnErr, min};
 ghost use Rattle.std.specs.Vec.{vec_len, vec_capacity};
 ghost use Rattle.std.specs.VecDeque.{deque_len, deque_capacity};
+ghost use Rattle.std.specs.Io.Slices.{io_slices_bytes};
 ghost use Rattle.s3_outbox.specs.Pending.{bytes_of, waiting, AreInOrder, IsPartGone, IsSound, HasRoom, LeavesRoom, TakesNone, text_front, body_size};
 
-use crate::joined::join_small;
+use crate::parts::{alone, with_body};
 use crate::placed::{Placed, first_of, place};
 use crate::printed::PrintedReply;
-use s3_segments::Body;
+use s3_bodies::Body;
 use s3_terms::NoMemory;
 use std::alloc::Global;
 use std::collections::VecDeque;
+use std::io::IoSlice;
 
 /// How long the text of a reply may be, in bytes.
 pub(crate) const TEXT_LIMIT: usize = 4096;
@@ -66,11 +68,9 @@ impl Pending {
         ensures text_stays { vec_capacity self.old.text ≤ vec_capacity self.new.text }
         ensures bodies_stay { deque_capacity self.old.bodies ≤ deque_capacity self.new.bodies }
     {
-        let is_alone = self.text.is_empty();
         let Ok(()) = self.text.extend_from_slice(head) else {
             unreachable!()
         };
-        let body = join_small(&mut self.text, is_alone, body);
         place(&mut self.bodies, self.text.len(), body);
     }
 
@@ -83,9 +83,7 @@ impl Pending {
         ensures text_stays { vec_capacity self.old.text ≤ vec_capacity self.new.text }
         ensures bodies_stay { deque_capacity self.old.bodies ≤ deque_capacity self.new.bodies }
     {
-        let is_alone = self.text.is_empty();
         let body = reply.print(&mut self.text);
-        let body = join_small(&mut self.text, is_alone, body);
         place(&mut self.bodies, self.text.len(), body);
     }
 
@@ -101,9 +99,25 @@ impl Pending {
                 if self.at < first.behind {
                     &self.text[self.at..first.behind]
                 } else {
-                    &first.body.as_slice()[self.taken..]
+                    first.body.piece(self.taken as u64)
                 }
             }
+        }
+    }
+
+    // The bytes in front that go out in one write.
+    pub(crate) fn parts(&self) -> [IoSlice<'_>; 4]
+        requires sound { IsSound self.now }
+        ensures beginning { take (length (io_slices_bytes result)) (waiting self.now) ≡ io_slices_bytes result }
+        ensures empty { io_slices_bytes result ≡ [] → waiting self.now ≡ [] }
+    {
+        match first_of(&self.bodies) {
+            None => alone(&self.text[self.at..]),
+            Some(first) => with_body(
+                &self.text[self.at..first.behind],
+                &first.body,
+                self.taken as u64,
+            ),
         }
     }
 
@@ -169,7 +183,7 @@ impl Pending {
     {
         match first_of(&self.bodies) {
             None => 0,
-            Some(first) => first.body.as_slice().len(),
+            Some(first) => first.body.size() as usize,
         }
     }
 
@@ -240,11 +254,7 @@ impl Pending {
         let mut at = self.at;
         let mut taken = self.taken;
         for placed in self.bodies.iter() {
-            add(
-                all,
-                &self.text[at..placed.behind],
-                &placed.body.as_slice()[taken..],
-            )?;
+            add(all, &self.text[at..placed.behind], &placed.body, taken)?;
             at = placed.behind;
             taken = 0;
         }
@@ -253,11 +263,12 @@ impl Pending {
     }
 }
 
-// Puts a copy of a text and of a body behind the others.
-fn add(all: &mut Vec<u8>, text: &[u8], body: &[u8]) -> Result<(), NoMemory>
-    ensures value { OnOk result (all.new.items ≡ all.old.items ++ («text».now ++ body.now)) }
+// Puts a copy of a text and of a body behind the others, from so many bytes of the body on.
+fn add(all: &mut Vec<u8>, text: &[u8], body: &Body, taken: usize) -> Result<(), NoMemory>
+    requires { taken ≤ length body.now }
+    ensures { OnOk result (all.new.items ≡ all.old.items ++ («text».now ++ drop taken body.now)) }
 {
     all.extend_from_slice(text)?;
-    all.extend_from_slice(body)?;
+    body.copy_to(taken as u64, all)?;
     Ok(())
 }

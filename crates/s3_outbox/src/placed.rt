@@ -4,7 +4,7 @@ ghost use Rattle.std.specs.Prelude.{◌≡◌, ◌+◌, ◌<◌, [], ◌∷◌, 
 ghost use Rattle.std.specs.VecDeque.{deque_len, deque_capacity};
 ghost use Rattle.s3_outbox.specs.Pending.{placed};
 
-use s3_segments::Body;
+use s3_bodies::Body;
 use std::collections::VecDeque;
 
 /// A body, and how many bytes of the text stand before it.

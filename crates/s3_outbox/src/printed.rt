@@ -4,7 +4,7 @@ ghost use Rattle.std.specs.Prelude.{◌≡◌, ℕ, ◌+◌, ◌≤◌, List, �
 ghost use Rattle.std.specs.Vec.{vec_len, vec_capacity};
 ghost use Rattle.s3_outbox.specs.Pending.{bytes_of};
 
-use s3_segments::Body;
+use s3_bodies::Body;
 
 /// A reply that is printed where it waits to be sent.
 pub trait PrintedReply {

@@ -7,7 +7,7 @@ ghost use Rattle.s3_aws_chunked.specs.Reader.{Failed, IsDone, Stands, said_at_en
 ghost use Rattle.s3_payloads.specs.Outcome.{EndedTo, FedTo, finished, part_of};
 
 use s3_aws_chunked::{ChunkReader, readers_judge};
-use s3_segments::{Payload, PayloadBuilder};
+use s3_bodies::{Payload, PayloadBuilder};
 use s3_signing::Verified;
 use s3_terms::Code;
 use std::alloc::Global;
@@ -31,7 +31,7 @@ impl ChunksReader {
     {
         ChunksReader {
             chunks: ChunkReader::new(verified, encoded, decoded),
-            payload: PayloadBuilder::new(alloc),
+            payload: PayloadBuilder::new(alloc, decoded),
         }
     }
 

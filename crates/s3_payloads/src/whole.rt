@@ -8,7 +8,7 @@ ghost use Rattle.s3_payloads.specs.Verdict.{checked_data, has_digest, has_hash};
 ghost use Rattle.s3_payloads.specs.Whole.{WholeEnded, WholeFed, WholeStands, EndedAt, FedAt, FinishedAt, IsStage, answered, at_stage, body_part, told, verdict_on, with_bytes};
 
 use crate::running_hash::RunningHash;
-use s3_segments::{Payload, PayloadBuilder, Sink};
+use s3_bodies::{Payload, PayloadBuilder, Sink};
 use s3_terms::{Code, NoMemory};
 use std::alloc::Global;
 use std::marker::Model;
@@ -73,7 +73,7 @@ impl WholeReader {
             hash,
             digest,
             size,
-            payload: PayloadBuilder::new(alloc),
+            payload: PayloadBuilder::new(alloc, size),
             stage: Stage::Reading,
         }
     }

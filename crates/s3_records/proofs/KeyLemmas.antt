@@ -1,14 +1,11 @@
 -- The versions under a key, as they change.
-use Rattle.std.proofs.Common.{◌≡◌, refl, ap, ◌∙◌, ℕ, List, [], ◌∷◌, Some, None, Result, Ok, Err, OnOk, OnErr}
+use Rattle.std.proofs.Common.{◌≡◌, refl, ap, ◌∙◌, ℕ, List, [], ◌∷◌, Some, Result, Ok, Err, OnOk, OnErr}
 use Rattle.std.specs.BTreeMap.{BTreeMap, WritesThrough}
 use Rattle.std.specs.FinMap as map
 use Rattle.s3_text.specs.Order.{byte_order}
 use Rattle.s3_names.specs.declared.ids.VersionId.{VersionId}
-use Rattle.s3_versions.specs.declared.version.Content.{Content}
 use Rattle.s3_versions.specs.declared.version.Version.{Version}
-use Rattle.s3_versions.specs.declared.version.Versioning.{Versioning}
-use Rattle.s3_versions.specs.declared.version.Versioning.TheVariants.{Unversioned, Enabled, Suspended}
-use Rattle.s3_versions.specs.Rules.{after_adding, replaced, without}
+use Rattle.s3_versions.specs.Rules.{without}
 use Rattle.s3_records.specs.Catalogue.{Keys}
 use Rattle.s3_records.specs.Changes.{with_versions}
 use Rattle.s3_text.proofs.MapLemmas.{value_at, made_by_write, put_again}
@@ -26,24 +23,12 @@ pub on_err : {T E P : Type 0} (r : Result T E) → P → OnErr r P
 on_err (Ok x) p = tt
 on_err (Err e) p = p
 
--- where something is added, a key has versions
-pub with_versions-added : {B : Type 0} (keys : Keys B) (key : List ℕ) (b : Versioning) (n t : ℕ) (content : Content B) (vs : List (Version B)) → map.insert keys key (after_adding b n t content vs) ≡ with_versions keys key (after_adding b n t content vs)
-with_versions-added keys key Unversioned n t content vs = refl
-with_versions-added keys key Enabled n t content vs = refl
-with_versions-added keys key Suspended n t content vs = refl
-
 -- a tree in which the value at a key was changed, or was left
 pub written : {X : Type 0} (before after : BTreeMap (List ℕ) X) (m : map.FinMap byte_order X) (k : List ℕ) (old new w : X) → map.from_entries before.entries ≡ m → Some old ≡ value_at before.entries k → WritesThrough byte_order (byte_order k) before new after → new ≡ w → map.from_entries after.entries ≡ map.insert m k w
 written before after m k old new w view found writes is = made_by_write before after m k old new view found writes ∙ ap (map.insert m k) is
 
 pub left : {X : Type 0} (before after : BTreeMap (List ℕ) X) (m : map.FinMap byte_order X) (k : List ℕ) (old new : X) → map.from_entries before.entries ≡ m → Some old ≡ value_at before.entries k → map.get m k ≡ Some old → WritesThrough byte_order (byte_order k) before new after → new ≡ old → map.from_entries after.entries ≡ m
 left before after m k old new view found there writes is = written before after m k old new old view found writes is ∙ put_again m k old there
-
--- of no versions, none goes
-pub replaced-none : {B : Type 0} (b : Versioning) → replaced {B = B} b [] ≡ None
-replaced-none Unversioned = refl
-replaced-none Enabled = refl
-replaced-none Suspended = refl
 
 -- where versions are left the key stays, and where none are it goes
 pub with_versions-some : {B : Type 0} (keys : Keys B) (key : List ℕ) (vs : List (Version B)) → (vs ≡ [] → ⊥) → map.insert keys key vs ≡ with_versions keys key vs

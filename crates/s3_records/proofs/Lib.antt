@@ -1,5 +1,4 @@
 pub mod CatalogueLemmas
-pub mod FillingLemmas
 pub mod KeyLemmas
 pub mod LawLemmas
 pub mod MapLemmas

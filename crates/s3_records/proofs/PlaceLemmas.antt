@@ -1,5 +1,5 @@
 -- What changes do at one place.
-use Rattle.std.proofs.Common.{◌≡◌, refl, sym, ap, ◌∙◌, ◌≢◌, ◌⊎◌, inl, inr, IsTrue, Bool, true, false, ℕ, ◌+◌, List, [], Option, Some, None, is_some, option_map, arith}
+use Rattle.std.proofs.Common.{◌≡◌, refl, sym, ap, ◌∙◌, ◌⊎◌, inl, inr, IsTrue, true, false, ℕ, ◌+◌, List, [], Option, Some, None, is_some, arith}
 use Rattle.std.proofs.lemmas.Bool.{false≢true}
 use Rattle.std.specs.FinMap.{get, get-empty}
 use Rattle.std.specs.Ordering.{eq_by_cmp}
@@ -8,14 +8,12 @@ use Rattle.s3_text.proofs.MapLemmas.{tied_equal}
 use Rattle.s3_names.specs.declared.ids.VersionId.{VersionId}
 use Rattle.s3_versions.specs.declared.version.Content.TheVariants.{Stored}
 use Rattle.s3_versions.specs.declared.version.Version.{Version}
-use Rattle.s3_versions.specs.declared.version.VersioningStatus.{VersioningStatus}
-use Rattle.s3_versions.specs.Rules.{asked_for, is_new_number, new_id}
+use Rattle.s3_versions.specs.Rules.{asked_for, is_new_number}
 use Rattle.s3_versions.specs.Laws.{OneIdChanges, AddsUnderNewId, DeletesUnderNewId, OneVersionGoes, NextIsNew}
-use Rattle.s3_versions.specs.Laws as versions
-use Rattle.s3_records.specs.Catalogue.{Catalogue, Bucket, new_bucket, opening, has_bucket, versions_in, versions_of, versioning_of, found_versions}
+use Rattle.s3_records.specs.Catalogue.{Catalogue, Bucket, new_bucket, has_bucket, versions_in, versions_of, versioning_of, found_versions}
 use Rattle.s3_records.specs.Changes.{bucket_added, bucket_dropped, versioning_changed, version_put, key_deleted, version_dropped}
 use Rattle.s3_records.specs.Laws.{SameElsewhere, SameKeysElsewhere}
-use Rattle.s3_records.specs.Places.{SameVersions, OnePlaceChanges, PlacesChange, ChangesAreByPlace, AreBelow, NumbersStayBelow, OpeningIsBelow}
+use Rattle.s3_records.specs.Places.{SameVersions, OnePlaceChanges, ChangesAreByPlace, AreBelow, NumbersStayBelow, OpeningIsBelow}
 use Rattle.s3_records.proofs.MapLemmas.{get-put_here}
 use Rattle.s3_records.proofs.LawLemmas.{differs, get-remove_here, changes_are_local, changes_name_one_key, changes_follow_rules, switches_keep_keys, empty_has_nothing, opening_is_empty}
 

@@ -1,6 +1,6 @@
 -- The catalogue: which buckets there are and what is under their keys (Amazon S3 User Guide, "Buckets overview"
--- and "Using versioning in S3 buckets"). What stands for the bytes is left open: in the rows of a keeper it is a
--- number, in the state of a server the bytes themselves.
+-- and "Using versioning in S3 buckets"). What stands for the bytes is left open: in the state of a server it is the
+-- bytes themselves.
 use Rattle.std.specs.Prelude.{ℕ, ◌==◌, Bool, true, List, [], ◌∷◌, map as each, Option, Some, None, is_some, option_map}
 use Rattle.std.specs.FinMap as map
 use Rattle.s3_text.specs.Order.{byte_order}

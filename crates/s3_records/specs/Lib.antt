@@ -1,7 +1,6 @@
 pub mod Catalogue
 pub mod Changes
 pub mod Codes
-pub mod Filling
 pub mod Laws
 pub use Rattle.s3_versions.specs.Rules
 pub mod Places

@@ -1,11 +1,12 @@
 //! One bucket, in memory.
-ghost use Rattle.std.specs.Prelude.{◌≡◌, ◌≢◌, None, IfOk, OnOk, OnErr, IsTrue, find};
+ghost use Rattle.std.specs.Prelude.{◌≡◌, ◌≢◌, None, OnOk, OnErr, IsTrue, find};
 ghost use Rattle.std.specs.Option.{option_copied};
 ghost use Rattle.std.specs.FinMap as map;
 ghost use Rattle.s3_versions.specs.Rules.{is_under, replaced, is_new_number};
 
 use crate::keys::KeyMap;
 use crate::records::BucketFacts;
+use s3_bodies::Body;
 use s3_calendar::Moment;
 use s3_names::{Key, VersionId};
 use s3_terms::NoMemory;
@@ -22,14 +23,14 @@ pub(crate) struct StoredBucket {
 }
 
 impl Model for StoredBucket {
-    ghost use Rattle.std.specs.Prelude.{ℕ};
-    ghost use Rattle.std.specs.Coded.{coded_ℕ};
+    ghost use Rattle.std.specs.Prelude.{ℕ, List};
+    ghost use Rattle.s3_versions.specs.Codes.{coded_bytes};
     ghost use Rattle.s3_records.specs.Catalogue.{Bucket};
     ghost use Rattle.s3_records.specs.Codes.{coded_bucket};
 
-    ghost Value = { Bucket ℕ };
+    ghost Value = { Bucket (List ℕ) };
 
-    ghost coded = { coded_bucket coded_ℕ };
+    ghost coded = { coded_bucket coded_bytes };
 
     ghost view = { λ b. record { made = b.made; versioning = b.versioning; keys = b.keys } };
 }
@@ -67,7 +68,7 @@ impl StoredBucket {
     }
 
     /// The versions under the key; `None` where there are none.
-    pub(crate) fn versions(&self, key: &Key) -> Option<&Versions<u64>>
+    pub(crate) fn versions(&self, key: &Key) -> Option<&Versions<Body>>
         ensures { option_copied result ≡ map.get self.now.keys key.now }
     {
         self.keys.get(key)
@@ -80,7 +81,7 @@ impl StoredBucket {
         self.versioning = status.versioning();
     }
 
-    /// Puts a version under the key, and answers the one that goes. `NoMemory`, which comes only where none
+    /// Puts a version under the key, and drops the one that goes. `NoMemory`, which comes only where none
     /// goes, leaves the bucket as it was.
     pub(crate) fn put(
         &mut self,
@@ -88,13 +89,12 @@ impl StoredBucket {
         key: Key,
         number: u64,
         moment: Moment,
-        stored: Data<u64>,
-    ) -> Result<Option<Version<u64>>, NoMemory>
+        stored: Data<Body>,
+    ) -> Result<(), NoMemory>
         requires { IsTrue (is_new_number number (versions_at self.old.keys key)) }
         ensures ok { OnOk result (self.new ≡ put_in key number moment stored self.old) }
-        ensures gone { IfOk result (λ gone. gone ≡ replaced self.old.versioning (versions_at self.old.keys key)) }
         ensures err { OnErr result (self.new ≡ self.old) }
-        ensures memory { OnErr result (replaced self.old.versioning (versions_at self.old.keys key) ≡ None) }
+        ensures memory { OnErr result (replaced self.old.versioning number (versions_at self.old.keys key) ≡ None) }
     {
         let content = Content::Stored(stored);
         let versioning = self.versioning;
@@ -102,7 +102,7 @@ impl StoredBucket {
             .add(alloc, key, versioning, number, moment, content)
     }
 
-    /// Deletes the key without naming a version, and answers the one that goes. `NoMemory`, which comes only
+    /// Deletes the key without naming a version, and drops the one that goes. `NoMemory`, which comes only
     /// where none goes and a delete marker has to be held, leaves the bucket as it was.
     pub(crate) fn delete(
         &mut self,
@@ -110,16 +110,18 @@ impl StoredBucket {
         key: Key,
         number: u64,
         moment: Moment,
-    ) -> Result<Option<Version<u64>>, NoMemory>
+    ) -> Result<(), NoMemory>
         requires { IsTrue (is_new_number number (versions_at self.old.keys key)) }
         ensures ok { OnOk result (self.new ≡ delete_in key number moment self.old) }
-        ensures gone { IfOk result (λ gone. gone ≡ replaced self.old.versioning (versions_at self.old.keys key)) }
         ensures err { OnErr result (self.new ≡ self.old) }
-        ensures memory { OnErr result (replaced self.old.versioning (versions_at self.old.keys key) ≡ None) }
+        ensures memory { OnErr result (replaced self.old.versioning number (versions_at self.old.keys key) ≡ None) }
         ensures held { OnErr result (self.old.versioning ≢ Versioning.Unversioned) }
     {
         match self.versioning {
-            Versioning::Unversioned => Ok(self.keys.drop_version(&key, VersionId::Null)),
+            Versioning::Unversioned => {
+                let _ = self.keys.drop_version(&key, VersionId::Null);
+                Ok(())
+            }
             Versioning::Enabled | Versioning::Suspended => {
                 let content = Content::DeleteMarker;
                 self.keys
@@ -128,8 +130,8 @@ impl StoredBucket {
         }
     }
 
-    /// Drops the version of this id under the key, and answers it. Takes no memory.
-    pub(crate) fn drop_version(&mut self, key: &Key, id: VersionId) -> Option<Version<u64>>
+    /// Takes out the version of this id under the key, and answers it. Takes no memory.
+    pub(crate) fn drop_version(&mut self, key: &Key, id: VersionId) -> Option<Version<Body>>
         ensures value { self.new ≡ drop_in key.now id self.old }
         ensures gone { result ≡ find (is_under id) (versions_at self.old.keys key.now) }
     {

@@ -4,6 +4,7 @@ ghost use Rattle.std.specs.Option.{option_copied};
 ghost use Rattle.std.specs.FinMap as map;
 ghost use Rattle.s3_versions.specs.Rules.{is_under, after_adding, after_delete_version, replaced, is_new_number};
 
+use s3_bodies::Body;
 use s3_calendar::Moment;
 use s3_names::{Key, VersionId};
 use s3_terms::NoMemory;
@@ -16,19 +17,19 @@ use std::marker::Model;
 /// versions.
 #[derive(Drop)]
 pub(crate) struct KeyMap {
-    by_key: BTreeMap<Key, Versions<u64>>,
+    by_key: BTreeMap<Key, Versions<Body>>,
 }
 
 impl Model for KeyMap {
-    ghost use Rattle.std.specs.Prelude.{ℕ};
-    ghost use Rattle.std.specs.Coded.{coded_ℕ};
+    ghost use Rattle.std.specs.Prelude.{ℕ, List};
     ghost use Rattle.std.specs.FinMap as map;
+    ghost use Rattle.s3_versions.specs.Codes.{coded_bytes};
     ghost use Rattle.s3_records.specs.Catalogue.{Keys};
     ghost use Rattle.s3_records.specs.Codes.{coded_keys};
 
-    ghost Value = { Keys ℕ };
+    ghost Value = { Keys (List ℕ) };
 
-    ghost coded = { coded_keys coded_ℕ };
+    ghost coded = { coded_keys coded_bytes };
 
     ghost view = { λ keys. map.from_entries keys.by_key.entries };
 }
@@ -54,7 +55,7 @@ impl KeyMap {
     }
 
     /// The versions under the key; `None` where there are none.
-    pub(crate) fn get(&self, key: &Key) -> Option<&Versions<u64>>
+    pub(crate) fn get(&self, key: &Key) -> Option<&Versions<Body>>
         ensures { option_copied result ≡ map.get self.now key.now }
     {
         self.by_key.get(key)
@@ -69,27 +70,26 @@ impl KeyMap {
         versioning: Versioning,
         number: u64,
         moment: Moment,
-        content: Content<u64>,
-    ) -> Result<Option<Version<u64>>, NoMemory>
+        content: Content<Body>,
+    ) -> Result<(), NoMemory>
         requires { IsTrue (is_new_number number (versions_at self.old key)) }
         ensures ok { OnOk result (self.new
             ≡ with_versions self.old key (after_adding versioning number moment content (versions_at self.old key))) }
-        ensures gone { IfOk result (λ gone. gone ≡ replaced versioning (versions_at self.old key)) }
         ensures err { OnErr result (self.new ≡ self.old) }
-        ensures memory { OnErr result (replaced versioning (versions_at self.old key) ≡ None) }
+        ensures memory { OnErr result (replaced versioning number (versions_at self.old key) ≡ None) }
     {
         match self.by_key.get_mut(&key) {
             Some(versions) => versions.add(versioning, number, moment, content),
             None => {
                 let versions = first_version(alloc, versioning, number, moment, content)?;
                 self.by_key.insert(key, versions)?;
-                Ok(None)
+                Ok(())
             }
         }
     }
 
     /// Takes the version of this id from those under the key, and answers it. Takes no memory.
-    pub(crate) fn drop_version(&mut self, key: &Key, id: VersionId) -> Option<Version<u64>>
+    pub(crate) fn drop_version(&mut self, key: &Key, id: VersionId) -> Option<Version<Body>>
         ensures value { self.new
             ≡ with_versions self.old key.now (after_delete_version id (versions_at self.old key.now)) }
         ensures gone { result ≡ find (is_under id) (versions_at self.old key.now) }
@@ -111,8 +111,8 @@ fn first_version(
     versioning: Versioning,
     number: u64,
     moment: Moment,
-    content: Content<u64>,
-) -> Result<Versions<u64>, NoMemory>
+    content: Content<Body>,
+) -> Result<Versions<Body>, NoMemory>
     ensures { IfOk result (λ versions. versions ≡ after_adding versioning number moment content []) }
 {
     let mut versions = Versions::new(alloc);

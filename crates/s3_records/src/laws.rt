@@ -1,11 +1,8 @@
 //! Laws of the catalogue: what every change keeps, with nothing to run.
 ghost use Rattle.s3_records.specs.Laws.{ChangesAreLocal, ChangesNameOneKey, ChangesFollowRules, SwitchesKeepKeys, VersionsStayInOrder, OpeningIsEmpty, EmptyHasNothing, KeysStayFilled, OthersHaveSomething};
 ghost use Rattle.s3_records.specs.Places.{ChangesAreByPlace, NumbersStayBelow, OpeningIsBelow};
-ghost use Rattle.s3_records.specs.Filling.{CataloguesAreAlike, CatalogueChangesAreAlike, OpeningsAreAlike, BytesAreByVersion};
 
-use s3_versions::{
-    ids_differ, one_id_changes, one_version_goes, rules_ignore_bytes, stay_versions,
-};
+use s3_versions::{one_id_changes, one_version_goes, stay_versions};
 
 /// A law, with nothing to run: a change leaves every bucket but the one that it names, and one that names a
 /// key leaves every other key of that bucket, its moment and its versioning.
@@ -55,17 +52,4 @@ pub fn numbers_stay_below<B>()
     ensures opening { OpeningIsBelow B }
 {
     stay_versions::<B>();
-}
-
-/// A law, with nothing to run: the catalogue doesn't look at bytes. What is told of it, and what each change makes
-/// of it, is the same with other bytes, or with the bytes in the place of what stands for them. Which bytes it has
-/// is a matter of its versions alone.
-pub fn catalogue_ignores_bytes<B, C>()
-    ensures told { CataloguesAreAlike B C }
-    ensures changes { CatalogueChangesAreAlike B C }
-    ensures opening { OpeningsAreAlike B C }
-    ensures bytes { BytesAreByVersion B C }
-{
-    ids_differ::<B>();
-    rules_ignore_bytes::<B, C>();
 }

@@ -1,6 +1,5 @@
-//! The records of a server: which buckets there are and what is under their keys, in rows that name bytes by
-//! a number. `Records` is what every keeper of them promises, of one catalogue, and `MapRecords` keeps them in
-//! memory.
+//! The records of a server: which buckets there are and what is under their keys, with its bytes. `Records` is
+//! what every keeper of them promises, of one catalogue, and `MapRecords` keeps them in memory.
 #![tactic(auto)]
 
 mod bucket;
@@ -10,8 +9,8 @@ mod map_records;
 mod records;
 
 pub use laws::{
-    catalogue_ignores_bytes, changes_are_by_place, changes_are_local, changes_follow_rules,
-    empty_has_nothing, numbers_stay_below, versions_stay_in_order,
+    changes_are_by_place, changes_are_local, changes_follow_rules, empty_has_nothing,
+    numbers_stay_below, versions_stay_in_order,
 };
 pub use map_records::MapRecords;
 pub use records::{BucketFacts, ListedBucket, Records};

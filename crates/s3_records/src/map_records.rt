@@ -9,6 +9,7 @@ ghost use Rattle.s3_records.specs.Catalogue.{opening, new_bucket, found_versions
 
 use crate::bucket::StoredBucket;
 use crate::records::{BucketFacts, ListedBucket, Records};
+use s3_bodies::Body;
 use s3_calendar::Moment;
 use s3_config::Config;
 use s3_names::{BucketName, Key, VersionId};
@@ -27,15 +28,15 @@ pub struct MapRecords {
 }
 
 impl Model for MapRecords {
-    ghost use Rattle.std.specs.Prelude.{ℕ};
-    ghost use Rattle.std.specs.Coded.{coded_ℕ};
+    ghost use Rattle.std.specs.Prelude.{ℕ, List};
     ghost use Rattle.std.specs.FinMap as map;
+    ghost use Rattle.s3_versions.specs.Codes.{coded_bytes};
     ghost use Rattle.s3_records.specs.Catalogue.{Catalogue};
     ghost use Rattle.s3_records.specs.Codes.{coded_catalogue};
 
-    ghost Value = { Catalogue ℕ };
+    ghost Value = { Catalogue (List ℕ) };
 
-    ghost coded = { coded_catalogue coded_ℕ };
+    ghost coded = { coded_catalogue coded_bytes };
 
     ghost view = { λ records. map.from_entries records.by_name.entries };
 }
@@ -72,7 +73,7 @@ impl MapRecords {
     }
 
     // The versions under a key; `None` where there are none.
-    fn found_versions(&self, bucket: &BucketName, key: &Key) -> Option<&Versions<u64>>
+    fn found_versions(&self, bucket: &BucketName, key: &Key) -> Option<&Versions<Body>>
         ensures { found_versions (option_copied result) ≡ versions_of self.now bucket.now key.now }
     {
         match self.found_bucket(bucket) {
@@ -87,7 +88,7 @@ impl MapRecords {
         bucket: &BucketName,
         key: &Key,
         asked: Option<VersionId>,
-    ) -> Option<&Version<u64>>
+    ) -> Option<&Version<Body>>
         ensures { option_copied result ≡ asked_for asked (versions_of self.now bucket.now key.now) }
     {
         match self.found_versions(bucket, key) {
@@ -147,7 +148,7 @@ impl Records for MapRecords {
         alloc: Global,
         bucket: &BucketName,
         key: &Key,
-    ) -> Result<Vec<Version<u64>>, NoMemory> {
+    ) -> Result<Vec<Version<Body>>, NoMemory> {
         match self.found_versions(bucket, key) {
             None => Ok(Vec::new(alloc)),
             Some(versions) => versions.to_vec(alloc),
@@ -160,7 +161,7 @@ impl Records for MapRecords {
         bucket: &BucketName,
         key: &Key,
         asked: Option<VersionId>,
-    ) -> Result<Option<Version<u64>>, NoMemory> {
+    ) -> Result<Option<Version<Body>>, NoMemory> {
         match self.asked_for(bucket, key, asked) {
             None => Ok(None),
             Some(version) => Ok(Some(version.copy(alloc)?)),
@@ -203,8 +204,8 @@ impl Records for MapRecords {
         key: Key,
         number: u64,
         moment: Moment,
-        stored: Data<u64>,
-    ) -> Result<Option<Version<u64>>, NoMemory> {
+        stored: Data<Body>,
+    ) -> Result<(), NoMemory> {
         match self.by_name.get_mut(bucket) {
             None => unreachable!(),
             Some(bucket) => bucket.put(alloc, key, number, moment, stored),
@@ -218,7 +219,7 @@ impl Records for MapRecords {
         key: Key,
         number: u64,
         moment: Moment,
-    ) -> Result<Option<Version<u64>>, NoMemory> {
+    ) -> Result<(), NoMemory> {
         match self.by_name.get_mut(bucket) {
             None => unreachable!(),
             Some(bucket) => bucket.delete(alloc, key, number, moment),
@@ -231,7 +232,7 @@ impl Records for MapRecords {
         bucket: &BucketName,
         key: &Key,
         id: VersionId,
-    ) -> Result<Option<Version<u64>>, NoMemory> {
+    ) -> Result<Option<Version<Body>>, NoMemory> {
         match self.by_name.get_mut(bucket) {
             None => unreachable!(),
             Some(bucket) => Ok(bucket.drop_version(key, id)),
@@ -250,7 +251,7 @@ fn first_moment() -> Moment
 }
 
 // The version of a key's that a request asks for.
-fn asked_among(versions: &[Version<u64>], asked: Option<VersionId>) -> Option<&Version<u64>>
+fn asked_among(versions: &[Version<Body>], asked: Option<VersionId>) -> Option<&Version<Body>>
     ensures { option_copied result ≡ asked_for asked versions.now }
 {
     match asked {

@@ -1,9 +1,10 @@
 //! What every keeper of records promises.
-ghost use Rattle.std.specs.Prelude.{◌≡◌, ◌≢◌, ℕ, [], Bool, true, false, None, IfOk, OnOk, OnErr, IsTrue, find, is_some, option_and_then};
+ghost use Rattle.std.specs.Prelude.{◌≡◌, ◌≢◌, ℕ, List, [], Bool, true, false, None, IfOk, OnOk, OnErr, IsTrue, find, is_some, option_and_then};
 ghost use Rattle.s3_versions.specs.Rules.{is_under, asked_for, stored, replaced, is_new_number};
 ghost use Rattle.s3_records.specs.Catalogue.{Catalogue, facts_in, listed_buckets, has_bucket, is_empty_bucket, versions_of, versioning_of};
 ghost use Rattle.s3_records.specs.Changes.{bucket_added, bucket_dropped, versioning_changed, version_put, key_deleted, version_dropped};
 
+use s3_bodies::Body;
 use s3_calendar::Moment;
 use s3_names::{BucketName, Key, VersionId};
 use s3_terms::NoMemory;
@@ -30,10 +31,9 @@ pub struct ListedBucket {
 /// catalogue as it is; a change is the named one where it answers `Ok`, and none where it answers `NoMemory`.
 /// What is passed by value to a call that answers `NoMemory` is dropped.
 ///
-/// Rows name bytes by a number, and a change that takes a version away answers it, so that its bytes can be
-/// given back.
+/// Each version is kept with its bytes, and a change that takes a version away drops these too.
 pub trait Records {
-    ghost catalogue: { Self → Catalogue ℕ };
+    ghost catalogue: { Self → Catalogue (List ℕ) };
 
     // Whether the keeper holds all in memory, so that what needs no more room never lacks it.
     ghost is_in_memory: { Bool };
@@ -63,7 +63,7 @@ pub trait Records {
         alloc: Global,
         bucket: &BucketName,
         key: &Key,
-    ) -> Result<Vec<Version<u64>>, NoMemory>
+    ) -> Result<Vec<Version<Body>>, NoMemory>
         ensures value { IfOk result (λ versions. versions.items ≡ versions_of (catalogue self.old) bucket.now key.now) }
         ensures same { catalogue self.new ≡ catalogue self.old }
         ensures memory { OnErr result (is_in_memory ≡ true → versions_of (catalogue self.old) bucket.now key.now ≢ []) };
@@ -76,7 +76,7 @@ pub trait Records {
         bucket: &BucketName,
         key: &Key,
         asked: Option<VersionId>,
-    ) -> Result<Option<Version<u64>>, NoMemory>
+    ) -> Result<Option<Version<Body>>, NoMemory>
         ensures value { IfOk result (λ found. found ≡ asked_for asked (versions_of (catalogue self.old) bucket.now key.now)) }
         ensures same { catalogue self.new ≡ catalogue self.old }
         ensures memory { OnErr result (
@@ -115,7 +115,7 @@ pub trait Records {
 
     /// Puts a version under a key of a bucket, which is there, by the rules of the bucket's versioning. The
     /// entry of this number makes it at this moment; the number is above those of the key's versions. The
-    /// version that goes is answered.
+    /// version that goes is dropped.
     fn put_version(
         &mut self,
         alloc: Global,
@@ -123,21 +123,19 @@ pub trait Records {
         key: Key,
         number: u64,
         moment: Moment,
-        stored: Data<u64>,
-    ) -> Result<Option<Version<u64>>, NoMemory>
+        stored: Data<Body>,
+    ) -> Result<(), NoMemory>
         requires there { IsTrue (has_bucket (catalogue self.old) bucket.now) }
         requires newer { IsTrue (is_new_number number (versions_of (catalogue self.old) bucket.now key)) }
         ensures ok { OnOk result (catalogue self.new
             ≡ version_put (catalogue self.old) bucket.now key number moment stored) }
-        ensures gone { IfOk result (λ gone. gone
-            ≡ replaced (versioning_of (catalogue self.old) bucket.now) (versions_of (catalogue self.old) bucket.now key)) }
         ensures err { OnErr result (catalogue self.new ≡ catalogue self.old) }
         ensures memory { OnErr result (is_in_memory ≡ true
-            → replaced (versioning_of (catalogue self.old) bucket.now) (versions_of (catalogue self.old) bucket.now key) ≡ None) };
+            → replaced (versioning_of (catalogue self.old) bucket.now) number (versions_of (catalogue self.old) bucket.now key) ≡ None) };
 
     /// Deletes a key of a bucket, which is there, without naming a version, by the rules of the bucket's
     /// versioning. The entry has this number, above those of the key's versions, and this moment. The version
-    /// that goes is answered.
+    /// that goes is dropped.
     fn delete(
         &mut self,
         alloc: Global,
@@ -145,15 +143,13 @@ pub trait Records {
         key: Key,
         number: u64,
         moment: Moment,
-    ) -> Result<Option<Version<u64>>, NoMemory>
+    ) -> Result<(), NoMemory>
         requires there { IsTrue (has_bucket (catalogue self.old) bucket.now) }
         requires newer { IsTrue (is_new_number number (versions_of (catalogue self.old) bucket.now key)) }
         ensures ok { OnOk result (catalogue self.new ≡ key_deleted (catalogue self.old) bucket.now key number moment) }
-        ensures gone { IfOk result (λ gone. gone
-            ≡ replaced (versioning_of (catalogue self.old) bucket.now) (versions_of (catalogue self.old) bucket.now key)) }
         ensures err { OnErr result (catalogue self.new ≡ catalogue self.old) }
         ensures memory { OnErr result (is_in_memory ≡ true
-            → replaced (versioning_of (catalogue self.old) bucket.now) (versions_of (catalogue self.old) bucket.now key) ≡ None) }
+            → replaced (versioning_of (catalogue self.old) bucket.now) number (versions_of (catalogue self.old) bucket.now key) ≡ None) }
         ensures held { OnErr result (is_in_memory ≡ true
             → versioning_of (catalogue self.old) bucket.now ≢ Versioning.Unversioned) };
 
@@ -165,7 +161,7 @@ pub trait Records {
         bucket: &BucketName,
         key: &Key,
         id: VersionId,
-    ) -> Result<Option<Version<u64>>, NoMemory>
+    ) -> Result<Option<Version<Body>>, NoMemory>
         requires { IsTrue (has_bucket (catalogue self.old) bucket.now) }
         ensures ok { OnOk result (catalogue self.new ≡ version_dropped (catalogue self.old) bucket.now key.now id) }
         ensures gone { IfOk result (λ gone. gone ≡ find (is_under id) (versions_of (catalogue self.old) bucket.now key.now)) }

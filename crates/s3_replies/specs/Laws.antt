@@ -6,9 +6,9 @@ use Rattle.std.specs.List.{list_all}
 use Rattle.std.specs.Str.{bytes_eq}
 use Rattle.s3_text.specs.Characters.{crlf, carriage_return}
 use Rattle.s3_terms.specs.declared.code.Code.{Code}
-use Rattle.s3_segments.specs.Payload.{tag_of}
+use Rattle.s3_bodies.specs.Payload.{tag_of}
 use Rattle.s3_versions.specs.declared.version.Data.{Data}
-use Rattle.s3_machine.specs.Effects.{is_refused}
+use Rattle.s3_machine.specs.Effects.{succeeds}
 use Rattle.s3_machine.specs.declared.command.Answer.{Answer}
 use Rattle.s3_machine.specs.declared.command.Found.{Found}
 use Rattle.s3_machine.specs.declared.command.Outcome.TheVariants.{Got, HeadGot}
@@ -66,11 +66,11 @@ pub record IsUnbroken (stored : Data (List ℕ)) : Type 0 where
   pub content_type : is_unbroken stored.content_type ≡ true
   pub metadata : list_all is_whole_line (map metadata_line stored.metadata) ≡ true
 
--- a reply tells of success exactly where the machine did not refuse
+-- a reply tells of success exactly where the command succeeds
 abbrev pub SuccessIsShown : Type 0
 SuccessIsShown =
     (answer : Answer) (context : Context) (text : List ℕ) → Prints answer context text
-    → tells_success text ≡ not (is_refused answer.outcome)
+    → tells_success text ≡ succeeds answer.outcome
 
 -- the bytes of a version that was asked for are carried, unless by the reply to a HEAD
 abbrev pub ObjectsAreCarried : Type 0

@@ -40,6 +40,7 @@ fn object_of(code: Code) -> ArrayVec<u8, DOCUMENT_MAX>
 }
 
 /// The document that tells of a bucket's versioning.
+#[tactic(auto, unfolding(s3_documents::specs::Tree::text_of_literals))]
 pub(crate) fn versioning_document(versioning: Versioning) -> &'static [u8]
     ensures value { result.now ≡ versioning_text versioning }
     ensures bound { length result.now ≤ TEXT_MAX }

@@ -13,11 +13,11 @@ use crate::head::Head;
 use crate::room::Room;
 use crate::values::{id_bytes, id_text, location_of};
 use arrayvec::ArrayVec;
+use s3_bodies::Body;
 use s3_calendar::Moment;
 use s3_documents::documents_are_one;
 use s3_machine::{Answer, BucketList, Found, Outcome};
 use s3_names::{BucketName, Tag, VersionId};
-use s3_segments::Body;
 use s3_terms::{Code, Status};
 use s3_versions::Versioning;
 
@@ -76,7 +76,7 @@ fn list_head<R: Room>(
     ensures capacity { R.capacity out.old ≤ R.capacity out.new }
 {
     documents_are_one();
-    let size = buckets.document().len() as u64;
+    let size = buckets.document().size();
     document_head(out, size, number, context.closes, date);
 }
 

@@ -1,5 +1,5 @@
 //! From a verified head to the operation that it asks for, and on to a command.
-ghost use Rattle.std.specs.Prelude.{◌≡◌, ◌<◌, true, length, Ok, Err, IfOk, IfErr};
+ghost use Rattle.std.specs.Prelude.{◌≡◌, ◌<◌, true, length, Ok, Err, IfOk, IfErr, OnErr};
 ghost use Rattle.std.specs.List.{list_any};
 ghost use Rattle.s3_terms.specs.Fault.{Follows, FollowsPast};
 ghost use Rattle.s3_text.specs.Characters.{space};
@@ -10,12 +10,12 @@ ghost use Rattle.s3_requests.specs.Routing as rules;
 use crate::arguments::version_argument;
 use crate::description::{content_type_of, metadata_of};
 use crate::operations::{Method, Operation, bucket_operation, key_operation, service_operation};
+use s3_bodies::Payload;
 use s3_documents::read_versioning;
 use s3_http_heads::{Head, Target};
 use s3_machine::{BucketCommand, Command, KeyCommand};
 use s3_names::{BucketName, Key, VersionId};
-use s3_segments::Payload;
-use s3_terms::Code;
+use s3_terms::{Code, NoMemory};
 use s3_versions::{ContentType, Metadata};
 use std::alloc::Global;
 
@@ -138,11 +138,20 @@ fn versioning_command(alloc: Global, payload: Payload) -> Result<BucketCommand, 
     ensures rule { Follows result (rules.versioning_command_of payload) }
     ensures memory { IfErr result (λ code. code ≡ Code.InternalError → 0 < length payload) }
 {
-    let body = payload.into_body();
-    match read_versioning(alloc, body.as_slice()) {
+    let text = text_of(alloc, payload)?;
+    match read_versioning(alloc, text.as_slice()) {
         Ok(status) => Ok(BucketCommand::PutVersioning { status }),
         Err(code) => Err(code),
     }
+}
+
+// The bytes of a body in one piece, which are copied.
+fn text_of(alloc: Global, payload: Payload) -> Result<Vec<u8>, NoMemory>
+    ensures value { IfOk result (λ text. text.items ≡ payload) }
+    ensures memory { OnErr result (0 < length payload) }
+{
+    let body = payload.into_body()?;
+    body.to_vec(alloc)
 }
 
 // What is asked of a key, with the body.

@@ -23,7 +23,8 @@ use Rattle.s3_session.specs.Invitation.{Invites, FoundInvites}
 use Rattle.s3_session.specs.Walk.{Walks}
 use Rattle.s3_session.specs.Output.{Exchange, message_of, turn_of, written_for, IsReplied, Past, Standing, Reading, Waiting, Over, Dead, asked_of_clock, IsOpen, IsWaiting, IsRefused, Behind, Writes, is_dead, is_waiting}
 use Rattle.s3_session.specs.Laws.{OneVerdict, OneInvitation, OneWriting, OneOutput}
-use Rattle.s3_session.proofs.ServesLemmas.{entry_of, entries_from, moments_of}
+use Rattle.s3_session.specs.ReadBack.{entry_of, entries_from}
+use Rattle.s3_session.proofs.ServesLemmas.{moments_of}
 use Rattle.s3_session.proofs.ReplayLemmas.{replayed_moments, replayed_legal, replayed_walk, replayed_behind}
 
 -- ---- what stands behind the messages that were answered, by the verdict there

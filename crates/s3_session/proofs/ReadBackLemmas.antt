@@ -1,5 +1,5 @@
--- What is read back over one connection is what was written.
-use Rattle.std.proofs.Common.{◌≡◌, ℕ, suc, Bool, true, false, not, List, [], ◌∷◌, ◌++◌, Option, Some, None, option_map, is_some, Ok, refl, sym, ap, subst, ◌∙◌}
+-- What is read back over one connection is what was stored.
+use Rattle.std.proofs.Common.{◌≡◌, ℕ, Bool, true, false, not, List, [], ◌∷◌, ◌++◌, Option, Some, None, option_map, is_some, Ok, refl, sym, ap, subst, ◌∙◌}
 use Rattle.std.specs.List.{AllByRecursion}
 use Rattle.std.proofs.lemmas.List.{map-append}
 use Rattle.s3_config.specs.Settings.{Settings}
@@ -10,25 +10,24 @@ use Rattle.s3_requests.specs.declared.routing.Plan.{Plan}
 use Rattle.s3_requests.specs.declared.routing.Plan.TheVariants as plans
 use Rattle.s3_requests.specs.declared.routing.KeyPlan.TheVariants as key_plans
 use Rattle.s3_requests.specs.Laws.{PlansAreUnbroken}
-use Rattle.s3_requests.specs.Routing.{command_of}
+use Rattle.s3_requests.specs.Routing.{bucket_command_of, command_of}
 use Rattle.s3_machine.specs.declared.command.Command.{Command}
 use Rattle.s3_machine.specs.declared.command.Found.{Found}
 use Rattle.s3_machine.specs.declared.command.Outcome.{Outcome}
 use Rattle.s3_machine.specs.declared.command.Outcome.TheVariants.{Got}
 use Rattle.s3_machine.specs.Step.{State}
-use Rattle.s3_machine.specs.Effects.{Address, Asked, Contents, data_from, contents_of, brings, given, touched, is_refused}
-use Rattle.s3_machine.specs.History.{Entry, Legal, IsAnswer, after_entry}
-use Rattle.s3_machine.specs.Kept.{LeavesKey, SparesVersion, Puts, IsGiven, IsMadeOf, PutsAreKept, VersionsAreKept, OnlyPutsAreGiven, ReadsGiveOrRefuse}
-use Rattle.s3_replies.specs.Laws.{Carries, IsUnbroken, tells_success, SuccessIsShown, ObjectsAreCarried, TagsAreUnbroken}
+use Rattle.s3_machine.specs.Effects.{Address, Read, brought, brings, whole, given, found_object, is_refused}
+use Rattle.s3_machine.specs.History.{Entry, Legal}
+use Rattle.s3_machine.specs.Kept.{LeavesKey, SparesVersion, IsGiven, Puts, EveryHistory, StoredIsKept, VersionsAreKept, OnlyStoredIsGiven, ReadsGiveOrFail, PutsAreKept, PutVersionsAreKept}
+use Rattle.s3_replies.specs.Laws.{Carries, tells_success, SuccessIsShown, ObjectsAreCarried, TagsAreUnbroken}
 use Rattle.s3_payloads.specs.Laws.{WholePayloadsAreBodies}
-use Rattle.s3_session.specs.Output.{Exchange, IsReplied, Standing}
-use Rattle.s3_session.specs.Replay.{ReplaysAs}
+use Rattle.s3_session.specs.Output.{Exchange, IsReplied}
 use Rattle.s3_session.specs.Laws.{SoundMessages}
-use Rattle.s3_session.specs.ReadBack.{LeavesAlone, SparesId, Wrote, WroteVersion, AsksFor, PutsAreReadBack, VersionsAreReadBack, OnlyPutsAreReadBack, PayloadsAreBrought}
+use Rattle.s3_session.specs.ReadBack.{entry_of, entries_from, AsksFor, Wrote, LeavesAlone, SparesId, EveryReplay, StoredIsReadBack, VersionsAreReadBack, OnlyStoredIsReadBack, PutsAreReadBack, PutVersionsAreReadBack, PayloadsAreBrought}
 use Rattle.s3_session.proofs.ReplayLemmas.{replayed_legal, replayed_walk}
-use Rattle.s3_session.proofs.ServesLemmas.{entry_of, entries_from, all_of_two}
+use Rattle.s3_session.proofs.ServesLemmas.{all_of_two}
 use Rattle.s3_session.proofs.SoundLemmas.{admitted_length, one_count}
-use Rattle.s3_session.proofs.UnbrokenLemmas.{IsUnbrokenContents, StoresUnbroken, bucket_contents, walked_unbroken}
+use Rattle.s3_session.proofs.UnbrokenLemmas.{StoresUnbroken, bucket_command, walked_unbroken}
 
 -- ---- what a reply shows of its entry
 
@@ -56,54 +55,16 @@ module _ (success : SuccessIsShown) (address : Address) where
     spares_version id xs answered.1 spared.1,
   )
 
-  spares_id : (id : VersionId) (xs : List Exchange) → AllByRecursion IsReplied xs → SparesVersion address id (entries_from xs) → AllByRecursion (SparesId address id) xs
-  spares_id id [] answered spared = tt
-  spares_id id (x ∷ xs) answered spared = (
-    (λ is succeeds. spared.0 is (not_true _ (sym (shows x answered.0) ∙ succeeds))),
-    spares_id id xs answered.1 spared.1,
-  )
+-- ---- what a reply carries
 
-  -- what a message wrote its entry put
-  puts_of : (x : Exchange) (body : List ℕ) → IsReplied x → Wrote address body x → (contents : Contents) → contents_of x.command ≡ Some contents → Puts address contents (entry_of x)
-  puts_of x body answered wrote contents brought = record {
-    written = wrote.written;
-    brought = brought;
-    accepted = not_true _ (sym (shows x answered) ∙ wrote.answered);
-  }
-
--- ---- entries and their exchanges
-
--- exchanges whose entries stand before, at and behind one entry
-record Split (xs : List Exchange) (before : List Entry) (write : Entry) (between : List Entry) : Type 0 where
-  front : List Exchange
-  at : Exchange
-  back : List Exchange
-  parts : xs ≡ front ++ at ∷ back
-  here : entry_of at ≡ write
-  behind : entries_from back ≡ between
-
-one_more : (x : Exchange) (xs ys : List Exchange) → xs ≡ ys → x ∷ xs ≡ x ∷ ys
-one_more x xs ys same = ap (λ l. x ∷ l) same
-
-split_at : (xs : List Exchange) (before : List Entry) (write : Entry) (between : List Entry) → entries_from xs ≡ before ++ write ∷ between → Split xs before write between
-split_at [] [] write between is = absurd (cc)
-split_at [] (e ∷ before) write between is = absurd (cc)
-split_at (x ∷ xs) [] write between is = record { front = []; at = x; back = xs; parts = refl; here = cc; behind = cc }
-split_at (x ∷ xs) (e ∷ before) write between is =
-    let more : entries_from xs ≡ before ++ write ∷ between = cc in
-    let s = split_at xs before write between more in
-    record { front = x ∷ s.front; at = s.at; back = s.back; parts = one_more x xs (s.front ++ s.at ∷ s.back) s.parts; here = s.here; behind = s.behind }
+-- what holds of the commands of messages holds of those of their entries
+all_entries : (P : Command → Type 0) (xs : List Exchange) → AllByRecursion (λ (x : Exchange). P x.command) xs
+    → AllByRecursion (λ (e : Entry). P e.command) (entries_from xs)
+all_entries P [] all = tt
+all_entries P (x ∷ xs) all = (all.0, all_entries P xs all.1)
 
 entries_at : (earlier : List Exchange) (x : Exchange) (later : List Exchange) → entries_from (earlier ++ x ∷ later) ≡ entries_from earlier ++ entry_of x ∷ entries_from later
 entries_at earlier x later = map-append entry_of earlier (x ∷ later)
-
--- ---- what is found, and what a reply carries of it
-
--- what a command that brings a body brings with it
-stored_with : (found : Option Contents) (body : List ℕ) → option_map (λ (contents : Contents). contents.body) found ≡ Some body
-    → (contents : Contents) × (found ≡ Some contents) × (contents.body ≡ body)
-stored_with (Some contents) body is = (contents, refl, cc)
-stored_with None body is = absurd (cc)
 
 -- what a read hands out
 found_there : (given : Option (Found (List ℕ))) → is_some given ≡ true → (found : Found (List ℕ)) × (given ≡ Some found)
@@ -114,131 +75,169 @@ got_given : (outcome : Outcome) (found : Found (List ℕ)) → given outcome ≡
 got_given (Got other) found is = let same : other ≡ found = cc in ap Got same
 got_given _ found is = absurd (cc)
 
--- what is found of contents without a carriage return has none
-whole_data : TagsAreUnbroken → (stored : Data (List ℕ)) (contents : Contents) → stored ≡ data_from contents → IsUnbrokenContents contents → IsUnbroken stored
-whole_data tags stored contents is unbroken = rw is (record { tag = tags contents.body; content_type = unbroken.0; metadata = unbroken.1 })
+-- the data that a command brings whose bytes are these
+data_with : (found : Option (Data (List ℕ))) (body : List ℕ) → option_map (λ (what : Data (List ℕ)). what.body) found ≡ Some body
+    → (what : Data (List ℕ)) × (found ≡ Some what) × (what.body ≡ body)
+data_with (Some what) body is = (what, refl, cc)
+data_with None body is = absurd (cc)
 
--- a get that is given what a put of these contents made is replied to with their body
-given_carried : ObjectsAreCarried → TagsAreUnbroken → (get : Exchange) (contents : Contents) (moment : ℕ) → IsReplied get → get.context.head_only ≡ false
-    → IsUnbrokenContents contents → IsGiven contents moment (entry_of get) → Carries contents.body get.reply
-given_carried carried tags get contents moment answered whole unbroken (found, gives, made) =
-    subst (λ (b : List ℕ). Carries b get.reply) (ap (λ (d : Data (List ℕ)). d.body) made.stored)
-    (carried get.answer get.context get.reply found answered (got_given get.answer.outcome found gives) (whole_data tags found.stored contents made.stored unbroken) whole)
+-- ---- the laws, of messages whose entries are a legal history, which were replied to, and which store no carriage return
+-- beside bodies
 
--- an entry of a legal history has the answer of some state
-answered_right : (least : ℕ) (s : State) (n : ℕ) (es : List Entry) (e : Entry) (later : List Entry) → Legal least s n (es ++ e ∷ later)
-    → (t : State) × (m : ℕ) × IsAnswer least t m e
-answered_right least s n [] e later legal = (s, n, legal.0)
-answered_right least s n (x ∷ es) e later legal = answered_right least (after_entry least s x) (suc n) es e later legal.1
+-- what the messages of a replay are
+pub record AreReplayed (settings : Settings) (exchanges : List Exchange) : Type 0 where
+  pub legal : Legal settings.min_part (opening settings.buckets) 0 (entries_from exchanges)
+  pub replied : AllByRecursion IsReplied exchanges
+  pub unbroken : AllByRecursion (λ (x : Exchange). StoresUnbroken x.command) exchanges
 
--- ---- the theorems: by key, by version, and their converse
+abbrev StoresWhole : Entry → Type 0
+StoresWhole e = StoresUnbroken e.command
 
-abbrev Unbroken : Exchange → Type 0
-Unbroken x = StoresUnbroken x.command
+module _ (success : SuccessIsShown) (carried : ObjectsAreCarried) (only : EveryHistory OnlyStoredIsGiven)
+    (settings : Settings) (exchanges : List Exchange) (are : AreReplayed settings exchanges) where
+  -- what holds of every history holds of theirs
+  of_history : {Law : ℕ → State → List Entry → Type 0} → EveryHistory Law
+      → Law settings.min_part (opening settings.buckets) (entries_from exchanges)
+  of_history law = law settings.min_part (opening settings.buckets) 0 (entries_from exchanges) are.legal
 
-module _ (plans : PlansAreUnbroken) (messages : SoundMessages) (success : SuccessIsShown) (carried : ObjectsAreCarried) (tags : TagsAreUnbroken)
-    (standing : Standing) (settings : Settings) (moment : ℕ) (bytes out : List ℕ) (replay : ReplaysAs standing settings moment bytes out) where
-  abbrev exchanged : List Exchange
-  exchanged = replay.writes.serves.exchanges
+  replied_at : (earlier later : List Exchange) (x : Exchange) → exchanges ≡ earlier ++ x ∷ later → IsReplied x
+  replied_at earlier later x at =
+      (all_of_two IsReplied earlier (x ∷ later) (subst (AllByRecursion IsReplied) at are.replied)).1.0
 
-  all_unbroken : AllByRecursion Unbroken exchanged
-  all_unbroken =
-      walked_unbroken plans messages settings true bytes exchanged replay.writes.left (replayed_walk standing settings moment bytes out replay)
+  -- what a read is given, its reply carries: it was stored before
+  given_carried : (earlier later : List Exchange) (read : Exchange) (asked : Read) (found : Found (List ℕ))
+      → exchanges ≡ earlier ++ read ∷ later → AsksFor asked read → given read.answer.outcome ≡ Some found
+      → Carries found.stored.body read.reply
+  given_carried earlier later read asked found at asks gives =
+      let entries = ap entries_from at ∙ entries_at earlier read later in
+      let was = (of_history only settings.buckets (entries_from earlier) (entries_from later) (entry_of read) asked found
+      refl entries asks.read gives).2 in
+      let all = subst (AllByRecursion StoresWhole) entries (all_entries StoresUnbroken exchanges are.unbroken) in
+      let past = (all_of_two StoresWhole (entries_from earlier) (entry_of read ∷ entries_from later) all).0 in
+      let mine = all_of_two StoresWhole was.before (was.write ∷ was.between) (subst (AllByRecursion StoresWhole) was.parts past) in
+      carried read.answer read.context read.reply found (replied_at earlier later read at)
+      (got_given read.answer.outcome found gives) (mine.1.0 _ _ _ _ was.stores.by) asks.with_bytes
 
-  module _ (earlier later : List Exchange) (get : Exchange) (at : exchanged ≡ earlier ++ get ∷ later) where
-    all_replied : AllByRecursion IsReplied earlier × AllByRecursion IsReplied (get ∷ later)
-    all_replied = all_of_two IsReplied earlier (get ∷ later) (subst (AllByRecursion IsReplied) at replay.writes.serves.replied)
+  -- the same of data that it is given
+  data_carried : (earlier later : List Exchange) (read : Exchange) (asked : Read) (t : ℕ) (what : Data (List ℕ))
+      → exchanges ≡ earlier ++ read ∷ later → AsksFor asked read → IsGiven t what (entry_of read) → Carries what.body read.reply
+  data_carried earlier later read asked t what at asks is =
+      subst (λ (d : Data (List ℕ)). Carries d.body read.reply) is.holds
+      (given_carried earlier later read asked is.found at asks is.gives)
 
-    legal_at : Legal settings.min_part (opening settings.buckets) 0 (entries_from earlier ++ entry_of get ∷ entries_from later)
-    legal_at =
-        subst (Legal settings.min_part (opening settings.buckets) 0) (ap entries_from at ∙ entries_at earlier get later)
-        (replayed_legal standing settings moment bytes out replay)
+  -- the entries of two messages and those before, between and behind them
+  entries_of_parts : (before between later : List Exchange) (write read : Exchange)
+      → exchanges ≡ before ++ write ∷ between ++ read ∷ later
+      → entries_from exchanges
+      ≡ entries_from before ++ entry_of write ∷ entries_from between ++ entry_of read ∷ entries_from later
+  entries_of_parts before between later write read parts =
+      ap entries_from parts
+      ∙ entries_at (before ++ write ∷ between) read later
+      ∙ ap (λ (es : List Entry). es ++ entry_of read ∷ entries_from later) (entries_at before write between)
 
-    module _ (before between : List Exchange) (write : Exchange) (parts : earlier ≡ before ++ write ∷ between) where
-      replied_there : AllByRecursion IsReplied before × AllByRecursion IsReplied (write ∷ between)
-      replied_there = all_of_two IsReplied before (write ∷ between) (subst (AllByRecursion IsReplied) parts all_replied.0)
+  key_read_back : EveryHistory StoredIsKept → StoredIsReadBack settings exchanges
+  key_read_back kept before between later write read object parts stores leaves asks =
+      data_carried (before ++ write ∷ between) later read _ object.moment object.stored parts asks
+      (of_history kept (entries_from before) (entries_from between) (entries_from later) (entry_of write) (entry_of read) object
+      (entries_of_parts before between later write read parts) stores leaves asks.read)
 
-      unbroken_there : StoresUnbroken write.command
-      unbroken_there =
-          let sound = all_of_two Unbroken earlier (get ∷ later) (subst (AllByRecursion Unbroken) at all_unbroken) in
-          (all_of_two Unbroken before (write ∷ between) (subst (AllByRecursion Unbroken) parts sound.0)).1.0
+  version_read_back : EveryHistory VersionsAreKept → VersionsAreReadBack settings exchanges
+  version_read_back kept before between later write read object parts stores spares asks =
+      data_carried (before ++ write ∷ between) later read _ object.moment object.stored parts asks
+      (of_history kept (entries_from before) (entries_from between) (entries_from later) (entry_of write) (entry_of read) object
+      (entries_of_parts before between later write read parts) stores spares asks.read)
 
-      legal_there : Legal settings.min_part (opening settings.buckets) 0 ((entries_from before ++ entry_of write ∷ entries_from between) ++ entry_of get ∷ entries_from later)
-      legal_there =
-          subst (λ es. Legal settings.min_part (opening settings.buckets) 0 (es ++ entry_of get ∷ entries_from later)) (ap entries_from parts ∙ entries_at before write between) legal_at
+  stored_before : EveryHistory ReadsGiveOrFail → OnlyStoredIsReadBack settings exchanges
+  stored_before or_fails earlier later read address version at asks told =
+      let entries = ap entries_from at ∙ entries_at earlier read later in
+      let before = entries_from earlier in
+      let found = found_there (given read.answer.outcome)
+      (of_history or_fails before (entries_from later) (entry_of read) address version entries asks.read
+      ∙ sym (shows success address read (replied_at earlier later read at)) ∙ told) in
+      let was = of_history only settings.buckets before (entries_from later) (entry_of read) (whole address version) found.0
+      refl entries asks.read found.1 in (
+        found_object address was.0 found.0,
+        refl,
+        was.1.named,
+        was.2,
+        given_carried earlier later read (whole address version) found.0 at asks found.1,
+      )
 
-      -- what the last write under an address put is read there
-      key_read_back : PutsAreKept → (address : Address) (body : List ℕ) → AsksFor (record { address = address; version = None }) get
-          → Wrote address body write → AllByRecursion (LeavesAlone address) between → Carries body get.reply
-      key_read_back kept address body asks wrote alone =
-          let stored = stored_with (contents_of write.command) body wrote.brought in
-          let gives = kept settings.min_part (opening settings.buckets) 0 (entries_from before) (entries_from between) (entries_from later) (entry_of write) (entry_of get) address stored.0
-          legal_there (puts_of success address write body replied_there.1.0 wrote stored.0 stored.1) (leaves_key success address between replied_there.1.1 alone) asks.read in
-          subst (λ (b : List ℕ). Carries b get.reply) stored.2
-          (given_carried carried tags get stored.0 write.context.moment all_replied.1.0 asks.whole (unbroken_there stored.0 stored.1) gives)
+  -- ---- puts
 
-      -- and so is a version that none touches
-      version_read_back : VersionsAreKept → (address : Address) (id : VersionId) (body : List ℕ) → AsksFor (record { address = address; version = Some id }) get
-          → Wrote address body write → touched write.command write.answer.outcome ≡ Some id → AllByRecursion (SparesId address id) between → Carries body get.reply
-      version_read_back kept address id body asks wrote under spared =
-          let stored = stored_with (contents_of write.command) body wrote.brought in
-          let gives = kept settings.min_part (opening settings.buckets) 0 (entries_from before) (entries_from between) (entries_from later) (entry_of write) (entry_of get) address stored.0 id
-          legal_there (puts_of success address write body replied_there.1.0 wrote stored.0 stored.1) under (spares_version success address id between replied_there.1.1 spared) asks.read in
-          subst (λ (b : List ℕ). Carries b get.reply) stored.2
-          (given_carried carried tags get stored.0 write.context.moment all_replied.1.0 asks.whole (unbroken_there stored.0 stored.1) gives)
+  -- a put, and those behind it, were replied to
+  replied_from : (before between later : List Exchange) (write read : Exchange)
+      → exchanges ≡ before ++ write ∷ between ++ read ∷ later → AllByRecursion IsReplied (write ∷ between)
+  replied_from before between later write read parts =
+      let front = before ++ write ∷ between in
+      (all_of_two IsReplied before (write ∷ between)
+      (all_of_two IsReplied front (read ∷ later) (subst (AllByRecursion IsReplied) parts are.replied)).0).1
 
-    -- what is read was put
-    put_before : OnlyPutsAreGiven → ReadsGiveOrRefuse → (asked : Asked) → AsksFor asked get → tells_success get.reply ≡ true
-        → (body : List ℕ) × (id : VersionId) × ((v : VersionId) → asked.version ≡ Some v → v ≡ id) × WroteVersion asked.address id body earlier × Carries body get.reply
-    put_before only or_refused asked asks told =
-        let right = answered_right settings.min_part (opening settings.buckets) 0 (entries_from earlier) (entry_of get) (entries_from later) legal_at in
-        let found = found_there (given get.answer.outcome)
-        (or_refused settings.min_part right.0 right.1 (entry_of get) asked right.2 asks.read ∙ sym (shows success asked.address get all_replied.1.0) ∙ told) in
-        let was = only settings.min_part settings.buckets 0 (entries_from earlier) (entries_from later) (entry_of get) asked found.0 legal_at asks.read found.1 in
-        let s = split_at earlier was.before was.put was.between was.parts in
-        let first = all_of_two IsReplied s.front (s.at ∷ s.back) (subst (AllByRecursion IsReplied) s.parts all_replied.0) in
-        let puts = subst (Puts asked.address was.contents) (sym s.here) was.puts in
-        let made = subst (λ (e : Entry). IsMadeOf was.contents e.moment found.0) (sym s.here) was.made in (
-          was.contents.body,
-          was.id,
-          was.named,
-          record {
-            before = s.front;
-            write = s.at;
-            between = s.back;
-            parts = s.parts;
-            wrote = record {
-              written = puts.written;
-              brought = ap (option_map (λ (contents : Contents). contents.body)) puts.brought;
-              answered = shows success asked.address s.at first.1.0 ∙ ap not puts.accepted;
-            };
-            under = ap (λ (e : Entry). touched e.command e.answer.outcome) s.here ∙ was.under;
-            spared = spares_id success asked.address was.id s.back first.1.1 (subst (SparesVersion asked.address was.id) (sym s.behind) was.spared);
-          },
-          given_carried carried tags get was.contents s.at.context.moment all_replied.1.0 asks.whole
-              (unbroken_there s.front s.back s.at s.parts was.contents puts.brought) (found.0, found.1, made),
-        )
+  -- what a message wrote its entry put
+  puts_of : (x : Exchange) (address : Address) (body : List ℕ) (what : Data (List ℕ)) → IsReplied x → Wrote address body x
+      → brought x.command ≡ Some what → Puts address what (entry_of x)
+  puts_of x address body what replied wrote brings =
+      let accepted = not_true _ (sym (shows success address x replied) ∙ wrote.answered) in
+      record { written = wrote.written; brings = brings; accepted = accepted }
 
-pub puts_are_read_back : PlansAreUnbroken → SoundMessages → PutsAreKept → SuccessIsShown → ObjectsAreCarried → TagsAreUnbroken → PutsAreReadBack
-puts_are_read_back plans messages kept success carried tags standing settings moment bytes out replay earlier later get address body at asks last =
-    key_read_back plans messages success carried tags standing settings moment bytes out replay earlier later get at last.before last.between last.write last.parts
-    kept address body asks last.wrote last.alone
+  put_read_back : EveryHistory PutsAreKept → PutsAreReadBack settings exchanges
+  put_read_back kept before between later put read address body parts wrote alone asks =
+      let what = data_with (brought put.command) body wrote.brought in
+      let replied = replied_from before between later put read parts in
+      subst (λ (b : List ℕ). Carries b read.reply) what.2
+      (data_carried (before ++ put ∷ between) later read _ put.context.moment what.0 parts asks
+      (of_history kept (entries_from before) (entries_from between) (entries_from later) (entry_of put) (entry_of read) address what.0
+      (entries_of_parts before between later put read parts) (puts_of put address body what.0 replied.0 wrote what.1)
+      (leaves_key success address between replied.1 alone) asks.read))
 
-pub versions_are_read_back : PlansAreUnbroken → SoundMessages → VersionsAreKept → SuccessIsShown → ObjectsAreCarried → TagsAreUnbroken → VersionsAreReadBack
-versions_are_read_back plans messages kept success carried tags standing settings moment bytes out replay earlier later get address id body at asks last =
-    version_read_back plans messages success carried tags standing settings moment bytes out replay earlier later get at last.before last.between last.write last.parts
-    kept address id body asks last.wrote last.under last.spared
+  put_version_read_back : EveryHistory PutVersionsAreKept → PutVersionsAreReadBack settings exchanges
+  put_version_read_back kept before between later put read address id body parts wrote under spared asks =
+      let what = data_with (brought put.command) body wrote.brought in
+      let replied = replied_from before between later put read parts in
+      subst (λ (b : List ℕ). Carries b read.reply) what.2
+      (data_carried (before ++ put ∷ between) later read _ put.context.moment what.0 parts asks
+      (of_history kept (entries_from before) (entries_from between) (entries_from later) (entry_of put) (entry_of read) address what.0 id
+      (entries_of_parts before between later put read parts) (puts_of put address body what.0 replied.0 wrote what.1) under
+      (spares_version success address id between replied.1 spared) asks.read))
 
-pub only_puts_are_read_back : PlansAreUnbroken → SoundMessages → OnlyPutsAreGiven → ReadsGiveOrRefuse → SuccessIsShown → ObjectsAreCarried → TagsAreUnbroken → OnlyPutsAreReadBack
-only_puts_are_read_back plans messages only or_refused success carried tags standing settings moment bytes out replay earlier later get asked at asks told =
-    put_before plans messages success carried tags standing settings moment bytes out replay earlier later get at only or_refused asked asks told
+-- ---- of every replay
+
+module _ (plans : PlansAreUnbroken) (messages : SoundMessages) (tags : TagsAreUnbroken)
+    (success : SuccessIsShown) (carried : ObjectsAreCarried) (only : EveryHistory OnlyStoredIsGiven) where
+  of_replays : {Law : Settings → List Exchange → Type 0}
+      → ((settings : Settings) (exchanges : List Exchange) → AreReplayed settings exchanges → Law settings exchanges) → EveryReplay Law
+  of_replays law standing settings moment bytes out replay =
+      let exchanges = replay.writes.serves.exchanges in
+      law settings exchanges (record {
+        legal = replayed_legal standing settings moment bytes out replay;
+        replied = replay.writes.serves.replied;
+        unbroken = walked_unbroken plans messages tags settings true bytes exchanges replay.writes.left
+            (replayed_walk standing settings moment bytes out replay);
+      })
+
+  pub stored_is_read_back : EveryHistory StoredIsKept → EveryReplay StoredIsReadBack
+  stored_is_read_back kept = of_replays (λ settings exchanges are. key_read_back success carried only settings exchanges are kept)
+
+  pub versions_are_read_back : EveryHistory VersionsAreKept → EveryReplay VersionsAreReadBack
+  versions_are_read_back kept = of_replays (λ settings exchanges are. version_read_back success carried only settings exchanges are kept)
+
+  pub only_stored_is_read_back : EveryHistory ReadsGiveOrFail → EveryReplay OnlyStoredIsReadBack
+  only_stored_is_read_back or_fails =
+      of_replays (λ settings exchanges are. stored_before success carried only settings exchanges are or_fails)
+
+  pub puts_are_read_back : EveryHistory PutsAreKept → EveryReplay PutsAreReadBack
+  puts_are_read_back kept = of_replays (λ settings exchanges are. put_read_back success carried only settings exchanges are kept)
+
+  pub put_versions_are_read_back : EveryHistory PutVersionsAreKept → EveryReplay PutVersionsAreReadBack
+  put_versions_are_read_back kept =
+      of_replays (λ settings exchanges are. put_version_read_back success carried only settings exchanges are kept)
 
 -- ---- payloads
 
 planned_payload : (plan : Plan) (came brought : List ℕ) (command : Command) → command_of plan came ≡ Ok command → brings command ≡ Some brought → brought ≡ came
 unfolding command_of
 planned_payload (plans.Bucket name asked) came brought command made is =
-    let none : None ≡ Some brought = sym (ap (option_map (λ (contents : Contents). contents.body)) (bucket_contents name asked came command made)) ∙ is in absurd (cc)
+    let none : None ≡ Some brought = sym (bucket_command (bucket_command_of asked came) name command made).0 ∙ is in absurd (cc)
 planned_payload (plans.Key bucket key (key_plans.Put kind metadata)) came brought command made is = cc
 planned_payload _ came brought command made is = absurd (cc)
 

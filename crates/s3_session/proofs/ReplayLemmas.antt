@@ -6,9 +6,10 @@ use Rattle.s3_records.specs.Catalogue.{opening}
 use Rattle.s3_machine.specs.History.{Legal}
 use Rattle.s3_session.specs.Walk.{Walks}
 use Rattle.s3_session.specs.Output.{message_of, Standing, Reading, Behind}
+use Rattle.s3_session.specs.ReadBack.{entries_from}
 use Rattle.s3_session.specs.Replay.{ReplaysAs}
 use Rattle.s3_session.specs.Laws.{HeadlessAreSilent}
-use Rattle.s3_session.proofs.ServesLemmas.{entries_from, moments_of, serves_entries, all_of_two}
+use Rattle.s3_session.proofs.ServesLemmas.{moments_of, serves_entries, all_of_two}
 use Rattle.s3_session.proofs.StandsLemmas.{nothing_found}
 
 -- what a replay says of its exchanges and of what stands behind them

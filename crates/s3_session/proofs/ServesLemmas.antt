@@ -5,16 +5,10 @@ use Rattle.s3_config.specs.Settings.{Settings}
 use Rattle.s3_machine.specs.History.{Entry}
 use Rattle.s3_machine.specs.declared.turn.Turn.{Turn}
 use Rattle.s3_session.specs.Output.{Exchange, Past, Serves, turn_of}
+use Rattle.s3_session.specs.ReadBack.{entry_of, entries_from}
 use Rattle.s3_session.specs.Replay.{entries_of}
 
--- the entry of an exchange
-abbrev pub entry_of : Exchange → Entry
-entry_of x = record { command = x.command; moment = x.context.moment; answer = x.answer }
-
--- the entries and the moments of exchanges
-abbrev pub entries_from : List Exchange → List Entry
-entries_from xs = map entry_of xs
-
+-- the moments of exchanges
 abbrev pub moments_of : List Exchange → List ℕ
 moments_of xs = map (λ (x : Exchange). x.context.moment) xs
 

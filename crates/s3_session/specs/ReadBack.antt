@@ -1,17 +1,37 @@
--- What a client reads back over one connection, in the bytes of its replies: what it wrote, and nothing
--- else (Amazon S3 User Guide, "Amazon S3 data consistency model" and "Using versioning in S3 buckets").
-use Rattle.std.specs.Prelude.{◌≡◌, ◌≢◌, ℕ, true, false, List, ◌∷◌, ◌++◌, Some, None}
+-- What a client reads back over one connection, in the bytes of its replies: what was stored, and nothing else (Amazon S3
+-- User Guide, "Amazon S3 data consistency model" and "Using versioning in S3 buckets").
+use Rattle.std.specs.Prelude.{◌≡◌, ◌≢◌, ℕ, true, false, List, ◌∷◌, ◌++◌, map, Option, Some, None}
 use Rattle.std.specs.List.{AllByRecursion}
 use Rattle.s3_config.specs.Settings.{Settings}
 use Rattle.s3_names.specs.declared.ids.VersionId.{VersionId}
 use Rattle.s3_payloads.specs.Form.{IsSentAsItIs}
+use Rattle.s3_records.specs.Catalogue.{opening}
 use Rattle.s3_machine.specs.declared.command.Command.{Command}
-use Rattle.s3_machine.specs.Effects.{Address, Asked, writes, brings, reads, touched}
+use Rattle.s3_machine.specs.Step.{State}
+use Rattle.s3_machine.specs.Effects.{Address, Object, Read, writes, brings, whole, reads, touched}
+use Rattle.s3_machine.specs.History.{Entry, after}
+use Rattle.s3_machine.specs.Kept.{LeavesKey, SparesVersion, Stores, WasStored}
 use Rattle.s3_replies.specs.declared.context.Context.{Context}
 use Rattle.s3_replies.specs.Laws.{Carries, tells_success}
 use Rattle.s3_session.specs.Output.{Exchange, Standing}
 use Rattle.s3_session.specs.Replay.{ReplaysAs}
 use Rattle.s3_session.specs.Laws.{IsSound}
+
+-- the entry of a message that was answered
+abbrev pub entry_of : Exchange → Entry
+entry_of x = record { command = x.command; moment = x.context.moment; answer = x.answer }
+
+abbrev pub entries_from : List Exchange → List Entry
+entries_from exchanges = map entry_of exchanges
+
+-- the state that messages leave
+abbrev pub state_behind : Settings → List Exchange → State
+state_behind settings exchanges = after settings.min_part (opening settings.buckets) (entries_from exchanges)
+
+-- the message asks for this, and not for a head alone
+pub record AsksFor (asked : Read) (x : Exchange) : Type 0 where
+  pub read : reads x.command ≡ Some asked
+  pub with_bytes : x.context.head_only ≡ false
 
 -- the message puts these bytes under the address, and its reply tells of success
 pub record Wrote (address : Address) (body : List ℕ) (x : Exchange) : Type 0 where
@@ -23,79 +43,74 @@ pub record Wrote (address : Address) (body : List ℕ) (x : Exchange) : Type 0 w
 abbrev pub LeavesAlone : Address → Exchange → Type 0
 LeavesAlone address x = writes x.command ≡ Some address → tells_success x.reply ≡ false
 
--- of these messages, the last one that wrote under the address with success put these bytes there
-pub record LastWrote (address : Address) (body : List ℕ) (exchanges : List Exchange) : Type 0 where
-  pub before : List Exchange
-  pub write : Exchange
-  pub between : List Exchange
-  pub parts : exchanges ≡ before ++ write ∷ between
-  pub wrote : Wrote address body write
-  pub alone : AllByRecursion (LeavesAlone address) between
-
 -- the message, if it writes under the address with success, makes, replaces and deletes no version of this id there
 abbrev pub SparesId : Address → VersionId → Exchange → Type 0
 SparesId address id x =
     writes x.command ≡ Some address → tells_success x.reply ≡ true → touched x.command x.answer.outcome ≢ Some id
 
--- of these messages, one put these bytes under the address with success, as the version of this id, and none behind it
--- made, replaced or deleted that version
-pub record WroteVersion (address : Address) (id : VersionId) (body : List ℕ) (exchanges : List Exchange) : Type 0 where
-  pub before : List Exchange
-  pub write : Exchange
-  pub between : List Exchange
-  pub parts : exchanges ≡ before ++ write ∷ between
-  pub wrote : Wrote address body write
-  pub under : touched write.command write.answer.outcome ≡ Some id
-  pub spared : AllByRecursion (SparesId address id) between
+-- What holds of the messages of every replay.
+abbrev pub EveryReplay : (Settings → List Exchange → Type 0) → Type 0
+EveryReplay Law =
+    (standing : Standing) (settings : Settings) (moment : ℕ) (bytes out : List ℕ)
+    (replay : ReplaysAs standing settings moment bytes out)
+    → Law settings replay.writes.serves.exchanges
 
--- the message asks for the bytes under the address, of its current version or of the one that is named, and not for a
--- head alone
-pub record AsksFor (asked : Asked) (x : Exchange) : Type 0 where
-  pub read : reads x.command ≡ Some asked
-  pub whole : x.context.head_only ≡ false
+-- The laws, of messages that were answered one after another.
+module _ (settings : Settings) (exchanges : List Exchange) where
+  -- By key: the reply to a read carries exactly the bytes that the last message which changed the key stored.
+  abbrev pub StoredIsReadBack : Type 0
+  StoredIsReadBack =
+      (before between later : List Exchange) (write read : Exchange) (object : Object)
+      → exchanges ≡ before ++ write ∷ between ++ read ∷ later
+      → Stores (state_behind settings before) (entry_of write) object
+      → LeavesKey object.address (entries_from between)
+      → AsksFor (whole object.address None) read
+      → Carries object.stored.body read.reply
 
--- the current version under an address
-abbrev pub current_at : Address → Asked
-current_at address = record { address = address; version = None }
+  -- By version: the reply to a read of a version carries exactly the bytes that were stored in it, until a message
+  -- replaces or deletes it.
+  abbrev pub VersionsAreReadBack : Type 0
+  VersionsAreReadBack =
+      (before between later : List Exchange) (write read : Exchange) (object : Object)
+      → exchanges ≡ before ++ write ∷ between ++ read ∷ later
+      → Stores (state_behind settings before) (entry_of write) object
+      → SparesVersion object.address object.id (entries_from between)
+      → AsksFor (whole object.address (Some object.id)) read
+      → Carries object.stored.body read.reply
 
--- the version of an id
-abbrev pub version_at : Address → VersionId → Asked
-version_at address id = record { address = address; version = Some id }
+  -- And where the reply to a read tells of success, it carries what a message before it stored under its address, whose
+  -- version no message between them replaced or deleted. That need not be the last write there: where a version is
+  -- deleted, the one before it is the current one again. In a bucket whose versioning was never set all versions have the
+  -- id null, and it is the last.
+  abbrev pub OnlyStoredIsReadBack : Type 0
+  OnlyStoredIsReadBack =
+      (earlier later : List Exchange) (read : Exchange) (address : Address) (version : Option VersionId)
+      → exchanges ≡ earlier ++ read ∷ later
+      → AsksFor (whole address version) read
+      → tells_success read.reply ≡ true
+      → (object : Object) × (object.address ≡ address) × ((v : VersionId) → version ≡ Some v → v ≡ object.id)
+      × WasStored settings.min_part (opening settings.buckets) (entries_from earlier) object × Carries object.stored.body read.reply
 
--- in the output of a connection, the reply to each get carries exactly the bytes that the last put under
--- its address, among the messages before it, brought, if a put there told of success
-abbrev pub PutsAreReadBack : Type 0
-PutsAreReadBack =
-    (standing : Standing) (settings : Settings) (moment : ℕ) (bytes out : List ℕ) (replay : ReplaysAs standing settings moment bytes out)
-    (earlier later : List Exchange) (get : Exchange) (address : Address) (body : List ℕ)
-    → replay.writes.serves.exchanges ≡ earlier ++ get ∷ later
-    → AsksFor (current_at address) get
-    → LastWrote address body earlier
-    → Carries body get.reply
+  -- So a put whose reply tells of success is read back: by its key, until a message there does so too,
+  abbrev pub PutsAreReadBack : Type 0
+  PutsAreReadBack =
+      (before between later : List Exchange) (put read : Exchange) (address : Address) (body : List ℕ)
+      → exchanges ≡ before ++ put ∷ between ++ read ∷ later
+      → Wrote address body put
+      → AllByRecursion (LeavesAlone address) between
+      → AsksFor (whole address None) read
+      → Carries body read.reply
 
--- the reply to a get of a version carries exactly the bytes that the put which made it brought, until a message before
--- the get replaces or deletes it
-abbrev pub VersionsAreReadBack : Type 0
-VersionsAreReadBack =
-    (standing : Standing) (settings : Settings) (moment : ℕ) (bytes out : List ℕ) (replay : ReplaysAs standing settings moment bytes out)
-    (earlier later : List Exchange) (get : Exchange) (address : Address) (id : VersionId) (body : List ℕ)
-    → replay.writes.serves.exchanges ≡ earlier ++ get ∷ later
-    → AsksFor (version_at address id) get
-    → WroteVersion address id body earlier
-    → Carries body get.reply
-
--- And where the reply to a get tells of success, it carries what a put under its address brought, whose version no message
--- between them replaced or deleted. That need not be the last write there: where a version is deleted, the one before it
--- is the current one again. In a bucket whose versioning was never set all versions have the id null, and it is the last.
-abbrev pub OnlyPutsAreReadBack : Type 0
-OnlyPutsAreReadBack =
-    (standing : Standing) (settings : Settings) (moment : ℕ) (bytes out : List ℕ) (replay : ReplaysAs standing settings moment bytes out)
-    (earlier later : List Exchange) (get : Exchange) (asked : Asked)
-    → replay.writes.serves.exchanges ≡ earlier ++ get ∷ later
-    → AsksFor asked get
-    → tells_success get.reply ≡ true
-    → (body : List ℕ) × (id : VersionId) × ((v : VersionId) → asked.version ≡ Some v → v ≡ id)
-    × WroteVersion asked.address id body earlier × Carries body get.reply
+  -- and by the version that it made, until a message replaces or deletes that.
+  abbrev pub PutVersionsAreReadBack : Type 0
+  PutVersionsAreReadBack =
+      (before between later : List Exchange) (put read : Exchange) (address : Address) (id : VersionId) (body : List ℕ)
+      → exchanges ≡ before ++ put ∷ between ++ read ∷ later
+      → Wrote address body put
+      → touched put.command put.answer.outcome ≡ Some id
+      → AllByRecursion (SparesId address id) between
+      → AsksFor (whole address (Some id)) read
+      → Carries body read.reply
 
 -- the bytes that a command brings are the payload of its message's body, which is the body where that is sent as it is
 abbrev pub PayloadsAreBrought : Type 0

@@ -9,6 +9,7 @@ ghost use Rattle.s3_session.specs.Decision.{Judges, open_yet};
 ghost use Rattle.s3_session.specs.Incoming as rules;
 
 use crate::admission::Admission;
+use s3_bodies::Payload;
 use s3_machine::Command;
 use s3_payloads::{
     accepted_bodies_are_whole, open_bodies_are_short, payloads_are_judged, refusals_stand,
@@ -16,7 +17,6 @@ use s3_payloads::{
 };
 use s3_replies::Context;
 use s3_requests::{Plan, command};
-use s3_segments::Payload;
 use s3_terms::Code;
 use std::alloc::Global;
 

@@ -1,10 +1,10 @@
 //! What is known of all connections: laws, with nothing to run.
 
-ghost use Rattle.s3_session.specs.ReadBack.{PutsAreReadBack, VersionsAreReadBack, OnlyPutsAreReadBack, PayloadsAreBrought};
+ghost use Rattle.s3_session.specs.ReadBack.{EveryReplay, StoredIsReadBack, VersionsAreReadBack, OnlyStoredIsReadBack, PutsAreReadBack, PutVersionsAreReadBack, PayloadsAreBrought};
 ghost use Rattle.s3_session.specs.Laws.{HeadlessAreSilent, HeadsAreDecided, InvitationsStay, OneInvitation, OneOutput, OneVerdict, OneWriting, OutputsStay, VerdictsExist, VerdictsStay, SessionsWrite, SoundMessages, SoundIsJudged};
 
 use s3_http_heads::{texts_say_one_thing, verdict_is_exact};
-use s3_machine::{only_puts_are_given, puts_are_kept};
+use s3_machine::{only_stored_is_given, puts_are_kept, stored_is_kept};
 use s3_payloads::{accepted_bodies_are_whole, payloads_are_judged, verdicts_are_final};
 use s3_replies::{refusals_are_unique, replies_are_unique, replies_show_what_came};
 use s3_requests::plans_are_unbroken;
@@ -113,21 +113,32 @@ pub fn sessions_write()
     payloads_are_judged();
 }
 
-/// A law: in the output of a connection, the reply to a get carries the bytes that the last write to its bucket and key
-/// before it brought, of those whose reply tells of success, where that is a put; the reply to a get of a version those of
-/// the put that made it, until a message replaces or deletes it; and a reply that tells of success carries what such a put
-/// brought. What a put brings is the payload of its message: its body, or, where that is sent in signed chunks, the data
-/// in them. There is nothing to run.
+/// A law: in the output of a connection, the reply to a read carries the bytes that the last message stored which changed
+/// its key; the reply to a read of a version those that were stored in it, until a message replaces or deletes it; and a
+/// reply that tells of success carries what such a message stored. There is nothing to run.
+pub fn stored_is_read_back()
+    ensures back { EveryReplay StoredIsReadBack }
+    ensures versions { EveryReplay VersionsAreReadBack }
+    ensures only { EveryReplay OnlyStoredIsReadBack }
+{
+    sound_verdicts_are_exact();
+    plans_are_unbroken();
+    stored_is_kept();
+    only_stored_is_given();
+    replies_show_what_came();
+}
+
+/// A law: so the bytes of a put whose reply tells of success are read back. They are the payload of its message: its body,
+/// or, where that is sent in signed chunks, the data in them. There is nothing to run.
 pub fn puts_are_read_back()
-    ensures back { PutsAreReadBack }
-    ensures versions { VersionsAreReadBack }
-    ensures only { OnlyPutsAreReadBack }
+    ensures back { EveryReplay PutsAreReadBack }
+    ensures versions { EveryReplay PutVersionsAreReadBack }
     ensures payloads { PayloadsAreBrought }
 {
     accepted_bodies_are_whole();
     sound_verdicts_are_exact();
     plans_are_unbroken();
     puts_are_kept();
-    only_puts_are_given();
+    only_stored_is_given();
     replies_show_what_came();
 }

@@ -2,10 +2,10 @@
 
 ghost use Rattle.s3_replies.specs.Replies.{Prints};
 
+use s3_bodies::Body;
 use s3_machine::Answer;
 use s3_outbox::PrintedReply;
 use s3_replies::{Context, body_of, head_of};
-use s3_segments::Body;
 
 /// An answer of the machine, and what its reply takes from the message that it answers.
 #[derive(Drop)]

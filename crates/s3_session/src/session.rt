@@ -2,6 +2,7 @@
 //! the answer, and hands out what it writes.
 
 ghost use Rattle.std.specs.Prelude.{◌≡◌, ◌+◌, ◌<◌, ◌≤◌, ℕ, Bool, true, false, List, [], ◌∷◌, ◌++◌, length, take, drop, if◌then◌else◌, IfOk, OnOk, OnErr};
+ghost use Rattle.std.specs.Io.Slices.{io_slices_bytes};
 ghost use Rattle.s3_config.specs.Settings.{Settings};
 ghost use Rattle.s3_http_heads.specs.Search.{Stands, Holds};
 ghost use Rattle.s3_replies.specs.Replies.{Prints, PrintsRefusal, continue_line, internal_error};
@@ -24,6 +25,7 @@ use s3_replies::{Context, continue_reply, internal_error_reply, refusal};
 use s3_signing::KeptKey;
 use s3_terms::{Code, NoMemory};
 use std::alloc::Global;
+use std::io::IoSlice;
 use std::marker::Model;
 use std::mem;
 
@@ -460,6 +462,15 @@ impl Session {
         ensures empty { result.now ≡ [] → rules.unsent_of self.now ≡ [] }
     {
         self.outbox.out()
+    }
+
+    /// The same in the parts in which it lies, for one write: a text, and up to three blocks of the body behind it.
+    pub fn parts(&self) -> [IoSlice<'_>; 4]
+        ensures beginning { take (length (io_slices_bytes result)) (rules.unsent_of self.now) ≡ io_slices_bytes result }
+        ensures within { length (io_slices_bytes result) ≤ length (rules.unsent_of self.now) }
+        ensures empty { io_slices_bytes result ≡ [] → rules.unsent_of self.now ≡ [] }
+    {
+        self.outbox.parts()
     }
 
     /// Says that so many bytes in front were sent. They are dropped, a body goes with its last byte, and the memory of

@@ -6,6 +6,7 @@ ghost use Rattle.s3_settings.specs.Devices as rules;
 
 use crate::fault::Fault;
 use s3_devices::{Device, Reading, Wanted, Writing};
+use std::io::IoSlice;
 use std::sync::Wait;
 
 /// Reads what the device gives next to the front of the buffer, which has some room, and answers how many bytes that
@@ -63,7 +64,7 @@ fn write_piece<'a, D: Device>(device: &mut D, bytes: &[u8]) -> Result<usize, Fau
     ensures refused { IfErr result (λ fault. (fault ≡ Fault.OutputFailed)
         × (D.traffic device.new ≡ record (D.traffic device.old) { failed_writes = suc (D.traffic device.old).failed_writes })) }
 {
-    match device.write(bytes) {
+    match device.write(&[IoSlice::new(bytes)]) {
         Writing::Took(count) => Ok(count),
         Writing::Later => {
             device.wait(Wanted::Room);

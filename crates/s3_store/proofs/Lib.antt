@@ -1,11 +1,2 @@
-pub mod ChangeLemmas
-pub mod KeepingLemmas
-pub mod NamingLemmas
 pub mod NumberLemmas
-pub mod PlaceLemmas
-pub mod ReadingLemmas
-pub mod TellingLemmas
 pub mod StepLemmas
-pub mod KeyStepLemmas
-pub mod ResultLemmas
-pub mod StandingLemmas

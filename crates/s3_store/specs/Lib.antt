@@ -1,4 +1,3 @@
-pub mod Kept
 pub mod Laws
 pub mod Steps
 pub use Rattle.s3_machine.specs.Step

@@ -1,26 +1,28 @@
 //! What the commands on keys do.
-ghost use Rattle.std.specs.Prelude.{◌≡◌, ℕ, true, false, None, Some, IfOk, OnErr, IsTrue};
+ghost use Rattle.std.specs.Prelude.{◌≡◌, ℕ, true, false, None, Some, IfOk, OnErr, IsTrue, option_map};
+ghost use Rattle.std.specs.Option.{unwrap_or};
+ghost use Rattle.s3_versions.specs.Rules.{is_delete_marker};
+ghost use Rattle.s3_records.specs.Catalogue.{has_bucket, versioning_of};
+ghost use Rattle.s3_records.specs.Places.{AreBelow};
 ghost use Rattle.s3_machine.specs.Effects.{is_refused, takes_room, takes_room_at_key};
-ghost use Rattle.s3_machine.specs.Step.{done, key_done, stepped, makes_marker};
-ghost use Rattle.s3_store.specs.Kept.{state_of, IsSound};
-ghost use Rattle.s3_store.specs.Steps.{Steps, versioning_at};
+ghost use Rattle.s3_machine.specs.Step.{step, data_of, makes_marker};
+ghost use Rattle.s3_store.specs.Steps.{key_step, got_of, head_got_of};
 
 use crate::bucket_steps::refused;
-use crate::kept::Keeping;
-use crate::laws::rows_keep_state;
-use crate::reading::{shown, without_bytes};
+use crate::reading::{look, shown, without_bytes};
+use s3_bodies::{Body, Payload};
 use s3_calendar::Moment;
-use s3_machine::{Command, KeyCommand, Outcome};
+use s3_machine::{Command, Found, KeyCommand, Outcome};
 use s3_names::{BucketName, Key, VersionId};
 use s3_records::Records;
-use s3_segments::Payload;
 use s3_terms::{Code, NoMemory};
-use s3_versions::{ContentType, Metadata, Refusal, Versioning};
+use s3_versions::{ContentType, Data, Metadata, Refusal, Version, Versioning};
 use std::alloc::Global;
 
-/// Takes the step of a command on a key. `NoMemory` leaves what is kept as it was.
-pub(crate) fn take_on_key<R: Records + Drop>(
-    kept: &mut Keeping<R>,
+/// Takes the step of a command on a key, as the entry of this number. `NoMemory` leaves the records as they were.
+#[tactic(auto, using(crate::proofs::StepLemmas::versioning_told), unfolding(s3_machine::specs::Step::done))]
+pub(crate) fn take_on_key<R: Records>(
+    records: &mut R,
     alloc: Global,
     bucket: &BucketName,
     key: Key,
@@ -28,26 +30,32 @@ pub(crate) fn take_on_key<R: Records + Drop>(
     number: u64,
     moment: Moment,
 ) -> Result<Outcome, NoMemory>
-    requires { IsSound kept.old number }
+    requires { AreBelow number (R.catalogue records.old) }
     ensures ok { IfOk result (λ outcome. (least : ℕ)
-        → Steps kept.old kept.new number (done least (state_of kept.old) number moment (Command.Key bucket.now key asked)) outcome) }
-    ensures err { OnErr result (kept.new ≡ kept.old) }
+        → step least (R.catalogue records.old) number moment (Command.Key bucket.now key asked) ≡ (R.catalogue records.new, outcome)) }
+    ensures err { OnErr result (R.catalogue records.new ≡ R.catalogue records.old) }
     ensures memory { OnErr result (R.is_in_memory ≡ true → (least : ℕ)
-        → is_refused (stepped (state_of kept.old) (done least (state_of kept.old) number moment (Command.Key bucket.now key asked))).1 ≡ false) }
-    ensures room { OnErr result (R.is_in_memory ≡ true → IsTrue (takes_room (state_of kept.old) (Command.Key bucket.now key asked))) }
+        → is_refused (step least (R.catalogue records.old) number moment (Command.Key bucket.now key asked)).1 ≡ false) }
+    ensures room { OnErr result (R.is_in_memory ≡ true → IsTrue (takes_room (R.catalogue records.old) (Command.Key bucket.now key asked))) }
 {
-    rows_keep_state();
-    match kept.versioning(alloc, bucket)? {
+    match records.bucket(alloc, bucket)? {
         None => Ok(refused(Code::NoSuchBucket)),
-        Some(versioning) => take_in_bucket(
-            kept, alloc, bucket, versioning, key, asked, number, moment,
+        Some(facts) => take_in_bucket(
+            records,
+            alloc,
+            bucket,
+            facts.versioning,
+            key,
+            asked,
+            number,
+            moment,
         ),
     }
 }
 
 // The same in a bucket that is there, and has this versioning.
-fn take_in_bucket<R: Records + Drop>(
-    kept: &mut Keeping<R>,
+fn take_in_bucket<R: Records>(
+    records: &mut R,
     alloc: Global,
     bucket: &BucketName,
     versioning: Versioning,
@@ -56,13 +64,14 @@ fn take_in_bucket<R: Records + Drop>(
     number: u64,
     moment: Moment,
 ) -> Result<Outcome, NoMemory>
-    requires sound { IsSound kept.old number }
-    requires there { Some versioning ≡ versioning_at kept.old.rows bucket.now }
+    requires below { AreBelow number (R.catalogue records.old) }
+    requires there { IsTrue (has_bucket (R.catalogue records.old) bucket.now) }
+    requires versioning { versioning ≡ versioning_of (R.catalogue records.old) bucket.now }
     ensures ok { IfOk result (λ outcome.
-        Steps kept.old kept.new number (key_done (state_of kept.old) number moment bucket.now key asked) outcome) }
-    ensures err { OnErr result (kept.new ≡ kept.old) }
+        key_step (R.catalogue records.old) number moment bucket.now key asked ≡ (R.catalogue records.new, outcome)) }
+    ensures err { OnErr result (R.catalogue records.new ≡ R.catalogue records.old) }
     ensures memory { OnErr result (R.is_in_memory ≡ true
-        → is_refused (stepped (state_of kept.old) (key_done (state_of kept.old) number moment bucket.now key asked)).1 ≡ false) }
+        → is_refused (key_step (R.catalogue records.old) number moment bucket.now key asked).1 ≡ false) }
     ensures room { OnErr result (R.is_in_memory ≡ true → IsTrue (takes_room_at_key versioning asked)) }
 {
     match asked {
@@ -71,7 +80,7 @@ fn take_in_bucket<R: Records + Drop>(
             metadata,
             payload,
         } => put(
-            kept,
+            records,
             alloc,
             bucket,
             versioning,
@@ -82,21 +91,18 @@ fn take_in_bucket<R: Records + Drop>(
             number,
             moment,
         ),
-        KeyCommand::Get { version } => get(
-            kept, alloc, bucket, versioning, &key, version, number, moment,
-        ),
-        KeyCommand::Head { version } => head(
-            kept, alloc, bucket, versioning, &key, version, number, moment,
-        ),
+        KeyCommand::Get { version } => get(records, alloc, bucket, versioning, &key, version),
+        KeyCommand::Head { version } => head(records, alloc, bucket, versioning, &key, version),
         KeyCommand::Delete { version } => delete(
-            kept, alloc, bucket, versioning, key, version, number, moment,
+            records, alloc, bucket, versioning, key, version, number, moment,
         ),
     }
 }
 
 // PutObject.
-fn put<R: Records + Drop>(
-    kept: &mut Keeping<R>,
+#[tactic(auto, unfolding(s3_machine::specs::Step::key_done))]
+fn put<R: Records>(
+    records: &mut R,
     alloc: Global,
     bucket: &BucketName,
     versioning: Versioning,
@@ -107,92 +113,110 @@ fn put<R: Records + Drop>(
     number: u64,
     moment: Moment,
 ) -> Result<Outcome, NoMemory>
-    requires sound { IsSound kept.old number }
-    requires there { Some versioning ≡ versioning_at kept.old.rows bucket.now }
-    ensures ok { IfOk result (λ outcome. Steps kept.old kept.new number
-        (key_done (state_of kept.old) number moment bucket.now key (KeyCommand.Put content_type metadata payload)) outcome) }
-    ensures err { OnErr result (kept.new ≡ kept.old) }
+    requires below { AreBelow number (R.catalogue records.old) }
+    requires there { IsTrue (has_bucket (R.catalogue records.old) bucket.now) }
+    requires versioning { versioning ≡ versioning_of (R.catalogue records.old) bucket.now }
+    ensures ok { IfOk result (λ outcome.
+        key_step (R.catalogue records.old) number moment bucket.now key (KeyCommand.Put content_type metadata payload)
+        ≡ (R.catalogue records.new, outcome)) }
+    ensures err { OnErr result (R.catalogue records.new ≡ R.catalogue records.old) }
+    ensures memory { OnErr result (R.is_in_memory ≡ true → is_refused
+        (key_step (R.catalogue records.old) number moment bucket.now key (KeyCommand.Put content_type metadata payload)).1 ≡ false) }
 {
-    rows_keep_state();
     let tag = payload.tag();
-    kept.put_version(
-        alloc,
-        bucket,
-        key,
-        number,
-        moment,
-        content_type,
-        metadata,
-        payload,
-    )?;
+    let stored = stored_of(content_type, metadata, payload)?;
+    records.put_version(alloc, bucket, key, number, moment, stored)?;
     let shown = shown(versioning, versioning.new_id(number));
     Ok(Outcome::Put { tag, shown })
 }
 
+// What a put stores, which is moved and not copied.
+fn stored_of(
+    content_type: ContentType,
+    metadata: Metadata,
+    payload: Payload,
+) -> Result<Data<Body>, NoMemory>
+    ensures { IfOk result (λ stored. stored ≡ data_of content_type metadata payload) }
+{
+    let tag = payload.tag();
+    let body = payload.into_body()?;
+    let size = body.size();
+    Ok(Data {
+        tag,
+        content_type,
+        metadata,
+        size,
+        body,
+    })
+}
+
 // GetObject.
-fn get<R: Records + Drop>(
-    kept: &mut Keeping<R>,
+#[tactic(auto, using(crate::proofs::StepLemmas::read_steps))]
+fn get<R: Records>(
+    records: &mut R,
     alloc: Global,
     bucket: &BucketName,
     versioning: Versioning,
     key: &Key,
     asked: Option<VersionId>,
-    number: u64,
-    moment: Moment,
 ) -> Result<Outcome, NoMemory>
-    requires sound { IsSound kept.old number }
-    requires there { Some versioning ≡ versioning_at kept.old.rows bucket.now }
-    ensures ok { IfOk result (λ outcome. Steps kept.old kept.new number
-        (key_done (state_of kept.old) number moment bucket.now key.now (KeyCommand.Get asked)) outcome) }
-    ensures same { kept.new ≡ kept.old }
-    ensures memory { OnErr result (R.is_in_memory ≡ true → is_refused (stepped (state_of kept.old)
-        (key_done (state_of kept.old) number moment bucket.now key.now (KeyCommand.Get asked))).1 ≡ false) }
+    requires { versioning ≡ versioning_of (R.catalogue records.old) bucket.now }
+    ensures ok { IfOk result (λ outcome. (n t : ℕ)
+        → key_step (R.catalogue records.old) n t bucket.now key.now (KeyCommand.Get asked) ≡ (R.catalogue records.new, outcome)) }
+    ensures same { R.catalogue records.new ≡ R.catalogue records.old }
+    ensures memory { OnErr result (R.is_in_memory ≡ true → (n t : ℕ)
+        → is_refused (key_step (R.catalogue records.old) n t bucket.now key.now (KeyCommand.Get asked)).1 ≡ false) }
 {
-    rows_keep_state();
-    let _moment = moment;
-    let _number = number;
-    match kept.look(alloc, bucket, key, asked, versioning)? {
-        Err(refusal) => Ok(refused_with(refusal)),
-        Ok(found) => {
-            let found = kept.with_bytes(alloc, found)?;
-            Ok(Outcome::Got { found })
-        }
-    }
+    let read = look(records, alloc, bucket, versioning, key, asked)?;
+    Ok(got(read))
 }
 
 // HeadObject.
-fn head<R: Records + Drop>(
-    kept: &mut Keeping<R>,
+#[tactic(auto, using(crate::proofs::StepLemmas::read_steps))]
+fn head<R: Records>(
+    records: &mut R,
     alloc: Global,
     bucket: &BucketName,
     versioning: Versioning,
     key: &Key,
     asked: Option<VersionId>,
-    number: u64,
-    moment: Moment,
 ) -> Result<Outcome, NoMemory>
-    requires sound { IsSound kept.old number }
-    requires there { Some versioning ≡ versioning_at kept.old.rows bucket.now }
-    ensures ok { IfOk result (λ outcome. Steps kept.old kept.new number
-        (key_done (state_of kept.old) number moment bucket.now key.now (KeyCommand.Head asked)) outcome) }
-    ensures same { kept.new ≡ kept.old }
-    ensures memory { OnErr result (R.is_in_memory ≡ true → is_refused (stepped (state_of kept.old)
-        (key_done (state_of kept.old) number moment bucket.now key.now (KeyCommand.Head asked))).1 ≡ false) }
+    requires { versioning ≡ versioning_of (R.catalogue records.old) bucket.now }
+    ensures ok { IfOk result (λ outcome. (n t : ℕ)
+        → key_step (R.catalogue records.old) n t bucket.now key.now (KeyCommand.Head asked) ≡ (R.catalogue records.new, outcome)) }
+    ensures same { R.catalogue records.new ≡ R.catalogue records.old }
+    ensures memory { OnErr result (R.is_in_memory ≡ true → (n t : ℕ)
+        → is_refused (key_step (R.catalogue records.old) n t bucket.now key.now (KeyCommand.Head asked)).1 ≡ false) }
 {
-    rows_keep_state();
-    let _moment = moment;
-    let _number = number;
-    match kept.look(alloc, bucket, key, asked, versioning)? {
-        Err(refusal) => Ok(refused_with(refusal)),
-        Ok(found) => Ok(Outcome::HeadGot {
+    let read = look(records, alloc, bucket, versioning, key, asked)?;
+    Ok(head_got(read))
+}
+
+// What came of a GetObject.
+fn got(read: Result<Found<Body>, Refusal>) -> Outcome
+    ensures { result ≡ got_of read }
+{
+    match read {
+        Ok(found) => Outcome::Got { found },
+        Err(refusal) => refused_with(refusal),
+    }
+}
+
+// What came of a HeadObject.
+fn head_got(read: Result<Found<Body>, Refusal>) -> Outcome
+    ensures { result ≡ head_got_of read }
+{
+    match read {
+        Ok(found) => Outcome::HeadGot {
             found: without_bytes(found),
-        }),
+        },
+        Err(refusal) => refused_with(refusal),
     }
 }
 
 // DeleteObject.
-fn delete<R: Records + Drop>(
-    kept: &mut Keeping<R>,
+fn delete<R: Records>(
+    records: &mut R,
     alloc: Global,
     bucket: &BucketName,
     versioning: Versioning,
@@ -201,32 +225,74 @@ fn delete<R: Records + Drop>(
     number: u64,
     moment: Moment,
 ) -> Result<Outcome, NoMemory>
-    requires sound { IsSound kept.old number }
-    requires there { Some versioning ≡ versioning_at kept.old.rows bucket.now }
-    ensures ok { IfOk result (λ outcome. Steps kept.old kept.new number
-        (key_done (state_of kept.old) number moment bucket.now key (KeyCommand.Delete version)) outcome) }
-    ensures err { OnErr result (kept.new ≡ kept.old) }
-    ensures memory { OnErr result (R.is_in_memory ≡ true → is_refused (stepped (state_of kept.old)
-        (key_done (state_of kept.old) number moment bucket.now key (KeyCommand.Delete version))).1 ≡ false) }
+    requires below { AreBelow number (R.catalogue records.old) }
+    requires there { IsTrue (has_bucket (R.catalogue records.old) bucket.now) }
+    requires versioning { versioning ≡ versioning_of (R.catalogue records.old) bucket.now }
+    ensures ok { IfOk result (λ outcome.
+        key_step (R.catalogue records.old) number moment bucket.now key (KeyCommand.Delete version)
+        ≡ (R.catalogue records.new, outcome)) }
+    ensures err { OnErr result (R.catalogue records.new ≡ R.catalogue records.old) }
+    ensures memory { OnErr result (R.is_in_memory ≡ true
+        → is_refused (key_step (R.catalogue records.old) number moment bucket.now key (KeyCommand.Delete version)).1 ≡ false) }
     ensures room { OnErr result (R.is_in_memory ≡ true → IsTrue (takes_room_at_key versioning (KeyCommand.Delete version))) }
 {
-    rows_keep_state();
     match version {
-        None => {
-            kept.delete_key(alloc, bucket, key, number, moment)?;
-            Ok(Outcome::Deleted {
-                shown: shown(versioning, versioning.new_id(number)),
-                is_delete_marker: has_markers(versioning),
-            })
-        }
-        Some(id) => {
-            let was_marker = kept.drop_version(alloc, bucket, &key, id)?;
-            Ok(Outcome::Deleted {
-                shown: shown(versioning, id),
-                is_delete_marker: was_marker,
-            })
-        }
+        None => delete_key(records, alloc, bucket, versioning, key, number, moment),
+        Some(id) => drop_version(records, alloc, bucket, versioning, &key, id),
     }
+}
+
+// DeleteObject that names no version.
+#[tactic(auto, unfolding(s3_machine::specs::Step::key_done))]
+fn delete_key<R: Records>(
+    records: &mut R,
+    alloc: Global,
+    bucket: &BucketName,
+    versioning: Versioning,
+    key: Key,
+    number: u64,
+    moment: Moment,
+) -> Result<Outcome, NoMemory>
+    requires below { AreBelow number (R.catalogue records.old) }
+    requires there { IsTrue (has_bucket (R.catalogue records.old) bucket.now) }
+    requires versioning { versioning ≡ versioning_of (R.catalogue records.old) bucket.now }
+    ensures ok { IfOk result (λ outcome.
+        key_step (R.catalogue records.old) number moment bucket.now key (KeyCommand.Delete None)
+        ≡ (R.catalogue records.new, outcome)) }
+    ensures err { OnErr result (R.catalogue records.new ≡ R.catalogue records.old) }
+    ensures memory { OnErr result (R.is_in_memory ≡ true
+        → is_refused (key_step (R.catalogue records.old) number moment bucket.now key (KeyCommand.Delete None)).1 ≡ false) }
+    ensures room { OnErr result (R.is_in_memory ≡ true → IsTrue (makes_marker versioning)) }
+{
+    records.delete(alloc, bucket, key, number, moment)?;
+    Ok(Outcome::Deleted {
+        shown: shown(versioning, versioning.new_id(number)),
+        is_delete_marker: has_markers(versioning),
+    })
+}
+
+// DeleteObject of the version of this id.
+#[tactic(auto, unfolding(s3_machine::specs::Step::key_done))]
+fn drop_version<R: Records>(
+    records: &mut R,
+    alloc: Global,
+    bucket: &BucketName,
+    versioning: Versioning,
+    key: &Key,
+    id: VersionId,
+) -> Result<Outcome, NoMemory>
+    requires there { IsTrue (has_bucket (R.catalogue records.old) bucket.now) }
+    requires versioning { versioning ≡ versioning_of (R.catalogue records.old) bucket.now }
+    ensures ok { IfOk result (λ outcome. (n t : ℕ)
+        → key_step (R.catalogue records.old) n t bucket.now key.now (KeyCommand.Delete (Some id)) ≡ (R.catalogue records.new, outcome)) }
+    ensures err { OnErr result (R.catalogue records.new ≡ R.catalogue records.old) }
+    ensures memory { OnErr result (R.is_in_memory ≡ false) }
+{
+    let gone = records.drop_version(alloc, bucket, key, id)?;
+    Ok(Outcome::Deleted {
+        shown: shown(versioning, id),
+        is_delete_marker: was_marker(&gone),
+    })
 }
 
 // A refusal that tells whether what was asked for is a delete marker.
@@ -246,5 +312,15 @@ fn has_markers(versioning: Versioning) -> bool
     match versioning {
         Versioning::Unversioned => false,
         Versioning::Enabled | Versioning::Suspended => true,
+    }
+}
+
+// Whether a version is a delete marker.
+fn was_marker(version: &Option<Version<Body>>) -> bool
+    ensures { result ≡ unwrap_or (option_map is_delete_marker version.now) false }
+{
+    match version {
+        None => false,
+        Some(version) => version.is_delete_marker(),
     }
 }

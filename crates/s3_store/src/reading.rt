@@ -1,17 +1,17 @@
 //! What is told of a version that is read.
-ghost use Rattle.std.specs.Prelude.{◌≡◌, ℕ, IsTrue, is_some, Some, IfOk, option_and_then};
-ghost use Rattle.std.specs.FinMap as map;
+ghost use Rattle.std.specs.Prelude.{◌≡◌, ◌≢◌, ℕ, List, true, IsTrue, is_some, Some, None, IfOk, OnErr, option_and_then};
 ghost use Rattle.s3_versions.specs.declared.version.Data.{Data};
 ghost use Rattle.s3_versions.specs.declared.version.Version.{Version};
-ghost use Rattle.s3_versions.specs.Rules.{judged, stored};
 ghost use Rattle.s3_versions.specs.Filling.{filled_data};
+ghost use Rattle.s3_versions.specs.Rules.{asked_for, judged, pick, stored};
+ghost use Rattle.s3_records.specs.Catalogue.{versions_of};
 ghost use Rattle.s3_machine.specs.Step.{shown_in, head_of, found_in};
-ghost use Rattle.s3_store.specs.Kept.{body_under};
-ghost use Rattle.s3_store.specs.Steps.{read_as_found, filled_found};
+ghost use Rattle.s3_store.specs.Steps.{read_as_found};
 
+use s3_bodies::Body;
 use s3_machine::Found;
-use s3_names::VersionId;
-use s3_segments::{Body, Segments};
+use s3_names::{BucketName, Key, VersionId};
+use s3_records::Records;
 use s3_terms::NoMemory;
 use s3_versions::{Content, Data, Refusal, Version, Versioning, judge};
 use std::alloc::Global;
@@ -26,13 +26,31 @@ pub(crate) fn shown(versioning: Versioning, id: VersionId) -> Option<VersionId>
     }
 }
 
-/// What is told of the version that was found, or the refusal. What it stores is moved and not copied.
-#[tactic(auto, using(crate::proofs::ReadingLemmas::told_of))]
-pub(crate) fn read(
+/// What is told of the version that a request reads in a bucket of this versioning, with its bytes, or the refusal.
+pub(crate) fn look<R: Records>(
+    records: &mut R,
+    alloc: Global,
+    bucket: &BucketName,
+    versioning: Versioning,
+    key: &Key,
+    asked: Option<VersionId>,
+) -> Result<Result<Found<Body>, Refusal>, NoMemory>
+    ensures value { IfOk result (λ read. read
+        ≡ read_as_found versioning (pick asked (versions_of (R.catalogue records.old) bucket.now key.now))) }
+    ensures same { R.catalogue records.new ≡ R.catalogue records.old }
+    ensures memory { OnErr result (R.is_in_memory ≡ true
+        → option_and_then stored (asked_for asked (versions_of (R.catalogue records.old) bucket.now key.now)) ≢ None) }
+{
+    let found = records.version(alloc, bucket, key, asked)?;
+    Ok(read(versioning, asked, found))
+}
+
+// What is told of the version that was found, or the refusal. What it stores is moved and not copied.
+fn read(
     versioning: Versioning,
     asked: Option<VersionId>,
-    found: Option<Version<u64>>,
-) -> Result<Found<u64>, Refusal>
+    found: Option<Version<Body>>,
+) -> Result<Found<Body>, Refusal>
     ensures { result ≡ read_as_found versioning (judged asked found) }
 {
     match judge(asked, found.as_ref()) {
@@ -42,9 +60,9 @@ pub(crate) fn read(
 }
 
 // What is told of a version that is no delete marker.
-fn told(versioning: Versioning, found: Option<Version<u64>>) -> Found<u64>
+fn told(versioning: Versioning, found: Option<Version<Body>>) -> Found<Body>
     requires { IsTrue (is_some (option_and_then stored found)) }
-    ensures { (v : Version ℕ) (d : Data ℕ) → found ≡ Some v → stored v ≡ Some d → result ≡ found_in versioning (v, d) }
+    ensures { (v : Version (List ℕ)) (d : Data (List ℕ)) → found ≡ Some v → stored v ≡ Some d → result ≡ found_in versioning (v, d) }
 {
     match found {
         Some(version) => {
@@ -56,9 +74,10 @@ fn told(versioning: Versioning, found: Option<Version<u64>>) -> Found<u64>
 }
 
 // The same, with the id that is shown.
-fn found_under(shown: Option<VersionId>, version: Version<u64>) -> Found<u64>
+fn found_under(shown: Option<VersionId>, version: Version<Body>) -> Found<Body>
     requires { IsTrue (is_some (stored version)) }
-    ensures { (d : Data ℕ) → stored version ≡ Some d → result ≡ record { shown = shown; moment = version.moment; stored = d } }
+    ensures { (d : Data (List ℕ)) → stored version ≡ Some d
+        → result ≡ record { shown = shown; moment = version.moment; stored = d } }
 {
     let moment = version.moment;
     match version.content {
@@ -72,53 +91,25 @@ fn found_under(shown: Option<VersionId>, version: Version<u64>) -> Found<u64>
 }
 
 /// The same without the bytes.
-pub(crate) fn without_bytes(found: Found<u64>) -> Found<()>
+pub(crate) fn without_bytes(found: Found<Body>) -> Found<()>
     ensures { result ≡ head_of found }
 {
     Found {
         shown: found.shown,
         moment: found.moment,
-        stored: with_body(found.stored, ()),
+        stored: data_without_bytes(found.stored),
     }
 }
 
-/// The same with its bytes, which are copied. They are there.
-pub(crate) fn with_bytes(
-    alloc: Global,
-    bodies: &Segments,
-    found: Found<u64>,
-) -> Result<Found<Body>, NoMemory>
-    requires { IsTrue (is_some (map.get bodies.now.kept found.stored.body)) }
-    ensures { IfOk result (λ got. got ≡ filled_found (body_under bodies.now.kept) found) }
-{
-    let body = copied(alloc, bodies, found.stored.body)?;
-    Ok(Found {
-        shown: found.shown,
-        moment: found.moment,
-        stored: with_body(found.stored, body),
-    })
-}
-
-// The body under this number, copied. It is there.
-fn copied(alloc: Global, bodies: &Segments, number: u64) -> Result<Body, NoMemory>
-    requires { IsTrue (is_some (map.get bodies.now.kept number)) }
-    ensures { IfOk result (λ body. body ≡ body_under bodies.now.kept number) }
-{
-    match bodies.get(number) {
-        Some(body) => body.copy(alloc),
-        None => unreachable!(),
-    }
-}
-
-// The same data with other bytes.
-fn with_body<B>(row: Data<u64>, body: B) -> Data<B>
-    ensures { result ≡ filled_data (λ number. body) row }
+// The same of what is stored.
+fn data_without_bytes(stored: Data<Body>) -> Data<()>
+    ensures { result ≡ filled_data (λ body. tt) stored }
 {
     Data {
-        tag: row.tag,
-        content_type: row.content_type,
-        metadata: row.metadata,
-        size: row.size,
-        body,
+        tag: stored.tag,
+        content_type: stored.content_type,
+        metadata: stored.metadata,
+        size: stored.size,
+        body: (),
     }
 }

@@ -4,36 +4,36 @@ ghost use Rattle.s3_records.specs.Catalogue.{opening};
 ghost use Rattle.s3_store.specs.Steps.{opened, after_step, outcome_of};
 ghost use Rattle.s3_machine.specs.Effects.{is_refused, takes_room};
 
-use crate::kept::Keeping;
-use crate::laws::rows_keep_state;
+use crate::laws::steps_stay_below;
 use crate::take::take;
+use s3_bodies::Body;
 use s3_calendar::Moment;
 use s3_machine::{Answer, Command};
 use s3_names::BucketName;
-use s3_records::{MapRecords, Records};
+use s3_records::{MapRecords, Records, numbers_stay_below};
 use s3_terms::NoMemory;
 use std::alloc::Global;
 use std::marker::Model;
 
 /// The buckets with their versions and the bytes of these. Contracts see a store as its state and the number of the next
-/// entry. Its type keeps that the bodies are those that rows name, each named once, and no others.
+/// entry. Its type keeps that this number is above those of the entries that made the versions.
 #[derive(Drop)]
 pub struct Store<R: Records> {
-    kept: Keeping<R>,
+    records: R,
     number: u64,
 }
 
 impl<R: Records> Model for Store<R> {
-    ghost use Rattle.s3_store.specs.Kept.{IsSound, state_of};
+    ghost use Rattle.s3_records.specs.Places.{AreBelow};
     ghost use Rattle.s3_store.specs.Steps.{Standing, coded_standing};
 
     ghost Value = { Standing };
 
     ghost coded = { coded_standing };
 
-    ghost view = { λ store. record { state = state_of store.kept; number = store.number } };
+    ghost view = { λ store. record { state = R.catalogue store.records; number = store.number } };
 
-    ghost invariant = { λ store. IsSound store.kept store.number };
+    ghost invariant = { λ store. AreBelow store.number (R.catalogue store.records) };
 }
 
 impl Store<MapRecords> {
@@ -43,12 +43,9 @@ impl Store<MapRecords> {
         ensures value { IfOk result (λ store. store ≡ opened (opening buckets.now)) }
         ensures memory { OnErr result (buckets.now ≢ []) }
     {
-        rows_keep_state();
+        numbers_stay_below::<Body>();
         let records = MapRecords::of_buckets(alloc, buckets)?;
-        Ok(Store {
-            kept: Keeping::new(alloc, records),
-            number: 0,
-        })
+        Ok(Store { records, number: 0 })
     }
 }
 
@@ -63,8 +60,8 @@ impl<R: Records + Drop> Store<R> {
     /// Takes one step: does what the command asks for at this moment, and answers it under its number. `least_part` is the
     /// least size of a part that is not the last. A put moves the bytes and copies none, a get copies those of the version.
     ///
-    /// `NoMemory` leaves the store as it was; it comes too where the numbers are used up. Where the rows are in memory, it
-    /// stands in the place of no refusal, and comes only where the command takes room.
+    /// `NoMemory` leaves the store as it was; it comes too where the numbers are used up. Where the records are in memory,
+    /// it stands in the place of no refusal, and comes only where the command takes room.
     pub fn apply(
         &mut self,
         alloc: Global,
@@ -81,11 +78,19 @@ impl<R: Records + Drop> Store<R> {
         ensures room { OnErr result (R.is_in_memory ≡ true → self.old.number ≢ 18446744073709551615
             → IsTrue (takes_room self.old.state command)) }
     {
+        steps_stay_below();
         let number = self.number;
         if number == u64::MAX {
             return Err(NoMemory);
         }
-        let outcome = take(&mut self.kept, alloc, least_part, command, number, moment)?;
+        let outcome = take(
+            &mut self.records,
+            alloc,
+            least_part,
+            command,
+            number,
+            moment,
+        )?;
         self.number = number + 1;
         Ok(Answer { number, outcome })
     }

@@ -1,7 +1,7 @@
 -- The laws of the rules.
-use Rattle.std.proofs.Common.{◌≡◌, refl, sym, ap, ◌∙◌, ◌≢◌, ℕ, ◌+◌, ◌<◌, ◌≤◌, arith, IsTrue, nat_lt, Bool, true, false, not, cond, List, [], ◌∷◌, Some, None, filter, find}
+use Rattle.std.proofs.Common.{◌≡◌, refl, ap, ◌∙◌, ◌≢◌, ℕ, ◌+◌, ◌<◌, ◌≤◌, arith, IsTrue, nat_lt, Bool, true, false, not, cond, List, ◌∷◌, Some, None, filter, find}
 use Rattle.std.specs.List.{list_all}
-use Rattle.std.proofs.lemmas.Bool.{false_from_ne_true, and_from, and_parts, lt-ltb, ltb-true}
+use Rattle.std.proofs.lemmas.Bool.{false_from_ne_true, and_from, lt-ltb, ltb-true}
 use Rattle.std.proofs.lemmas.Bool.Decides.{nat_tests}
 use Rattle.std.proofs.lemmas.List.Filters.{sum_by-filter_both}
 use Rattle.s3_names.specs.declared.ids.VersionId.{VersionId}
@@ -11,23 +11,21 @@ use Rattle.s3_versions.specs.declared.version.Content.TheVariants.{DeleteMarker,
 use Rattle.s3_versions.specs.declared.version.Version.{Version}
 use Rattle.s3_versions.specs.declared.version.Versioning.{Versioning}
 use Rattle.s3_versions.specs.declared.version.Versioning.TheVariants.{Unversioned, Enabled, Suspended}
-use Rattle.s3_versions.specs.Rules.{is_under, made, new_id, after_adding, after_delete, without, replaced, is_new_number}
-use Rattle.s3_versions.specs.Laws.{OneUnderEachId, PutsLeaveVersions, DeletesLeaveVersions, DropsLeaveVersions, NextIsNew, OnlyNullGoes, OneVersionGoes, SumOfWhatGoes, OneIdChanges, AddsUnderNewId, DeletesUnderNewId, ReplacesUnderNewId}
+use Rattle.s3_versions.specs.Rules.{is_under, made, new_id, after_adding, after_delete, without, is_new_number}
+use Rattle.s3_versions.specs.Laws.{OneUnderEachId, PutsLeaveVersions, DeletesLeaveVersions, DropsLeaveVersions, NextIsNew, EnabledTakesNothing, OnlyNullGoes, OneVersionGoes, SumOfWhatGoes, AddsUnderNewId, DeletesUnderNewId}
 use Rattle.s3_versions.proofs.ListLemmas.{list_all-then, list_all-filter, length-filter_one, sum_by-filter_one, find-left, find-others}
-use Rattle.s3_versions.proofs.VersionLemmas.{at_most_one, without-valid, new_precedes, new_null_precedes}
+use Rattle.s3_versions.proofs.VersionLemmas.{at_most_one, without-valid, new_precedes}
 
 pub one_under_each_id : {B : Type 0} → OneUnderEachId B
 one_under_each_id vs id valid = length-filter_one (is_under id) vs (at_most_one id vs valid)
 
 pub puts_leave_versions : {B : Type 0} → PutsLeaveVersions B
-puts_leave_versions Unversioned n t stored vs valid new = new_null_precedes (made Unversioned n t (Stored stored)) vs new valid
-puts_leave_versions Enabled n t stored vs valid new = new_precedes (made Enabled n t (Stored stored)) vs refl new valid
-puts_leave_versions Suspended n t stored vs valid new = new_null_precedes (made Suspended n t (Stored stored)) vs new valid
+puts_leave_versions b n t stored vs valid new = new_precedes (made b n t (Stored stored)) vs new valid
 
 pub deletes_leave_versions : {B : Type 0} → DeletesLeaveVersions B
 deletes_leave_versions Unversioned n t vs valid new = without-valid Null vs valid
-deletes_leave_versions Enabled n t vs valid new = new_precedes (made Enabled n t DeleteMarker) vs refl new valid
-deletes_leave_versions Suspended n t vs valid new = new_null_precedes (made Suspended n t DeleteMarker) vs new valid
+deletes_leave_versions Enabled n t vs valid new = new_precedes (made Enabled n t DeleteMarker) vs new valid
+deletes_leave_versions Suspended n t vs valid new = new_precedes (made Suspended n t DeleteMarker) vs new valid
 
 pub drops_leave_versions : {B : Type 0} → DropsLeaveVersions B
 drops_leave_versions id vs valid = without-valid id vs valid
@@ -47,9 +45,7 @@ next_kept n p vs new = list_all-filter (λ v. nat_lt v.number (n + 1)) p vs (lat
 
 next_after_adding : {B : Type 0} (b : Versioning) (n t : ℕ) (content : Content B) (vs : List (Version B)) → IsTrue (is_new_number n vs) → IsTrue (is_new_number (n + 1) (after_adding b n t content vs))
 unfolding is_new_number without
-next_after_adding Enabled n t content vs new = and_from _ _ (below_next n) (later_new n (n + 1) vs (omega arith) new)
-next_after_adding Unversioned n t content vs new = and_from _ _ (below_next n) (next_kept n (λ v. not (is_under Null v)) vs new)
-next_after_adding Suspended n t content vs new = and_from _ _ (below_next n) (next_kept n (λ v. not (is_under Null v)) vs new)
+next_after_adding b n t content vs new = and_from _ _ (below_next n) (next_kept n (λ v. not (is_under (new_id b n) v)) vs new)
 
 next_after_dropping : {B : Type 0} (n : ℕ) (id : VersionId) (vs : List (Version B)) → IsTrue (is_new_number n vs) → IsTrue (is_new_number n (without id vs))
 unfolding is_new_number without
@@ -103,13 +99,6 @@ sum_of_what_goes f vs id valid =
     let both = sum_by-filter_both (is_under id) (λ v. not (is_under id v)) (λ v. refl) f vs in
     omega arith
 
-pub only_null_goes : {B : Type 0} → OnlyNullGoes B
-only_null_goes Enabled n t stored vs id other named = absurd (other refl)
-only_null_goes Unversioned n t stored vs Null other named = absurd (named refl)
-only_null_goes Suspended n t stored vs Null other named = absurd (named refl)
-only_null_goes Unversioned n t stored vs (Numbered m) other named = (left_under Null vs (Numbered m) named, left_under Null vs (Numbered m) named)
-only_null_goes Suspended n t stored vs (Numbered m) other named = (left_under Null vs (Numbered m) named, left_under Null vs (Numbered m) named)
-
 -- a version that is under an id stands in front, and one that isn't
 found_first : {B : Type 0} (id : VersionId) (v : Version B) (vs : List (Version B)) → is_under id v ≡ true → find (is_under id) (v ∷ vs) ≡ Some v
 found_first id v vs is = ap (λ b. cond b (Some v) (find (is_under id) vs)) is
@@ -127,19 +116,10 @@ made_elsewhere : {B : Type 0} (b : Versioning) (n t : ℕ) (content : Content B)
 made_elsewhere b n t content other differ = apart (new_id b n) other (made b n t content) differ (made_here b n t content)
 
 pub adds_under_new_id : {B : Type 0} → AddsUnderNewId B
-adds_under_new_id Enabled n t content vs = record {
-  here = found_first (Numbered n) (made Enabled n t content) vs (made_here Enabled n t content);
-  elsewhere = λ other differ. passed other (made Enabled n t content) vs (made_elsewhere Enabled n t content other differ);
-}
-adds_under_new_id Unversioned n t content vs = record {
-  here = found_first Null (made Unversioned n t content) (without Null vs) refl;
+adds_under_new_id b n t content vs = record {
+  here = found_first (new_id b n) (made b n t content) (without (new_id b n) vs) (made_here b n t content);
   elsewhere = λ other differ.
-      passed other (made Unversioned n t content) (without Null vs) (made_elsewhere Unversioned n t content other differ) ∙ left_under Null vs other differ;
-}
-adds_under_new_id Suspended n t content vs = record {
-  here = found_first Null (made Suspended n t content) (without Null vs) refl;
-  elsewhere = λ other differ.
-      passed other (made Suspended n t content) (without Null vs) (made_elsewhere Suspended n t content other differ) ∙ left_under Null vs other differ;
+      passed other (made b n t content) (without (new_id b n) vs) (made_elsewhere b n t content other differ) ∙ left_under (new_id b n) vs other differ;
 }
 
 pub deletes_under_new_id : {B : Type 0} → DeletesUnderNewId B
@@ -147,21 +127,13 @@ deletes_under_new_id Enabled n t vs = adds_under_new_id Enabled n t DeleteMarker
 deletes_under_new_id Suspended n t vs = adds_under_new_id Suspended n t DeleteMarker vs
 deletes_under_new_id Unversioned n t vs = record { here = none_under Null vs; elsewhere = λ other differ. left_under Null vs other differ }
 
--- no version has a number that is new
-not_numbered : {B : Type 0} (n : ℕ) (v : Version B) → nat_lt v.number n ≡ true → is_under (Numbered n) v ≡ false
-not_numbered n v below = false_from_ne_true (is_under (Numbered n) v) (λ is. grind (arith, nat_tests))
+pub enabled_takes_nothing : {B : Type 0} → EnabledTakesNothing B
+enabled_takes_nothing n t stored vs id other =
+    ((adds_under_new_id Enabled n t (Stored stored) vs).elsewhere id other, (adds_under_new_id Enabled n t DeleteMarker vs).elsewhere id other)
 
-none_numbered : {B : Type 0} (n : ℕ) (vs : List (Version B)) → list_all (λ v. nat_lt v.number n) vs ≡ true → find (is_under (Numbered n)) vs ≡ None
-none_numbered n [] new = refl
-none_numbered n (v ∷ vs) new =
-    let parts = and_parts (nat_lt v.number n) (list_all (λ w. nat_lt w.number n) vs) new in
-    passed (Numbered n) v vs (not_numbered n v parts.0) ∙ none_numbered n vs parts.1
-
-none_new : {B : Type 0} (n : ℕ) (vs : List (Version B)) → IsTrue (is_new_number n vs) → find (is_under (Numbered n)) vs ≡ None
-unfolding is_new_number
-none_new n vs new = none_numbered n vs new
-
-pub replaces_under_new_id : {B : Type 0} → ReplacesUnderNewId B
-replaces_under_new_id Enabled n vs new = sym (none_new n vs new)
-replaces_under_new_id Unversioned n vs new = refl
-replaces_under_new_id Suspended n vs new = refl
+pub only_null_goes : {B : Type 0} → OnlyNullGoes B
+only_null_goes Enabled n t stored vs id versioned other = absurd (versioned refl)
+only_null_goes Unversioned n t stored vs id versioned other =
+    ((adds_under_new_id Unversioned n t (Stored stored) vs).elsewhere id other, (deletes_under_new_id Unversioned n t vs).elsewhere id other)
+only_null_goes Suspended n t stored vs id versioned other =
+    ((adds_under_new_id Suspended n t (Stored stored) vs).elsewhere id other, (deletes_under_new_id Suspended n t vs).elsewhere id other)

@@ -1,4 +1,3 @@
-pub mod FillingLemmas
 pub mod LawLemmas
 pub mod ListLemmas
 pub mod VersionLemmas

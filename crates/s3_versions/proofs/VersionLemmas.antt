@@ -1,12 +1,12 @@
 -- Versions of one key: what a put in front keeps, and what a version taken out leaves.
-use Rattle.std.proofs.Common.{◌≡◌, refl, sym, arith, IsTrue, Bool, true, false, cond, not, nat_lt, ℕ, List, [], ◌∷◌, Option, Some, None, IfSome, IfNone, filter, find}
+use Rattle.std.proofs.Common.{◌≡◌, refl, sym, arith, IsTrue, Bool, true, false, cond, not, ◌&&◌, nat_lt, ℕ, List, [], ◌∷◌, Option, Some, None, IfSome, IfNone, filter, find}
 use Rattle.std.specs.List.{list_all, position, remove, slice_get}
 use Rattle.std.proofs.lemmas.Bool.{and_parts, and_from}
 use Rattle.std.proofs.lemmas.Bool.Decides.{nat_tests}
 use Rattle.s3_names.specs.declared.ids.VersionId.{VersionId}
 use Rattle.s3_names.specs.declared.ids.VersionId.TheVariants.{Null, Numbered}
 use Rattle.s3_versions.specs.declared.version.Version.{Version}
-use Rattle.s3_versions.specs.Rules.{is_under, may_precede, are_versions, is_new_number, without}
+use Rattle.s3_versions.specs.Rules.{id_of, is_under, may_precede, are_versions, is_new_number, without}
 use Rattle.s3_versions.proofs.ListLemmas.{list_all-then, list_all-filter, list_all-kept, filter-all, find-none, AtMostOne, position-none, position-found, position-left}
 
 -- of two versions in order, at most one is under an id
@@ -14,8 +14,10 @@ under_once : {B : Type 0} (id : VersionId) (v w : Version B) → may_precede v w
 under_once Null v w order here = grind (arith, nat_tests)
 under_once (Numbered number) v w order here = grind (arith, nat_tests)
 
-one_precedes : {B : Type 0} (v w : Version B) → nat_lt w.number v.number ≡ true → not w.is_null ≡ true → may_precede v w ≡ true
-one_precedes v w older other = grind (arith, nat_tests)
+-- an older version with another id may stand behind one
+one_precedes : {B : Type 0} (is_null : Bool) (n : ℕ) (w : Version B) → nat_lt w.number n ≡ true → not (is_under (cond is_null Null (Numbered n)) w) ≡ true → (nat_lt w.number n && not (is_null && w.is_null)) ≡ true
+one_precedes true n w older other = grind (arith, nat_tests)
+one_precedes false n w older other = grind (arith, nat_tests)
 
 -- no two versions have one id
 pub at_most_one : {B : Type 0} (id : VersionId) (vs : List (Version B)) → are_versions vs ≡ true → AtMostOne (is_under id) vs
@@ -46,27 +48,21 @@ pub without-absent : {B : Type 0} (id : VersionId) (vs : List (Version B)) → f
 unfolding without
 without-absent id vs none = filter-all (λ v. not (is_under id v)) vs (find-none (is_under id) vs none)
 
--- a new version may stand before all others
-pub new_precedes : {B : Type 0} (v : Version B) (vs : List (Version B)) → v.is_null ≡ false → IsTrue (is_new_number v.number vs) → IsTrue (are_versions vs) → IsTrue (are_versions (v ∷ vs))
-unfolding are_versions is_new_number
-new_precedes v vs own new valid =
-    and_from _ _ (list_all-then (λ w. nat_lt w.number v.number) (may_precede v) vs (λ w older. grind (arith, nat_tests)) new) valid
-
-both_precede : {B : Type 0} (v : Version B) (vs : List (Version B)) → list_all (λ w. nat_lt w.number v.number) vs ≡ true → list_all (λ w. not (is_under Null w)) vs ≡ true → list_all (may_precede v) vs ≡ true
-both_precede v [] older others = refl
-both_precede v (w ∷ vs) older others =
+-- a new version may stand before all others that don't have its id
+all_precede : {B : Type 0} (v : Version B) (vs : List (Version B)) → list_all (λ w. nat_lt w.number v.number) vs ≡ true → list_all (λ w. not (is_under (id_of v) w)) vs ≡ true → list_all (may_precede v) vs ≡ true
+all_precede v [] older others = refl
+all_precede v (w ∷ vs) older others =
     let first = and_parts _ _ older in
     let second = and_parts _ _ others in
-    let here : may_precede v w ≡ true = one_precedes v w first.0 second.0 in
-    and_from _ _ here (both_precede v vs first.1 second.1)
+    let here : may_precede v w ≡ true = one_precedes v.is_null v.number w first.0 second.0 in
+    and_from _ _ here (all_precede v vs first.1 second.1)
 
--- so may a new version `null`, where none is `null`
-pub new_null_precedes : {B : Type 0} (v : Version B) (vs : List (Version B)) → IsTrue (is_new_number v.number vs) → IsTrue (are_versions vs) → IsTrue (are_versions (v ∷ without Null vs))
+pub new_precedes : {B : Type 0} (v : Version B) (vs : List (Version B)) → IsTrue (is_new_number v.number vs) → IsTrue (are_versions vs) → IsTrue (are_versions (v ∷ without (id_of v) vs))
 unfolding are_versions is_new_number without
-new_null_precedes v vs new valid =
-    let older = list_all-filter (λ w. nat_lt w.number v.number) (λ w. not (is_under Null w)) vs new in
-    let others = list_all-kept (λ w. not (is_under Null w)) vs in
-    and_from _ _ (both_precede v (filter (λ w. not (is_under Null w)) vs) older others) (kept_versions (λ w. not (is_under Null w)) vs valid)
+new_precedes v vs new valid =
+    let older = list_all-filter (λ w. nat_lt w.number v.number) (λ w. not (is_under (id_of v) w)) vs new in
+    let others = list_all-kept (λ w. not (is_under (id_of v) w)) vs in
+    and_from _ _ (all_precede v (filter (λ w. not (is_under (id_of v) w)) vs) older others) (kept_versions (λ w. not (is_under (id_of v) w)) vs valid)
 
 -- where no place is found, no version is under the id
 pub place-absent : {B : Type 0} (id : VersionId) (vs : List (Version B)) (place : Option ℕ) → place ≡ position (is_under id) vs → IfNone place (find (is_under id) vs ≡ None)

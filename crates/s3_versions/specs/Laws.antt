@@ -10,7 +10,7 @@ use Rattle.s3_versions.specs.declared.version.Data.{Data}
 use Rattle.s3_versions.specs.declared.version.Version.{Version}
 use Rattle.s3_versions.specs.declared.version.Versioning.{Versioning}
 use Rattle.s3_versions.specs.declared.version.Versioning.TheVariants.{Unversioned, Enabled, Suspended}
-use Rattle.s3_versions.specs.Rules.{id_of, is_under, current, asked_for, pick, made, new_id, after_adding, after_put, after_delete, after_delete_version, replaced, are_versions, is_new_number}
+use Rattle.s3_versions.specs.Rules.{id_of, is_under, current, asked_for, pick, made, new_id, after_adding, after_put, after_delete, after_delete_version, are_versions, is_new_number}
 
 -- at most one version has an id
 abbrev pub OneUnderEachId : Type 0 → Type 0
@@ -113,9 +113,3 @@ abbrev pub DeletesUnderNewId : Type 0 → Type 0
 DeletesUnderNewId B =
     (b : Versioning) (n t : ℕ) (vs : List (Version B))
     → OneIdChanges (new_id b n) (marker_made b n t) vs (after_delete b n t vs)
-
--- the version that a put or such a DELETE takes away is the one that stood under its new id
-abbrev pub ReplacesUnderNewId : Type 0 → Type 0
-ReplacesUnderNewId B =
-    (b : Versioning) (n : ℕ) (vs : List (Version B)) → IsTrue (is_new_number n vs)
-    → replaced b vs ≡ asked_for (Some (new_id b n)) vs

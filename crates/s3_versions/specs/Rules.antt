@@ -76,26 +76,25 @@ pick asked vs = judged asked (asked_for asked vs)
 unfoldable pub without : {B : Type 0} → VersionId → List (Version B) → List (Version B)
 without id vs = filter (λ v. not (is_under id v)) vs
 
--- the version that entry n makes at moment t: under an id of its own where versioning is enabled, else
--- under `null` ("Adding objects to versioning-enabled buckets" and "to versioning-suspended buckets")
+-- what an entry makes has an id of its own where versioning is enabled, else `null` ("Adding objects to
+-- versioning-enabled buckets" and "to versioning-suspended buckets")
+abbrev pub makes_null : Versioning → Bool
+makes_null Enabled = false
+makes_null Unversioned = true
+makes_null Suspended = true
+
+-- the version that entry n makes at moment t
 abbrev pub made : {B : Type 0} → Versioning → ℕ → ℕ → Content B → Version B
-made Enabled n t content = record { is_null = false; number = n; moment = t; content = content }
-made Unversioned n t content = record { is_null = true; number = n; moment = t; content = content }
-made Suspended n t content = record { is_null = true; number = n; moment = t; content = content }
+made versioning n t content = record { is_null = makes_null versioning; number = n; moment = t; content = content }
 
--- the id of that version
+-- its id
 abbrev pub new_id : Versioning → ℕ → VersionId
-new_id Enabled n = Numbered n
-new_id Unversioned n = Null
-new_id Suspended n = Null
+new_id versioning n = if makes_null versioning then Null else Numbered n
 
--- what entry n adds at moment t goes in front: beside all others where versioning is enabled; elsewhere it
--- overwrites the version `null`, if there is one ("Adding objects to versioning-enabled buckets" and "to
--- versioning-suspended buckets")
+-- it goes in front, in the place of the version with its id, if there is one: where versioning is enabled there is none,
+-- since its number is new, and elsewhere it overwrites the version `null`
 abbrev pub after_adding : {B : Type 0} → Versioning → ℕ → ℕ → Content B → List (Version B) → List (Version B)
-after_adding Enabled n t content vs = made Enabled n t content ∷ vs
-after_adding Unversioned n t content vs = made Unversioned n t content ∷ without Null vs
-after_adding Suspended n t content vs = made Suspended n t content ∷ without Null vs
+after_adding versioning n t content vs = made versioning n t content ∷ without (new_id versioning n) vs
 
 -- a PUT adds what it stores
 abbrev pub after_put : {B : Type 0} → Versioning → ℕ → ℕ → Data B → List (Version B) → List (Version B)
@@ -110,12 +109,9 @@ after_delete Enabled n t vs = after_adding Enabled n t DeleteMarker vs
 after_delete Suspended n t vs = after_adding Suspended n t DeleteMarker vs
 after_delete Unversioned n t vs = without Null vs
 
--- the version that a put, or a DELETE that names no version, takes away: none where versioning is enabled,
--- otherwise that under `null`
-abbrev pub replaced : {B : Type 0} → Versioning → List (Version B) → Option (Version B)
-replaced Enabled vs = None
-replaced Unversioned vs = find (is_under Null) vs
-replaced Suspended vs = find (is_under Null) vs
+-- the version that a PUT, or a DELETE that names no version, takes away
+abbrev pub replaced : {B : Type 0} → Versioning → ℕ → List (Version B) → Option (Version B)
+replaced versioning n vs = find (is_under (new_id versioning n)) vs
 
 -- a DELETE that names a version removes it, for good, and no other ("Deleting object versions from a
 -- versioning-enabled bucket")

@@ -1,6 +1,5 @@
 //! Laws of the rules: what users rely on, with nothing to run.
-ghost use Rattle.s3_versions.specs.Laws.{OneUnderEachId, IdsAreTold, PutsLeaveVersions, DeletesLeaveVersions, DropsLeaveVersions, NextIsNew, PutsAreCurrent, MarkersHide, EnabledTakesNothing, OnlyNullGoes, OneVersionGoes, SumOfWhatGoes, AddsUnderNewId, DeletesUnderNewId, ReplacesUnderNewId};
-ghost use Rattle.s3_versions.specs.Filling.{VersionsAreAlike, ReadsAreAlike, ChangesAreAlike};
+ghost use Rattle.s3_versions.specs.Laws.{OneUnderEachId, IdsAreTold, PutsLeaveVersions, DeletesLeaveVersions, DropsLeaveVersions, NextIsNew, PutsAreCurrent, MarkersHide, EnabledTakesNothing, OnlyNullGoes, OneVersionGoes, SumOfWhatGoes, AddsUnderNewId, DeletesUnderNewId};
 
 /// A law, with nothing to run: no two versions of a key have one id, and a version is under its own id and
 /// no other.
@@ -42,17 +41,8 @@ pub fn one_version_goes<B>()
 {}
 
 /// A law, with nothing to run: a put and a delete that names no version change what stands under one id, which is that of
-/// the version or of the delete marker that they make, and nothing else; what stood under that id is what they take away.
+/// the version or of the delete marker that they make, and nothing else.
 pub fn one_id_changes<B>()
     ensures added { AddsUnderNewId B }
     ensures deleted { DeletesUnderNewId B }
-    ensures replaced { ReplacesUnderNewId B }
-{}
-
-/// A law, with nothing to run: the rules don't look at bytes. What each of them says of versions, it says of the
-/// same versions with other bytes, or with the bytes in the place of what stands for them.
-pub fn rules_ignore_bytes<B, C>()
-    ensures versions { VersionsAreAlike B C }
-    ensures reads { ReadsAreAlike B C }
-    ensures changes { ChangesAreAlike B C }
 {}

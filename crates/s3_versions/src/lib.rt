@@ -1,5 +1,5 @@
 //! The versions of one key, and what a put, a delete and a get do with them (Amazon S3 User Guide, "Using
-//! versioning in S3 buckets"). These are rules over lists alone: nothing here knows of buckets, or of the
+//! versioning in S3 buckets"). These are rules over lists alone: nothing here knows of buckets, or looks at the
 //! bytes of a version.
 #![tactic(auto)]
 
@@ -12,8 +12,7 @@ mod versions;
 
 pub use content_type::ContentType;
 pub use laws::{
-    ids_differ, markers_hide, one_id_changes, one_version_goes, puts_are_current,
-    rules_ignore_bytes, stay_versions,
+    ids_differ, markers_hide, one_id_changes, one_version_goes, puts_are_current, stay_versions,
 };
 pub use metadata::{Metadata, MetadataEntry};
 pub use picking::{Picked, Refusal, current, judge, pick, version_under};

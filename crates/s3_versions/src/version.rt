@@ -3,6 +3,7 @@ ghost use Rattle.std.specs.Prelude.{◌≡◌, false, IfOk, OnErr};
 ghost use Rattle.std.specs.Option.{option_copied};
 
 use crate::{ContentType, Metadata};
+use s3_bodies::Body;
 use s3_calendar::Moment;
 use s3_names::{Tag, VersionId};
 use s3_terms::NoMemory;
@@ -21,15 +22,26 @@ pub enum Versioning {
 }
 
 impl Versioning {
-    ghost use Rattle.s3_versions.specs.Rules.{new_id};
+    ghost use Rattle.s3_versions.specs.Rules.{makes_null, new_id};
+
+    /// Whether what an entry adds has the id `null`, and not one of its own.
+    pub fn makes_null(self) -> bool
+        ensures { result ≡ makes_null self }
+    {
+        match self {
+            Versioning::Enabled => false,
+            Versioning::Unversioned | Versioning::Suspended => true,
+        }
+    }
 
     /// The id of what the entry of this number adds.
     pub fn new_id(self, number: u64) -> VersionId
         ensures { result ≡ new_id self number }
     {
-        match self {
-            Versioning::Enabled => VersionId::of(number),
-            Versioning::Unversioned | Versioning::Suspended => VersionId::Null,
+        if self.makes_null() {
+            VersionId::Null
+        } else {
+            VersionId::of(number)
         }
     }
 }
@@ -56,8 +68,7 @@ impl VersioningStatus {
     }
 }
 
-/// What a put stored. `B` is what stands for the bytes: their number in the rows of a catalogue, a body in the
-/// state and in answers.
+/// What a put stored. `B` is what stands for the bytes: a body, or nothing in an answer that leaves them out.
 #[derive(Drop)]
 pub struct Data<B> {
     pub tag: Tag,
@@ -65,23 +76,24 @@ pub struct Data<B> {
     pub metadata: Metadata,
     /// How many bytes there are.
     pub size: u64,
-    /// The bytes, or what stands for them, as the number under which they are kept.
+    /// The bytes, or what stands for them.
     pub body: B,
 }
 
-impl<B: Copy> Data<B> {
-    /// A copy, which names the same bytes, at the cost of its media type and metadata.
-    pub fn copy(&self, alloc: Global) -> Result<Data<B>, NoMemory>
+impl Data<Body> {
+    /// A copy, at the cost of its media type, its metadata and a copy of its body.
+    pub fn copy(&self, alloc: Global) -> Result<Data<Body>, NoMemory>
         ensures { IfOk result (λ copied. copied ≡ self.now) }
     {
         let content_type = self.content_type.copy(alloc)?;
         let metadata = self.metadata.copy(alloc)?;
+        let body = self.body.copy()?;
         Ok(Data {
             tag: self.tag.copy(),
             content_type,
             metadata,
             size: self.size,
-            body: self.body,
+            body,
         })
     }
 }
@@ -95,12 +107,11 @@ pub enum Content<B> {
     Stored(Data<B>),
 }
 
-impl<B: Copy> Content<B> {
+impl Content<Body> {
     ghost use Rattle.s3_versions.specs.Rules.{is_marker};
 
-    /// A copy, which names the same bytes, at the cost of its media type and metadata. A delete marker takes no
-    /// memory.
-    pub fn copy(&self, alloc: Global) -> Result<Content<B>, NoMemory>
+    /// A copy, at the cost of what was stored. A delete marker takes no memory.
+    pub fn copy(&self, alloc: Global) -> Result<Content<Body>, NoMemory>
         ensures value { IfOk result (λ copied. copied ≡ self.now) }
         ensures memory { OnErr result (is_marker self.now ≡ false) }
     {
@@ -168,12 +179,11 @@ impl<B> Version<B> {
     }
 }
 
-impl<B: Copy> Version<B> {
+impl Version<Body> {
     ghost use Rattle.s3_versions.specs.Rules.{is_delete_marker};
 
-    /// A copy, which names the same bytes, at the cost of its media type and metadata. A delete marker takes no
-    /// memory.
-    pub fn copy(&self, alloc: Global) -> Result<Version<B>, NoMemory>
+    /// A copy, at the cost of what was stored. A delete marker takes no memory.
+    pub fn copy(&self, alloc: Global) -> Result<Version<Body>, NoMemory>
         ensures value { IfOk result (λ copied. copied ≡ self.now) }
         ensures memory { OnErr result (is_delete_marker self.now ≡ false) }
     {

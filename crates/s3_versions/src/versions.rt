@@ -1,9 +1,9 @@
 //! The list of a key's versions, as puts and deletes change it.
 ghost use Rattle.std.specs.Prelude.{◌≡◌, ◌<◌, ◌≢◌, ◌↔◌, ◌∷◌, [], Some, None, IfSome, IfNone, IfOk, OnOk, OnErr, IsTrue, find, length, remove, position, slice_get, vec_len, vec_capacity, false};
-ghost use Rattle.s3_names.specs.declared.ids.VersionId.TheVariants.{Null};
-ghost use Rattle.s3_versions.specs.Rules.{is_under, made, after_adding, after_put, after_delete, after_delete_version, replaced, without, are_versions, is_new_number};
+ghost use Rattle.s3_versions.specs.Rules.{id_of, is_under, made, after_adding, after_put, after_delete, after_delete_version, replaced, without, are_versions, is_new_number};
 
 use crate::{Content, Data, Version, Versioning};
+use s3_bodies::Body;
 use s3_calendar::Moment;
 use s3_names::VersionId;
 use s3_terms::NoMemory;
@@ -61,7 +61,7 @@ impl<B: Drop> Versions<B> {
 
     /// Adds what the entry of this number makes at this moment, and puts it in front: under an id of its own
     /// where versioning is enabled, and otherwise under `null`, in the place of the version that had that id,
-    /// which is answered. The number is above those of the versions here. Costs the list's length.
+    /// which is dropped. The number is above those of the versions here. Costs the list's length.
     ///
     /// `NoMemory` leaves the versions as they were, and `content` is dropped; it comes only where no version
     /// goes, so that one more has to be held.
@@ -71,18 +71,13 @@ impl<B: Drop> Versions<B> {
         number: u64,
         moment: Moment,
         content: Content<B>,
-    ) -> Result<Option<Version<B>>, NoMemory>
+    ) -> Result<(), NoMemory>
         requires { IsTrue (is_new_number number self.old) }
         ensures ok { OnOk result (self.new ≡ after_adding versioning number moment content self.old) }
-        ensures gone { IfOk result (λ gone. gone ≡ replaced versioning self.old) }
         ensures err { OnErr result (self.new ≡ self.old) }
-        ensures memory { OnErr result (replaced versioning self.old ≡ None) }
+        ensures memory { OnErr result (replaced versioning number self.old ≡ None) }
     {
-        let version = version_made(versioning, number, moment, content);
-        match versioning {
-            Versioning::Enabled => self.push_newest(version),
-            Versioning::Unversioned | Versioning::Suspended => self.replace_null(version),
-        }
+        self.put_first(version_made(versioning, number, moment, content))
     }
 
     /// Puts `stored`, by the rules of `add`.
@@ -92,18 +87,17 @@ impl<B: Drop> Versions<B> {
         number: u64,
         moment: Moment,
         stored: Data<B>,
-    ) -> Result<Option<Version<B>>, NoMemory>
+    ) -> Result<(), NoMemory>
         requires { IsTrue (is_new_number number self.old) }
         ensures ok { OnOk result (self.new ≡ after_put versioning number moment stored self.old) }
-        ensures gone { IfOk result (λ gone. gone ≡ replaced versioning self.old) }
         ensures err { OnErr result (self.new ≡ self.old) }
-        ensures memory { OnErr result (replaced versioning self.old ≡ None) }
+        ensures memory { OnErr result (replaced versioning number self.old ≡ None) }
     {
         self.add(versioning, number, moment, Content::Stored(stored))
     }
 
     /// Deletes without naming a version: adds a delete marker, by the rules of `add`; where versioning never
-    /// was enabled, takes the version `null` out and adds nothing. The version that goes is answered.
+    /// was enabled, drops the version `null` and adds nothing.
     ///
     /// `NoMemory` leaves the versions as they were; it comes only where no version goes and a delete marker
     /// has to be held.
@@ -112,16 +106,18 @@ impl<B: Drop> Versions<B> {
         versioning: Versioning,
         number: u64,
         moment: Moment,
-    ) -> Result<Option<Version<B>>, NoMemory>
+    ) -> Result<(), NoMemory>
         requires { IsTrue (is_new_number number self.old) }
         ensures ok { OnOk result (self.new ≡ after_delete versioning number moment self.old) }
-        ensures gone { IfOk result (λ gone. gone ≡ replaced versioning self.old) }
         ensures err { OnErr result (self.new ≡ self.old) }
-        ensures memory { OnErr result (replaced versioning self.old ≡ None) }
+        ensures memory { OnErr result (replaced versioning number self.old ≡ None) }
         ensures held { OnErr result (versioning ≢ Versioning.Unversioned) }
     {
         match versioning {
-            Versioning::Unversioned => Ok(self.delete_version(VersionId::Null)),
+            Versioning::Unversioned => {
+                let _ = self.delete_version(VersionId::Null);
+                Ok(())
+            }
             Versioning::Enabled | Versioning::Suspended => {
                 self.add(versioning, number, moment, Content::DeleteMarker)
             }
@@ -152,42 +148,28 @@ impl<B: Drop> Versions<B> {
         first_under(&self.list, id)
     }
 
-    // Puts a version with an id of its own in front.
+    // Puts a version in front, in the place of the one that has its id.
     #[tactic(auto, using(crate::proofs::VersionLemmas::new_precedes))]
-    fn push_newest(&mut self, version: Version<B>) -> Result<Option<Version<B>>, NoMemory>
-        requires newer { IsTrue (is_new_number version.number self.old) }
-        requires own { version.is_null ≡ false }
-        ensures ok { OnOk result (self.new ≡ version ∷ self.old) }
-        ensures gone { IfOk result (λ gone. gone ≡ None) }
-        ensures err { OnErr result (self.new ≡ self.old) }
-    {
-        put_first(&mut self.list, version)?;
-        Ok(None)
-    }
-
-    // Puts a version `null` in front, in the place of the one that is there.
-    #[tactic(auto, using(crate::proofs::VersionLemmas::new_null_precedes))]
-    fn replace_null(&mut self, version: Version<B>) -> Result<Option<Version<B>>, NoMemory>
+    fn put_first(&mut self, version: Version<B>) -> Result<(), NoMemory>
         requires { IsTrue (is_new_number version.number self.old) }
-        ensures ok { OnOk result (self.new ≡ version ∷ without Null self.old) }
-        ensures gone { IfOk result (λ gone. gone ≡ find (is_under Null) self.old) }
+        ensures ok { OnOk result (self.new ≡ version ∷ without (id_of version) self.old) }
         ensures err { OnErr result (self.new ≡ self.old) }
-        ensures memory { OnErr result (find (is_under Null) self.old ≡ None) }
+        ensures memory { OnErr result (find (is_under (id_of version)) self.old ≡ None) }
     {
-        match self.place_of(VersionId::Null) {
-            None => {
-                put_first(&mut self.list, version)?;
-                Ok(None)
+        match self.place_of(version.id()) {
+            None => insert_first(&mut self.list, version),
+            Some(place) => {
+                replace_at(&mut self.list, place, version);
+                Ok(())
             }
-            Some(place) => Ok(Some(replace_at(&mut self.list, place, version))),
         }
     }
 }
 
-impl<B: Copy + Drop> Versions<B> {
-    /// Copies of the versions, newest first, which name the same bytes. Costs their media types and metadata.
-    /// `NoMemory` comes only where there is a version.
-    pub fn to_vec(&self, alloc: Global) -> Result<Vec<Version<B>>, NoMemory>
+impl Versions<Body> {
+    /// Copies of the versions, newest first, each at the cost of what it stores. `NoMemory` comes only where
+    /// there is a version.
+    pub fn to_vec(&self, alloc: Global) -> Result<Vec<Version<Body>>, NoMemory>
         ensures value { IfOk result (λ copies. copies.items ≡ self.now) }
         ensures memory { OnErr result (self.now ≢ []) }
     {
@@ -208,12 +190,8 @@ fn version_made<B: Drop>(
 ) -> Version<B>
     ensures { result ≡ made versioning number moment content }
 {
-    let is_null = match versioning {
-        Versioning::Enabled => false,
-        Versioning::Unversioned | Versioning::Suspended => true,
-    };
     Version {
-        is_null,
+        is_null: versioning.makes_null(),
         number,
         moment,
         content,
@@ -229,7 +207,10 @@ fn first_under<B: Drop>(versions: &[Version<B>], id: VersionId) -> Option<usize>
 }
 
 // Puts a version in front.
-fn put_first<B: Drop>(versions: &mut Vec<Version<B>>, version: Version<B>) -> Result<(), NoMemory>
+fn insert_first<B: Drop>(
+    versions: &mut Vec<Version<B>>,
+    version: Version<B>,
+) -> Result<(), NoMemory>
     ensures ok { OnOk result (versions.new.items ≡ version ∷ versions.old.items) }
     ensures err { OnErr result (versions.new.items ≡ versions.old.items) }
 {
@@ -247,19 +228,14 @@ fn take_at<B: Drop>(versions: &mut Vec<Version<B>>, place: usize) -> Version<B>
     versions.remove(place)
 }
 
-// Takes out the version at this place and puts another in front, which needs no more room.
-fn replace_at<B: Drop>(
-    versions: &mut Vec<Version<B>>,
-    place: usize,
-    version: Version<B>,
-) -> Version<B>
+// Drops the version at this place and puts another in front, which needs no more room.
+fn replace_at<B: Drop>(versions: &mut Vec<Version<B>>, place: usize, version: Version<B>)
     requires { place < vec_len versions.old }
-    ensures items { versions.new.items ≡ version ∷ remove versions.old.items place }
-    ensures gone { slice_get versions.old.items place ≡ Some result }
+    ensures { versions.new.items ≡ version ∷ remove versions.old.items place }
 {
-    let gone = take_at(versions, place);
+    let _ = take_at(versions, place);
     match versions.insert(0, version) {
-        Ok(()) => gone,
+        Ok(()) => {}
         Err(_) => unreachable!(),
     }
 }

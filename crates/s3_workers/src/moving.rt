@@ -32,7 +32,7 @@ pub(crate) fn write_some<D: Device>(session: &mut Session, device: &mut D) -> St
     ensures stops { (kept : List ℕ) (stage : Stage) → StopsAt result (held session.new kept stage) }
     ensures moves { result ≡ Step.MayGoOn → length (D.traffic device.old).sent < length (D.traffic device.new).sent }
 {
-    match device.write(session.out()) {
+    match device.write(&session.parts()) {
         Writing::Took(count) => {
             session.sent(count);
             Step::MayGoOn

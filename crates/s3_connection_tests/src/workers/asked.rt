@@ -1,9 +1,8 @@
 //! Turns that store something in the bucket `pail`, or read it.
-use md5::{Digest, Md5};
+use s3_bodies::{Body, PayloadBuilder, Sink};
 use s3_calendar::Moment;
 use s3_machine::{Command, KeyCommand, Turn};
 use s3_names::{BucketName, Key};
-use s3_segments::{Body, Payload};
 use s3_versions::{ContentType, Metadata};
 use std::alloc::Global;
 
@@ -12,10 +11,9 @@ fn asked(alloc: Global, bytes: Option<&[u8]>) -> Option<KeyCommand> {
     let Some(bytes) = bytes else {
         return Some(KeyCommand::Get { version: None });
     };
-    let Ok(copy) = Vec::from_slice(alloc, bytes) else {
-        return None;
-    };
-    let payload = Payload::new(Body::new(copy), Md5::digest(bytes).into());
+    let mut builder = PayloadBuilder::new(alloc, bytes.len() as u64);
+    builder.take(bytes).ok()?;
+    let payload = builder.finish();
     let Ok(metadata) = Metadata::new(Vec::new(alloc)) else {
         return None;
     };
@@ -41,4 +39,12 @@ pub(crate) fn turn(alloc: Global, key: &[u8], bytes: Option<&[u8]>) -> Option<Tu
     let asked = asked(alloc, bytes)?;
     let command = Command::Key { bucket, key, asked };
     Some(Turn { command, moment })
+}
+
+/// Whether a body has these bytes.
+pub(crate) fn is_body(alloc: Global, body: &Body, bytes: &[u8]) -> bool {
+    match body.to_vec(alloc) {
+        Ok(copy) => copy.as_slice() == bytes,
+        Err(_) => false,
+    }
 }

@@ -12,10 +12,10 @@ use std::sync::atomic::{AtomicBool, AtomicU64, Ordering};
 use std::thread;
 use std::time::{Clock, Duration};
 
-// The connection that is held inside its body, and the other one. Each has the number of its worker's seat.
-const HELD: u64 = 0;
+/// The connection that is held, and the other one. Each has the number of its worker's seat.
+pub(crate) const HELD: u64 = 0;
 
-const OTHER: u64 = 1;
+pub(crate) const OTHER: u64 = 1;
 
 // How many milliseconds a connection is held at most.
 const TURNS: u32 = 10_000;
@@ -40,7 +40,7 @@ const OTHER_ANSWER: &[u8] = b"HTTP/1.1 100 Continue\r\n\r\n\
 /// How far the two are.
 #[derive(Drop)]
 pub(crate) struct Marks {
-    // Whether the one that is held is inside its body.
+    // Whether the one that is held has come to where it is.
     is_within: AtomicBool,
     // Whether the other one is answered.
     is_answered: AtomicBool,
@@ -62,6 +62,33 @@ impl Marks {
     pub(crate) fn met(self) -> u64 {
         self.met.into_inner()
     }
+
+    // Waits until this has come, or the turns have run out.
+    fn wait_for<R: Clock>(&self, rt: &R, mark: &AtomicBool) {
+        for _ in 0..TURNS {
+            if mark.load(Ordering::SeqCst) {
+                self.met.fetch_add(1, Ordering::SeqCst);
+                return;
+            }
+            thread::sleep(rt, Duration::from_millis(1));
+        }
+    }
+
+    /// Tells that the one is held, and waits until the other is answered.
+    pub(crate) fn hold<R: Clock>(&self, rt: &R) {
+        self.is_within.store(true, Ordering::SeqCst);
+        self.wait_for(rt, &self.is_answered);
+    }
+
+    /// Waits until the one is held.
+    pub(crate) fn wait_until_held<R: Clock>(&self, rt: &R) {
+        self.wait_for(rt, &self.is_within);
+    }
+
+    /// Tells that the other is answered.
+    pub(crate) fn tell_answered(&self) {
+        self.is_answered.store(true, Ordering::SeqCst);
+    }
 }
 
 // A gate that holds one connection inside its body until the other one is answered, which begins only then.
@@ -71,28 +98,12 @@ struct Overlap<'a, R: Clock> {
     marks: &'a Marks,
 }
 
-impl<R: Clock> Overlap<'_, R> {
-    // Waits until this has come, or the turns have run out.
-    fn wait_for(&self, mark: &AtomicBool) {
-        for _ in 0..TURNS {
-            if mark.load(Ordering::SeqCst) {
-                self.marks.met.fetch_add(1, Ordering::SeqCst);
-                return;
-            }
-            thread::sleep(self.rt, Duration::from_millis(1));
-        }
-    }
-}
-
 impl<R: Clock> Gate for Overlap<'_, R> {
     fn pass(&self, place: Place, connection: u64) {
         match (place, connection) {
-            (Place::Accepted, OTHER) => self.wait_for(&self.marks.is_within),
-            (Place::BodyBegins, HELD) => {
-                self.marks.is_within.store(true, Ordering::SeqCst);
-                self.wait_for(&self.marks.is_answered);
-            }
-            (Place::Answered, OTHER) => self.marks.is_answered.store(true, Ordering::SeqCst),
+            (Place::Accepted, OTHER) => self.marks.wait_until_held(self.rt),
+            (Place::BodyBegins, HELD) => self.marks.hold(self.rt),
+            (Place::Answered, OTHER) => self.marks.tell_answered(),
             _ => {}
         }
     }

@@ -1,5 +1,5 @@
 //! A book with a bucket, and three turns of two seats.
-use crate::workers::asked::turn;
+use crate::workers::asked::{is_body, turn};
 use crate::workers::served::book;
 use s3_config::Config;
 use s3_journal::{Book, books_keep_promises};
@@ -12,14 +12,12 @@ use std::mem::drop;
 const TAG_OF_HELLO: &[u8] = b"5d41402abc4b2a76b9719d911017c592";
 
 // What came of a command, in a word; none where it isn't what `hello` gives.
-fn word_of(outcome: &Outcome) -> Option<&'static str> {
+fn word_of(alloc: Global, outcome: &Outcome) -> Option<&'static str> {
     match outcome {
         Outcome::Put { tag, shown: None } if tag.text().as_slice() == TAG_OF_HELLO => {
             Some("stored")
         }
-        Outcome::Got { found } if found.stored.body.as_slice() == b"hello".as_slice() => {
-            Some("hello")
-        }
+        Outcome::Got { found } if is_body(alloc, &found.stored.body, b"hello") => Some("hello"),
         Outcome::Refused {
             code,
             is_delete_marker: false,
@@ -49,7 +47,7 @@ fn is_answered(alloc: Global, book: &mut Book<MapRecords>, row: &Row) -> bool {
     match turn(alloc, row.1, row.2) {
         Some(turn) => match book.apply(row.0, turn) {
             Ok(answer) => {
-                let came = (answer.number, word_of(&answer.outcome));
+                let came = (answer.number, word_of(alloc, &answer.outcome));
                 drop(answer);
                 came == (row.3, row.4)
             }

@@ -1,5 +1,5 @@
 //! Seats of a desk that put and get.
-use crate::workers::asked::turn;
+use crate::workers::asked::{is_body, turn};
 use s3_desk::{Desk, Ground, Seat};
 use s3_machine::Outcome;
 use s3_records::MapRecords;
@@ -24,10 +24,10 @@ fn bytes_of(seat: u64, round: u64) -> [u8; 16] {
 }
 
 // Whether something was stored where these bytes were put, or they were found.
-fn is_outcome(outcome: &Outcome, put: Option<&[u8]>, bytes: &[u8]) -> bool {
+fn is_outcome(alloc: Global, outcome: &Outcome, put: Option<&[u8]>, bytes: &[u8]) -> bool {
     match outcome {
         Outcome::Put { .. } => put.is_some(),
-        Outcome::Got { found } => put.is_none() && found.stored.body.as_slice() == bytes,
+        Outcome::Got { found } => put.is_none() && is_body(alloc, &found.stored.body, bytes),
         _ => false,
     }
 }
@@ -45,7 +45,7 @@ fn has<J: Ground>(
     match turn(alloc, &key_of(whose), put) {
         Some(turn) => match desk.submit(rt, seat, turn) {
             Ok(answer) => {
-                let is_wanted = is_outcome(&answer.outcome, put, bytes);
+                let is_wanted = is_outcome(alloc, &answer.outcome, put, bytes);
                 drop(answer);
                 is_wanted
             }

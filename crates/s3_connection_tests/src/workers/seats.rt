@@ -4,6 +4,7 @@ ghost use Rattle.s3_desk.specs.Desk.{base_of};
 ghost use Rattle.s3_desk.specs.Closing.{AreNumbered};
 
 use crate::workers::gate_overlap::{Marks, serves};
+use crate::workers::old_bytes::replaces;
 use crate::workers::play::{SEATS, finds_others, plays};
 use crate::workers::served::book;
 use s3_config::Config;
@@ -23,8 +24,10 @@ use std::time::Clock;
 enum Work<'a> {
     // Each puts and gets under its own key, and at the end the first gets what the others put last.
     Play,
-    // Each serves the connection of its number.
+    // Each serves the connection of its number, of which one is held inside its body.
     Serve(&'a Config, &'a Marks),
+    // The same, where one is held behind the head of a reply.
+    Replace(&'a Config, &'a Marks),
 }
 
 // A seat that has worked, and whether all went well.
@@ -41,6 +44,7 @@ fn worked<J: Ground, R: Wait + Clock>(
             (seat, went_well)
         }
         Work::Serve(config, marks) => serves(rt, alloc, desk, config, marks, seat),
+        Work::Replace(config, marks) => replaces(rt, alloc, desk, config, marks, seat),
     }
 }
 
@@ -192,4 +196,15 @@ pub(crate) fn seats_work<R: Threads + Wait + Clock + Sync>(
     let played = entries_of_new(rt, alloc, config, &Work::Play, SEATS);
     let served = entries_of_new(rt, alloc, config, &Work::Serve(config, &marks), 2);
     played == Some(1_607) && served == Some(2) && marks.met() == 2
+}
+
+/// Whether a reply that is on its way has the bytes that stood there when it was made, though they are replaced meanwhile.
+pub(crate) fn old_bytes_are_sent<R: Threads + Wait + Clock + Sync>(
+    rt: &R,
+    alloc: Global,
+    config: &Config,
+) -> bool {
+    let marks = Marks::new();
+    let replaced = entries_of_new(rt, alloc, config, &Work::Replace(config, &marks), 2);
+    replaced == Some(3) && marks.met() == 2
 }

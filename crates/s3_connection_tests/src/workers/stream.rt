@@ -1,4 +1,5 @@
 //! A stream in memory.
+use s3_devices::WriteParts;
 use std::io;
 use std::io::{ErrorKind, Read, Write};
 
@@ -106,3 +107,5 @@ impl Write for Stream<'_> {
         Ok(())
     }
 }
+
+impl WriteParts for Stream<'_> {}

@@ -2,7 +2,7 @@
 use crate::checks::{check, check_none};
 use crate::workers::connections::first_other_connection;
 use crate::workers::journal::two_seats_are_answered;
-use crate::workers::seats::seats_work;
+use crate::workers::seats::{old_bytes_are_sent, seats_work};
 use crate::workers::served::config;
 use crate::workers::turns::two_take_turns;
 use crate::workers::worlds::first_other_world;
@@ -28,6 +28,9 @@ fn first_other<R: Threads + Wait + Clock + Sync>(
     }
     if !seats_work(rt, alloc, config) {
         return Some("seats of a desk in threads");
+    }
+    if !old_bytes_are_sent(rt, alloc, config) {
+        return Some("old bytes of an object that is replaced");
     }
     if !two_take_turns(alloc, config) {
         return Some("two connections in turns");

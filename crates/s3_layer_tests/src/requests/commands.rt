@@ -2,10 +2,9 @@
 use crate::checks::check;
 use crate::requests::asked::{Told, is_told, word};
 use crate::requests::operations;
-use md5::{Digest, Md5};
+use s3_bodies::{Payload, PayloadBuilder, Sink};
 use s3_http_heads::Head;
 use s3_requests::{Command, Plan, command, route};
-use s3_segments::{Body, Payload};
 use s3_terms::Code;
 use std::alloc::Global;
 
@@ -23,9 +22,9 @@ fn plan_of(alloc: Global, line: &str) -> Result<Plan, Code> {
 
 // The payload of these bytes.
 fn payload_of(alloc: Global, bytes: &[u8]) -> Result<Payload, Code> {
-    let digest = Md5::digest(bytes);
-    let body = Body::new(Vec::from_slice(alloc, bytes)?);
-    Ok(Payload::new(body, digest.into()))
+    let mut builder = PayloadBuilder::new(alloc, bytes.len() as u64);
+    builder.take(bytes)?;
+    Ok(builder.finish())
 }
 
 // The command of a plan and of this body.

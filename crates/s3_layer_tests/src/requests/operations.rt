@@ -1,10 +1,10 @@
 //! How the operations of S3 are spelled in tests: what is planned, what is asked of a store, and what comes of it. An
 //! operation has its lines here and its rows in tables; no other test names it.
 use crate::requests::asked::{Told, is_same, number, word};
+use s3_bodies::{Body, Payload};
 use s3_machine::{Found, Outcome};
 use s3_names::{Tag, VersionId};
 use s3_requests::{BucketCommand, BucketPlan, Command, KeyCommand, KeyPlan, Plan};
-use s3_segments::{Body, Payload};
 use s3_terms::Code;
 use s3_versions::{Data, Versioning, VersioningStatus};
 use std::alloc::Global;
@@ -160,7 +160,8 @@ fn got_text(alloc: Global, found: &Found<Body>) -> Told {
     if found.stored.size != found.stored.body.size() {
         return Err(Code::InvalidRequest);
     }
-    found_text(alloc, b"got ", found, found.stored.body.as_slice())
+    let bytes = found.stored.body.to_vec(alloc)?;
+    found_text(alloc, b"got ", found, &bytes)
 }
 
 fn head_text(alloc: Global, found: &Found<()>) -> Told {
@@ -188,7 +189,7 @@ fn name_of(versioning: Versioning) -> &'static str {
 /// What came of a command.
 pub(crate) fn outcome_text(alloc: Global, outcome: &Outcome) -> Told {
     match outcome {
-        Outcome::Buckets { buckets } => Ok(Vec::from_slice(alloc, buckets.document())?),
+        Outcome::Buckets { buckets } => Ok(buckets.document().to_vec(alloc)?),
         Outcome::BucketMade { name } => Ok([b"made ".as_slice(), name.as_bytes()].concat(alloc)?),
         Outcome::BucketFound => word(alloc, "found"),
         Outcome::BucketDropped => word(alloc, "dropped"),

@@ -1,6 +1,7 @@
 //! The exact bytes of printed replies, to requests that a store applies one after the other.
 use crate::checks::{check, check_none};
 use crate::requests::store::{Stored, answer_to, opened};
+use s3_bodies::Body;
 use s3_calendar::Moment;
 use s3_machine::{Answer, Outcome};
 use s3_names::VersionId;
@@ -8,7 +9,6 @@ use s3_replies::{
     Context, INTERNAL_ERROR, body_of, head_of, internal_error_reply, refusal, refusals_are_unique,
     replies_are_unique, replies_show_what_came,
 };
-use s3_segments::Body;
 use s3_terms::Code;
 use std::alloc::Global;
 
@@ -304,9 +304,12 @@ static UNVERSIONED: [Row; 11] = [
 ];
 
 // Whether a body, where there is one, has these bytes.
-fn has_bytes(body: Option<Body>, bytes: &[u8]) -> bool {
+fn has_bytes(alloc: Global, body: Option<Body>, bytes: &[u8]) -> bool {
     match body {
-        Some(body) => body.as_slice() == bytes,
+        Some(body) => match body.to_vec(alloc) {
+            Ok(copy) => copy.as_slice() == bytes,
+            Err(_) => false,
+        },
         None => bytes.is_empty(),
     }
 }
@@ -326,7 +329,7 @@ fn behind_head<'a>(
 // Whether an answer is sent as these bytes: its head, and behind it what stands there.
 fn is_sent(alloc: Global, answer: Answer, context: &Context, bytes: &[u8]) -> bool {
     match behind_head(alloc, &answer, context, bytes) {
-        Some(rest) => has_bytes(body_of(answer, context), rest),
+        Some(rest) => has_bytes(alloc, body_of(answer, context), rest),
         None => false,
     }
 }

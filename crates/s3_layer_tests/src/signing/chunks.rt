@@ -8,6 +8,7 @@ use crate::signing::bodies::is_outcome;
 use crate::signing::server::{MOMENT, REGION, STAMP, verdict};
 use crate::signing::texts::{is_same, joined};
 use s3_aws_chunked::{CHUNK_MAX, ChunkReader, Sink, write_chunks, written_length};
+use s3_bodies::{BLOCK_SIZE, Body as Kept, PayloadBuilder};
 use s3_calendar::Stamp;
 use s3_http_heads::Head;
 use s3_signing::{ChunkChain, Verified};
@@ -451,11 +452,66 @@ fn first_other(alloc: Global) -> Option<&'static str> {
     }
 }
 
+// The size of a body around the ends of blocks, and that of the chunks in which it comes.
+static AROUND_BLOCKS: [(usize, usize); 8] = [
+    (65_535, 8_192),
+    (65_535, 65_536),
+    (65_536, 8_192),
+    (65_536, 65_536),
+    (65_537, 8_192),
+    (65_537, 65_536),
+    (131_072, 8_192),
+    (131_072, 65_536),
+];
+
+// Bytes of which no two blocks begin alike.
+fn counted(alloc: Global, size: usize) -> Result<Vec<u8>, NoMemory> {
+    let mut bytes = Vec::with_capacity(alloc, size)?;
+    for i in 0..size {
+        bytes.push((i % 251) as u8)?;
+    }
+    Ok(bytes)
+}
+
+// The data of a body in chunks that comes in pieces of a page.
+fn data_of(alloc: Global, verified: &Verified, bytes: &[u8], size: usize) -> Result<Kept, Code> {
+    let mut payload = PayloadBuilder::new(alloc, size as u64);
+    let mut reader = ChunkReader::new(verified, bytes.len() as u64, size as u64);
+    for piece in bytes.chunks(4_096) {
+        reader.feed(piece, &mut payload)?;
+    }
+    reader.end()?;
+    Ok(payload.finish().into_body()?)
+}
+
+// Whether the data of a body of this size, in chunks of so many bytes, is kept in full blocks.
+fn is_kept(alloc: Global, verified: &Verified, row: &(usize, usize)) -> Result<bool, Code> {
+    let data = counted(alloc, row.0)?;
+    let bytes = written(alloc, &data, row.1).ok_or(Code::InternalError)?;
+    let body = data_of(alloc, verified, &bytes, row.0)?;
+    let first = if body.size() > 0 {
+        body.piece(0).len()
+    } else {
+        0
+    };
+    let copy = body.to_vec(alloc)?;
+    Ok(is_same(&copy, &data) && first == row.0.min(BLOCK_SIZE))
+}
+
+// The same behind the published head.
+fn kept_in_blocks(alloc: Global, row: &(usize, usize)) -> Result<bool, Code> {
+    is_kept(alloc, &verified(alloc)?, row)
+}
+
 // Bodies, and the lengths of the published one, of `hello` in chunks of 3 bytes, and of the empty chunk alone.
 #[test]
 fn bodies_in_chunks(rt: HostRuntime) {
     let other = first_other(rt.alloc());
     check_none(&rt, other);
+    for row in &AROUND_BLOCKS {
+        let is_right = kept_in_blocks(rt.alloc(), row).unwrap_or(false);
+        check(&rt, is_right, "bodies around the ends of blocks");
+    }
     check(
         &rt,
         written_length(66_560, 65_536) == Some(66_824)

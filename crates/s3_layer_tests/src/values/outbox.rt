@@ -2,9 +2,10 @@
 //! that is given back.
 
 use crate::checks::check;
+use s3_bodies::Body;
 use s3_outbox::Outbox;
-use s3_segments::Body;
 use std::alloc::Global;
+use std::io::IoSlice;
 use std::mem::drop;
 
 type Reply = (&'static [u8], Option<&'static [u8]>);
@@ -61,15 +62,15 @@ static CASES: &[Case] = &[
     },
 ];
 
-// A piece that goes out at once: how long it is, its first byte, and its last.
-type Piece = (usize, u8, u8);
+// A part of a write: how long it is, its first byte, and its last.
+type Part = (usize, u8, u8);
 
-// How long two heads with their bodies and a last text are, and the pieces in which they go out.
+// How long two heads with their bodies and a last text are, and the parts of the writes in which they go out.
 struct Sizes {
     first: (usize, usize),
     second: (usize, usize),
     last: usize,
-    pieces: &'static [Piece],
+    writes: &'static [&'static [Part]],
 }
 
 static SIZES: &[Sizes] = &[
@@ -77,45 +78,46 @@ static SIZES: &[Sizes] = &[
         first: (200, 0),
         second: (0, 0),
         last: 0,
-        pieces: &[(200, b'h', b'h')],
+        writes: &[&[(200, b'h', b'h')]],
     },
-    // A body goes out with its head where both fit into the room for a head.
+    // A body goes out with its head.
     Sizes {
-        first: (200, 3_896),
+        first: (200, 5_000),
         second: (0, 0),
         last: 0,
-        pieces: &[(4_096, b'h', b'b')],
-    },
-    Sizes {
-        first: (200, 3_897),
-        second: (0, 0),
-        last: 0,
-        pieces: &[(200, b'h', b'h'), (3_897, b'b', b'b')],
+        writes: &[&[(200, b'h', b'h'), (5_000, b'b', b'b')]],
     },
     // The longest head.
     Sizes {
         first: (4_096, 1),
         second: (0, 0),
         last: 0,
-        pieces: &[(4_096, b'h', b'h'), (1, b'b', b'b')],
+        writes: &[&[(4_096, b'h', b'h'), (1, b'b', b'b')]],
     },
-    // Behind a reply that isn't out a body is never copied.
+    // One reply behind another.
     Sizes {
         first: (200, 1_000),
         second: (100, 10),
-        last: 0,
-        pieces: &[(1_300, b'h', b'h'), (10, b'b', b'b')],
-    },
-    Sizes {
-        first: (200, 5_000),
-        second: (100, 4_097),
         last: 3,
-        pieces: &[
-            (200, b'h', b'h'),
-            (5_000, b'b', b'b'),
-            (100, b'h', b'h'),
-            (4_097, b'b', b'b'),
-            (3, b'l', b'l'),
+        writes: &[
+            &[(200, b'h', b'h'), (1_000, b'b', b'b')],
+            &[(100, b'h', b'h'), (10, b'b', b'b')],
+            &[(3, b'l', b'l')],
+        ],
+    },
+    // A body of more blocks than go out in one write.
+    Sizes {
+        first: (200, 262_145),
+        second: (0, 0),
+        last: 0,
+        writes: &[
+            &[
+                (200, b'h', b'h'),
+                (65_536, b'b', b'b'),
+                (65_536, b'b', b'b'),
+                (65_536, b'b', b'b'),
+            ],
+            &[(65_536, b'b', b'b'), (1, b'b', b'b')],
         ],
     },
     // The longest last text.
@@ -123,17 +125,14 @@ static SIZES: &[Sizes] = &[
         first: (200, 1),
         second: (0, 0),
         last: 768,
-        pieces: &[(201, b'h', b'b'), (768, b'l', b'l')],
+        writes: &[&[(200, b'h', b'h'), (1, b'b', b'b')], &[(768, b'l', b'l')]],
     },
 ];
 
 // The body of a reply, if it has one.
 fn body_of(alloc: Global, reply: &Reply) -> Option<Body> {
     match reply.1 {
-        Some(bytes) => match Vec::from_slice(alloc, bytes) {
-            Ok(copy) => Some(Body::new(copy)),
-            Err(_) => None,
-        },
+        Some(bytes) => Body::of(alloc, bytes).ok(),
         None => None,
     }
 }
@@ -291,35 +290,57 @@ fn filled(alloc: Global, byte: u8, size: usize) -> Vec<u8> {
 // Puts a reply with a head and a body of these sizes in; one without a head is none.
 fn put_sizes(alloc: Global, sizes: (usize, usize), outbox: &mut Outbox) {
     if sizes.0 > 0 {
-        let body = Body::new(filled(alloc, b'b', sizes.1));
+        let bytes = filled(alloc, b'b', sizes.1);
+        let body = Body::of(alloc, &bytes).ok();
+        drop(bytes);
         let head = filled(alloc, b'h', sizes.0);
-        put(outbox, &head, Some(body));
+        put(outbox, &head, body);
         drop(head);
     }
 }
 
-// Whether this piece stands in front, which is sent then, one half of it behind the other.
-fn is_next(outbox: &mut Outbox, piece: &Piece) -> bool {
-    let out = outbox.out();
-    let count = out.len();
-    let is_right = (count, out.first(), out.last()) == (piece.0, Some(&piece.1), Some(&piece.2));
-    outbox.sent(count / 2);
-    let rest = outbox.out().len();
-    outbox.sent(rest);
-    is_right && rest == count - count / 2
+// Whether a part of a write is this one.
+fn is_part(bytes: &[u8], wanted: &Part) -> bool {
+    (bytes.len(), bytes.first(), bytes.last()) == (wanted.0, Some(&wanted.1), Some(&wanted.2))
 }
 
-// Whether all goes out in these pieces.
-fn goes_in(outbox: &mut Outbox, pieces: &[Piece]) -> bool {
-    for piece in pieces {
-        if !is_next(outbox, piece) {
+// Whether these are the parts of a write that have bytes.
+fn are_parts(parts: &[IoSlice<'_>], wanted: &[Part]) -> bool {
+    let mut left = wanted;
+    for part in parts {
+        let bytes = part.as_slice();
+        if bytes.is_empty() {
+            continue;
+        }
+        match left.split_first() {
+            Some((next, behind)) if is_part(bytes, next) => left = behind,
+            _ => return false,
+        }
+    }
+    left.is_empty()
+}
+
+// Whether these parts stand in front for a write, and sends as many pieces.
+fn is_next(outbox: &mut Outbox, wanted: &[Part]) -> bool {
+    let are_right = are_parts(&outbox.parts(), wanted);
+    for _ in wanted {
+        let count = outbox.out().len();
+        outbox.sent(count);
+    }
+    are_right
+}
+
+// Whether all goes out in these writes.
+fn goes_in(outbox: &mut Outbox, writes: &[&[Part]]) -> bool {
+    for parts in writes {
+        if !is_next(outbox, parts) {
             return false;
         }
     }
     outbox.out().is_empty()
 }
 
-// Whether two replies and a last text of these sizes go out in their pieces. A last text of no size is none.
+// Whether two replies and a last text of these sizes go out in their writes. A last text of no size is none.
 fn is_cut(alloc: Global, sizes: &Sizes) -> bool {
     let mut outbox = Outbox::new(alloc);
     put_sizes(alloc, sizes.first, &mut outbox);
@@ -329,7 +350,7 @@ fn is_cut(alloc: Global, sizes: &Sizes) -> bool {
         end(&mut outbox, &text);
         drop(text);
     }
-    let is_cut = goes_in(&mut outbox, sizes.pieces);
+    let is_cut = goes_in(&mut outbox, sizes.writes);
     drop(outbox);
     is_cut
 }

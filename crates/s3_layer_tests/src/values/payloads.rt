@@ -1,26 +1,20 @@
-//! Tests of `s3_segments`: bodies, and the payloads that have their tags.
+//! Tests of `s3_bodies`: the payloads that have the tags of their bodies.
 
 use crate::checks::check;
-use md5::{Digest, Md5};
-use s3_segments::{Body, Payload};
+use s3_bodies::{PayloadBuilder, Sink};
+use s3_terms::NoMemory;
 use std::alloc::Global;
 
-// Whether the body's payload has this tag, and these bytes for its body.
-fn has_tag(body: Body, bytes: &[u8], tag: &[u8; 32]) -> bool {
-    let digest = Md5::digest(body.as_slice());
-    let payload = Payload::new(body, digest);
-    payload.tag().text() == *tag && payload.into_body().as_slice() == bytes
-}
-
-// Whether a copy of the body of these bytes has this size and them, and its payload has them and this tag.
-fn is_kept(alloc: Global, bytes: &[u8], size: u64, tag: &[u8; 32]) -> bool {
-    let Ok(bytes_of_body) = bytes.to_vec(alloc) else {
-        return false;
-    };
-    match Body::new(bytes_of_body).copy(alloc) {
-        Ok(copy) => (copy.size(), copy.as_slice()) == (size, bytes) && has_tag(copy, bytes, tag),
-        Err(_) => false,
-    }
+// Whether the payload of these bytes, which come in two pieces, has this size, this tag, and them for its body.
+fn is_kept(alloc: Global, bytes: &[u8], size: u64, tag: &[u8; 32]) -> Result<bool, NoMemory> {
+    let mut builder = PayloadBuilder::new(alloc, size);
+    let (front, back) = bytes.split_at(bytes.len() / 2);
+    builder.take(front)?;
+    builder.take(back)?;
+    let payload = builder.finish();
+    let is_tagged = payload.tag().text() == *tag;
+    let body = payload.into_body()?.to_vec(alloc)?;
+    Ok(is_tagged && body.as_slice() == bytes && body.len() as u64 == size)
 }
 
 // A text, its size, and its MD5: the first is that of RFC 1321's test suite, the second is `md5sum`'s.
@@ -30,8 +24,9 @@ static CASES: [(&[u8], u64, &[u8; 32]); 2] = [
 ];
 
 #[test]
-fn bodies_and_payloads(rt: HostRuntime) {
+fn payloads(rt: HostRuntime) {
     for (bytes, size, tag) in &CASES {
-        check(&rt, is_kept(rt.alloc(), *bytes, *size, *tag), "payloads");
+        let is_right = is_kept(rt.alloc(), *bytes, *size, *tag).unwrap_or(false);
+        check(&rt, is_right, "payloads");
     }
 }

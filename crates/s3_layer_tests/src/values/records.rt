@@ -4,7 +4,8 @@ ghost use Rattle.s3_versions.specs.Rules.{is_new_number};
 ghost use Rattle.s3_records.specs.Catalogue.{has_bucket, versions_of};
 
 use crate::checks::check;
-use crate::values::steps::{Known, are, is_new, moment, stored_by};
+use crate::values::steps::{Known, are, is_new, moment, stored_with};
+use s3_bodies::Body;
 use s3_names::{BucketName, Key, VersionId};
 use s3_records::{ListedBucket, MapRecords, Records};
 use s3_terms::{Code, NoMemory};
@@ -174,14 +175,14 @@ fn write_moved<R: Records>(
     requires newer { IsTrue (is_new_number number (versions_of (R.catalogue records.old) bucket.now key)) }
 {
     let written = if is_put {
-        match stored_by(alloc, number) {
+        match stored_with(alloc, Body::empty()) {
             Ok(stored) => records.put_version(alloc, bucket, key, number, moment(), stored),
             Err(_) => Err(NoMemory),
         }
     } else {
         records.delete(alloc, bucket, key, number, moment())
     };
-    written.err().is_none()
+    written.is_ok()
 }
 
 /// Whether the bucket is not there.

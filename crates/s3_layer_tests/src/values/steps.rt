@@ -4,7 +4,7 @@ ghost use Rattle.s3_versions.specs.Rules.{is_new_number};
 
 use s3_calendar::Moment;
 use s3_names::{Tag, VersionId};
-use s3_terms::{Code, NoMemory};
+use s3_terms::Code;
 use s3_versions::{ContentType, Data, Metadata, MetadataEntry, Version, Versioning, Versions};
 use std::alloc::Global;
 use std::mem::drop;
@@ -14,21 +14,22 @@ use std::mem::drop;
 pub(crate) enum Act {
     Put,
     Delete,
-    DropVersion(VersionId),
+    /// The end of the version of this id, which is that of this number, if there is one.
+    DropVersion(VersionId, Option<u64>),
 }
 
 /// One entry: its number, the versioning of its bucket, and what it does.
 pub(crate) type Entry = (u64, Versioning, Act);
 
-/// What a put of this entry stores: its bytes have the entry's number.
-pub(crate) fn stored_by(alloc: Global, number: u64) -> Result<Data<u64>, Code> {
+/// What a put stores whose bytes are these, or something that stands for them.
+pub(crate) fn stored_with<B: Drop>(alloc: Global, body: B) -> Result<Data<B>, Code> {
     let content_type = ContentType::read(alloc, b"text/plain")?;
     Ok(Data {
         tag: Tag::of_digest([7; 16]),
         content_type,
         metadata: metadata_of_one(alloc)?,
         size: 3,
-        body: number,
+        body,
     })
 }
 
@@ -50,56 +51,49 @@ pub(crate) fn moment() -> Moment {
 
 /// Whether the number is above those of the versions.
 #[tactic(auto, unfolding(s3_versions::specs::Rules::is_new_number))]
-pub(crate) fn is_new(number: u64, versions: &[Version<u64>]) -> bool
+pub(crate) fn is_new<B>(number: u64, versions: &[Version<B>]) -> bool
     ensures { result ≡ is_new_number number versions.now }
 {
     versions.iter().all(|version| version.number < number)
 }
 
-// The number of the entry that made the version that went, if one went; none where there was no memory.
-fn number_of(gone: Result<Option<Version<u64>>, NoMemory>) -> Option<Option<u64>> {
+// The number of the entry that made the version that went, if one went.
+fn number_of(gone: Option<Version<u64>>) -> Option<u64> {
     match gone {
-        Ok(Some(version)) => {
+        Some(version) => {
             let number = version.number;
             drop(version);
-            Some(Some(number))
+            Some(number)
         }
-        Ok(None) => Some(None),
-        Err(_) => None,
+        None => None,
     }
 }
 
-/// Takes a step with a new number, and answers whether the version goes that this entry made, or none.
-pub(crate) fn takes(
-    alloc: Global,
-    versions: &mut Versions<u64>,
-    entry: &Entry,
-    gone: Option<u64>,
-) -> bool {
+/// Takes a step with a new number, and answers whether it was made. What a put stores has the number for its bytes.
+pub(crate) fn takes(alloc: Global, versions: &mut Versions<u64>, entry: &Entry) -> bool {
     let (number, versioning, act) = *entry;
     if !is_new(number, versions.as_slice()) {
         return false;
     }
-    let number_gone = match act {
-        Act::Put => match stored_by(alloc, number) {
-            Ok(stored) => number_of(versions.put(versioning, number, moment(), stored)),
-            Err(_) => None,
+    match act {
+        Act::Put => match stored_with(alloc, number) {
+            Ok(stored) => versions.put(versioning, number, moment(), stored).is_ok(),
+            Err(_) => false,
         },
-        Act::Delete => number_of(versions.delete(versioning, number, moment())),
-        Act::DropVersion(id) => number_of(Ok(versions.delete_version(id))),
-    };
-    number_gone == Some(gone)
+        Act::Delete => versions.delete(versioning, number, moment()).is_ok(),
+        Act::DropVersion(id, gone) => number_of(versions.delete_version(id)) == gone,
+    }
 }
 
 /// A version, by its id and whether it is a delete marker.
 pub(crate) type Known = (&'static [u8], bool);
 
-fn is_known(version: &Version<u64>, known: &Known) -> bool {
+fn is_known<B>(version: &Version<B>, known: &Known) -> bool {
     version.id().text().as_bytes() == known.0 && version.is_delete_marker() == known.1
 }
 
 /// Whether these are the versions, newest first.
-pub(crate) fn are(versions: &[Version<u64>], wanted: &[Known]) -> bool {
+pub(crate) fn are<B>(versions: &[Version<B>], wanted: &[Known]) -> bool {
     if versions.len() != wanted.len() {
         return false;
     }

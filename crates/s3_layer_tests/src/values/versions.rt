@@ -8,8 +8,8 @@ use s3_versions::Versioning::{Enabled, Suspended, Unversioned};
 use s3_versions::{Version, Versions, pick};
 use std::alloc::Global;
 
-/// An entry, the number of the version that goes, and the versions that it leaves.
-type Row = (Entry, Option<u64>, &'static [Known]);
+/// An entry, and the versions that it leaves.
+type Row = (Entry, &'static [Known]);
 
 /// The number of the bytes that are read, or the refusal and whether it tells of a delete marker.
 type Outcome = Result<u64, (Code, bool)>;
@@ -43,9 +43,9 @@ static SCENARIOS: [Scenario; 7] = [
     Scenario {
         name: "a delete while versioning is suspended",
         rows: &[
-            ((1, Enabled, Act::Put), None, &[V1]),
-            ((3, Suspended, Act::Put), None, &[NULL, V1]),
-            ((4, Suspended, Act::Delete), Some(3), &[MARKER, V1]),
+            ((1, Enabled, Act::Put), &[V1]),
+            ((3, Suspended, Act::Put), &[NULL, V1]),
+            ((4, Suspended, Act::Delete), &[MARKER, V1]),
         ],
         reads: &[
             (None, Err((Code::NoSuchKey, true))),
@@ -60,12 +60,11 @@ static SCENARIOS: [Scenario; 7] = [
     Scenario {
         name: "its delete marker is removed",
         rows: &[
-            ((1, Enabled, Act::Put), None, &[V1]),
-            ((3, Suspended, Act::Put), None, &[NULL, V1]),
-            ((4, Suspended, Act::Delete), Some(3), &[MARKER, V1]),
+            ((1, Enabled, Act::Put), &[V1]),
+            ((3, Suspended, Act::Put), &[NULL, V1]),
+            ((4, Suspended, Act::Delete), &[MARKER, V1]),
             (
-                (6, Suspended, Act::DropVersion(VersionId::Null)),
-                Some(4),
+                (6, Suspended, Act::DropVersion(VersionId::Null, Some(4))),
                 &[V1],
             ),
         ],
@@ -73,45 +72,47 @@ static SCENARIOS: [Scenario; 7] = [
     },
     Scenario {
         name: "a delete marker of no key",
-        rows: &[((1, Enabled, Act::Delete), None, &[V1_MARKER])],
+        rows: &[((1, Enabled, Act::Delete), &[V1_MARKER])],
         reads: &[],
     },
     Scenario {
         name: "delete markers and the version null",
         rows: &[
-            ((0, Unversioned, Act::Put), None, &[NULL]),
-            ((2, Enabled, Act::Put), None, &[V2, NULL]),
-            ((4, Suspended, Act::Delete), Some(0), &[MARKER, V2]),
-            ((5, Suspended, Act::Put), Some(4), &[NULL, V2]),
+            ((0, Unversioned, Act::Put), &[NULL]),
+            ((2, Enabled, Act::Put), &[V2, NULL]),
+            ((4, Suspended, Act::Delete), &[MARKER, V2]),
+            ((5, Suspended, Act::Put), &[NULL, V2]),
         ],
         reads: &[],
     },
     Scenario {
         name: "a bucket that was never versioned",
         rows: &[
-            ((0, Unversioned, Act::Put), None, &[NULL]),
-            ((1, Unversioned, Act::Put), Some(0), &[NULL]),
-            ((2, Unversioned, Act::Delete), Some(1), &[]),
-            ((3, Unversioned, Act::Delete), None, &[]),
+            ((0, Unversioned, Act::Put), &[NULL]),
+            ((1, Unversioned, Act::Put), &[NULL]),
+            ((2, Unversioned, Act::Delete), &[]),
+            ((3, Unversioned, Act::Delete), &[]),
         ],
         reads: &[],
     },
     Scenario {
         name: "one version is dropped",
         rows: &[
-            ((1, Enabled, Act::Put), None, &[V1]),
-            ((2, Enabled, Act::Put), None, &[V2, V1]),
+            ((1, Enabled, Act::Put), &[V1]),
+            ((2, Enabled, Act::Put), &[V2, V1]),
             (
-                (3, Enabled, Act::DropVersion(VersionId::Numbered(3))),
-                None,
+                (3, Enabled, Act::DropVersion(VersionId::Numbered(3), None)),
                 &[V2, V1],
             ),
             (
-                (4, Enabled, Act::DropVersion(VersionId::Numbered(1))),
-                Some(1),
+                (
+                    4,
+                    Enabled,
+                    Act::DropVersion(VersionId::Numbered(1), Some(1)),
+                ),
                 &[V2],
             ),
-            ((5, Enabled, Act::DropVersion(VersionId::Null)), None, &[V2]),
+            ((5, Enabled, Act::DropVersion(VersionId::Null, None)), &[V2]),
         ],
         reads: &[],
     },
@@ -134,9 +135,9 @@ fn reads(versions: &[Version<u64>], wanted: &[(Option<VersionId>, Outcome)]) -> 
     true
 }
 
-// Whether an entry lets that version go, and leaves these.
+// Whether an entry is made, and leaves these.
 fn leaves(alloc: Global, versions: &mut Versions<u64>, row: &Row) -> bool {
-    takes(alloc, versions, &row.0, row.1) && are(versions.as_slice(), row.2)
+    takes(alloc, versions, &row.0) && are(versions.as_slice(), row.1)
 }
 
 // Whether the entries of a scenario leave their versions, and these are read so at the end.

@@ -1,8 +1,10 @@
-use Rattle.s3_documents.proofs.LawLemmas.{one_timestamp, one_text}
+use Rattle.s3_documents.proofs.LawLemmas.{timestamps_spell, one_text}
+use Rattle.s3_documents.proofs.TokenLemmas.{trees_are_json}
 use Rattle.s3_documents.proofs.laws.documents_are_one.Goals as goal
 
 pub returns : goal.returns
 returns c = record {
-  timestamps = one_timestamp c.stamps_of_a_moment.ensures;
-  buckets = one_text c.stamps_of_a_moment.ensures;
+  json = trees_are_json;
+  timestamps = timestamps_spell c.stamps_of_a_moment.ensures;
+  buckets = one_text;
 }

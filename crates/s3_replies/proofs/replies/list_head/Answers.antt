@@ -8,6 +8,6 @@ pub returns-clause-printed : goal.returns-clause-printed
 returns-clause-printed g c =
     let head = print_head (with_size (document_fields c.args.number c.args.context.now.closes c.args.date) (length c.document.result.now)) in (
       head,
-      c.document_head.ensures.written,
+      rw (← c.size-size.ensures) c.document_head.ensures.written,
       list_printed c.documents_are_one.ensures.buckets c.args.number c.args.buckets.now c.args.context.now c.args.date head c.document.result.now c.document.ensures refl,
     )

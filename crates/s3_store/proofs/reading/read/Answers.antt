@@ -1,6 +1,6 @@
 use Rattle.std.proofs.Common.{ap, sym, ◌∙◌}
 use Rattle.s3_versions.specs.Rules.{judged}
-use Rattle.s3_store.proofs.ReadingLemmas.{told_of}
+use Rattle.s3_store.proofs.StepLemmas.{told_of}
 use Rattle.s3_store.proofs.reading.read.Goals as goal
 
 pub returns-in-Ok : goal.returns-in-Ok

@@ -2,7 +2,7 @@ use Rattle.std.proofs.Common.{sym, ap, ◌∙◌, Some, None}
 use Rattle.std.specs.FinMap as map
 use Rattle.s3_versions.specs.Rules.{after_adding, replaced}
 use Rattle.s3_records.specs.Catalogue.{found_versions}
-use Rattle.s3_records.proofs.KeyLemmas.{then_ok, then_err, on_err, with_versions-added, replaced-none, written, left}
+use Rattle.s3_records.proofs.KeyLemmas.{then_ok, then_err, on_err, written, left}
 use Rattle.s3_text.proofs.MapLemmas.{get_by_tree, made_by_insert}
 use Rattle.s3_records.proofs.keys.KeyMap.add.Goals as goal
 
@@ -21,14 +21,8 @@ returns-in-Some-clause-ok c =
     let added = after_adding c.args.versioning c.args.number c.args.moment c.args.content in
     then_ok c.add.result
     (λ is. written c.self.inside.by_key (c.get_mut.follows.lender c.add.new.self) s key old c.add.new.self (added old) c.self.view_is c.in-Some.ensures.value (c.get_mut.follows.holds c.add.new.self) is
-    ∙ ap (λ found. map.insert s key (added (found_versions found))) (sym there)
-    ∙ with_versions-added s key c.args.versioning c.args.number c.args.moment c.args.content (found_versions (map.get s key)))
+    ∙ ap (λ found. map.insert s key (added (found_versions found))) (sym there))
     c.add.ensures.ok
-
-pub returns-in-Some-clause-gone : goal.returns-in-Some-clause-gone
-returns-in-Some-clause-gone c =
-    let there = get_by_tree c.self.inside.by_key.entries c.args.self.now c.args.key (Some c.in-Some.versions.now) c.self.view_is c.in-Some.ensures.value in
-    rw (ap found_versions there) c.add.ensures.gone
 
 pub returns-in-Some-clause-err : goal.returns-in-Some-clause-err
 returns-in-Some-clause-err c =
@@ -48,12 +42,12 @@ returns-in-Some-clause-memory c =
 pub returns-in_err-versions-in-None-clause-memory : goal.returns-in_err-versions-in-None-clause-memory
 returns-in_err-versions-in-None-clause-memory c =
     let absent = get_by_tree c.self.inside.by_key.entries c.args.self.now c.args.key None c.self.view_is c.in-None.ensures.value in
-    on_err c.from_residual.result (ap (λ found. replaced c.args.versioning (found_versions found)) absent ∙ replaced-none c.args.versioning)
+    on_err c.from_residual.result (ap (λ found. replaced c.args.versioning c.args.number (found_versions found)) absent)
 
 pub returns-in_err-insert-in-None-clause-memory : goal.returns-in_err-insert-in-None-clause-memory
 returns-in_err-insert-in-None-clause-memory c =
     let absent = get_by_tree c.self.inside.by_key.entries c.args.self.now c.args.key None c.self.view_is c.in-None.ensures.value in
-    on_err c.from_residual-in_err-insert-in-None.result (ap (λ found. replaced c.args.versioning (found_versions found)) absent ∙ replaced-none c.args.versioning)
+    on_err c.from_residual-in_err-insert-in-None.result (ap (λ found. replaced c.args.versioning c.args.number (found_versions found)) absent)
 
 pub returns-in_ok-insert-in-None-clause-ok : goal.returns-in_ok-insert-in-None-clause-ok
 returns-in_ok-insert-in-None-clause-ok c =
@@ -65,9 +59,3 @@ returns-in_ok-insert-in-None-clause-ok c =
     made_by_insert c.get_mut.follows.lender-at-none.entries c.insert.new.self.entries key c.in_ok-versions-in-None.versions c.in_ok-insert-in-None.ensures.updates.0
     ∙ ap (λ m. map.insert m key c.in_ok-versions-in-None.versions) before
     ∙ ap (map.insert s key) (c.in_ok-versions-in-None.ensures ∙ ap (λ found. added (found_versions found)) (sym absent))
-    ∙ with_versions-added s key c.args.versioning c.args.number c.args.moment c.args.content (found_versions (map.get s key))
-
-pub returns-in_ok-insert-in-None-clause-gone : goal.returns-in_ok-insert-in-None-clause-gone
-returns-in_ok-insert-in-None-clause-gone c =
-    let absent = get_by_tree c.self.inside.by_key.entries c.args.self.now c.args.key None c.self.view_is c.in-None.ensures.value in
-    sym (ap (λ found. replaced c.args.versioning (found_versions found)) absent ∙ replaced-none c.args.versioning)

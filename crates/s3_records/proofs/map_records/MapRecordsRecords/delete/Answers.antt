@@ -28,14 +28,6 @@ returns-clause-ok c =
     let there = get_by_tree c.self.inside.by_name.entries s name (Some old) c.self.view_is c.in-Some.ensures.value in
     then_ok c.delete.result (bucket_written c.self.inside.by_name (c.get_mut.follows.lender c.delete.new.self) s name old c.delete.new.self (delete_in c.args.key c.args.number c.args.moment) c.self.view_is c.in-Some.ensures.value there (c.get_mut.follows.holds c.delete.new.self)) c.delete.ensures.ok
 
-pub returns-clause-gone : goal.returns-clause-gone
-returns-clause-gone c =
-    let s = c.args.self.now in
-    let name = c.args.bucket.now in
-    let old = c.in-Some.bucket.now in
-    let there = get_by_tree c.self.inside.by_name.entries s name (Some old) c.self.view_is c.in-Some.ensures.value in
-    rw there c.delete.ensures.gone
-
 pub returns-clause-err : goal.returns-clause-err
 returns-clause-err c =
     let s = c.args.self.now in

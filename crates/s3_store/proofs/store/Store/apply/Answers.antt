@@ -1,7 +1,10 @@
-use Rattle.s3_store.proofs.ResultLemmas.{on_err-from}
-use Rattle.s3_store.proofs.StandingLemmas.{standing_same}
+use Rattle.std.proofs.Common.{ap, subst, ◌+◌}
+use Rattle.s3_records.specs.Places.{AreBelow}
+use Rattle.s3_machine.specs.Step.{Stepped}
 use Rattle.s3_store.proofs.store.Store.apply.Goals as goal
 
-pub returns-in_err-outcome-clause-err : goal.returns-in_err-outcome-clause-err
-returns-in_err-outcome-clause-err g c =
-    on_err-from c.from_residual.result _ (standing_same c.self.inside.kept c.take.new.kept c.self.inside.number c.args.self.now c.in_err-outcome.ensures.err c.self.view_is)
+-- the next number is above those of all versions after the step
+pub invariant_of-self-2 : goal.invariant_of-self-2
+invariant_of-self-2 g c =
+    subst (AreBelow (c.self.inside.number + 1)) (ap (λ (after : Stepped). after.0) c.in_ok-outcome.ensures.ok)
+    (c.steps_stay_below.ensures c.args.least_part _ c.self.inside.number c.args.moment c.args.command c.self.invariant)

@@ -1,0 +1,4 @@
+pub mod PieceLemmas
+pub mod BlockLemmas
+pub mod PartLemmas
+pub mod RunLemmas

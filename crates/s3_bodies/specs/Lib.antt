@@ -1,0 +1,4 @@
+pub mod Payload
+pub mod Pieces
+pub mod Runs
+pub mod Content

@@ -1,0 +1,180 @@
+//! The bytes of an object or of a part.
+
+ghost use Rattle.std.specs.Prelude.{◌≡◌, ℕ, ◌+◌, ◌-◌, ◌<◌, ◌≤◌, [], ◌++◌, length, take, drop, IfOk, OnOk, OnErr};
+ghost use Rattle.std.specs.Vec.{vec_len, vec_capacity};
+ghost use Rattle.std.specs.List.{flat_map};
+ghost use Rattle.s3_bodies.specs.Pieces.{IsPieceAt};
+
+use crate::blocks::Blocks;
+use crate::runs::Runs;
+use crate::shared::{InPieces, Shared};
+use crate::{BodyBuilder, Sink};
+use s3_terms::NoMemory;
+use std::alloc::Global;
+use std::marker::Model;
+
+/// The bytes of an object or of a part, in shared blocks of 1 to 65,536 bytes, which don't change. Contracts see a body
+/// as the list of its bytes. To copy it, to cut a range out of it and to join it with others moves no byte; its memory is
+/// given back with the last body that has some of it.
+#[derive(Drop)]
+pub struct Body {
+    content: Content,
+}
+
+/// Where the bytes lie.
+#[derive(Drop)]
+enum Content {
+    /// There are none.
+    Nothing,
+    /// In the blocks of one body as it arrived.
+    One(Shared<Blocks>),
+    /// In those of several.
+    Many(Shared<Runs>),
+}
+
+impl Model for Body {
+    ghost use Rattle.std.specs.Prelude.{ℕ, List};
+    ghost use Rattle.s3_bodies.specs.Content.{bytes_of};
+
+    ghost Value = { List ℕ };
+
+    ghost view = { λ body. bytes_of body.content };
+}
+
+impl Body {
+    /// The body without bytes, which takes no memory.
+    pub fn empty() -> Body
+        ensures { result ≡ [] }
+    {
+        Body {
+            content: Content::Nothing,
+        }
+    }
+
+    /// The body of these bytes, which are copied. `NoMemory` comes only where there are any.
+    pub fn of(alloc: Global, bytes: &[u8]) -> Result<Body, NoMemory>
+        ensures value { IfOk result (λ body. body ≡ bytes.now) }
+        ensures memory { OnErr result (0 < length bytes.now) }
+    {
+        let mut builder = BodyBuilder::new(alloc, bytes.len() as u64);
+        builder.take(bytes)?;
+        builder.finish()
+    }
+
+    /// The body of these blocks, which are moved. `NoMemory` comes only where there are bytes.
+    pub(crate) fn of_blocks(alloc: Global, blocks: Blocks) -> Result<Body, NoMemory>
+        ensures value { IfOk result (λ body. body ≡ blocks) }
+        ensures memory { OnErr result (0 < length blocks) }
+    {
+        if blocks.size() == 0 {
+            return Ok(Body::empty());
+        }
+        Ok(Body {
+            content: Content::One(Shared::new(alloc, blocks)?),
+        })
+    }
+
+    /// How many bytes the body has.
+    pub fn size(&self) -> u64
+        ensures { result ≡ length self.now }
+    {
+        match &self.content {
+            Content::Nothing => 0,
+            Content::One(part) => part.size(),
+            Content::Many(part) => part.size(),
+        }
+    }
+
+    /// The same bytes, which are shared. It takes no memory: `NoMemory` says that there are 2^63 such bodies.
+    pub fn copy(&self) -> Result<Body, NoMemory>
+        ensures { IfOk result (λ copy. copy ≡ self.now) }
+    {
+        let content = match &self.content {
+            Content::Nothing => Content::Nothing,
+            Content::One(part) => Content::One(part.copy()?),
+            Content::Many(part) => Content::Many(part.copy()?),
+        };
+        Ok(Body { content })
+    }
+
+    /// The bytes of a range, which has to lie in the body: so many from a place on. They are shared, and all others stay
+    /// in memory with them. It takes no memory.
+    pub fn slice(self, from: u64, size: u64) -> Body
+        requires { from + size ≤ length self }
+        ensures { result ≡ take size (drop from self) }
+    {
+        let Body { content } = self;
+        let content = match content {
+            Content::Nothing => Content::Nothing,
+            Content::One(part) => Content::One(part.slice(from, size)),
+            Content::Many(part) => Content::Many(part.slice(from, size)),
+        };
+        Body { content }
+    }
+
+    /// Some bytes that lie together, from a place on: those of a block, or less at the ends of a range. It takes no
+    /// memory, and the time to find the place: by the logarithm of how many bodies were joined.
+    #[tactic(auto, using(crate::proofs::PieceLemmas::piece_ends))]
+    pub fn piece(&self, at: u64) -> &[u8]
+        requires { at < length self.now }
+        ensures piece { IsPieceAt at self.now result.now }
+        ensures within { at + length result.now ≤ length self.now }
+    {
+        match &self.content {
+            Content::Nothing => unreachable!(),
+            Content::One(part) => part.piece(at),
+            Content::Many(part) => part.piece(at),
+        }
+    }
+
+    /// These bodies one behind another, whose blocks are shared. It takes some 32 bytes for each run of blocks.
+    pub fn join(alloc: Global, bodies: &[&Body]) -> Result<Body, NoMemory>
+        ensures { IfOk result (λ joined. joined ≡ flat_map (λ body. body.now) bodies.now) }
+    {
+        let mut runs = Runs::new(alloc);
+        for body in bodies {
+            body.add_to(&mut runs)?;
+        }
+        Ok(Body {
+            content: Content::Many(Shared::new(alloc, runs)?),
+        })
+    }
+
+    // Puts runs with the same bytes behind others.
+    fn add_to(&self, runs: &mut Runs) -> Result<(), NoMemory>
+        ensures { OnOk result (runs.new ≡ runs.old ++ self.now) }
+    {
+        match &self.content {
+            Content::Nothing => Ok(()),
+            Content::One(part) => runs.push(part.copy()?),
+            Content::Many(part) => part.add_to(runs),
+        }
+    }
+
+    /// Puts a copy of the bytes from a place on behind others. `NoMemory` comes only where there is no room for them
+    /// already.
+    pub fn copy_to(&self, from: u64, out: &mut Vec<u8>) -> Result<(), NoMemory>
+        requires { from ≤ length self.now }
+        ensures copied { OnOk result (out.new.items ≡ out.old.items ++ drop from self.now) }
+        ensures memory { OnErr result (vec_capacity out.old < vec_len out.old + (length self.now - from)) }
+        ensures capacity { OnOk result (vec_capacity out.old ≤ vec_capacity out.new) }
+    {
+        let mut at = from;
+        while at < self.size() {
+            let piece = self.piece(at);
+            out.extend_from_slice(piece)?;
+            at += piece.len() as u64;
+        }
+        Ok(())
+    }
+
+    /// A copy of the bytes. `NoMemory` comes only where there are any.
+    pub fn to_vec(&self, alloc: Global) -> Result<Vec<u8>, NoMemory>
+        ensures copied { IfOk result (λ bytes. bytes.items ≡ self.now) }
+        ensures memory { OnErr result (0 < length self.now) }
+    {
+        let mut bytes = Vec::new(alloc);
+        self.copy_to(0, &mut bytes)?;
+        Ok(bytes)
+    }
+}

@@ -1,0 +1,111 @@
+//! A part of what is shared.
+
+ghost use Rattle.std.specs.Prelude.{◌≡◌, ℕ, ◌+◌, ◌<◌, ◌≤◌, List, length, take, drop, IfOk};
+ghost use Rattle.s3_bodies.specs.Pieces.{IsPieceAt};
+
+use s3_terms::NoMemory;
+use std::alloc::Global;
+use std::marker::Model;
+use std::sync::Arc;
+
+/// Bytes that stand somewhere in pieces.
+pub(crate) trait InPieces {
+    ghost bytes: { Self → List ℕ };
+
+    /// How many there are.
+    fn size(&self) -> u64
+        ensures { result ≡ length (bytes self.now) };
+
+    /// Some that lie together from a place on.
+    fn piece(&self, at: u64) -> &[u8]
+        requires { at < length (bytes self.now) }
+        ensures { IsPieceAt at (bytes self.now) result.now };
+}
+
+/// A part of bytes that are shared and don't change. Contracts see it as the list of its bytes.
+#[derive(Drop)]
+pub(crate) struct Shared<T: InPieces> {
+    pub(crate) whole: Arc<T>,
+    pub(crate) from: u64,
+    pub(crate) size: u64,
+}
+
+impl<T: InPieces> Model for Shared<T> {
+    ghost use Rattle.std.specs.Prelude.{ℕ, List, take, drop};
+    ghost use Rattle.std.specs.Arc.{arc_value};
+    ghost use Rattle.s3_bodies.specs.Pieces.{IsWithin};
+
+    ghost Value = { List ℕ };
+
+    ghost view = { λ part. take part.size (drop part.from (T.bytes (arc_value part.whole))) };
+
+    ghost invariant = { λ part. IsWithin part.from part.size (T.bytes (arc_value part.whole)) };
+}
+
+// At most so many of these bytes.
+fn clipped(piece: &[u8], most: u64) -> &[u8]
+    ensures { result.now ≡ take most piece.now }
+{
+    if (piece.len() as u64) <= most {
+        return piece;
+    }
+    &piece[..most as usize]
+}
+
+impl<T: InPieces + Drop> Shared<T> {
+    /// All of these bytes, which are moved and not copied.
+    pub(crate) fn new(alloc: Global, whole: T) -> Result<Shared<T>, NoMemory>
+        ensures { IfOk result (λ part. part ≡ T.bytes whole) }
+    {
+        let size = whole.size();
+        let whole = Arc::new(alloc, whole)?;
+        Ok(Shared {
+            whole,
+            from: 0,
+            size,
+        })
+    }
+
+    /// How many bytes there are.
+    pub(crate) fn size(&self) -> u64
+        ensures { result ≡ length self.now }
+    {
+        self.size
+    }
+
+    /// The same bytes, which are shared.
+    pub(crate) fn copy(&self) -> Result<Shared<T>, NoMemory>
+        ensures { IfOk result (λ part. part ≡ self.now) }
+    {
+        Ok(Shared {
+            whole: Arc::try_clone(&self.whole)?,
+            from: self.from,
+            size: self.size,
+        })
+    }
+
+    /// Some of them.
+    pub(crate) fn slice(self, from: u64, size: u64) -> Shared<T>
+        requires { from + size ≤ length self }
+        ensures { result ≡ take size (drop from self) }
+    {
+        let Shared {
+            whole,
+            from: start,
+            size: _,
+        } = self;
+        Shared {
+            whole,
+            from: start + from,
+            size,
+        }
+    }
+
+    /// Some that lie together from a place on.
+    pub(crate) fn piece(&self, at: u64) -> &[u8]
+        requires { at < length self.now }
+        ensures { IsPieceAt at self.now result.now }
+    {
+        clipped(self.whole.piece(self.from + at), self.size - at)
+    }
+}

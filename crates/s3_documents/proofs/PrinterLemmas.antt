@@ -1,0 +1,39 @@
+-- What a printer holds after its calls.
+use Rattle.std.proofs.Common.{◌≡◌, refl, sym, ap, ◌∙◌, ℕ, List, [], ◌∷◌, ◌++◌, append_assoc, append-nil}
+use Rattle.std.proofs.lemmas.List.Concat.{flat_map-append}
+use Rattle.std.proofs.lemmas.Str.{IsUtf8-from_ascii}
+use Rattle.json.specs.Token.{Token, begin_object, end_object, begin_array, end_array, key}
+use Rattle.s3_documents.specs.Tree.{Fields, Tree, rows, leaves}
+use Rattle.s3_documents.specs.Printed.{members_tokens, value_tokens, branch_tokens, fields_tokens, row_tokens, all_tokens, begun}
+
+leaves_tokens : (fields : Fields) → members_tokens branch_tokens (leaves fields) ≡ fields_tokens fields
+leaves_tokens [] = refl
+leaves_tokens (f ∷ fs) = ap (λ ts. (key f.0 ∷ value_tokens f.1) ++ ts) (leaves_tokens fs)
+
+members_behind : (tree more : Tree) → begun (tree ++ more) ≡ begun tree ++ members_tokens branch_tokens more
+unfolding begun
+members_behind tree more = ap (λ ts. begin_object ∷ ts) (flat_map-append (λ m. key m.0 ∷ branch_tokens m.1) tree more)
+
+-- fields behind what was told
+pub fields_behind : (tree : Tree) (fields : Fields) → begun (tree ++ leaves fields) ≡ begun tree ++ fields_tokens fields
+fields_behind tree fields = members_behind tree (leaves fields) ∙ ap (λ ts. begun tree ++ ts) (leaves_tokens fields)
+
+regroup : (old rest : List Token) (a b z : Token) → old ++ ((a ∷ b ∷ (rest ++ z ∷ [])) ++ []) ≡ (((old ++ a ∷ []) ++ b ∷ []) ++ rest) ++ z ∷ []
+regroup old rest a b z = simp (append_assoc, append-nil)
+
+-- rows behind what was told
+pub rows_behind : (tree : Tree) (name : List ℕ) (list : List Fields)
+    → begun (tree ++ (name, rows list) ∷ []) ≡ (((begun tree ++ key name ∷ []) ++ begin_array ∷ []) ++ all_tokens list) ++ end_array ∷ []
+rows_behind tree name list =
+    members_behind tree ((name, rows list) ∷ []) ∙ regroup (begun tree) (all_tokens list) (key name) begin_array end_array
+
+-- a row of these fields, behind other tokens
+pub row_behind : (old : List Token) (fields : Fields) → old ++ row_tokens fields ≡ ((old ++ begin_object ∷ []) ++ fields_tokens fields) ++ end_object ∷ []
+unfolding row_tokens
+row_behind old fields =
+    sym (append_assoc (old ++ begin_object ∷ []) (fields_tokens fields) (end_object ∷ [])
+    ∙ append_assoc old (begin_object ∷ []) (fields_tokens fields ++ end_object ∷ []))
+
+-- ---- for attributes to name
+
+pub ruleset names = (IsUtf8-from_ascii)

@@ -1,0 +1,63 @@
+-- The tokens by which a `Printer` prints a tree, and what the values that it is given tell.
+use Rattle.std.specs.Prelude.{ℕ, Option, Some, None, List, [], ◌∷◌, ◌++◌, flat_map, decimal}
+use Rattle.json.specs.Token as json
+use Rattle.s3_documents.specs.Timestamp.{timestamp}
+use Rattle.s3_documents.specs.Tree.{Value, text, number, truth, moment, Fields, Branch, leaf, rows, Tree}
+use Rattle.s3_documents.specs.declared.printer.Field.{Field}
+use Rattle.s3_documents.specs.declared.printer.Leaf.{Leaf}
+use Rattle.s3_documents.specs.declared.printer.Leaf.TheVariants.{Text, Number, Truth, Moment, Absent}
+
+-- what stands under names, without the braces round it
+abbrev pub members_tokens : {A : Type 0} → (A → List json.Token) → List (List ℕ × A) → List json.Token
+members_tokens tokens_of members = flat_map (λ m. json.key m.0 ∷ tokens_of m.1) members
+
+-- an object
+abbrev pub object_tokens : {A : Type 0} → (A → List json.Token) → List (List ℕ × A) → List json.Token
+object_tokens tokens_of members = json.begin_object ∷ (members_tokens tokens_of members ++ json.end_object ∷ [])
+
+-- a value
+abbrev pub value_tokens : Value → List json.Token
+value_tokens (text s) = json.string s ∷ []
+value_tokens (number n) = json.number (decimal n) ∷ []
+value_tokens (truth b) = json.boolean b ∷ []
+value_tokens (moment m) = json.string (timestamp m) ∷ []
+
+-- values under their names, and a row of them
+abbrev pub fields_tokens : Fields → List json.Token
+fields_tokens fields = members_tokens value_tokens fields
+
+unfoldable pub row_tokens : Fields → List json.Token
+row_tokens fields = object_tokens value_tokens fields
+
+-- rows, without the brackets round them
+abbrev pub all_tokens : List Fields → List json.Token
+all_tokens list = flat_map row_tokens list
+
+-- a branch
+abbrev pub branch_tokens : Branch → List json.Token
+branch_tokens (leaf value) = value_tokens value
+branch_tokens (rows list) = json.begin_array ∷ (all_tokens list ++ json.end_array ∷ [])
+
+-- a document, of which all is printed but its last brace
+unfoldable pub begun : Tree → List json.Token
+begun tree = json.begin_object ∷ members_tokens branch_tokens tree
+
+-- a field that tells a value, or nothing
+abbrev pub told : List ℕ → Option Value → Fields
+told name None = []
+told name (Some value) = (name, value) ∷ []
+
+-- the value that is lent to a printer
+abbrev pub value_of : Leaf → Option Value
+value_of (Text s) = Some (text s.now)
+value_of (Number n) = Some (number n)
+value_of (Truth b) = Some (truth b)
+value_of (Moment m) = Some (moment m)
+value_of Absent = None
+
+-- the fields that are lent to it
+abbrev pub field_of : Field → Fields
+field_of field = told field.name.now (value_of field.value)
+
+abbrev pub fields_of : List Field → Fields
+fields_of fields = flat_map field_of fields

@@ -1,0 +1,186 @@
+//! Documents as they are printed: token by token, without a tree of values.
+ghost use Rattle.std.specs.Prelude.{◌≡◌, IsAscii, IsUtf8, ℕ, List, [], ◌∷◌, ◌++◌, map, decimal, IfOk, OnOk};
+ghost use Rattle.json.specs.Token as json;
+ghost use Rattle.s3_documents.specs.Timestamp.{timestamp};
+ghost use Rattle.s3_documents.specs.Tree.{Fields, Tree, leaves, rows, tree_text};
+ghost use Rattle.s3_documents.specs.Printed.{fields_tokens, row_tokens, all_tokens, begun, field_of, fields_of};
+
+use crate::timestamp::timestamp;
+use json::Writer;
+use s3_calendar::Moment;
+use std::alloc::{AllocError, Global};
+use std::marker::Model;
+use std::str;
+
+/// What a field tells.
+#[derive(Drop)]
+pub enum Leaf<'a> {
+    Text(&'a str),
+    Number(u64),
+    Truth(bool),
+    Moment(Moment),
+    /// Nothing: the field isn't printed.
+    Absent,
+}
+
+/// A field: a value under a name.
+#[derive(Drop)]
+pub struct Field<'a> {
+    pub name: &'a str,
+    pub value: Leaf<'a>,
+}
+
+/// What is printed as a row of a document.
+pub trait Row {
+    ghost told: { Self → Fields };
+
+    /// Prints the row: a call of `Printer::row` with its fields.
+    fn print(&self, printer: &mut Printer) -> Result<(), AllocError>
+        ensures { OnOk result (printer.new ≡ printer.old ++ row_tokens (told self.now)) };
+}
+
+/// A document that is printed: an object, of which all but the last brace stands there. A contract sees it as the
+/// tokens so far. After an error nothing is known of them, and the document is given up.
+#[derive(Drop)]
+pub struct Printer {
+    writer: Writer,
+}
+
+impl Model for Printer {
+    ghost use Rattle.std.specs.Prelude.{◌≡◌, List, []};
+    ghost use Rattle.json.specs.Token.{Token, tokens_code};
+
+    ghost Value = { List Token };
+
+    ghost coded = { tokens_code };
+
+    ghost view = { λ p. p.writer.tokens };
+
+    ghost invariant = { λ p. p.writer.before ≡ [] };
+}
+
+impl Printer {
+    /// A document that tells nothing yet, with room for that many bytes.
+    #[tactic(auto, unfolding(crate::specs::Printed::begun))]
+    pub fn new(alloc: Global, room: usize) -> Result<Printer, AllocError>
+        ensures { IfOk result (λ printer. printer ≡ begun []) }
+    {
+        let mut writer = Writer::new(Vec::with_capacity(alloc, room)?);
+        writer.begin_object()?;
+        Ok(Printer { writer })
+    }
+
+    /// Prints fields, those that tell nothing left out.
+    #[tactic(auto, using(crate::proofs::PrinterLemmas::fields_behind))]
+    pub fn fields(&mut self, fields: &[Field<'_>]) -> Result<(), AllocError>
+        ensures { OnOk result ((tree : Tree) → self.old ≡ begun tree → self.new ≡ begun (tree ++ leaves (fields_of fields.now))) }
+    {
+        self.put(fields)?;
+        Ok(())
+    }
+
+    /// Prints rows under a name.
+    #[tactic(auto, using(crate::proofs::PrinterLemmas::rows_behind))]
+    pub fn rows<R: Row>(&mut self, name: &str, list: &[R]) -> Result<(), AllocError>
+        ensures { OnOk result ((tree : Tree) → self.old ≡ begun tree → self.new ≡ begun (tree ++ (name.now, rows (map R.told list.now)) ∷ [])) }
+    {
+        self.writer.key(name)?;
+        self.writer.begin_array()?;
+        self.all(list)?;
+        self.writer.end_array()?;
+        Ok(())
+    }
+
+    /// Prints a row of these fields.
+    #[tactic(auto, using(crate::proofs::PrinterLemmas::row_behind))]
+    pub fn row(&mut self, fields: &[Field<'_>]) -> Result<(), AllocError>
+        ensures { OnOk result (self.new ≡ self.old ++ row_tokens (fields_of fields.now)) }
+    {
+        self.writer.begin_object()?;
+        self.put(fields)?;
+        self.writer.end_object()?;
+        Ok(())
+    }
+
+    /// The text of the document, which tells what was printed.
+    #[tactic(auto, using(crate::proofs::TokenLemmas::tree_prints))]
+    pub fn finish(self) -> Result<Vec<u8>, AllocError>
+        ensures { IfOk result (λ text. (tree : Tree) → self ≡ begun tree → text.items ≡ tree_text tree) }
+    {
+        let Printer { mut writer } = self;
+        writer.end_object()?;
+        Ok(writer.into_inner())
+    }
+
+    // The fields, without braces round them.
+    fn put(&mut self, fields: &[Field<'_>]) -> Result<(), AllocError>
+        ensures { OnOk result (self.new ≡ self.old ++ fields_tokens (fields_of fields.now)) }
+    {
+        for field in fields {
+            self.field(field)?;
+        }
+        Ok(())
+    }
+
+    // The rows, without brackets round them.
+    fn all<R: Row>(&mut self, list: &[R]) -> Result<(), AllocError>
+        ensures { OnOk result (self.new ≡ self.old ++ all_tokens (map R.told list.now)) }
+    {
+        for row in list {
+            row.print(self)?;
+        }
+        Ok(())
+    }
+
+    fn field(&mut self, field: &Field<'_>) -> Result<(), AllocError>
+        ensures { OnOk result (self.new ≡ self.old ++ fields_tokens (field_of field.now)) }
+    {
+        let name = field.name;
+        match field.value {
+            Leaf::Text(text) => self.text(name, text),
+            Leaf::Number(number) => self.number(name, number),
+            Leaf::Truth(truth) => self.truth(name, truth),
+            Leaf::Moment(moment) => self.moment(name, moment),
+            Leaf::Absent => Ok(()),
+        }
+    }
+
+    fn text(&mut self, name: &str, text: &str) -> Result<(), AllocError>
+        ensures { OnOk result (self.new ≡ self.old ++ json.key name.now ∷ json.string text.now ∷ []) }
+    {
+        self.writer.key(name)?;
+        self.writer.string(text)
+    }
+
+    fn number(&mut self, name: &str, number: u64) -> Result<(), AllocError>
+        ensures { OnOk result (self.new ≡ self.old ++ json.key name.now ∷ json.number (decimal number) ∷ []) }
+    {
+        self.writer.key(name)?;
+        self.writer.u64(number)
+    }
+
+    fn truth(&mut self, name: &str, truth: bool) -> Result<(), AllocError>
+        ensures { OnOk result (self.new ≡ self.old ++ json.key name.now ∷ json.boolean truth ∷ []) }
+    {
+        self.writer.key(name)?;
+        self.writer.boolean(truth)
+    }
+
+    fn moment(&mut self, name: &str, moment: Moment) -> Result<(), AllocError>
+        ensures { OnOk result (self.new ≡ self.old ++ json.key name.now ∷ json.string (timestamp moment) ∷ []) }
+    {
+        let date = timestamp(moment);
+        self.text(name, text_of(&date))
+    }
+}
+
+/// Bytes that are a text, as one.
+pub fn text_of(bytes: &[u8]) -> &str
+    requires { IsUtf8 bytes.now }
+    ensures { result.now ≡ bytes.now }
+{
+    match str::from_utf8(bytes) {
+        Ok(text) => text,
+        Err(_) => unreachable!(),
+    }
+}

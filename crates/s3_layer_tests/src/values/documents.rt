@@ -1,0 +1,135 @@
+//! Documents, printed. The expected texts are what Python's `json.dumps` prints, compact and without ASCII escapes.
+
+use crate::checks::check;
+use s3_calendar::Moment;
+use s3_documents::{Field, Leaf, Printer, buckets_document};
+use s3_names::BucketName;
+use s3_records::ListedBucket;
+use s3_terms::NoMemory;
+use std::alloc::Global;
+
+/// The seconds of a bucket's moment, and its name.
+type Row = (u64, &'static [u8]);
+
+/// Buckets, and their document.
+type Case = (&'static [Row], &'static [u8]);
+
+static CASES: [Case; 3] = [
+    (&[], b"{\"Buckets\":[]}"),
+    (
+        &[(0, b"pail")],
+        b"{\"Buckets\":[{\"CreationDate\":\"1970-01-01T00:00:00.000Z\",\"Name\":\"pail\"}]}",
+    ),
+    (
+        &[(1_369_439_999, b"a.b-1"), (253_402_300_799, b"vat")],
+        b"{\"Buckets\":[{\"CreationDate\":\"2013-05-24T23:59:59.000Z\",\"Name\":\"a.b-1\"},{\"CreationDate\":\"9999-12-31T23:59:59.000Z\",\"Name\":\"vat\"}]}",
+    ),
+];
+
+/// What a document of each kind of leaf tells: rows, a text, a number and a truth.
+type Told = (&'static [Row], &'static str, u64, bool);
+
+static TREES: [(Told, &str); 4] = [
+    (
+        (&[], "", 0, false),
+        "{\"Buckets\":[],\"IsLatest\":false,\"Key\":\"\",\"Size\":0}",
+    ),
+    (
+        (&[(946_684_799, b"pail")], "a\"b\\c/d", u64::MAX, true),
+        "{\"Buckets\":[{\"CreationDate\":\"1999-12-31T23:59:59.000Z\",\"Name\":\"pail\"}],\"IsLatest\":true,\"Key\":\"a\\\"b\\\\c/d\",\"Size\":18446744073709551615}",
+    ),
+    (
+        (
+            &[(951_827_696, b"a.b-1"), (4_107_542_400, b"vat")],
+            "\x00\x01\x08\x09\x0a\x0b\x0c\x0d\x1f \x7f",
+            10,
+            true,
+        ),
+        "{\"Buckets\":[{\"CreationDate\":\"2000-02-29T12:34:56.000Z\",\"Name\":\"a.b-1\"},{\"CreationDate\":\"2100-03-01T00:00:00.000Z\",\"Name\":\"vat\"}],\"IsLatest\":true,\"Key\":\"\\u0000\\u0001\\b\\t\\n\\u000b\\f\\r\\u001f \x7f\",\"Size\":10}",
+    ),
+    (
+        (&[], "\u{df}\u{20ac}\u{1d11e}\u{2028}", 1_000, false),
+        "{\"Buckets\":[],\"IsLatest\":false,\"Key\":\"\u{df}\u{20ac}\u{1d11e}\u{2028}\",\"Size\":1000}",
+    ),
+];
+
+fn bucket_of(alloc: Global, row: &Row) -> Option<ListedBucket> {
+    let made = Moment::new(row.0)?;
+    match BucketName::read(alloc, row.1) {
+        Ok(name) => Some(ListedBucket { name, made }),
+        Err(_) => None,
+    }
+}
+
+fn buckets_of(alloc: Global, rows: &[Row]) -> Result<Vec<ListedBucket>, NoMemory> {
+    let mut buckets = Vec::new(alloc);
+    for row in rows {
+        if let Some(bucket) = bucket_of(alloc, row) {
+            buckets.push(bucket)?;
+        }
+    }
+    Ok(buckets)
+}
+
+fn printed(alloc: Global, rows: &[Row]) -> Result<Vec<u8>, NoMemory> {
+    let buckets = buckets_of(alloc, rows)?;
+    buckets_document(alloc, buckets.as_slice())
+}
+
+fn is_printed(alloc: Global, case: &Case) -> bool {
+    match printed(alloc, case.0) {
+        Ok(document) => document.as_slice() == case.1,
+        Err(_) => false,
+    }
+}
+
+fn printed_tree(alloc: Global, told: &Told) -> Result<Vec<u8>, NoMemory> {
+    let buckets = buckets_of(alloc, told.0)?;
+    tree_of(alloc, buckets.as_slice(), told)
+}
+
+fn tree_of(alloc: Global, buckets: &[ListedBucket], told: &Told) -> Result<Vec<u8>, NoMemory> {
+    let mut printer = Printer::new(alloc, 0)?;
+    printer.rows("Buckets", buckets)?;
+    printer.fields(&fields_of(told))?;
+    Ok(printer.finish()?)
+}
+
+// The fields behind the buckets, one of which tells nothing.
+fn fields_of(told: &Told) -> [Field<'_>; 4] {
+    [
+        Field {
+            name: "IsLatest",
+            value: Leaf::Truth(told.3),
+        },
+        Field {
+            name: "Key",
+            value: Leaf::Text(told.1),
+        },
+        Field {
+            name: "Marker",
+            value: Leaf::Absent,
+        },
+        Field {
+            name: "Size",
+            value: Leaf::Number(told.2),
+        },
+    ]
+}
+
+fn is_printed_tree(alloc: Global, told: &Told, text: &str) -> bool {
+    match printed_tree(alloc, told) {
+        Ok(document) => document.as_slice() == text.as_bytes(),
+        Err(_) => false,
+    }
+}
+
+#[test]
+fn documents(rt: HostRuntime) {
+    for case in &CASES {
+        check(&rt, is_printed(rt.alloc(), case), "lists of buckets");
+    }
+    for (told, text) in &TREES {
+        check(&rt, is_printed_tree(rt.alloc(), told, *text), "trees");
+    }
+}

@@ -1,2 +1,0 @@
-pub mod NumberLemmas
-pub mod SegmentLemmas

@@ -1,3 +1,0 @@
-pub mod Payload
-pub mod Segments
-pub mod Inside
