@@ -17,12 +17,13 @@ def code(key, text):
     return hmac.new(key, text.encode(), hashlib.sha256).digest()
 
 
-def request(address, method, key, body=b"", moment=None):
-    """One signed request, as bytes."""
+def request(address, method, key, body=b"", moment=None, more=None):
+    """One signed request, as bytes, with more header lines where some are given."""
     stamp = time.strftime("%Y%m%dT%H%M%SZ", time.gmtime(moment))
     path = urllib.parse.quote(f"/{BUCKET}/{key}", safe="/~")
     sha = hashlib.sha256(body).hexdigest()
-    signed = {"host": address, "x-amz-content-sha256": sha, "x-amz-date": stamp}
+    signed = {"host": address, "x-amz-content-sha256": sha, "x-amz-date": stamp, **(more or {})}
+    signed = dict(sorted(signed.items()))
     names = ";".join(signed)
     lines = "".join(f"{name}:{value}\n" for name, value in signed.items())
     canonical = hashlib.sha256(f"{method}\n{path}\n\n{lines}\n{names}\n{sha}".encode()).hexdigest()

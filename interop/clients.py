@@ -23,9 +23,30 @@ class Refused(Exception):
     """The credentials were refused."""
 
 
+class Unchanged(Exception):
+    """The object is the one that the client has: 304."""
+
+
+class Unmet(Exception):
+    """The object isn't the one that a condition asks for: 412."""
+
+
+class Unread(Exception):
+    """What was asked for is done, and the client can't read the answer."""
+
+
+class Lacking(Exception):
+    """The client has no such operation."""
+
+
+# What a status tells.
+TOLD = {304: Unchanged, 403: Refused, 404: Missing, 412: Unmet}
+XML = "the copy is made, and its answer can't be read: it is JSON where XML is expected"
+
+
 class Client:
-    """A client of S3. Each method raises `Missing` or `Refused` where the server says so, and any other error where the
-    client fails."""
+    """A client of S3. Each method raises `Missing`, `Refused`, `Unchanged` or `Unmet` where the server says so, and any other error
+    where the client fails."""
 
     name = ""
     # What the client can't do here: the names of checks, and why. They are tried, and count only where they pass.
@@ -42,6 +63,22 @@ class Client:
     def version(cls):
         """Its version, in its own words."""
         return ""
+
+    def part(self, key, first, count):
+        """So many bytes of an object, from this place on."""
+        raise Lacking()
+
+    def get_unless(self, key, tag):
+        """An object's bytes, unless it has this tag."""
+        raise Lacking()
+
+    def head_if(self, key, tag):
+        """An object's size, if it has this tag."""
+        raise Lacking()
+
+    def copy(self, key, other):
+        """Copies an object to another key."""
+        raise Lacking()
 
     def path(self, data=b""):
         """The path of a new file with these bytes."""
@@ -63,14 +100,16 @@ def first_line(words):
     return (wrote.decode(errors="replace") + said).strip().splitlines()[0]
 
 
-def told(status, said, missing=(), refused=()):
+def told(status, said, missing=(), refused=(), unchanged=(), unmet=(), unread=()):
     """Raises what a failed command told."""
     if status == 0:
         return
-    if any(word in said for word in missing):
-        raise Missing(said)
-    if any(word in said for word in refused):
-        raise Refused(said)
+    kinds = [(Missing, missing), (Refused, refused), (Unchanged, unchanged), (Unmet, unmet)]
+    for kind, words in kinds:
+        if any(word in said for word in words):
+            raise kind(said)
+    if any(word in said for word in unread):
+        raise Unread(XML)
     raise RuntimeError(f"status {status}: {said.strip()}")
 
 
@@ -96,18 +135,14 @@ class Curl(Client):
         out = self.path()
         words = ["curl", "-sS", "--path-as-is", "-o", out, "-w", "%{http_code}", "--aws-sigv4", f"aws:amz:{REGION}:s3"]
         words += ["--user", f"{ID}:{self.secret}", "-H", f"x-amz-content-sha256: {hashlib.sha256(data).hexdigest()}"]
-        words += [*more, "-X", method] if method != "HEAD" else ["--head"]
+        words += [*more, *(["-X", method] if method != "HEAD" else ["--head"])]
         status, wrote, said = ran([*words, url])
         if status:
             raise RuntimeError(f"status {status}: {said.strip()}")
         body = Path(out).read_bytes()
         code = int(wrote.decode()[-3:])
-        if code == 404:
-            raise Missing(body)
-        if code == 403:
-            raise Refused(body)
         if code // 100 != 2:
-            raise RuntimeError(f"{code}: {body[:300]}")
+            raise TOLD.get(code, RuntimeError)(f"{code}: {body[:300]}")
         return body
 
     def put(self, key, data):
@@ -116,10 +151,22 @@ class Curl(Client):
     def get(self, key):
         return self.asked("GET", key)
 
-    def head(self, key):
-        lines = self.asked("HEAD", key).decode().split("\r\n")
+    def part(self, key, first, count):
+        return self.asked("GET", key, more=["-r", f"{first}-{first + count - 1}"])
+
+    def get_unless(self, key, tag):
+        return self.asked("GET", key, more=["-H", f"If-None-Match: {tag}"])
+
+    def head(self, key, more=()):
+        lines = self.asked("HEAD", key, more=more).decode().split("\r\n")
         sizes = [line.split(":")[1] for line in lines if line.lower().startswith("content-length:")]
         return int(sizes[-1])
+
+    def head_if(self, key, tag):
+        return self.head(key, ["-H", f"If-Match: {tag}"])
+
+    def copy(self, key, other):
+        self.asked("PUT", other, more=["-H", f"x-amz-copy-source: /{BUCKET}/{key}"])
 
     def delete(self, key):
         self.asked("DELETE", key)
@@ -128,7 +175,7 @@ class Curl(Client):
 def raise_told(error):
     """Raises what an error of boto3's tells."""
     status = error.response["ResponseMetadata"]["HTTPStatusCode"]
-    raise {404: Missing, 403: Refused}.get(status, RuntimeError)(str(error)) from error
+    raise TOLD.get(status, RuntimeError)(str(error)) from error
 
 
 class Boto3(Client):
@@ -185,8 +232,24 @@ class Boto3(Client):
     def get(self, key):
         return self.call("get_object", key)["Body"].read()
 
-    def head(self, key):
-        return self.call("head_object", key)["ContentLength"]
+    def part(self, key, first, count):
+        return self.call("get_object", key, Range=f"bytes={first}-{first + count - 1}")["Body"].read()
+
+    def get_unless(self, key, tag):
+        return self.call("get_object", key, IfNoneMatch=tag)["Body"].read()
+
+    def head(self, key, **more):
+        return self.call("head_object", key, **more)["ContentLength"]
+
+    def head_if(self, key, tag):
+        return self.head(key, IfMatch=tag)
+
+    def copy(self, key, other):
+        try:
+            self.call("copy_object", other, CopySource={"Bucket": BUCKET, "Key": key})
+        except RuntimeError as error:
+            # An answer to a copy that is no XML is told as one with the status 500.
+            raise Unread(XML) if "(500)" in str(error) else error from error
 
     def delete(self, key):
         self.call("delete_object", key)

@@ -76,14 +76,14 @@ class Aws(Command):
             AWS_MAX_ATTEMPTS="1",
         )
         status, wrote, said = ran([self.found()[0], "--endpoint-url", f"http://{self.address}", *words], env)
-        told(status, said, ["(404)", "NoSuchKey"], ["(403)", "SignatureDoesNotMatch"])
+        told(status, said, ["(404)", "NoSuchKey"], ["(403)", "SignatureDoesNotMatch"], ["(304)"], ["(412)"], ["(500)"])
         return wrote
 
     def api(self, operation, key, *words):
         return self.aws("s3api", operation, "--bucket", BUCKET, "--key", key, *words)
 
-    def head(self, key):
-        return int(self.api("head-object", key, "--query", "ContentLength", "--output", "text"))
+    def head(self, key, *words):
+        return int(self.api("head-object", key, *words, "--query", "ContentLength", "--output", "text"))
 
 
 class AwsApi(Aws):
@@ -94,10 +94,22 @@ class AwsApi(Aws):
     def put(self, key, data):
         self.api("put-object", key, "--body", self.path(data))
 
-    def get(self, key):
+    def get(self, key, *words):
         path = self.path()
-        self.api("get-object", key, path)
+        self.api("get-object", key, *words, path)
         return Path(path).read_bytes()
+
+    def part(self, key, first, count):
+        return self.get(key, "--range", f"bytes={first}-{first + count - 1}")
+
+    def get_unless(self, key, tag):
+        return self.get(key, "--if-none-match", tag)
+
+    def head_if(self, key, tag):
+        return self.head(key, "--if-match", tag)
+
+    def copy(self, key, other):
+        self.api("copy-object", other, "--copy-source", f"{BUCKET}/{key}")
 
     def delete(self, key):
         self.api("delete-object", key)
@@ -115,6 +127,9 @@ class AwsCopy(Aws):
         path = self.path()
         self.aws("s3", "cp", "--only-show-errors", f"s3://{BUCKET}/{key}", path)
         return Path(path).read_bytes()
+
+    def copy(self, key, other):
+        self.aws("s3", "cp", "--only-show-errors", f"s3://{BUCKET}/{key}", f"s3://{BUCKET}/{other}")
 
     def delete(self, key):
         self.aws("s3", "rm", "--only-show-errors", f"s3://{BUCKET}/{key}")
@@ -139,7 +154,8 @@ class S3cmd(Command):
         config += ["enable_multipart = False", "signature_v2 = False", "max_retries = 1"]
         path = self.path(("[default]\n" + "\n".join(config) + "\n").encode())
         status, wrote, said = ran(["s3cmd", "-c", path, "--no-progress", *words], environment())
-        told(status, said, ["404", "NoSuchKey", "does not exist"], ["403", "SignatureDoesNotMatch"])
+        missing, refused = ["404", "NoSuchKey", "does not exist"], ["403", "SignatureDoesNotMatch"]
+        told(status, said, missing, refused, unread=["Error parsing xml"])
         return wrote
 
     def put(self, key, data):
@@ -153,6 +169,9 @@ class S3cmd(Command):
     def head(self, key):
         lines = self.s3cmd("info", f"s3://{BUCKET}/{key}").decode().splitlines()
         return int([line.split(":")[1] for line in lines if "File size" in line][0])
+
+    def copy(self, key, other):
+        self.s3cmd("cp", f"s3://{BUCKET}/{key}", f"s3://{BUCKET}/{other}")
 
     def delete(self, key):
         self.s3cmd("del", f"s3://{BUCKET}/{key}")
@@ -179,7 +198,8 @@ class Rclone(Command):
             RCLONE_LOW_LEVEL_RETRIES="1",
         )
         status, wrote, said = ran(["rclone", *words], env)
-        told(status, said, ["404", "not found", "doesn't exist"], ["403", "Forbidden", "SignatureDoesNotMatch"])
+        missing, refused = ["404", "not found", "doesn't exist"], ["403", "Forbidden", "SignatureDoesNotMatch"]
+        told(status, said, missing, refused, unread=["SerializationError"])
         return wrote
 
     def put(self, key, data):
@@ -190,8 +210,14 @@ class Rclone(Command):
         self.rclone("copyto", "--ignore-times", f"pail:{BUCKET}/{key}", path)
         return Path(path).read_bytes()
 
+    def part(self, key, first, count):
+        return self.rclone("cat", "--no-traverse", "--offset", str(first), "--count", str(count), f"pail:{BUCKET}/{key}")
+
     def head(self, key):
         return json.loads(self.rclone("lsjson", "--stat", f"pail:{BUCKET}/{key}"))["Size"]
+
+    def copy(self, key, other):
+        self.rclone("copyto", "--ignore-times", f"pail:{BUCKET}/{key}", f"pail:{BUCKET}/{other}")
 
     def delete(self, key):
         self.rclone("deletefile", f"pail:{BUCKET}/{key}")

@@ -61,6 +61,15 @@ impl Body {
         builder.finish()
     }
 
+    /// The body of these bytes, which are moved where one block has them all, and else copied. `NoMemory` comes only where
+    /// there are any.
+    pub fn of_vec(alloc: Global, bytes: Vec<u8>) -> Result<Body, NoMemory>
+        ensures value { IfOk result (λ body. body ≡ bytes.items) }
+        ensures memory { OnErr result (0 < length bytes.items) }
+    {
+        Body::of_blocks(alloc, Blocks::of_vec(alloc, bytes)?)
+    }
+
     /// The body of these blocks, which are moved. `NoMemory` comes only where there are bytes.
     pub(crate) fn of_blocks(alloc: Global, blocks: Blocks) -> Result<Body, NoMemory>
         ensures value { IfOk result (λ body. body ≡ blocks) }

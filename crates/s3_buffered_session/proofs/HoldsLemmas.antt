@@ -7,33 +7,29 @@ use Rattle.s3_terms.specs.declared.memory.NoMemory.{NoMemory}
 use Rattle.s3_machine.specs.History.{Entry}
 use Rattle.s3_machine.specs.declared.command.Answer.{Answer}
 use Rattle.s3_machine.specs.declared.turn.Turn.{Turn}
-use Rattle.s3_session.specs.Output.{Past, Standing, Reading, Waiting, Over, Dead, is_waiting, nothing_yet}
+use Rattle.s3_session.specs.Output.{Past, Standing, Reading, Waiting, Over, Dead, is_waiting, nothing_yet, is_closed}
 use Rattle.s3_session.specs.declared.session.Need.{Need}
 use Rattle.s3_session.specs.declared.session.Need.TheVariants as needs
+use Rattle.s3_session.specs.declared.session.Next.TheVariants as nexts
 use Rattle.s3_session.specs.Session as sessions
-use Rattle.s3_session.specs.Session.{Connection, IsAnsweredTo, IsClockAsked, Needs, Stands, answered, fed, gave_between, is_closed, turns_of}
+use Rattle.s3_session.specs.Session.{Connection, IsAnsweredTo, IsClockAsked, Needs, NeedsNext, answered, fed, gave_between, turns_of}
+use Rattle.s3_session.specs.Stands.{Stands}
 use Rattle.s3_buffered_session.specs.declared.stage.Stage.{Stage}
 use Rattle.s3_buffered_session.specs.declared.stage.Stage.TheVariants as stages
 use Rattle.s3_buffered_session.specs.Moments.{Handing, HasHanded, IsHanded}
-use Rattle.s3_buffered_session.specs.Output.{Input, answer_of, answered_turn}
-use Rattle.s3_buffered_session.specs.Buffered.{Buffered, Carries, HasWaiting, Holds, IsBehind, IsFit, IsNext, Leaves, Took, entries_with, is_handed_at, is_reading_at, listed, nothing_received, received, turn_at, turn_of}
+use Rattle.s3_buffered_session.specs.Output.{Input, answer_of, answered_turn, HasWaiting}
+use Rattle.s3_buffered_session.specs.Buffered.{Buffered, IsFit, entries_with, is_handed_at, is_reading_at, listed, nothing_received, received, turn_at, turn_of}
+use Rattle.s3_buffered_session.specs.Holds.{Carries, Holds, IsBehind, IsNext, Leaves, Took}
 use Rattle.s3_buffered_session.proofs.MomentsLemmas.{handed_on}
 
 -- ---- a connection that is fed
 
 needed : (need : Need) (standing : Standing) → Needs need standing → HasWaiting standing (turns_of need)
 needed needs.More Reading is = refl
-needed needs.More Waiting is = absurd is
-needed needs.More Over is = absurd is
-needed needs.More Dead is = absurd is
-needed (needs.Turn turn) Reading is = absurd is
 needed (needs.Turn turn) Waiting is = (turn, refl)
-needed (needs.Turn turn) Over is = absurd is
-needed (needs.Turn turn) Dead is = absurd is
-needed needs.Close Reading is = absurd is
-needed needs.Close Waiting is = absurd is
 needed needs.Close Over is = refl
 needed needs.Close Dead is = tt
+needed _ _ is = absurd is
 
 pub carries_fed : (settings : Settings) (moments : List ℕ) (old new : Connection) (clock later : Handing) (past : Past) (entries : List Entry) (sent bytes : List ℕ) (need : Need) (turns : List Turn)
     → Carries old clock settings moments past entries [] sent
@@ -56,21 +52,17 @@ carries_fed settings moments old new clock later past entries sent bytes need tu
 
 replied : (answer : Answer) (standing : Standing) → IsAnsweredTo (Ok answer) standing → HasWaiting standing []
 replied answer Reading is = refl
-replied answer Waiting is = absurd is
 replied answer Over is = refl
-replied answer Dead is = absurd is
+replied answer _ is = absurd is
 
 died : (e : NoMemory) (standing : Standing) → IsAnsweredTo (Err e) standing → standing ≡ Dead
-died e Reading is = absurd is
-died e Waiting is = absurd is
-died e Over is = absurd is
 died e Dead is = refl
+died e _ is = absurd is
 
 none_waits : (standing : Standing) → is_waiting standing ≡ false → HasWaiting standing []
-none_waits Reading is = refl
-none_waits Waiting is = let never = is in absurd (cc)
-none_waits Over is = refl
+none_waits Waiting is = absurd (cc)
 none_waits Dead is = tt
+none_waits _ is = refl
 
 module _ (settings : Settings) (moments : List ℕ) (old new : Connection) (clock : Handing) (past : Past) (entries : List Entry) (sent : List ℕ) where
   pub carries_replied : (turn : Turn) (answer : Answer) → Carries old clock settings moments past entries (turn ∷ []) sent
@@ -88,42 +80,19 @@ module _ (settings : Settings) (moments : List ℕ) (old new : Connection) (cloc
         waits = replied answer (sessions.standing_of new) is;
       }
 
-  pub carries_died : (turn : Turn) (e : NoMemory) → Carries old clock settings moments past entries (turn ∷ []) sent
-      → Stands new settings past sent → IsAnsweredTo (Err e) (sessions.standing_of new) → Carries new clock settings moments past entries (turn ∷ []) sent
-  carries_died turn e c stands is = record {
+  -- the same of another past that has the same moments, turns and answers: at the end, where something is sent, and where
+  -- memory ran out
+  pub carries_as : (later : Past) (waiting : List Turn) (more : List ℕ) → Carries old clock settings moments past entries waiting sent → Stands new settings later more
+      → later.moments ≡ past.moments → later.turns ≡ past.turns → later.answers ≡ past.answers → HasWaiting (sessions.standing_of new) waiting
+      → Carries new clock settings moments later entries waiting more
+  carries_as later waiting more c stands times turns answers waits = record {
     count = c.count;
     stands = stands;
-    given = c.given;
+    given = times ∙ c.given;
     hands = c.hands;
-    turns = c.turns;
-    answers = c.answers;
-    waits = subst (λ (s : Standing). HasWaiting s (turn ∷ [])) (sym (died e (sessions.standing_of new) is)) tt;
-  }
-
-  -- the end
-  pub carries_ended : Carries old clock settings moments past entries [] sent → Stands new settings (record past { ended = true }) sent
-      → is_waiting (sessions.standing_of new) ≡ false → Carries new clock settings moments (record past { ended = true }) entries [] sent
-  carries_ended c stands idle = record {
-    count = c.count;
-    stands = stands;
-    given = c.given;
-    hands = c.hands;
-    turns = c.turns;
-    answers = c.answers;
-    waits = none_waits (sessions.standing_of new) idle;
-  }
-
-  -- what is sent
-  pub carries_sent : (waiting : List Turn) (more : List ℕ) → Carries old clock settings moments past entries waiting sent → Stands new settings past more
-      → sessions.standing_of new ≡ sessions.standing_of old → Carries new clock settings moments past entries waiting more
-  carries_sent waiting more c stands same = record {
-    count = c.count;
-    stands = stands;
-    given = c.given;
-    hands = c.hands;
-    turns = c.turns;
-    answers = c.answers;
-    waits = subst (λ (s : Standing). HasWaiting s waiting) (sym same) c.waits;
+    turns = turns ∙ c.turns;
+    answers = answers ∙ c.answers;
+    waits = waits;
   }
 
 -- ---- what was taken of some bytes
@@ -131,21 +100,10 @@ module _ (settings : Settings) (moments : List ℕ) (old new : Connection) (cloc
 leaves_next : (stage : Stage) (standing : Standing) (kept behind : List ℕ) → IsNext stage standing
     → (stage ≡ stages.Reading → behind ≡ []) → (is_some (turn_at stage) ≡ true → kept ≡ behind) → Leaves standing kept behind
 leaves_next stages.Reading Reading kept behind next all rest = all refl
-leaves_next stages.Reading Waiting kept behind next all rest = absurd next
-leaves_next stages.Reading Over kept behind next all rest = absurd next
-leaves_next stages.Reading Dead kept behind next all rest = absurd next
-leaves_next (stages.Waiting turn) Reading kept behind next all rest = absurd next
 leaves_next (stages.Waiting turn) Waiting kept behind next all rest = sym (rest refl)
-leaves_next (stages.Waiting turn) Over kept behind next all rest = absurd next
-leaves_next (stages.Waiting turn) Dead kept behind next all rest = absurd next
-leaves_next stages.HandedOut Reading kept behind next all rest = absurd next
-leaves_next stages.HandedOut Waiting kept behind next all rest = absurd next
-leaves_next stages.HandedOut Over kept behind next all rest = absurd next
-leaves_next stages.HandedOut Dead kept behind next all rest = absurd next
-leaves_next stages.Done Reading kept behind next all rest = absurd next
-leaves_next stages.Done Waiting kept behind next all rest = absurd next
 leaves_next stages.Done Over kept behind next all rest = tt
 leaves_next stages.Done Dead kept behind next all rest = tt
+leaves_next _ _ kept behind next all rest = absurd next
 
 pub took_next : (settings : Settings) (moments : List ℕ) (old new : Connection) (later : Handing) (past : Past) (entries : List Entry) (sent offered kept : List ℕ) (n : ℕ) (stage : Stage)
     → Carries new later settings moments (fed past (take n offered) (gave_between old new) (listed (turn_at stage))) entries (listed (turn_at stage)) sent
@@ -160,6 +118,39 @@ took_next settings moments old new later past entries sent offered kept n stage 
   left = leaves_next stage (sessions.standing_of new) kept (drop n offered) next (λ is. drop_all n offered (omega (arith, all is))) rest;
 }
 
+-- nothing was offered to one that reads
+pub took_none : (settings : Settings) (moments : List ℕ) (session : Connection) (clock : Handing) (past : Past) (entries : List Entry) (sent offered kept : List ℕ)
+    → Carries session clock settings moments past entries [] sent → sessions.standing_of session ≡ Reading → offered ≡ []
+    → Took session clock kept stages.Reading settings moments past offered entries sent
+took_none settings moments session clock past entries sent offered kept c reads none = record {
+  past = past;
+  behind = [];
+  carries = c;
+  joined = ap (λ (b : List ℕ). past.bytes ++ b) (sym none);
+  same_end = refl;
+  left = subst (λ (s : Standing). Leaves s kept []) (sym reads) refl;
+}
+
+-- one of which no more is read takes nothing
+pub took_closed : (settings : Settings) (moments : List ℕ) (session : Connection) (clock : Handing) (past : Past) (entries : List Entry) (sent offered kept : List ℕ)
+    → Carries session clock settings moments past entries [] sent → IsNext stages.Done (sessions.standing_of session)
+    → Took session clock kept stages.Done settings moments past offered entries sent
+took_closed settings moments session clock past entries sent offered kept c next = record {
+  past = past;
+  behind = offered;
+  carries = c;
+  joined = refl;
+  same_end = refl;
+  left = leaves_next stages.Done (sessions.standing_of session) kept offered next (λ is. absurd (cc)) (λ is. (let never = is in absurd (cc)));
+}
+
+-- a connection that needs to be closed behind an answer does nothing more
+pub next_close : (standing : Standing) → NeedsNext nexts.Close standing → IsNext stages.Done standing
+next_close Reading is = absurd is
+next_close Waiting is = absurd is
+next_close Over is = tt
+next_close Dead is = tt
+
 -- ---- a connection that keeps its bytes
 
 -- one that heard of the end received it
@@ -170,9 +161,7 @@ unended standing false kept behind ended left is = refl
 -- the stage of one that reads, and what fits it
 pub reading_is : (stage : Stage) → is_reading_at stage ≡ true → stage ≡ stages.Reading
 reading_is stages.Reading is = refl
-reading_is (stages.Waiting turn) is = let never = is in absurd (cc)
-reading_is stages.HandedOut is = let never = is in absurd (cc)
-reading_is stages.Done is = let never = is in absurd (cc)
+reading_is _ is = absurd (cc)
 
 pub fit_reading : (stage : Stage) (session : Connection) (kept : List ℕ) (ended : Bool) → stage ≡ stages.Reading → IsFit stage session kept ended
     → (sessions.standing_of session ≡ Reading) × (session.is_ended ≡ false) × (kept ≡ []) × (ended ≡ false)
@@ -180,10 +169,8 @@ fit_reading stage session kept ended at fit = subst (λ (s : Stage). IsFit s ses
 
 -- the stage of one that has handed out a turn, and what fits it
 pub handed_is : (stage : Stage) → is_handed_at stage ≡ true → stage ≡ stages.HandedOut
-handed_is stages.Reading is = let never = is in absurd (cc)
-handed_is (stages.Waiting turn) is = let never = is in absurd (cc)
 handed_is stages.HandedOut is = refl
-handed_is stages.Done is = let never = is in absurd (cc)
+handed_is _ is = absurd (cc)
 
 pub fit_handed : (stage : Stage) (session : Connection) (kept : List ℕ) (ended : Bool) → stage ≡ stages.HandedOut → IsFit stage session kept ended
     → (sessions.standing_of session ≡ Waiting) × (session.is_ended ≡ false)
@@ -191,16 +178,12 @@ fit_handed stage session kept ended at fit = subst (λ (s : Stage). IsFit s sess
 
 -- where it is over
 over_leaves : (standing : Standing) (kept behind : List ℕ) → is_closed standing ≡ true → Leaves standing kept behind
-over_leaves Reading kept behind closed = let never = closed in absurd (cc)
-over_leaves Waiting kept behind closed = let never = closed in absurd (cc)
 over_leaves Over kept behind closed = tt
 over_leaves Dead kept behind closed = tt
+over_leaves _ kept behind closed = absurd (cc)
 
 over_reads : (standing : Standing) → is_closed standing ≡ true → standing ≢ Reading
-over_reads Reading closed reads = let never = closed in absurd (cc)
-over_reads Waiting closed reads = absurd (cc)
-over_reads Over closed reads = absurd (cc)
-over_reads Dead closed reads = absurd (cc)
+over_reads _ closed reads = absurd (cc)
 
 -- where it waits, and where it reads
 behind_waits : (standing : Standing) (told : Bool) (kept behind : List ℕ) (ended : Bool) → standing ≡ Waiting → told ≡ false → IsBehind standing told kept behind ended → behind ≡ kept
@@ -344,7 +327,8 @@ module _ (b : Buffered) (settings : Settings) (moments : List ℕ) (input : Inpu
         past = record h.past { ended = true };
         behind = h.behind;
         carries = subst (λ (ts : List Turn). Carries session b.moments settings moments (record h.past { ended = true }) entries ts sent) (sym (idle at f.0))
-            (carries_ended settings moments b.session session b.moments h.past entries sent (carries_idle at f.0) (stands h.past h.carries.stands) (waits ∙ ap is_waiting f.0));
+            (carries_as settings moments b.session session b.moments h.past entries sent (record h.past { ended = true }) [] sent (carries_idle at f.0)
+            (stands h.past h.carries.stands) refl refl refl (none_waits (sessions.standing_of session) (waits ∙ ap is_waiting f.0)));
         came = h.came;
         ended = refl;
         left = (nothing_behind f.0 f.3, refl);
@@ -367,7 +351,8 @@ module _ (b : Buffered) (settings : Settings) (moments : List ℕ) (input : Inpu
   holds_sent session more stands same = record {
     past = h.past;
     behind = h.behind;
-    carries = carries_sent settings moments b.session session b.moments h.past entries sent (listed (turn_of b) ++ pending) more h.carries stands same;
+    carries = carries_as settings moments b.session session b.moments h.past entries sent h.past (listed (turn_of b) ++ pending) more h.carries stands refl refl refl
+        (subst (λ (s : Standing). HasWaiting s (listed (turn_of b) ++ pending)) (sym same) h.carries.waits);
     came = h.came;
     ended = h.ended;
     left = subst (λ (s : Standing). IsBehind s h.past.ended b.kept h.behind input.ended) (sym same) h.left;
@@ -401,7 +386,8 @@ module _ (b : Buffered) (settings : Settings) (moments : List ℕ) (input : Inpu
       record {
         past = h.past;
         behind = h.behind;
-        carries = carries_died settings moments b.session session b.moments h.past entries sent turn e carries_pending stands is;
+        carries = carries_as settings moments b.session session b.moments h.past entries sent h.past (turn ∷ []) sent carries_pending stands refl refl refl
+            (subst (λ (s : Standing). HasWaiting s (turn ∷ [])) (sym dead) tt);
         came = h.came;
         ended = h.ended;
         left = rw (h.carries.stands.end ∙ goes_on, dead) (tt, λ reads. absurd (cc));
@@ -410,27 +396,15 @@ module _ (b : Buffered) (settings : Settings) (moments : List ℕ) (input : Inpu
 -- a connection that is fed reads on exactly where it stands so
 next_reads : (stage : Stage) (standing : Standing) → IsNext stage standing → standing ≡ Reading → stage ≡ stages.Reading
 next_reads stages.Reading standing next reads = refl
-next_reads (stages.Waiting turn) Reading next reads = absurd next
 next_reads (stages.Waiting turn) Waiting next reads = absurd (cc)
-next_reads (stages.Waiting turn) Over next reads = absurd next
-next_reads (stages.Waiting turn) Dead next reads = absurd next
-next_reads stages.HandedOut Reading next reads = absurd next
-next_reads stages.HandedOut Waiting next reads = absurd next
-next_reads stages.HandedOut Over next reads = absurd next
-next_reads stages.HandedOut Dead next reads = absurd next
-next_reads stages.Done Reading next reads = absurd next
-next_reads stages.Done Waiting next reads = absurd next
 next_reads stages.Done Over next reads = absurd (cc)
 next_reads stages.Done Dead next reads = absurd (cc)
+next_reads _ _ next reads = absurd next
 
 pub reads_next : (stage : Stage) (standing : Standing) → IsNext stage standing → stage ≡ stages.Reading → standing ≡ Reading
 reads_next stages.Reading Reading next at = refl
-reads_next stages.Reading Waiting next at = absurd next
-reads_next stages.Reading Over next at = absurd next
-reads_next stages.Reading Dead next at = absurd next
-reads_next (stages.Waiting turn) standing next at = absurd (cc)
-reads_next stages.HandedOut standing next at = absurd (cc)
-reads_next stages.Done standing next at = absurd (cc)
+reads_next stages.Reading _ next at = absurd next
+reads_next _ standing next at = absurd (cc)
 
 -- what was kept went through the connection
 module _ (settings : Settings) (moments : List ℕ) (session : Connection) (clock : Handing) (kept : List ℕ) (stage : Stage) (past : Past) (offered : List ℕ) (input : Input)
@@ -456,8 +430,9 @@ module _ (settings : Settings) (moments : List ℕ) (session : Connection) (cloc
       record {
         past = record t.past { ended = true };
         behind = t.behind;
-        carries = carries_ended settings moments session last clock t.past entries sent
-            (subst (λ (ts : List Turn). Carries session clock settings moments t.past entries ts sent) none t.carries) stands waits;
+        carries = carries_as settings moments session last clock t.past entries sent (record t.past { ended = true }) [] sent
+            (subst (λ (ts : List Turn). Carries session clock settings moments t.past entries ts sent) none t.carries) stands refl refl refl
+            (none_waits (sessions.standing_of last) waits);
         came = came ∙ sym t.joined;
         ended = ended;
         left = (subst (λ (s : Standing). Leaves s kept t.behind) (reads_next stage (sessions.standing_of session) next at) t.left, ended ∙ over);

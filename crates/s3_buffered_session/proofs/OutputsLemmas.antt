@@ -3,17 +3,19 @@ use Rattle.std.proofs.Common.{◌≡◌, ◌≢◌, ℕ, ◌+◌, Bool, true, fa
 use Rattle.s3_config.specs.Settings.{Settings}
 use Rattle.s3_machine.specs.History.{Entry}
 use Rattle.s3_machine.specs.declared.turn.Turn.{Turn}
-use Rattle.s3_session.specs.Output.{Past, Standing, Writes, Reading, Waiting, Over, Dead}
+use Rattle.s3_session.specs.Output.{Past, Standing, Writes, Reading}
 use Rattle.s3_session.specs.Session as sessions
-use Rattle.s3_session.specs.Laws.{OneWriting, OutputsStay, SessionsWrite}
+use Rattle.s3_session.specs.Stands.{Stands, SessionsWrite}
+use Rattle.s3_session.specs.Laws.{OneWriting, OutputsStay}
 use Rattle.s3_buffered_session.specs.Moments.{handed}
 use Rattle.s3_buffered_session.specs.Output.{Input, OneOutput, answered_turn, past_of}
-use Rattle.s3_buffered_session.specs.Buffered.{BufferedSessionsWrite, IsBehind, TurnsWait, listed, standing_of, turn_of, unsent_of}
+use Rattle.s3_buffered_session.specs.Buffered.{listed, standing_of, turn_of, unsent_of}
+use Rattle.s3_buffered_session.specs.Holds.{BufferedSessionsWrite, IsBehind, TurnsWait}
 use Rattle.s3_buffered_session.proofs.MomentsLemmas.{begins, begins_too}
 
 -- what is behind the bytes that the connection was fed with changes nothing
 module _ (write : SessionsWrite) (stay : OutputsStay) (session : sessions.Connection) (settings : Settings) (past : Past) (sent : List ℕ)
-    (stands : sessions.Stands session settings past sent) where
+    (stands : Stands session settings past sent) where
   past_is : (input : Input) → past.ended ≡ input.ended → input.bytes ≡ past.bytes → past ≡ record past { bytes = input.bytes; ended = input.ended }
   past_is input ended bytes = rw (bytes, sym ended) refl
 
@@ -35,9 +37,7 @@ module _ (write : SessionsWrite) (stay : OutputsStay) (session : sessions.Connec
       writes_now input (told ∙ sym left.1) (came ∙ ap (λ (b : List ℕ). past.bytes ++ b) left.0 ∙ append-nil past.bytes)
   writes_by Reading false input kept behind is told came left =
       writes_now input (told ∙ sym (left.1 refl)) (came ∙ ap (λ (b : List ℕ). past.bytes ++ b) left.0 ∙ append-nil past.bytes)
-  writes_by Waiting false input kept behind is told came left = writes_over input behind (λ reads. (let same = sym is ∙ reads in absurd (cc))) told came
-  writes_by Over false input kept behind is told came left = writes_over input behind (λ reads. (let same = sym is ∙ reads in absurd (cc))) told came
-  writes_by Dead false input kept behind is told came left = writes_over input behind (λ reads. (let same = sym is ∙ reads in absurd (cc))) told came
+  writes_by _ false input kept behind is told came left = writes_over input behind (λ reads. (let same = sym is ∙ reads in absurd (cc))) told came
 
 pub buffered_write : SessionsWrite → OutputsStay → BufferedSessionsWrite
 buffered_write write stay b settings moments input entries pending sent h =

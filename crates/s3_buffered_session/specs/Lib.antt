@@ -1,4 +1,5 @@
 pub mod Buffered
+pub mod Holds
 pub mod Moments
 pub mod Output
 pub use Rattle.s3_session.specs.Output as Session

@@ -37,6 +37,13 @@ pub record Outputs (standing : Standing) (settings : Settings) (moments : List �
   pub count : ℕ
   pub writes : Writes standing settings (past_of moments input count entries waiting) out
 
+-- one turn waits where a command does, none where the connection reads or is over, and any where memory ran out
+abbrev pub HasWaiting : Standing → List Turn → Type 0
+HasWaiting standings.Reading turns = turns ≡ []
+HasWaiting standings.Waiting turns = (turn : Turn) × (turns ≡ turn ∷ [])
+HasWaiting standings.Over turns = turns ≡ []
+HasWaiting standings.Dead turns = Unit {0}
+
 -- a command of it waits for this turn, as long as memory doesn't run out
 abbrev pub Waits : Settings → List ℕ → Input → List Entry → Turn → Type 0
 Waits settings moments input entries turn =

@@ -4,8 +4,8 @@ ghost use Rattle.std.specs.Prelude.{◌≡◌, ◌≢◌, ◌<◌, ◌≤◌, �
 ghost use Rattle.s3_config.specs.Settings.{Settings};
 ghost use Rattle.s3_machine.specs.History.{Entry};
 ghost use Rattle.s3_machine.specs.declared.turn.Turn.{Turn};
-ghost use Rattle.s3_session.specs.Output.{Reading, Dead, is_dead, is_waiting};
-ghost use Rattle.s3_session.specs.Session.{is_closed};
+ghost use Rattle.s3_session.specs.Output.{Reading, Dead, is_dead, is_waiting, is_closed};
+ghost use Rattle.s3_buffered_session.specs.Holds.{Holds};
 ghost use Rattle.s3_buffered_session.specs.Output.{Input};
 
 use crate::kept::{Kept, keep};
@@ -50,7 +50,7 @@ impl<'a> BufferedSession<'a> {
     /// A connection of which nothing has come, whose messages have these moments: the last one again and again where they
     /// have run out, and moment 0 where there are none. It takes no memory.
     pub fn new(alloc: Global, moments: &'a [Moment]) -> BufferedSession<'a>
-        ensures begins { (settings : Settings) → rules.Holds result settings moments.now rules.nothing_received [] [] [] }
+        ensures begins { (settings : Settings) → Holds result settings moments.now rules.nothing_received [] [] [] }
         ensures standing { rules.standing_of result ≡ Reading }
         ensures none { rules.turn_of result ≡ None }
         ensures handed { rules.is_handed_out result ≡ false }
@@ -80,8 +80,8 @@ impl<'a> BufferedSession<'a> {
     /// for an empty piece, nor where it would be dropped.
     pub fn feed(&mut self, alloc: Global, config: &Config, piece: &[u8]) -> Result<(), NoMemory>
         ensures holds { (moments : List ℕ) (input : Input) (entries : List Entry) (pending : List Turn) (sent : List ℕ)
-            → rules.Holds self.old config.now moments input entries pending sent
-            → OnOk result (rules.Holds self.new config.now moments (rules.received input piece.now) entries pending sent) }
+            → Holds self.old config.now moments input entries pending sent
+            → OnOk result (Holds self.new config.now moments (rules.received input piece.now) entries pending sent) }
         ensures same { OnErr result (self.new ≡ self.old) }
         ensures memory { OnErr result ((piece.now ≢ []) × (self.old.is_ended ≡ false) × (is_closed (rules.standing_of self.old) ≡ false)) }
         ensures closed { is_closed (rules.standing_of self.old) ≡ true → rules.standing_of self.new ≡ rules.standing_of self.old }
@@ -102,8 +102,8 @@ impl<'a> BufferedSession<'a> {
     fn read(&mut self, alloc: Global, config: &Config, piece: &[u8]) -> Result<(), NoMemory>
         requires reads { self.old.stage ≡ Stage.Reading }
         ensures holds { (moments : List ℕ) (input : Input) (entries : List Entry) (pending : List Turn) (sent : List ℕ)
-            → rules.Holds self.old config.now moments input entries pending sent
-            → OnOk result (rules.Holds self.new config.now moments (rules.received input piece.now) entries pending sent) }
+            → Holds self.old config.now moments input entries pending sent
+            → OnOk result (Holds self.new config.now moments (rules.received input piece.now) entries pending sent) }
         ensures same { OnErr result (self.new ≡ self.old) }
         ensures handed { rules.is_handed_out self.new ≡ false }
         ensures end { self.new.is_ended ≡ self.old.is_ended }
@@ -119,8 +119,8 @@ impl<'a> BufferedSession<'a> {
     /// it. A second end does nothing. It takes no memory.
     pub fn end(&mut self)
         ensures holds { (settings : Settings) (moments : List ℕ) (input : Input) (entries : List Entry) (pending : List Turn) (sent : List ℕ)
-            → rules.Holds self.old settings moments input entries pending sent
-            → rules.Holds self.new settings moments (record input { ended = true }) entries pending sent }
+            → Holds self.old settings moments input entries pending sent
+            → Holds self.new settings moments (record input { ended = true }) entries pending sent }
         ensures again { self.old.is_ended ≡ true → self.new ≡ self.old }
         ensures waits { is_waiting (rules.standing_of self.new) ≡ is_waiting (rules.standing_of self.old) }
         ensures lives { is_dead (rules.standing_of self.new) ≡ is_dead (rules.standing_of self.old) }
@@ -151,8 +151,8 @@ impl<'a> BufferedSession<'a> {
         ensures value { result ≡ rules.turn_of self.old }
         ensures waits { is_some result ≡ (is_waiting (rules.standing_of self.old) && not (rules.is_handed_out self.old)) }
         ensures hands { IfSome result (λ turn. (settings : Settings) (moments : List ℕ) (input : Input) (entries : List Entry) (sent : List ℕ)
-            → rules.Holds self.old settings moments input entries [] sent
-            → rules.Holds self.new settings moments input entries (turn ∷ []) sent) }
+            → Holds self.old settings moments input entries [] sent
+            → Holds self.new settings moments input entries (turn ∷ []) sent) }
         ensures handed { IfSome result (λ _. rules.is_handed_out self.new ≡ true) }
         ensures none { result ≡ None → self.new ≡ self.old }
         ensures standing { rules.standing_of self.new ≡ rules.standing_of self.old }
@@ -176,21 +176,22 @@ impl<'a> BufferedSession<'a> {
     pub fn answer(&mut self, alloc: Global, config: &Config, answered: Result<Answer, NoMemory>)
         requires handed { rules.is_handed_out self.old ≡ true }
         ensures holds { (moments : List ℕ) (input : Input) (entries : List Entry) (turn : Turn) (sent : List ℕ)
-            → rules.Holds self.old config.now moments input entries (turn ∷ []) sent
-            → rules.Holds self.new config.now moments input (rules.entries_with entries turn answered) (rules.unanswered turn answered) sent }
+            → Holds self.old config.now moments input entries (turn ∷ []) sent
+            → Holds self.new config.now moments input (rules.entries_with entries turn answered) (rules.unanswered turn answered) sent }
         ensures dies { OnErr answered (rules.standing_of self.new ≡ Dead) }
         ensures handed { rules.is_handed_out self.new ≡ false }
         ensures end { self.new.is_ended ≡ self.old.is_ended }
     {
         match answered {
             Ok(answer) => {
-                self.session.answer(Ok(answer));
+                let next = self.session.answer(Ok(answer));
                 let stage = go_on(
                     alloc,
                     config,
                     &mut self.session,
                     &mut self.moments,
                     &mut self.kept,
+                    next,
                     self.is_ended,
                 );
                 self.stage.become_next(stage);
@@ -218,8 +219,8 @@ impl<'a> BufferedSession<'a> {
     pub fn sent(&mut self, count: usize)
         requires within { count ≤ length (rules.unsent_of self.old) }
         ensures holds { (settings : Settings) (moments : List ℕ) (input : Input) (entries : List Entry) (pending : List Turn) (sent : List ℕ)
-            → rules.Holds self.old settings moments input entries pending sent
-            → rules.Holds self.new settings moments input entries pending (sent ++ take count (rules.unsent_of self.old)) }
+            → Holds self.old settings moments input entries pending sent
+            → Holds self.new settings moments input entries pending (sent ++ take count (rules.unsent_of self.old)) }
         ensures left { rules.unsent_of self.new ≡ drop count (rules.unsent_of self.old) }
         ensures standing { rules.standing_of self.new ≡ rules.standing_of self.old }
         ensures turn { rules.turn_of self.new ≡ rules.turn_of self.old }

@@ -1,6 +1,6 @@
 //! Bytes that are kept until they are taken.
 
-ghost use Rattle.std.specs.Prelude.{◌≡◌, ◌+◌, ◌≤◌, List, [], ◌++◌, drop, length, if◌then◌else◌, OnOk, OnErr};
+ghost use Rattle.std.specs.Prelude.{◌≡◌, ◌≢◌, ◌+◌, ◌≤◌, true, false, List, [], ◌++◌, drop, length, if◌then◌else◌, OnOk, OnErr};
 ghost use Rattle.std.specs.Vec.{vec_capacity};
 
 use s3_terms::NoMemory;
@@ -41,6 +41,14 @@ impl Kept {
         ensures { result.now ≡ self.now }
     {
         &self.bytes[self.at..]
+    }
+
+    /// Whether nothing is left.
+    pub fn is_empty(&self) -> bool
+        ensures none { result ≡ true → self.now ≡ [] }
+        ensures some { result ≡ false → self.now ≢ [] }
+    {
+        self.as_slice().is_empty()
     }
 
     /// Keeps these bytes too, behind the others.

@@ -1,6 +1,6 @@
 //! What is known of all connections that keep their bytes: laws, with nothing to run.
 
-ghost use Rattle.s3_buffered_session.specs.Buffered.{BufferedSessionsWrite, TurnsWait};
+ghost use Rattle.s3_buffered_session.specs.Holds.{BufferedSessionsWrite, TurnsWait};
 ghost use Rattle.s3_buffered_session.specs.Output.{OneOutput};
 
 use s3_session::{inputs_fix_outputs, outputs_stay, sessions_write};

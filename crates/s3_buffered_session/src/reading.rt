@@ -3,9 +3,10 @@
 ghost use Rattle.std.specs.Prelude.{◌≡◌, ◌≤◌, ℕ, Bool, true, false, List, [], ◌++◌, length, take, drop, is_some};
 ghost use Rattle.s3_config.specs.Settings.{Settings};
 ghost use Rattle.s3_machine.specs.History.{Entry};
-ghost use Rattle.s3_session.specs.Output.{Past, Standing, is_waiting};
-ghost use Rattle.s3_session.specs.Session.{Needs, fed, gave_between, standing_of, turns_of};
-ghost use Rattle.s3_buffered_session.specs.Buffered.{Carries, Holds, IsFit, IsNext, Took, is_handed_at, listed, turn_at};
+ghost use Rattle.s3_session.specs.Output.{Past, Reading, Standing, is_waiting};
+ghost use Rattle.s3_session.specs.Session.{Needs, NeedsNext, fed, gave_between, standing_of, turns_of};
+ghost use Rattle.s3_buffered_session.specs.Buffered.{IsFit, is_handed_at, listed, turn_at};
+ghost use Rattle.s3_buffered_session.specs.Holds.{Carries, Holds, IsNext, Took};
 ghost use Rattle.s3_buffered_session.specs.Moments.{Handing};
 ghost use Rattle.s3_buffered_session.specs.Output.{Input};
 
@@ -13,7 +14,7 @@ use crate::kept::Kept;
 use crate::moments::Moments;
 use crate::stage::{Stage, has_turn, is_reading};
 use s3_config::Config;
-use s3_session::{Need, Session};
+use s3_session::{Need, Next, Session};
 use std::alloc::Global;
 
 // Feeds a session: how many bytes it took, and what comes next.
@@ -53,15 +54,16 @@ fn stage_of(need: Need) -> Stage
     }
 }
 
-// Feeds a session with what was kept, up to the end of the next message, and keeps the rest where its command waits.
-pub(crate) fn take_kept(
+// Feeds a session that reads with what was kept, if something was, up to the end of the next message, and keeps the rest where
+// its command waits.
+fn feed_kept(
     alloc: Global,
     config: &Config,
     session: &mut Session,
     moments: &mut Moments<'_>,
     kept: &mut Kept,
 ) -> Stage
-    requires answered { is_waiting (standing_of session.old) ≡ false }
+    requires reads { standing_of session.old ≡ Reading }
     requires goes_on { session.old.is_ended ≡ false }
     ensures took { (list : List ℕ) (past : Past) (entries : List Entry) (sent : List ℕ)
         → Carries session.old moments.old config.now list past entries [] sent
@@ -70,6 +72,9 @@ pub(crate) fn take_kept(
     ensures goes_on { session.new.is_ended ≡ false }
     ensures empty { is_some (turn_at result) ≡ false → kept.new ≡ [] }
 {
+    if kept.is_empty() {
+        return Stage::Reading;
+    }
     let (len, stage) = feed_session(alloc, config, session, moments, kept.as_slice());
     if has_turn(&stage) {
         kept.skip(alloc, len);
@@ -79,6 +84,33 @@ pub(crate) fn take_kept(
     stage
 }
 
+// Takes what was kept behind an answer, as far as the session needs it next.
+fn take_kept(
+    alloc: Global,
+    config: &Config,
+    session: &mut Session,
+    moments: &mut Moments<'_>,
+    kept: &mut Kept,
+    next: Next,
+) -> Stage
+    requires needs { NeedsNext next (standing_of session.old) }
+    requires goes_on { session.old.is_ended ≡ false }
+    ensures took { (list : List ℕ) (past : Past) (entries : List Entry) (sent : List ℕ)
+        → Carries session.old moments.old config.now list past entries [] sent
+        → Took session.new moments.new kept.new result config.now list past kept.old entries sent }
+    ensures next { IsNext result (standing_of session.new) }
+    ensures goes_on { session.new.is_ended ≡ false }
+    ensures empty { is_some (turn_at result) ≡ false → kept.new ≡ [] }
+{
+    match next {
+        Next::More => feed_kept(alloc, config, session, moments, kept),
+        Next::Close => {
+            *kept = Kept::new(alloc);
+            Stage::Done
+        }
+    }
+}
+
 // Goes on behind an answer: feeds a session with what was kept, and tells it the end where that came and it reads on.
 pub(crate) fn go_on(
     alloc: Global,
@@ -86,9 +118,10 @@ pub(crate) fn go_on(
     session: &mut Session,
     moments: &mut Moments<'_>,
     kept: &mut Kept,
+    next: Next,
     is_ended: bool,
 ) -> Stage
-    requires answered { is_waiting (standing_of session.old) ≡ false }
+    requires needs { NeedsNext next (standing_of session.old) }
     requires goes_on { session.old.is_ended ≡ false }
     ensures holds { (list : List ℕ) (input : Input) (past : Past) (entries : List Entry) (sent : List ℕ)
         → Carries session.old moments.old config.now list past entries [] sent
@@ -98,7 +131,7 @@ pub(crate) fn go_on(
     ensures fit { IsFit result session.new kept.new is_ended }
     ensures handed { is_handed_at result ≡ false }
 {
-    let stage = take_kept(alloc, config, session, moments, kept);
+    let stage = take_kept(alloc, config, session, moments, kept, next);
     if is_ended {
         return conclude(session, stage);
     }

@@ -1,5 +1,5 @@
 -- The pieces that parameters print.
-use Rattle.std.proofs.Common.{◌≡◌, ℕ, ◌<◌, List, [], length, map, get_or, refl, sym, ap, ◌∙◌, arith}
+use Rattle.std.proofs.Common.{◌≡◌, ℕ, ◌<◌, List, [], length, map, get_or, sym, ap, ◌∙◌, arith}
 use Rattle.std.proofs.lemmas.List.{get_or-map, length-map}
 use Rattle.s3_canonical.specs.declared.parameter.Parameter.{Parameter}
 use Rattle.s3_canonical.specs.Parameter.{pair, pairs}

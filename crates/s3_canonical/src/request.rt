@@ -115,7 +115,7 @@ pub fn request_hash(
     let parameters = query(alloc, target)?;
     let fields = headers(alloc, head, signed)?;
     let mut hasher = Sha256::new();
-    add_part(&mut hasher, head.method());
+    add_part(&mut hasher, head.method_name());
     add_part(&mut hasher, &path);
     add_part(&mut hasher, &parameters);
     add_part(&mut hasher, &fields);

@@ -4,7 +4,8 @@ use Rattle.std.proofs.lemmas.Bool.Decides.{nat_tests}
 use Rattle.std.proofs.lemmas.List.{length-map, length-drop}
 use Rattle.std.proofs.lemmas.List.Elements.{All-nil, All-cons}
 use Rattle.std.proofs.lemmas.List.Sums.{sum_by-cons}
-use Rattle.s3_journal.specs.Book.{Journal, KeepsHistory, Recorded, entries_of_seat}
+use Rattle.s3_journal.specs.Book.{Journal, KeepsHistory}
+use Rattle.s3_journal.specs.Recorded.{Recorded, entries_of_seat}
 use Rattle.s3_desk.specs.Desk.{Base, Seated, IsRoom, new_seat, AreNew, part_of_seat}
 use Rattle.s3_desk.specs.Closing.{AreNumbered, AreSeenIn, IsClosed, IsWholeIn, count_of}
 use Rattle.s3_desk.proofs.AmongLemmas.{among_length, among_all}

@@ -6,7 +6,7 @@ use Rattle.std.proofs.lemmas.List.Prefix.{front_fits}
 use mathlib.Core.List.{IsPrefix}
 use Rattle.s3_history.specs.Log.{Origin}
 use Rattle.s3_machine.specs.History.{Entry}
-use Rattle.s3_journal.specs.Book.{Recorded, entries_of_seat, history_of}
+use Rattle.s3_journal.specs.Recorded.{Recorded, entries_of_seat, history_of}
 use Rattle.s3_desk.specs.Desk.{Base, Seated, IsAmong, IsSeat, part_of_seat}
 use Rattle.s3_desk.proofs.AmongLemmas.{among_with_more, among_push, prefix-trans, prefix-append}
 

@@ -4,7 +4,8 @@ use mathlib.Core.List.{IsPrefix}
 use Rattle.s3_machine.specs.declared.command.Answer.{Answer}
 use Rattle.s3_machine.specs.declared.turn.Turn.{Turn}
 use Rattle.s3_machine.specs.History.{Entry, Legal}
-use Rattle.s3_journal.specs.Book.{Journal, KeepsHistory, Recorded, history_of}
+use Rattle.s3_journal.specs.Book.{Journal, KeepsHistory}
+use Rattle.s3_journal.specs.Recorded.{Recorded, history_of}
 use Rattle.s3_journal.specs.Keeper.{MayLack}
 use Rattle.s3_desk.specs.Desk.{Base, Continues, Seated, IsAmong, part_of_seat}
 

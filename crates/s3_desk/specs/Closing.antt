@@ -1,7 +1,8 @@
 -- What a desk leaves.
 use Rattle.std.specs.Prelude.{◌≡◌, ℕ, suc, ◌+◌, List, [], ◌∷◌, length, sum_by, All}
 use mathlib.Core.List.{IsPrefix}
-use Rattle.s3_journal.specs.Book.{Journal, KeepsHistory, Recorded}
+use Rattle.s3_journal.specs.Book.{Journal, KeepsHistory}
+use Rattle.s3_journal.specs.Recorded.{Recorded}
 use Rattle.s3_desk.specs.Desk.{Base, Continues, Seated, IsAmong, part_of_seat}
 
 -- the seats are numbered from this number on

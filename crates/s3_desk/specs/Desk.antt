@@ -5,7 +5,8 @@ use Rattle.s3_history.specs.Log.{Origin}
 use Rattle.s3_machine.specs.History.{Entry}
 use Rattle.s3_records.specs.Catalogue.{opening}
 use Rattle.s3_store.specs.Steps.{Standing, opened}
-use Rattle.s3_journal.specs.Book.{Journal, Recorded, entries_of_seat}
+use Rattle.s3_journal.specs.Book.{Journal}
+use Rattle.s3_journal.specs.Recorded.{Recorded, entries_of_seat}
 
 -- what a desk stands on: which history it is, the least size of a part that is not the last, the store as it was when the
 -- book was opened, and the entries up to the opening of the desk

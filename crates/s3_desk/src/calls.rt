@@ -15,7 +15,7 @@ pub(crate) struct Calls {
 impl Model for Calls {
     ghost use Rattle.std.specs.Prelude.{List, map};
     ghost use Rattle.s3_machine.specs.History.{Entry};
-    ghost use Rattle.s3_journal.specs.Book.{history_of};
+    ghost use Rattle.s3_journal.specs.Recorded.{history_of};
     ghost use Rattle.s3_journal.specs.Entries.{recorded_of};
 
     ghost Value = { List Entry };

@@ -1,7 +1,7 @@
 //! Who may submit turns to a desk.
 ghost use Rattle.std.specs.Prelude.{◌≡◌, ◌++◌, ◌∷◌, [], ◌+◌, ◌⊎◌, IfOk, List};
 ghost use mathlib.Core.List.{IsPrefix};
-ghost use Rattle.s3_journal.specs.Book.{Recorded};
+ghost use Rattle.s3_journal.specs.Recorded.{Recorded};
 ghost use Rattle.s3_desk.specs.Calls.{entry_of, entry_of_seat};
 ghost use Rattle.s3_desk.specs.Desk.{new_seat, IsAmong, IsSeat, part_of_seat};
 

@@ -1,4 +1,5 @@
 pub mod Buckets
+pub mod Copied
 pub mod Json
 pub mod Laws
 pub mod Printed

@@ -3,12 +3,14 @@
 #![tactic(auto)]
 
 mod buckets;
+mod copied;
 mod laws;
 mod printer;
 mod timestamp;
 mod versioning;
 
 pub use buckets::buckets_document;
+pub use copied::copied_document;
 pub use laws::documents_are_one;
 pub use printer::{Field, Leaf, Printer, Row, text_of};
 pub use versioning::{read_versioning, versioning_document};

@@ -1,5 +1,6 @@
 //! Moments, as documents write them.
 ghost use Rattle.std.specs.Prelude.{◌≡◌, IsUtf8, length};
+ghost use Rattle.json.specs.Print.{escape};
 ghost use Rattle.s3_documents.specs.Timestamp.{timestamp, spelled_out};
 
 use s3_calendar::{Moment, Stamp, stamps_of_a_moment};
@@ -8,6 +9,7 @@ use s3_calendar::{Moment, Stamp, stamps_of_a_moment};
 pub(crate) fn timestamp(moment: Moment) -> [u8; 24]
     ensures value { result ≡ timestamp moment }
     ensures utf8 { IsUtf8 result }
+    ensures plain { escape (timestamp moment) ≡ timestamp moment }
 {
     let _bound = moment.seconds();
     stamps_of_a_moment();

@@ -7,6 +7,7 @@
 //! and what each of these is answered (`scenario.rt`).
 #![tactic(auto)]
 
+mod body;
 mod cut;
 mod events;
 mod request;

@@ -4,8 +4,10 @@
 //! In a file, a line `==` stands between two connections, and a line `=>` between the requests of one and what it is
 //! answered. A line `--` stands between two requests. A request is a line with its method and its target, its header lines,
 //! and behind an empty line its body; it is signed before it is sent. Each line of the answers ends with CRLF, but for one
-//! that ends with a bar: that is the end of a body, and the bar stands for nothing.
+//! that ends with a bar: that is the end of a body, and the bar stands for nothing. A body `TEXT*N`, sent or answered, has N
+//! bytes, the text over and over.
 
+use crate::body::add_body;
 use crate::request::signed;
 use s3_calendar::Stamp;
 use s3_config::Config;
@@ -31,16 +33,22 @@ fn replies(alloc: Global, config: &Config, stamp: Stamp, text: &str) -> Option<V
     replay_one(alloc, config, connection.as_slice(), stamp.moment()).ok()
 }
 
+// Adds the bytes that a line of answers stands for.
+fn add_line(bytes: &mut Vec<u8>, line: &str) -> Option<()> {
+    match line.strip_suffix('|') {
+        Some(end) => add_body(bytes, end),
+        None => {
+            bytes.extend_from_slice(line.as_bytes()).ok()?;
+            bytes.extend_from_slice(b"\r\n").ok()
+        }
+    }
+}
+
 // The bytes that a text of answers stands for.
 fn wanted(alloc: Global, text: &str) -> Option<Vec<u8>> {
     let mut bytes = Vec::new(alloc);
     for line in text.split('\n') {
-        let (text, end) = match line.strip_suffix('|') {
-            Some(text) => (text, b"".as_slice()),
-            None => (line, b"\r\n".as_slice()),
-        };
-        bytes.extend_from_slice(text.as_bytes()).ok()?;
-        bytes.extend_from_slice(end).ok()?;
+        add_line(&mut bytes, line)?;
     }
     Some(bytes)
 }

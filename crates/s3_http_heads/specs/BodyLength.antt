@@ -1,12 +1,12 @@
 -- How long the body of a message is (RFC 9112, section 6), and the faults that are judged first.
 use Rattle.std.specs.Prelude.{ℕ, Bool, ◌&&◌, ◌==◌, not, nat_lt, List, [], ◌∷◌, length, codes, Option, Some, None, option_and_then, ok_or, Result, Ok}
 use Rattle.std.specs.List.{after_first}
-use Rattle.std.specs.Str.{bytes_eq}
 use Rattle.s3_text.specs.Characters.{slash}
 use Rattle.s3_text.specs.Digits.{decimal_number}
 use Rattle.s3_terms.specs.Fault.{refuse, ◌>>◌, ◌>>=◌}
 use Rattle.s3_terms.specs.declared.code.Code.{Code}
 use Rattle.s3_terms.specs.declared.code.Code.TheVariants.{NotImplemented, InvalidRequest, MissingContentLength, EntityTooLarge}
+use Rattle.s3_http_heads.specs.Method.{method_of, is_put}
 use Rattle.s3_http_heads.specs.Head.{HeadParts, values_of, only, is_sent}
 use Rattle.s3_http_heads.specs.Target.{address_of}
 
@@ -34,7 +34,7 @@ names_key target =
 -- a put of an object's bytes, which says how many there are
 abbrev pub needs_length : HeadParts → Bool
 needs_length parts =
-    bytes_eq parts.method (codes "PUT") && names_key parts.target
+    is_put (method_of parts.method) && names_key parts.target
     && not (is_sent (codes "x-amz-copy-source") parts)
 
 -- the body's length in bytes, past what is wrong with the framing, in its order

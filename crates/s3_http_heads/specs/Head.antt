@@ -6,6 +6,7 @@ use Rattle.httparse.specs.Grammar.{RequestHead, ReadsRequest, trim_ows}
 use Rattle.httparse.specs.Spans.{name_and_value}
 use Rattle.s3_text.specs.Characters.{carriage_return, comma}
 use Rattle.s3_text.specs.Cut.{parts_at}
+use Rattle.s3_http_heads.specs.Method.{method_of, is_head}
 
 -- the greatest number of header lines
 abbrev pub line_limit : ℕ
@@ -94,4 +95,4 @@ expects_continue parts = (parts.minor == 1) && says_continue (first_value (codes
 
 -- the reply to this head has no body (RFC 9110, section 9.3.2)
 abbrev pub asks_head_only : HeadParts → Bool
-asks_head_only parts = bytes_eq parts.method (codes "HEAD")
+asks_head_only parts = is_head (method_of parts.method)

@@ -3,6 +3,7 @@ pub mod Scan
 pub mod Search
 pub mod Target
 pub mod Parameters
+pub mod Method
 pub mod Head
 pub mod BodyLength
 pub mod Message

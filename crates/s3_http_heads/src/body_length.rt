@@ -6,7 +6,7 @@ ghost use Rattle.s3_http_heads.specs.Message.{IsMessage};
 ghost use Rattle.s3_http_heads.specs.Head.{HeadParts, is_sent};
 ghost use Rattle.s3_http_heads.specs.BodyLength.{announced, length_lines, names_key, needs_length, framing_of};
 
-use crate::Head;
+use crate::{Head, Method};
 use s3_terms::Code;
 use s3_text::{after_first, decimal_number};
 
@@ -69,7 +69,7 @@ fn lacks_length(head: &Head) -> bool
 fn needs_length(head: &Head) -> bool
     ensures { result ≡ needs_length head.now }
 {
-    head.method() == b"PUT".as_slice()
+    matches!(head.method(), Method::Put)
         && names_key(head.path())
         && !head.is_sent(b"x-amz-copy-source")
 }

@@ -3,11 +3,12 @@ ghost use Rattle.std.specs.Prelude.{◌≡◌, ◌≤◌, ◌<◌, ◌⊎◌, �
 ghost use Rattle.httparse.specs.Grammar.{RequestHead};
 ghost use Rattle.httparse.specs.Spans.{IsWithin, IsHeaderWithin, header_bytes, span_bytes};
 ghost use Rattle.s3_http_heads.specs.Head.{HeadParts, LinesAreWhole, IsHead, HasNoHead, Says, parts_of, values_of, first_value, is_sent, closes, asks_head_only, expects_continue};
+ghost use Rattle.s3_http_heads.specs.Method.{method_of};
 ghost use Rattle.s3_http_heads.specs.Target.{path_of, target_of, target_parts};
 ghost use Rattle.std.specs.Option.{option_copied};
 
-use crate::Target;
 use crate::text::{has_word, is_named};
+use crate::{Method, Target};
 use httparse::Status;
 use httparse::spans::{EMPTY_HEADER_SPAN, HeaderSpan, RequestSpans, Span, parse_request};
 use s3_terms::Code;
@@ -21,11 +22,13 @@ pub const LINE_LIMIT: usize = 64;
 /// The head of a request: its method, target and version, and its header lines, each a name as it was
 /// sent and a value without the spaces and tabs around it.
 ///
-/// It owns one copy of the head text, and what the target says if it can be read.
+/// It owns one copy of the head text, its method, and what the target says if it can be read.
 #[derive(Drop)]
 pub struct Head {
     text: Vec<u8>,
-    method: Span,
+    // The method, and where its name stands in the text.
+    method: Method,
+    method_name: Span,
     target: Span,
     minor: u8,
     headers: Vec<HeaderSpan>,
@@ -38,27 +41,29 @@ impl Model for Head {
     ghost use Rattle.httparse.specs.Spans.{IsWithin, IsHeaderWithin, header_bytes, span_bytes};
     ghost use Rattle.s3_terms.specs.declared.code.Code.TheVariants.{InvalidURI};
     ghost use Rattle.s3_http_heads.specs.Head.{HeadParts};
+    ghost use Rattle.s3_http_heads.specs.Method.{method_of};
     ghost use Rattle.s3_http_heads.specs.Target.{target_of};
 
     ghost Value = { HeadParts };
 
     ghost view = { λ h. record {
-      method = span_bytes h.text.items h.method;
+      method = span_bytes h.text.items h.method_name;
       target = span_bytes h.text.items h.target;
       minor = h.minor;
       headers = map (header_bytes h.text.items) h.headers.items;
     } };
 
-    ghost invariant = { λ h. IsWithin (length h.text.items) h.method
+    ghost invariant = { λ h. IsWithin (length h.text.items) h.method_name
         × IsWithin (length h.text.items) h.target
         × All (IsHeaderWithin (length h.text.items)) h.headers.items
         × (length h.headers.items ≤ 64)
+        × (h.method ≡ method_of (span_bytes h.text.items h.method_name))
         × (ok_or h.said InvalidURI ≡ target_of (span_bytes h.text.items h.target)) };
 }
 
 impl Head {
     /// Reads a head text: all of `text` has to be one head (RFC 9112, sections 2 to 5) with at most 64
-    /// header lines. The cost is linear in the text, which is copied once, and whose target is read once.
+    /// header lines. The cost is linear in the text, which is copied once, and whose method and target are read once.
     ///
     /// # Errors
     ///
@@ -97,12 +102,14 @@ impl Head {
         ensures minor { IfOk result (λ head. head.minor ≡ spans.version) }
         ensures headers { IfOk result (λ head. head.headers ≡ map (header_bytes text.now) headers.now) }
     {
+        let method = Method::read(spans.method.of(text));
         let said = Target::read(alloc, spans.path.of(text))?;
         let text = Vec::from_slice(alloc, text)?;
         let headers = Vec::from_slice(alloc, headers)?;
         Ok(Head {
             text,
-            method: spans.method,
+            method,
+            method_name: spans.method,
             target: spans.path,
             minor: spans.version,
             headers,
@@ -110,11 +117,18 @@ impl Head {
         })
     }
 
-    /// The method, as it was sent.
-    pub fn method(&self) -> &[u8]
+    /// The method.
+    pub fn method(&self) -> Method
+        ensures { result ≡ method_of self.now.method }
+    {
+        self.method
+    }
+
+    /// The name of the method, as it was sent.
+    pub fn method_name(&self) -> &[u8]
         ensures { result.now ≡ self.now.method }
     {
-        self.method.of(&self.text)
+        self.method_name.of(&self.text)
     }
 
     /// The target, as it was sent.
@@ -246,7 +260,7 @@ impl Head {
     pub fn asks_head_only(&self) -> bool
         ensures { result ≡ asks_head_only self.now }
     {
-        self.method() == b"HEAD".as_slice()
+        matches!(self.method(), Method::Head)
     }
 }
 

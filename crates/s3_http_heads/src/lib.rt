@@ -4,6 +4,7 @@
 mod body_length;
 mod find;
 mod head;
+mod method;
 mod parameters;
 mod search;
 mod target;
@@ -14,6 +15,7 @@ pub use find::{
     Found, HEAD_LIMIT, find_head, pairs_may_be_dropped, skipped, verdict_is_exact, verdicts_stay,
 };
 pub use head::{Head, LINE_LIMIT, lines_are_whole, texts_say_one_thing};
+pub use method::Method;
 pub use search::{HeadSearch, searches_find};
-pub use target::Target;
+pub use target::{Target, has_bad_escape};
 pub use text::{is_named, trimmed};

@@ -151,8 +151,8 @@ fn begins_with_digits(bytes: &[u8]) -> bool
     }
 }
 
-// Whether there is a percent sign that two hexadecimal digits don't follow.
-fn has_bad_escape(bytes: &[u8]) -> bool
+/// Whether there is a percent sign that two hexadecimal digits don't follow (RFC 3986, section 2.1).
+pub fn has_bad_escape(bytes: &[u8]) -> bool
     ensures { result ≡ rules.has_bad_escape bytes.now }
 {
     for (i, byte) in bytes.iter().enumerate() {

@@ -7,7 +7,8 @@ use Rattle.s3_machine.specs.declared.command.Answer.{Answer}
 use Rattle.s3_machine.specs.declared.turn.Turn.{Turn}
 use Rattle.s3_machine.specs.Step.{State, step}
 use Rattle.s3_machine.specs.History.{Legal, after, after_entry}
-use Rattle.s3_journal.specs.Book.{Journal, history_of, KeepsHistory}
+use Rattle.s3_journal.specs.Book.{Journal, KeepsHistory}
+use Rattle.s3_journal.specs.Recorded.{history_of}
 use Rattle.s3_journal.specs.Entries.{recorded_of}
 use Rattle.s3_journal.specs.Keeper.{LimitedStore, step_of, Replies}
 

@@ -2,7 +2,7 @@
 use Rattle.s3_history.specs.declared.machine.Entry.{Entry}
 use Rattle.s3_machine.specs.declared.command.Answer.{Answer}
 use Rattle.s3_machine.specs.declared.turn.Turn.{Turn}
-use Rattle.s3_journal.specs.Book.{Recorded}
+use Rattle.s3_journal.specs.Recorded.{Recorded}
 
 -- an entry with the command of its turn and its moment
 abbrev pub recorded_of : Entry Turn Answer → Recorded

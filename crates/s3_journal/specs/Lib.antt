@@ -2,5 +2,6 @@ pub mod Book
 pub mod Entries
 pub mod Keeper
 pub mod Laws
+pub mod Recorded
 pub use Rattle.s3_machine.specs.History
 pub use Rattle.s3_store.specs.Steps

@@ -1,26 +1,30 @@
 //! What is known of every book: laws, with nothing to run.
-ghost use Rattle.s3_machine.specs.Kept.{StoredIsKept, VersionsAreKept, StoredIsTold, OnlyStoredStands, OnlyStoredIsGiven, ReadsGiveOrFail, MarkersHide, QuietEntriesChangeNothing, PutsAreKept, PutVersionsAreKept, BodiesAreTagged};
+ghost use Rattle.s3_machine.specs.Kept.{StoredIsKept, VersionsAreKept, StoredIsTold, OnlyStoredStands, OnlyStoredIsGiven, OnlyPutsAreStored, ReadsGiveOrFail, ReadsAreJudged, MarkersHide, QuietEntriesChangeNothing, PutsAreKept, PutVersionsAreKept, CopiesAreKept, CopyVersionsAreKept, BodiesAreTagged};
 ghost use Rattle.s3_journal.specs.Laws.{EveryBook};
 
 use s3_machine::{
-    delete_markers_hide, entries_change_nothing, only_stored_is_given, puts_are_kept,
-    stored_is_kept,
+    copies_are_kept, delete_markers_hide, entries_change_nothing, only_stored_is_given,
+    puts_are_kept, stored_is_kept,
 };
 
 /// A law, with nothing to run: what the machine promises of legal histories holds of the history of every book. What was
-/// stored and acknowledged comes back, by its key and by its version, and nothing else does; a delete marker hides its key;
-/// what was refused or only read changes nothing.
+/// stored and acknowledged comes back, by its key and by its version, and nothing else does; a read by conditions is shown what
+/// they select; a delete marker hides its key; what was refused or only read changes nothing.
 pub fn books_keep_promises()
     ensures by_key { EveryBook StoredIsKept }
     ensures by_version { EveryBook VersionsAreKept }
     ensures told { EveryBook StoredIsTold }
     ensures stands { EveryBook OnlyStoredStands }
     ensures given { EveryBook OnlyStoredIsGiven }
+    ensures put_once { EveryBook OnlyPutsAreStored }
     ensures or_fails { EveryBook ReadsGiveOrFail }
+    ensures judged { EveryBook ReadsAreJudged }
     ensures hidden { EveryBook MarkersHide }
     ensures quiet { EveryBook QuietEntriesChangeNothing }
     ensures puts { EveryBook PutsAreKept }
     ensures put_versions { EveryBook PutVersionsAreKept }
+    ensures copies { EveryBook CopiesAreKept }
+    ensures copy_versions { EveryBook CopyVersionsAreKept }
     ensures tagged { EveryBook BodiesAreTagged }
 {
     stored_is_kept();
@@ -28,4 +32,5 @@ pub fn books_keep_promises()
     delete_markers_hide();
     entries_change_nothing();
     puts_are_kept();
+    copies_are_kept();
 }

@@ -17,7 +17,7 @@ pub struct Prefix {
 impl Model for Prefix {
     ghost use Rattle.std.specs.Prelude.{map};
     ghost use Rattle.s3_history.specs.Log.{Trace};
-    ghost use Rattle.s3_journal.specs.Book.{Recorded};
+    ghost use Rattle.s3_journal.specs.Recorded.{Recorded};
     ghost use Rattle.s3_journal.specs.Entries.{recorded_of};
 
     ghost Value = { Trace Recorded };

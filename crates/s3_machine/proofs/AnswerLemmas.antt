@@ -1,15 +1,19 @@
 -- What right answers say, and how a delete marker hides.
-use Rattle.std.proofs.Common.{◌≡◌, refl, sym, ap, subst, ◌∙◌, true, false, not, ℕ, ⊎_elim, List, ◌∷◌, ◌++◌, append_assoc, Option, Some, None, option_map, is_some, Result, Ok, Err}
+use Rattle.std.proofs.Common.{◌≡◌, refl, sym, ap, subst, ◌∙◌, Bool, true, false, not, ℕ, ⊎_elim, inl, inr, List, ◌∷◌, ◌++◌, append_assoc, Option, Some, None, option_map, is_some, Result, Ok, Err}
+use Rattle.std.specs.Result.{result_ok}
 use Rattle.s3_terms.specs.declared.code.Code.TheVariants.{NoSuchBucket, NoSuchKey}
 use Rattle.s3_names.specs.declared.ids.VersionId.{VersionId}
 use Rattle.s3_bodies.specs.Payload.{tag_of}
+use Rattle.s3_conditions.specs.declared.conditions.Conditions.{Conditions}
+use Rattle.s3_conditions.specs.declared.conditions.Selection.{Selection}
+use Rattle.s3_conditions.specs.Conditions.{plain}
 use Rattle.s3_versions.specs.declared.picking.Refusal.{Refusal}
 use Rattle.s3_versions.specs.declared.version.Content.TheVariants.{DeleteMarker}
 use Rattle.s3_versions.specs.declared.version.Data.{Data}
 use Rattle.s3_versions.specs.declared.version.Version.{Version}
 use Rattle.s3_versions.specs.declared.version.Versioning.{Versioning}
 use Rattle.s3_versions.specs.declared.version.Versioning.TheVariants.{Unversioned, Enabled, Suspended}
-use Rattle.s3_versions.specs.Rules.{made, new_id, pick, current, after_delete}
+use Rattle.s3_versions.specs.Rules.{made, new_id, pick, facts_of, asked_for, judged, current, after_delete, KeyDeleted}
 use Rattle.s3_versions.specs.Laws as versions
 use Rattle.s3_records.specs.Catalogue.{has_bucket, versions_of, versioning_of}
 use Rattle.s3_records.specs.Laws.{ChangesFollowRules}
@@ -17,68 +21,221 @@ use Rattle.s3_records.specs.Places.{ChangesAreByPlace}
 use Rattle.s3_machine.specs.declared.command.Command.{Command}
 use Rattle.s3_machine.specs.declared.command.Command.TheVariants as commands
 use Rattle.s3_machine.specs.declared.command.KeyCommand.TheVariants as key_commands
+use Rattle.s3_machine.specs.declared.command.Source.{Source as CopySource}
 use Rattle.s3_machine.specs.declared.command.Outcome.TheVariants as outcomes
-use Rattle.s3_terms.specs.Fault.{◌>>=◌}
-use Rattle.s3_machine.specs.Effects.{Address, Object, writes, brought, brings, object_of, stored_by, whole, reads, given, is_refused, succeeds}
+use Rattle.s3_terms.specs.Fault.{◌>>◌, ◌>>=◌}
+use Rattle.s3_machine.specs.Fault.{refuse}
+use Rattle.s3_machine.specs.Effects.{Address, Object, Read, writes, copies, source_read, brought, brings, object_of, stored_by, whole, read_at, reads, given_whole, is_refused, succeeds, shown_as, by_conditions}
 use Rattle.s3_machine.specs.History.{Entry, IsAnswer, after, after_entry}
-use Rattle.s3_machine.specs.Kept.{SparesVersion, ReadsVersion, Source, Put, Marks, EveryHistory, StoredIsKept, VersionsAreKept, StoredIsTold, ReadsGiveOrFail, MarkersHide, QuietEntriesChangeNothing, PutsAreKept, PutVersionsAreKept, BodiesAreTagged, PutsStoreTheirContents, StoredHasSource}
-use Rattle.s3_machine.specs.Step.{State, Stepped, data_of, shown_in, makes_marker, found_in, key_done, done, stepped, step}
-use Rattle.s3_machine.proofs.EffectLemmas.{after_line, not_false, refusals_change_nothing, reads_change_nothing}
+use Rattle.s3_machine.specs.Kept.{SparesVersion, ReadsVersion, Stores, Copies, WouldGive, Source, Put, Copy, Marks, EveryHistory, StoredIsKept, VersionsAreKept, StoredIsTold, ReadsGiveOrFail, MarkersHide, QuietEntriesChangeNothing, PutsAreKept, PutVersionsAreKept, CopiesAreKept, CopyVersionsAreKept, BodiesAreTagged, PutsStoreTheirContents, CopiesStoreTheirSource, StoredHasSource}
+use Rattle.s3_machine.specs.Laws.{QuietStepsChangeNothing, ConditionsJudgeReads}
+use Rattle.s3_machine.specs.Step.{State, Stepped, copied, data_of, data_read, shown_in, makes_marker, found_in, shown_by, key_done, done, stepped, step}
+use Rattle.s3_machine.proofs.EffectLemmas.{shown, after_line, copy_done, not_false}
 use Rattle.s3_machine.proofs.HistoryLemmas.{after-push, parts_of, right_at}
-use Rattle.s3_machine.proofs.KeptLemmas.{versions_at, outcome_is, picked, step_reads, key_left}
+use Rattle.s3_machine.proofs.KeptLemmas.{versions_at, outcome_is, picked, got, plain_shown, whole_given, step_reads, stored_there, key_left}
 
--- a read hands out a version, or refuses
+-- a plain read hands out all of a version, or refuses
 abbrev GivesOrRefuses : Stepped → Type 0
-GivesOrRefuses st = is_some (given st.1) ≡ not (is_refused st.1)
+GivesOrRefuses st = is_some (given_whole st.1) ≡ succeeds st.1
 
-gives_or_refuses : (s : State) (name : List ℕ) (read : Result (Version (List ℕ) × Data (List ℕ)) Refusal) → GivesOrRefuses (stepped s (read >>= (λ r. Ok (s, outcomes.Got (found_in (versioning_of s name) r)))))
-gives_or_refuses s name (Ok read) = refl
-gives_or_refuses s name (Err refusal) = refl
+gives_or_refuses : (s : State) (name : List ℕ) (conditions : Conditions) (read : Result (Version (List ℕ) × Data (List ℕ)) Refusal) → conditions ≡ plain
+    → GivesOrRefuses (stepped s (read >>= shown s name conditions))
+gives_or_refuses s name conditions (Ok read) is =
+    let P : Result Selection Refusal → Type 0 = λ chosen. GivesOrRefuses (stepped s (chosen >>= (λ selection. Ok (s, outcomes.Got (found_in (versioning_of s name) read) selection)))) in
+    subst P (sym (ap (λ (c : Conditions). shown_by c (facts_of read)) is ∙ plain_shown (facts_of read))) refl
+gives_or_refuses s name conditions (Err refusal) is = refl
 
 step_gives_or_refuses : (least : ℕ) (s : State) (n t : ℕ) (command : Command) (a : Address) (version : Option VersionId)
     → reads command ≡ Some (whole a version) → GivesOrRefuses (step least s n t command)
 unfolding done key_done
-step_gives_or_refuses least s n t (commands.Key name key (key_commands.Get asked)) a version is =
-    after_line GivesOrRefuses s (not (has_bucket s name)) NoSuchBucket (key_done s n t name key (key_commands.Get asked)) refl
-    (λ there. gives_or_refuses s name (pick asked (versions_of s name key)))
+step_gives_or_refuses least s n t (commands.Key name key (key_commands.Read asked)) a version is =
+    let same : read_at (record { bucket = name; key = key }) asked ≡ whole a version = cc in
+    after_line GivesOrRefuses s (not (has_bucket s name)) NoSuchBucket (key_done s n t name key (key_commands.Read asked)) refl
+    (λ there. gives_or_refuses s name asked.conditions (pick asked.version (versions_of s name key)) (ap (λ (q : Read). q.conditions) same))
 step_gives_or_refuses least s n t _ a version is = absurd (cc)
 
 pub reads_give_or_fail : EveryHistory ReadsGiveOrFail
 reads_give_or_fail least s n entries legal before later e address version parts is =
     let there = after least s before in
     let outcome = outcome_is least there _ e (right_at least s n entries before later e legal parts) in
-    ap (λ o. is_some (given o)) outcome
+    ap (λ o. is_some (given_whole o)) outcome
     ∙ step_gives_or_refuses least there e.answer.number e.moment e.command address version is
     ∙ sym (ap succeeds outcome)
 
-pub quiet_entries_change_nothing : EveryHistory QuietEntriesChangeNothing
-quiet_entries_change_nothing least s n entries legal before later e parts quiet =
+pub quiet_entries_change_nothing : QuietStepsChangeNothing → EveryHistory QuietEntriesChangeNothing
+quiet_entries_change_nothing steps least s n entries legal before later e parts quiet =
     let there = after least s before in
     let outcome = outcome_is least there _ e (right_at least s n entries before later e legal parts) in
     after-push least s before e
-    ∙ ⊎_elim (λ is. refusals_change_nothing least there e.answer.number e.moment e.command (sym (ap is_refused outcome) ∙ is))
-    (reads_change_nothing least there e.answer.number e.moment e.command) quiet
+    ∙ steps least there e.answer.number e.moment e.command (⊎_elim (λ is. inl (sym (ap is_refused outcome) ∙ is)) inr quiet)
+
+-- ---- conditions
+
+-- what holds of what is told of two rules holds behind a line that may refuse both
+behind_line : (s : State) (conditions : Conditions) (fault : Bool) (next plainly : Result Stepped Refusal)
+    → (stepped s next).1 ≡ by_conditions conditions (stepped s plainly).1
+    → (stepped s (refuse fault NoSuchBucket >> next)).1 ≡ by_conditions conditions (stepped s (refuse fault NoSuchBucket >> plainly)).1
+behind_line s conditions true next plainly is = refl
+behind_line s conditions false next plainly is = is
+
+read_judged : (s : State) (name : List ℕ) (conditions : Conditions) (read : Result (Version (List ℕ) × Data (List ℕ)) Refusal)
+    → picked s name conditions read ≡ by_conditions conditions (picked s name plain read)
+read_judged s name conditions (Ok read) =
+    ap (λ (r : Result Selection Refusal). by_conditions conditions (shown_as (found_in (versioning_of s name) read) r)) (sym (plain_shown (facts_of read)))
+read_judged s name conditions (Err refusal) = refl
+
+pub conditions_judge_reads : ConditionsJudgeReads
+unfolding done key_done
+conditions_judge_reads least s n t name key version conditions =
+    let read = pick version (versions_of s name key) in
+    behind_line s conditions (not (has_bucket s name))
+    (key_done s n t name key (key_commands.Read (record { version = version; conditions = conditions })))
+    (key_done s n t name key (key_commands.Read (record { version = version; conditions = plain })))
+    (got s name conditions read ∙ read_judged s name conditions read ∙ ap (by_conditions conditions) (sym (got s name plain read)))
 
 -- ---- puts
 
 key_put : (s : State) (n t : ℕ) (a : Address) (command : Command) (what : Data (List ℕ)) → writes command ≡ Some a
     → brought command ≡ Some what → stored_by s n t command ≡ Some (object_of s n t a what)
-key_put s n t a (commands.Key bucket key (key_commands.Put content_type metadata payload)) what written brings = cc
+key_put s n t a (commands.Key bucket key (key_commands.Put put)) what written brings = cc
 key_put s n t a _ what written brings = absurd (cc)
 
 pub puts_store_their_contents : PutsStoreTheirContents
 puts_store_their_contents s e address what puts =
     record { by = key_put s e.answer.number e.moment address e.command what puts.written puts.brings; accepted = puts.accepted }
 
+-- ---- copies
+
+-- what is read of a version, behind a line that may refuse
+read_behind : (fault : Bool) (read : Result (Version (List ℕ) × Data (List ℕ)) Refusal) (what : Data (List ℕ))
+    → (refuse fault NoSuchBucket >> data_read read) ≡ Ok what
+    → (picks : Version (List ℕ) × Data (List ℕ)) × (read ≡ Ok picks) × (picks.1 ≡ what)
+read_behind true read what is = absurd (cc)
+read_behind false (Ok picks) what is = (picks, refl, cc)
+read_behind false (Err refusal) what is = absurd (cc)
+
+-- a version that is picked was found
+found_first : (asked : Option VersionId) (found : Option (Version (List ℕ))) (read : Version (List ℕ) × Data (List ℕ))
+    → judged asked found ≡ Ok read → (v : Version (List ℕ)) × (found ≡ Some v)
+found_first None None read is = absurd (cc)
+found_first (Some id) None read is = absurd (cc)
+found_first asked (Some v) read is = (v, refl)
+
+-- what a copy takes from its source is what a read of that is given
+would_give : (s : State) (source : CopySource) (what : Data (List ℕ)) → copied s source ≡ Ok what → WouldGive s (source_read source) what
+unfolding copied
+would_give s source what is =
+    let at : Address = record { bucket = source.bucket; key = source.key } in
+    let read = read_behind (not (has_bucket s source.bucket)) (pick source.version (versions_of s source.bucket source.key)) what is in
+    let found = found_first source.version (asked_for source.version (versions_of s source.bucket source.key)) read.0 read.1 in
+    record {
+      found = found_in (versioning_of s source.bucket) read.0;
+      gives = λ least n t command reading.
+          ap given_whole (step_reads least s n t command (whole at source.version) found.0 reading found.1)
+          ∙ ap (λ (r : Result (Version (List ℕ) × Data (List ℕ)) Refusal). given_whole (picked s source.bucket plain r)) read.1
+          ∙ whole_given (found_in (versioning_of s source.bucket) read.0) (facts_of read.0);
+      holds = read.2;
+    }
+
+source_known : (s : State) (n t : ℕ) (a : Address) (source : Result (Data (List ℕ)) Refusal) (object : Object)
+    → option_map (object_of s n t a) (result_ok source) ≡ Some object → source ≡ Ok object.stored
+source_known s n t a (Ok what) object is =
+    let same : object_of s n t a what ≡ object = cc in
+    ap (λ (o : Object). Ok o.stored) same
+source_known s n t a (Err refusal) object is = absurd (cc)
+
+source_gives : (s : State) (n t : ℕ) (a : Address) (source : CopySource) (object : Object)
+    → option_map (object_of s n t a) (result_ok (copied s source)) ≡ Some object → WouldGive s (source_read source) object.stored
+source_gives s n t a source object is = would_give s source object.stored (source_known s n t a (copied s source) object is)
+
+source_stored : (s : State) (n t : ℕ) (command : Command) (asked : Read) (object : Object) → copies command ≡ Some asked
+    → stored_by s n t command ≡ Some object → WouldGive s asked object.stored
+source_stored s n t (commands.Key bucket key (key_commands.Copy copy)) asked object from is =
+    let same : source_read copy.source ≡ asked = cc in
+    subst (λ (r : Read). WouldGive s r object.stored) same
+    (source_gives s n t (record { bucket = bucket; key = key }) copy.source object is)
+source_stored s n t _ asked object from is = absurd (cc)
+
+pub copies_store_their_source : CopiesStoreTheirSource
+copies_store_their_source s e asked object from stores =
+    source_stored s e.answer.number e.moment e.command asked object from stores.by
+
+-- a copy that succeeds stores something
+abbrev StoresSome : State → ℕ → ℕ → Address → Command → Type 0
+StoresSome s n t a command = (what : Data (List ℕ)) × (stored_by s n t command ≡ Some (object_of s n t a what))
+
+source_there : (s : State) (n t : ℕ) (name key : List ℕ) (fault : Bool) (source : Result (Data (List ℕ)) Refusal)
+    → succeeds (stepped s (refuse fault NoSuchBucket >> (source >>= copy_done s n t name key))).1 ≡ true
+    → (what : Data (List ℕ)) × (source ≡ Ok what)
+source_there s n t name key true source accepted = absurd (cc)
+source_there s n t name key false (Ok what) accepted = (what, refl)
+source_there s n t name key false (Err refusal) accepted = absurd (cc)
+
+copy_stores : (least : ℕ) (s : State) (n t : ℕ) (command : Command) (a : Address) (asked : Read) → writes command ≡ Some a
+    → copies command ≡ Some asked → succeeds (step least s n t command).1 ≡ true → StoresSome s n t a command
+unfolding done key_done copy_done
+copy_stores least s n t (commands.Key bucket key (key_commands.Copy copy)) a asked written from accepted =
+    let same : record { bucket = bucket; key = key } ≡ a = cc in
+    let known = source_there s n t bucket key (not (has_bucket s bucket)) (copied s copy.source) accepted in (
+      known.0,
+      ap (λ (r : Result (Data (List ℕ)) Refusal). option_map (object_of s n t (record { bucket = bucket; key = key })) (result_ok r)) known.1
+          ∙ ap (λ (b : Address). Some (object_of s n t b known.0)) same,
+    )
+copy_stores least s n t _ a asked written from accepted = absurd (cc)
+
+-- what an accepted copy stores, as an object
+pub record Copied (s : State) (e : Entry) (address : Address) (asked : Read) : Type 0 where
+  pub what : Data (List ℕ)
+  pub stores : Stores s e (object_of s e.answer.number e.moment address what)
+  pub gives : WouldGive s asked what
+
+entry_copies : (least : ℕ) (s : State) (n : ℕ) (e : Entry) (address : Address) (asked : Read) → IsAnswer least s n e
+    → Copies address asked e → Copied s e address asked
+entry_copies least s n e address asked answer copy =
+    let some = copy_stores least s e.answer.number e.moment e.command address asked copy.written copy.from
+    (sym (ap succeeds (outcome_is least s n e answer)) ∙ copy.accepted) in
+    let stores : Stores s e (object_of s e.answer.number e.moment address some.0) = record { by = some.1; accepted = copy.accepted } in
+    record { what = some.0; stores = stores; gives = copies_store_their_source s e asked _ copy.from stores }
+
+pub copies_are_kept : EveryHistory StoredIsKept → EveryHistory CopiesAreKept
+copies_are_kept law least s n entries legal before between later copy read address asked parts is leaves reading =
+    let here = after least s before in
+    let there = right_at least s n entries before (between ++ read ∷ later) copy legal (parts ∙ append_assoc before (copy ∷ between) (read ∷ later)) in
+    let stored = entry_copies least here _ copy address asked there is in
+    (stored.what, stored.gives, law least s n entries legal before between later copy read _ parts stored.stores leaves reading)
+
+pub copy_versions_are_kept : EveryHistory StoredIsTold → EveryHistory VersionsAreKept → EveryHistory CopyVersionsAreKept
+copy_versions_are_kept tells law least s n entries legal before between later copy read address asked id parts is touches spares reading =
+    let here = after least s before in
+    let split = parts ∙ append_assoc before (copy ∷ between) (read ∷ later) in
+    let stored = entry_copies least here _ copy address asked (right_at least s n entries before (between ++ read ∷ later) copy legal split) is in
+    let object = object_of here copy.answer.number copy.moment address stored.what in
+    let told = tells least s n entries legal before (between ++ read ∷ later) copy object split stored.stores in
+    let same : id ≡ object.id = cc (touches, told.under) in (
+      stored.what,
+      stored.gives,
+      law least s n entries legal before between later copy read object parts stored.stores
+          (subst (λ (i : VersionId). SparesVersion address i between) same spares)
+          (subst (λ (i : VersionId). ReadsVersion address i read) same reading),
+    )
+
+-- ---- sources
+
 -- where an object is stored, it has a source
 source_of : (s : State) (e : Entry) (command : Command) (object : Object) → e.command ≡ command
-    → stored_by s e.answer.number e.moment command ≡ Some object → is_refused e.answer.outcome ≡ false → Source s e object
-source_of s e (commands.Key bucket key (key_commands.Put content_type metadata payload)) object same is accepted =
+    → stored_by s e.answer.number e.moment command ≡ Some object → succeeds e.answer.outcome ≡ true → Source s e object
+source_of s e (commands.Key bucket key (key_commands.Put put)) object same is accepted =
     Put (record {
       written = ap writes same ∙ ap (option_map (λ (o : Object). o.address)) is;
       brings = ap brought same ∙ ap (option_map (λ (o : Object). o.stored)) is;
       accepted = accepted;
     })
+source_of s e (commands.Key bucket key (key_commands.Copy copy)) object same is accepted =
+    let address : record { bucket = bucket; key = key } ≡ object.address =
+    stored_there s e.answer.number e.moment (record { bucket = bucket; key = key }) (result_ok (copied s copy.source)) object is in
+    Copy (source_read copy.source)
+    (record { written = ap writes same ∙ ap Some address; from = ap copies same; accepted = accepted })
+    (source_gives s e.answer.number e.moment (record { bucket = bucket; key = key }) copy.source object is)
 source_of s e _ object same is accepted = absurd (cc)
 
 pub stored_has_source : StoredHasSource
@@ -104,9 +261,9 @@ put_versions_are_kept tells law least s n entries legal before between later put
 -- the bytes that are brought are accepted under their tag
 brought_tag : (command : Command) (body : List ℕ) → brings command ≡ Some body
     → (a : Address) × (what : Data (List ℕ)) × (writes command ≡ Some a) × (brought command ≡ Some what) × (what.tag ≡ tag_of body)
-brought_tag (commands.Key bucket key (key_commands.Put content_type metadata payload)) body is =
-    let same : payload ≡ body = cc in
-    (record { bucket = bucket; key = key }, data_of content_type metadata payload, refl, refl, ap tag_of same)
+brought_tag (commands.Key bucket key (key_commands.Put put)) body is =
+    let same : put.payload ≡ body = cc in
+    (record { bucket = bucket; key = key }, data_of put, refl, refl, ap tag_of same)
 brought_tag _ body is = absurd (cc)
 
 pub bodies_are_tagged : EveryHistory StoredIsTold → EveryHistory BodiesAreTagged
@@ -142,7 +299,7 @@ unfolding done key_done
 step_marks hide rules least s n t a id is =
     after_line (λ st. st.1 ≡ outcomes.Deleted (Some id) true → IsHidden st.0 a) s (not (has_bucket s a.bucket)) NoSuchBucket (key_done s n t a.bucket a.key (key_commands.Delete None))
     (λ none. absurd (cc))
-    (λ there marked. hidden_by hide _ a (versioning_of s a.bucket) n t (versions_at s a) id ((rules s a.bucket a.key (not_false (has_bucket s a.bucket) there)).deleted n t) (told_shown (versioning_of s a.bucket) n id marked))
+    (λ there marked. hidden_by hide _ a (versioning_of s a.bucket) n t (versions_at s a) id (rules s a.bucket a.key (KeyDeleted n t) (not_false (has_bucket s a.bucket) there)) (told_shown (versioning_of s a.bucket) n id marked))
     is
 
 module _ (places : ChangesAreByPlace (List ℕ)) (rules : ChangesFollowRules (List ℕ)) (hide : versions.MarkersHide (List ℕ)) where
@@ -161,6 +318,6 @@ module _ (places : ChangesAreByPlace (List ℕ)) (rules : ChangesFollowRules (Li
       let left = key_left places rules least (after_entry least here mark) at.k between address at.legal leaves in
       let hidden = entry_marks least here at.m mark address at.right marks in
       outcome_is least there at.j read at.right_last
-      ∙ step_reads least there read.answer.number read.moment read.command address None hidden.marker reads
+      ∙ step_reads least there read.answer.number read.moment read.command _ hidden.marker reads.read
       (ap current left ∙ hidden.is_current)
-      ∙ ap (picked there address.bucket) (ap (pick None) left ∙ hidden.told)
+      ∙ ap (picked there address.bucket reads.conditions) (ap (pick None) left ∙ hidden.told)

@@ -1,21 +1,22 @@
 -- What was put comes back, by its key and by its version.
-use Rattle.std.proofs.Common.{◌≡◌, ◌≢◌, refl, sym, ap, subst, ◌∙◌, Bool, true, false, not, ℕ, ◌⊎◌, inl, inr, List, [], ◌∷◌, Option, Some, None, is_some, option_map, Result, Ok, Err}
+use Rattle.std.proofs.Common.{◌≡◌, refl, sym, ap, ap₂, subst, ◌∙◌, Bool, true, false, not, ℕ, ◌⊎◌, inl, inr, List, [], ◌∷◌, Option, Some, None, is_some, option_map, Result, Ok, Err}
 use Rattle.std.proofs.lemmas.Bool.{false≢true}
-use Rattle.std.specs.Cmp.{eq_by_cmp_equiv}
-use Rattle.std.specs.Cmp.Lexicographic.{nat_list_cmp_total}
+use Rattle.std.proofs.lemmas.Option.{same_Some}
 use Rattle.std.specs.FinMap as map
-use Rattle.std.specs.Ordering.{eq_by_cmp}
-use Rattle.s3_text.specs.Order.{byte_order}
-use Rattle.s3_text.proofs.MapLemmas.{tied_equal}
+use Rattle.s3_text.proofs.MapLemmas.{same_or}
 use Rattle.s3_terms.specs.declared.code.Code.TheVariants.{NoSuchBucket}
 use Rattle.s3_names.specs.declared.ids.VersionId.{VersionId}
+use Rattle.s3_conditions.specs.declared.conditions.Conditions.{Conditions}
+use Rattle.s3_conditions.specs.declared.conditions.Selection.{Selection}
+use Rattle.s3_conditions.specs.declared.conditions.Selection.TheVariants.{Whole}
+use Rattle.s3_conditions.specs.Conditions.{plain, unmet, unchanged, selected, judged as judged_by}
+use Rattle.s3_versions.specs.declared.picking.Facts.{Facts}
 use Rattle.s3_versions.specs.declared.picking.Refusal.{Refusal}
 use Rattle.s3_versions.specs.declared.version.Content.TheVariants.{Stored}
 use Rattle.s3_versions.specs.declared.version.Data.{Data}
 use Rattle.s3_versions.specs.declared.version.Version.{Version}
 use Rattle.s3_versions.specs.declared.version.Versioning.{Versioning}
-use Rattle.s3_versions.specs.declared.version.Versioning.TheVariants.{Unversioned, Enabled, Suspended}
-use Rattle.s3_versions.specs.Rules.{made, pick, asked_for, judged, after_put}
+use Rattle.s3_versions.specs.Rules.{made, pick, facts_of, asked_for, judged, VersionPut, after_change}
 use Rattle.s3_versions.specs.Laws.{PutsAreCurrent}
 use Rattle.s3_records.specs.Catalogue.{Bucket, has_bucket, versions_in, versions_of, versioning_of}
 use Rattle.s3_records.specs.Laws.{ChangesFollowRules}
@@ -24,15 +25,16 @@ use Rattle.s3_machine.specs.declared.command.Command.{Command}
 use Rattle.s3_machine.specs.declared.command.Command.TheVariants as commands
 use Rattle.s3_machine.specs.declared.command.KeyCommand.{KeyCommand}
 use Rattle.s3_machine.specs.declared.command.KeyCommand.TheVariants as key_commands
+use Rattle.s3_machine.specs.declared.command.Found.{Found}
 use Rattle.s3_machine.specs.declared.command.Outcome.{Outcome}
 use Rattle.s3_machine.specs.declared.command.Outcome.TheVariants as outcomes
 use Rattle.s3_terms.specs.Fault.{◌>>◌, ◌>>=◌}
 use Rattle.s3_machine.specs.Fault.{refuse}
-use Rattle.s3_machine.specs.Effects.{Address, Object, Read, writes, object_of, key_stored, stored_at, stored_by, whole, reads, given, acknowledged, touched, is_refused}
+use Rattle.s3_machine.specs.Effects.{Address, Object, Read, writes, object_of, key_stored, stored_at, stored_by, whole, read_at, reads, given_whole, shown_as, acknowledged, touched, succeeds}
 use Rattle.s3_machine.specs.History.{Entry, IsAnswer, Legal, after, after_entry}
 use Rattle.s3_machine.specs.Kept.{Leaves, LeavesKey, Spares, SparesVersion, Stores, Tells, IsGiven, EveryHistory, StoredIsKept, VersionsAreKept, StoredIsTold}
-use Rattle.s3_machine.specs.Step.{State, Stepped, found_in, key_done, done, stepped, step}
-use Rattle.s3_machine.proofs.EffectLemmas.{Changes, Does, step_does}
+use Rattle.s3_machine.specs.Step.{State, Stepped, found_in, shown_by, key_done, done, stepped, step}
+use Rattle.s3_machine.proofs.EffectLemmas.{Changes, Does, shown, step_does}
 use Rattle.s3_machine.proofs.HistoryLemmas.{parts_of, right_at}
 
 -- the versions under an address, and the one of an id
@@ -44,26 +46,17 @@ pub outcome_is : (least : ℕ) (s : State) (n : ℕ) (e : Entry) → IsAnswer le
 outcome_is least s n e answer =
     ap (λ a. a.outcome) answer ∙ sym (ap (λ a. (step least s a.number e.moment e.command).1) answer)
 
--- two addresses are the same or not, and two names
-same_text : (q k : List ℕ) → (q ≡ k) ⊎ (q ≢ k)
-same_text q k =
-    elim (eq_by_cmp byte_order q k) as (λ b. eq_by_cmp byte_order q k ≡ b → (q ≡ k) ⊎ (q ≢ k)) [
-      | true ↦ λ is. inl (tied_equal q k is)
-      | false ↦ λ is. inr (λ same. false≢true (sym is ∙ ap (λ x. eq_by_cmp byte_order x k) same ∙ (eq_by_cmp_equiv nat_list_cmp_total).refl k))
-    ] refl
-
--- addresses with the same parts are the same
+-- two addresses are the same or not
 joined : (a b : Address) → a.bucket ≡ b.bucket → a.key ≡ b.key → a ≡ b
 joined a b bucket key =
-    let first : ◌≡◌ {A = Address} (record { bucket = a.bucket; key = a.key }) (record { bucket = b.bucket; key = a.key }) = ap (λ (x : List ℕ). record { bucket = x; key = a.key }) bucket in
-    let second : ◌≡◌ {A = Address} (record { bucket = b.bucket; key = a.key }) (record { bucket = b.bucket; key = b.key }) = ap (λ (x : List ℕ). record { bucket = b.bucket; key = x }) key in
-    first ∙ second
+    let built : List ℕ → List ℕ → Address = λ x y. record { bucket = x; key = y } in
+    ap₂ built bucket key
 
 pub same_address : (a b : Address) → (a ≡ b) ⊎ ¬ ((a.bucket ≡ b.bucket) × (a.key ≡ b.key))
 same_address a b =
-    elim (same_text a.bucket b.bucket) [
+    elim (same_or a.bucket b.bucket) [
       | inl bucket ↦
-          elim (same_text a.key b.key) [
+          elim (same_or a.key b.key) [
             | inl key ↦ inl (joined a b bucket key)
             | inr key ↦ inr (λ both. key both.1)
           ]
@@ -71,9 +64,9 @@ same_address a b =
     ]
 
 -- what a read of a bucket that is there is answered
-abbrev pub picked : State → List ℕ → Result (Version (List ℕ) × Data (List ℕ)) Refusal → Outcome
-picked s name (Ok read) = outcomes.Got (found_in (versioning_of s name) read)
-picked s name (Err refusal) = outcomes.Refused refusal.code refusal.is_delete_marker
+abbrev pub picked : State → List ℕ → Conditions → Result (Version (List ℕ) × Data (List ℕ)) Refusal → Outcome
+picked s name conditions (Ok read) = shown_as (found_in (versioning_of s name) read) (shown_by conditions (facts_of read))
+picked s name conditions (Err refusal) = outcomes.Refused refusal.code refusal.is_delete_marker
 
 none_found : (found : Option (Bucket (List ℕ))) (key : List ℕ) (v : Version (List ℕ)) (vs : List (Version (List ℕ))) → versions_in found key ≡ v ∷ vs → is_some found ≡ true
 none_found None key v vs is = absurd (cc)
@@ -88,40 +81,49 @@ some_first None [] v is = absurd (cc)
 some_first (Some id) [] v is = absurd (cc)
 some_first asked (first ∷ rest) v is = (first, rest, refl)
 
-got : (s : State) (name : List ℕ) (read : Result (Version (List ℕ) × Data (List ℕ)) Refusal) → (stepped s (read >>= (λ r. Ok (s, outcomes.Got (found_in (versioning_of s name) r))))).1 ≡ picked s name read
-got s name (Ok read) = refl
-got s name (Err refusal) = refl
+shows : (s : State) (found : Found (List ℕ)) (selection : Result Selection Refusal) → (stepped s (selection >>= (λ chosen. Ok (s, outcomes.Got found chosen)))).1 ≡ shown_as found selection
+shows s found (Ok selection) = refl
+shows s found (Err refusal) = refl
+
+pub got : (s : State) (name : List ℕ) (conditions : Conditions) (read : Result (Version (List ℕ) × Data (List ℕ)) Refusal) → (stepped s (read >>= shown s name conditions)).1 ≡ picked s name conditions read
+got s name conditions (Ok read) = shows s (found_in (versioning_of s name) read) (shown_by conditions (facts_of read))
+got s name conditions (Err refusal) = refl
+
+-- who asks nothing is shown all
+pub plain_shown : (facts : Facts) → shown_by plain facts ≡ Ok Whole
+unfolding judged_by unmet unchanged selected
+plain_shown facts = refl
 
 past_line : (s : State) (fault : Bool) (next : Result Stepped Refusal) → fault ≡ false → stepped s (refuse fault NoSuchBucket >> next) ≡ stepped s next
 past_line s false next is = refl
 past_line s true next is = absurd (false≢true (sym is))
 
--- a read of all of a version is answered what is picked, where there is a version at all
-pub step_reads : (least : ℕ) (s : State) (n t : ℕ) (command : Command) (a : Address) (version : Option VersionId) (v : Version (List ℕ))
-    → reads command ≡ Some (whole a version) → asked_for version (versions_at s a) ≡ Some v
-    → (step least s n t command).1 ≡ picked s a.bucket (pick version (versions_at s a))
+-- a read is answered what is picked, by its conditions, where there is a version at all
+pub step_reads : (least : ℕ) (s : State) (n t : ℕ) (command : Command) (wanted : Read) (v : Version (List ℕ))
+    → reads command ≡ Some wanted → asked_for wanted.version (versions_at s wanted.address) ≡ Some v
+    → (step least s n t command).1 ≡ picked s wanted.address.bucket wanted.conditions (pick wanted.version (versions_at s wanted.address))
 unfolding done key_done
-step_reads least s n t (commands.Key name key (key_commands.Get asked)) a version v is found =
-    let same : whole (record { bucket = name; key = key }) asked ≡ whole a version = cc in
-    let here : asked_for asked (versions_of s name key) ≡ Some v =
+step_reads least s n t (commands.Key name key (key_commands.Read asked)) wanted v is found =
+    let same : read_at (record { bucket = name; key = key }) asked ≡ wanted = cc in
+    let here : asked_for asked.version (versions_of s name key) ≡ Some v =
     subst (λ (q : Read). asked_for q.version (versions_at s q.address) ≡ Some v) (sym same) found in
-    let first = some_first asked (versions_of s name key) v here in
+    let first = some_first asked.version (versions_of s name key) v here in
     let there = there_with s (record { bucket = name; key = key }) first.0 first.1 first.2 in
-    ap (λ (st : Stepped). st.1) (past_line s (not (has_bucket s name)) (key_done s n t name key (key_commands.Get asked)) (ap not there))
-    ∙ got s name (pick asked (versions_of s name key))
-    ∙ ap (λ (q : Read). picked s q.address.bucket (pick q.version (versions_at s q.address))) same
-step_reads least s n t _ a version v is found = absurd (cc)
+    ap (λ (st : Stepped). st.1) (past_line s (not (has_bucket s name)) (key_done s n t name key (key_commands.Read asked)) (ap not there))
+    ∙ got s name asked.conditions (pick asked.version (versions_of s name key))
+    ∙ ap (λ (q : Read). picked s q.address.bucket q.conditions (pick q.version (versions_at s q.address))) same
+step_reads least s n t _ wanted v is found = absurd (cc)
 
 module _ (places : ChangesAreByPlace (List ℕ)) (rules : ChangesFollowRules (List ℕ)) (least : ℕ) where
   -- what an entry did
   pub entry_does : (s : State) (n : ℕ) (e : Entry) → IsAnswer least s n e → Does s e.answer.number e.moment e.command (step least s e.answer.number e.moment e.command)
   entry_does s n e answer = step_does places rules least s e.answer.number e.moment e.command
 
-  -- a write that was accepted changed one place
-  pub entry_changes : (s : State) (n : ℕ) (e : Entry) (a : Address) → IsAnswer least s n e → writes e.command ≡ Some a → is_refused e.answer.outcome ≡ false → Changes s e.answer.number e.moment e.command (step least s e.answer.number e.moment e.command)
+  -- a write that succeeded changed one place
+  pub entry_changes : (s : State) (n : ℕ) (e : Entry) (a : Address) → IsAnswer least s n e → writes e.command ≡ Some a → succeeds e.answer.outcome ≡ true → Changes s e.answer.number e.moment e.command (step least s e.answer.number e.moment e.command)
   entry_changes s n e a answer written accepted =
       elim (entry_does s n e answer) [
-        | inl same ↦ absurd (false≢true (sym accepted ∙ ap is_refused (outcome_is least s n e answer) ∙ same.refused a written))
+        | inl same ↦ absurd (false≢true (sym (same.refused a written) ∙ sym (ap succeeds (outcome_is least s n e answer)) ∙ accepted))
         | inr changes ↦ changes
       ]
 
@@ -133,7 +135,7 @@ module _ (places : ChangesAreByPlace (List ℕ)) (rules : ChangesFollowRules (Li
         | inr changes ↦
             elim (same_address a changes.address) [
               | inl here ↦
-                  absurd (false≢true (sym changes.accepted ∙ sym (ap is_refused (outcome_is least s n e answer)) ∙ leaves (changes.written ∙ ap Some (sym here))))
+                  absurd (false≢true (sym (leaves (changes.written ∙ ap Some (sym here))) ∙ ap succeeds (outcome_is least s n e answer) ∙ changes.accepted))
               | inr other ↦ changes.place.other_keys a.bucket a.key other
             ]
       ]
@@ -153,7 +155,7 @@ module _ (places : ChangesAreByPlace (List ℕ)) (rules : ChangesFollowRules (Li
               | inl here ↦
                   let outcome = outcome_is least s n e answer in
                   let touches = λ (is : id ≡ changes.id).
-                  spares (changes.written ∙ ap Some (sym here)) (ap is_refused outcome ∙ changes.accepted)
+                  spares (changes.written ∙ ap Some (sym here)) (ap succeeds outcome ∙ changes.accepted)
                   (ap (touched e.command) outcome ∙ changes.touches ∙ ap Some (sym is)) in
                   subst (λ (b : Address). version_at (after_entry least s e) b.bucket b.key id ≡ version_at s b.bucket b.key id) (sym here)
                   (changes.place.other_ids id touches)
@@ -166,53 +168,46 @@ module _ (places : ChangesAreByPlace (List ℕ)) (rules : ChangesFollowRules (Li
   version_spared s n (e ∷ es) a id legal spares =
       version_spared (after_entry least s e) _ es a id legal.1 spares.1 ∙ version_left s n e a id legal.0 spares.0
 
--- what a put made, where it is picked
-made_moment : (b : Versioning) (n t : ℕ) (d : Data (List ℕ)) → (made b n t (Stored d)).moment ≡ t
-made_moment Unversioned n t d = refl
-made_moment Enabled n t d = refl
-made_moment Suspended n t d = refl
+-- a plain read that picks a version is given all of it
+pub whole_given : (found : Found (List ℕ)) (facts : Facts) → given_whole (shown_as found (shown_by plain facts)) ≡ Some found
+whole_given found facts = ap (λ (r : Result Selection Refusal). given_whole (shown_as found r)) (plain_shown facts)
 
-picks_made : (b : Versioning) (n t : ℕ) (d : Data (List ℕ)) (id : VersionId) → judged (Some id) (Some (made b n t (Stored d))) ≡ Ok (made b n t (Stored d), d)
-picks_made Unversioned n t d id = refl
-picks_made Enabled n t d id = refl
-picks_made Suspended n t d id = refl
-
--- a read that picks what a put made is given it
+-- and one that picks what a put made is given it
 gives : (e : Entry) (s : State) (name : List ℕ) (what : Data (List ℕ)) (b : Versioning) (n t : ℕ)
     (read : Result (Version (List ℕ) × Data (List ℕ)) Refusal)
-    → e.answer.outcome ≡ picked s name read → read ≡ Ok (made b n t (Stored what), what) → IsGiven t what e
+    → e.answer.outcome ≡ picked s name plain read → read ≡ Ok (made b n t (Stored what), what) → IsGiven t what e
 gives e s name what b n t read is picks = record {
   found = found_in (versioning_of s name) (made b n t (Stored what), what);
-  gives = ap given (is ∙ ap (picked s name) picks);
-  moment = made_moment b n t what;
+  gives = ap given_whole (is ∙ ap (picked s name plain) picks)
+      ∙ whole_given (found_in (versioning_of s name) (made b n t (Stored what), what)) (facts_of (made b n t (Stored what), what));
+  moment = refl;
   holds = refl;
 }
 
 -- a command writes where it stores
-stored_there : (s : State) (n t : ℕ) (a : Address) (what : Option (Data (List ℕ))) (object : Object)
+pub stored_there : (s : State) (n t : ℕ) (a : Address) (what : Option (Data (List ℕ))) (object : Object)
     → option_map (object_of s n t a) what ≡ Some object → a ≡ object.address
 stored_there s n t a (Some what) object is = cc
 stored_there s n t a None object is = absurd (cc)
 
-stored_at_address : (s : State) (n t : ℕ) (a : Address) (asked : KeyCommand) (object : Object) → stored_at s n t a asked ≡ Some object
+stored_at_address : (s : State) (n t : ℕ) (a : Address) (asked : KeyCommand (List ℕ)) (object : Object) → stored_at s n t a asked ≡ Some object
     → Some a ≡ Some object.address
 stored_at_address s n t a asked object is = ap Some (stored_there s n t a (key_stored s a asked) object is)
 
 stored_writes : (s : State) (n t : ℕ) (command : Command) (object : Object) → stored_by s n t command ≡ Some object
     → writes command ≡ Some object.address
-stored_writes s n t (commands.Key bucket key (key_commands.Put content_type metadata payload)) object is =
-    stored_at_address s n t (record { bucket = bucket; key = key }) (key_commands.Put content_type metadata payload) object is
+stored_writes s n t (commands.Key bucket key (key_commands.Put put)) object is =
+    stored_at_address s n t (record { bucket = bucket; key = key }) (key_commands.Put put) object is
+stored_writes s n t (commands.Key bucket key (key_commands.Copy copy)) object is =
+    stored_at_address s n t (record { bucket = bucket; key = key }) (key_commands.Copy copy) object is
 stored_writes s n t _ object is = absurd (cc)
-
-pub some_same : {X : Type 0} (x y : X) → ◌≡◌ {A = Option X} (Some x) (Some y) → x ≡ y
-some_same x y is = cc
 
 -- what an entry leaves that stores an object: its answer tells it, and it stands as the newest version of its key
 pub record Added (s now : State) (e : Entry) (object : Object) : Type 0 where
   pub told : Tells object e
   pub versioning : Versioning
   pub versions : versions_at now object.address
-      ≡ after_put versioning e.answer.number object.moment object.stored (versions_at s object.address)
+      ≡ after_change versioning (VersionPut e.answer.number object.moment object.stored) (versions_at s object.address)
   pub stands : version_at now object.address.bucket object.address.key object.id
       ≡ Some (made versioning e.answer.number object.moment (Stored object.stored))
 
@@ -225,7 +220,7 @@ module _ (places : ChangesAreByPlace (List ℕ)) (rules : ChangesFollowRules (Li
       (stored_writes s e.answer.number e.moment e.command object stores.by) stores.accepted in
       elim changes.adds [
         | inl adds ↦
-            subst (λ (o : Object). Added s (after_entry least s e) e o) (some_same _ object (sym adds.by ∙ stores.by)) (record {
+            subst (λ (o : Object). Added s (after_entry least s e) e o) (same_Some _ object (sym adds.by ∙ stores.by)) (record {
               told = record {
                 written = changes.written;
                 under = ap (touched e.command) outcome ∙ changes.touches ∙ ap Some adds.under;
@@ -254,7 +249,7 @@ module _ (places : ChangesAreByPlace (List ℕ)) (rules : ChangesFollowRules (Li
       let now = current added.versioning write.answer.number object.moment object.stored (versions_at here a) in
       gives read there a.bucket object.stored added.versioning write.answer.number object.moment (pick None (versions_at there a))
       (outcome_is least there at.j read at.right_last
-      ∙ step_reads least there read.answer.number read.moment read.command a None _ reads (ap (asked_for None) versions ∙ now.0))
+      ∙ step_reads least there read.answer.number read.moment read.command (whole a None) _ reads (ap (asked_for None) versions ∙ now.0))
       (ap (pick None) versions ∙ now.1)
 
   pub versions_are_kept : EveryHistory VersionsAreKept
@@ -269,5 +264,5 @@ module _ (places : ChangesAreByPlace (List ℕ)) (rules : ChangesFollowRules (Li
       gives read there a.bucket object.stored added.versioning write.answer.number object.moment
       (pick (Some object.id) (versions_at there a))
       (outcome_is least there at.j read at.right_last
-      ∙ step_reads least there read.answer.number read.moment read.command a (Some object.id) _ reads stands)
-      (ap (judged (Some object.id)) stands ∙ picks_made added.versioning write.answer.number object.moment object.stored object.id)
+      ∙ step_reads least there read.answer.number read.moment read.command (whole a (Some object.id)) _ reads stands)
+      (ap (judged (Some object.id)) stands)

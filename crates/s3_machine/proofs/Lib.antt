@@ -1,5 +1,7 @@
 pub mod AnswerLemmas
+pub mod BroughtLemmas
 pub mod EffectLemmas
 pub mod HistoryLemmas
 pub mod KeptLemmas
 pub mod OriginLemmas
+pub mod ShownLemmas

@@ -1,9 +1,12 @@
 -- Each object that stands was stored by an entry of the history.
-use Rattle.std.proofs.Common.{◌≡◌, ◌≢◌, refl, sym, ap, subst, ◌∙◌, ◌==◌, Bool, true, false, not, cond, ℕ, suc, ◌⊎◌, inl, inr, List, [], ◌∷◌, ◌++◌, append_assoc, append-nil, Option, Some, None, arith, Result, Ok, Err, find}
-use Rattle.std.proofs.lemmas.Bool.{eqb-true}
-use Rattle.std.proofs.lemmas.Bool.Decides.{nat_tests}
+use Rattle.std.proofs.Common.{◌≡◌, ◌≢◌, refl, sym, ap, subst, ◌∙◌, Bool, true, false, not, cond, ℕ, suc, ◌⊎◌, inl, inr, List, [], ◌∷◌, ◌++◌, append_assoc, append-nil, Option, Some, None, Result, Ok, Err, find}
+use Rattle.std.proofs.lemmas.Bool.Decides.{eqb_tells}
+use Rattle.std.proofs.lemmas.Option.{same_Some}
 use Rattle.s3_names.specs.declared.ids.VersionId.{VersionId}
 use Rattle.s3_names.specs.declared.ids.VersionId.TheVariants.{Null, Numbered}
+use Rattle.s3_conditions.specs.declared.conditions.Conditions.{Conditions}
+use Rattle.s3_conditions.specs.declared.conditions.Selection.{Selection}
+use Rattle.s3_conditions.specs.declared.conditions.Selection.TheVariants.{Whole, Part, Unchanged}
 use Rattle.s3_versions.specs.declared.picking.Refusal.{Refusal}
 use Rattle.s3_versions.specs.declared.version.Content.{Content}
 use Rattle.s3_versions.specs.declared.version.Content.TheVariants.{DeleteMarker, Stored}
@@ -11,7 +14,7 @@ use Rattle.s3_versions.specs.declared.version.Data.{Data}
 use Rattle.s3_versions.specs.declared.version.Version.{Version}
 use Rattle.s3_versions.specs.declared.version.Versioning.{Versioning}
 use Rattle.s3_versions.specs.declared.version.Versioning.TheVariants.{Unversioned, Enabled, Suspended}
-use Rattle.s3_versions.specs.Rules.{id_of, is_under, made, stored, stored_in, pick, asked_for, judged, read_as}
+use Rattle.s3_versions.specs.Rules.{id_of, is_under, made, stored, stored_in, pick, facts_of, asked_for, judged, read_as}
 use Rattle.s3_terms.specs.declared.code.Code.TheVariants.{NoSuchBucket, NoSuchKey, MethodNotAllowed}
 use Rattle.s3_versions.specs.Laws.{IdsAreTold}
 use Rattle.s3_records.specs.Catalogue.{opening, has_bucket, versions_of, versioning_of}
@@ -19,17 +22,17 @@ use Rattle.s3_records.specs.Laws.{ChangesFollowRules, OpeningIsEmpty}
 use Rattle.s3_records.specs.Places.{version_at, ChangesAreByPlace}
 use Rattle.s3_machine.specs.declared.command.Found.{Found}
 use Rattle.s3_machine.specs.declared.command.Outcome.TheVariants as outcomes
-use Rattle.s3_machine.specs.Effects.{Address, Object, Read, writes, object_of, whole, reads, given, found_object, touched, is_refused}
+use Rattle.s3_machine.specs.Effects.{Address, Object, Read, writes, object_of, read_at, reads, given, found_object, touched, succeeds}
 use Rattle.s3_machine.specs.History.{Entry, IsAnswer, Legal, after, after_entry}
 use Rattle.s3_machine.specs.Kept.{Spares, SparesVersion, Stores, WasStored, Stands, IsFoundUnder, EveryHistory, OnlyStoredStands, OnlyStoredIsGiven}
 use Rattle.s3_machine.specs.declared.command.Command.{Command}
 use Rattle.s3_machine.specs.declared.command.Command.TheVariants as commands
 use Rattle.s3_machine.specs.declared.command.KeyCommand.TheVariants as key_commands
 use Rattle.s3_terms.specs.Fault.{◌>>=◌}
-use Rattle.s3_machine.specs.Step.{State, found_in, shown_in, key_done, done, stepped, step}
-use Rattle.s3_machine.proofs.EffectLemmas.{Changes, after_line}
+use Rattle.s3_machine.specs.Step.{State, found_in, shown_in, shown_by, key_done, done, stepped, step}
+use Rattle.s3_machine.proofs.EffectLemmas.{Changes, shown, after_line}
 use Rattle.s3_machine.proofs.HistoryLemmas.{Legal-append, after-push}
-use Rattle.s3_machine.proofs.KeptLemmas.{versions_at, outcome_is, same_address, some_same, entry_does, version_left}
+use Rattle.s3_machine.proofs.KeptLemmas.{versions_at, outcome_is, same_address, entry_does, version_left}
 
 -- each object that stands behind these entries was stored by one of them
 abbrev pub Known : ℕ → State → List Entry → Type 0
@@ -51,33 +54,22 @@ stored_push least s past object e known spares = record {
 }
 
 -- two ids are the same or not
-number_same : (m n : ℕ) → (m ≡ n) ⊎ (m ≢ n)
-number_same m n =
-    elim (m == n) as (λ b. (m == n) ≡ b → (m ≡ n) ⊎ (m ≢ n)) [
-      | true ↦ λ is. inl (eqb-true m n is)
-      | false ↦ λ is. inr (λ same. grind (arith, nat_tests))
-    ] refl
-
 same_id : (x y : VersionId) → (x ≡ y) ⊎ (x ≢ y)
 same_id Null Null = inl refl
 same_id Null (Numbered n) = inr (λ is. cc)
 same_id (Numbered m) Null = inr (λ is. cc)
 same_id (Numbered m) (Numbered n) =
-    elim (number_same m n) [
-      | inl same ↦ inl (ap Numbered same)
-      | inr differ ↦ inr (λ is. differ (cc))
+    elim (eqb_tells m n) [
+      | inl same ↦ inl (ap Numbered same.1)
+      | inr differ ↦ inr (λ is. differ.1 (cc))
     ]
 
 -- the version that a put made, by what it stores
 made_data : (b : Versioning) (n t : ℕ) (e d : Data (List ℕ)) → stored (made b n t (Stored e)) ≡ Some d → d ≡ e
-made_data Unversioned n t e d is = cc
-made_data Enabled n t e d is = cc
-made_data Suspended n t e d is = cc
+made_data b n t e d is = cc
 
 made_when : (b : Versioning) (n t : ℕ) (e : Data (List ℕ)) (v : Version (List ℕ)) → Some (made b n t (Stored e)) ≡ Some v → v.moment ≡ t
-made_when Unversioned n t e v is = cc
-made_when Enabled n t e v is = cc
-made_when Suspended n t e v is = cc
+made_when b n t e v is = cc
 
 -- objects with the same parts are the same
 same_object : (x y : Object) → x.address ≡ y.address → x.id ≡ y.id → x.moment ≡ y.moment → x.stored ≡ y.stored → x ≡ y
@@ -101,20 +93,20 @@ module _ (places : ChangesAreByPlace (List ℕ)) (rules : ChangesFollowRules (Li
       elim changes.adds [
         | inl adds ↦
             let b = versioning_of s changes.address.bucket in
-            let is = some_same _ stands.version (sym adds.makes ∙ sym changes.place.here ∙ there) in
+            let is = same_Some _ stands.version (sym adds.makes ∙ sym changes.place.here ∙ there) in
             let same = same_object (object_of s e.answer.number e.moment changes.address adds.what) object
             (sym place)
             (sym adds.under ∙ sym under)
             (sym (made_when b e.answer.number e.moment adds.what stands.version (ap Some is)) ∙ stands.moment)
             (sym (made_data b e.answer.number e.moment adds.what object.stored (ap stored is ∙ stands.holds))) in
-            record { by = adds.by ∙ ap Some same; accepted = ap is_refused (outcome_is least s n e answer) ∙ changes.accepted }
+            record { by = adds.by ∙ ap Some same; accepted = ap succeeds (outcome_is least s n e answer) ∙ changes.accepted }
         | inr nothing ↦ let none = nothing.empty stands.version (sym changes.place.here ∙ there) in let some = stands.holds in absurd (cc)
       ]
 
   spares_same : (s : State) (n : ℕ) (e : Entry) (a : Address) (id : VersionId) (answer : IsAnswer least s n e)
-      → ((b : Address) → writes e.command ≡ Some b → is_refused (step least s e.answer.number e.moment e.command).1 ≡ true) → Spares a id e
+      → ((b : Address) → writes e.command ≡ Some b → succeeds (step least s e.answer.number e.moment e.command).1 ≡ false) → Spares a id e
   spares_same s n e a id answer refused written accepted =
-      let is = sym accepted ∙ ap is_refused (outcome_is least s n e answer) ∙ refused a written in absurd (cc)
+      let is = sym accepted ∙ ap succeeds (outcome_is least s n e answer) ∙ refused a written in absurd (cc)
 
   spares_address : (s : State) (e : Entry) (a : Address) (id : VersionId) (changes : Changes s e.answer.number e.moment e.command (step least s e.answer.number e.moment e.command))
       → ¬ ((a.bucket ≡ changes.address.bucket) × (a.key ≡ changes.address.key)) → Spares a id e
@@ -175,7 +167,7 @@ found_passes : {X : Type 0} (p : X → Bool) (xs : List X) (x : X) → find p xs
 found_passes p [] x is = absurd (cc)
 found_passes p (y ∷ ys) x is =
     elim (p y) as (λ b. p y ≡ b → cond b (Some y) (find p ys) ≡ Some x → p x ≡ true) [
-      | true ↦ λ passes here. ap p (sym (some_same y x here)) ∙ passes
+      | true ↦ λ passes here. ap p (sym (same_Some y x here)) ∙ passes
       | false ↦ λ passes here. found_passes p ys x here
     ] refl is
 
@@ -212,7 +204,7 @@ under : IdsAreTold (List ℕ) → (vs : List (Version (List ℕ))) (asked : Opti
 under ids [] None v is = absurd (cc)
 under ids (first ∷ rest) None v is =
     let found = first_found (is_under (id_of first)) first rest (ids.0 first) in
-    (λ w none. absurd (cc), subst (λ (x : Version (List ℕ)). find (is_under (id_of x)) (first ∷ rest) ≡ Some x) (some_same first v is) found)
+    (λ w none. absurd (cc), subst (λ (x : Version (List ℕ)). find (is_under (id_of x)) (first ∷ rest) ≡ Some x) (same_Some first v is) found)
 under ids vs (Some id) v is =
     let told = ids.1 id v (found_passes (is_under id) vs v is) in
     (λ w named. cc, subst (λ (i : VersionId). find (is_under i) vs ≡ Some v) (sym told) is)
@@ -228,29 +220,38 @@ picked_stands ids s a asked read picks =
     (there.0, record { version = read.0; there = there.1; moment = refl; holds = ok.1 })
 
 -- a read that hands out a version found it
-given_of : (s : State) (name : List ℕ) (result : Result (Version (List ℕ) × Data (List ℕ)) Refusal) (found : Found (List ℕ))
-    → given (stepped s (result >>= (λ r. Ok (s, outcomes.Got (found_in (versioning_of s name) r))))).1 ≡ Some found
+shows_found : (s : State) (here found : Found (List ℕ)) (selection : Result Selection Refusal)
+    → given (stepped s (selection >>= (λ chosen. Ok (s, outcomes.Got here chosen)))).1 ≡ Some found → here ≡ found
+shows_found s here found (Ok Whole) is = cc
+shows_found s here found (Ok (Part first last)) is = cc
+shows_found s here found (Ok Unchanged) is = absurd (cc)
+shows_found s here found (Err refusal) is = absurd (cc)
+
+given_of : (s : State) (name : List ℕ) (conditions : Conditions) (result : Result (Version (List ℕ) × Data (List ℕ)) Refusal) (found : Found (List ℕ))
+    → given (stepped s (result >>= shown s name conditions)).1 ≡ Some found
     → (read : Version (List ℕ) × Data (List ℕ)) × (result ≡ Ok read) × (found_in (versioning_of s name) read ≡ found)
-given_of s name (Ok read) found is = (read, refl, cc)
-given_of s name (Err refusal) found is = absurd (cc)
+given_of s name conditions (Ok read) found is =
+    (read, refl, shows_found s (found_in (versioning_of s name) read) found (shown_by conditions (facts_of read)) is)
+given_of s name conditions (Err refusal) found is = absurd (cc)
 
 step_given : (least : ℕ) (s : State) (n t : ℕ) (command : Command) (asked : Read) (found : Found (List ℕ)) → reads command ≡ Some asked
     → given (step least s n t command).1 ≡ Some found
     → (read : Version (List ℕ) × Data (List ℕ)) × (pick asked.version (versions_at s asked.address) ≡ Ok read) × (found_in (versioning_of s asked.address.bucket) read ≡ found)
 unfolding done key_done
-step_given least s n t (commands.Key name key (key_commands.Get version)) asked found is gives =
-    let same : whole (record { bucket = name; key = key }) version ≡ asked = cc in
+step_given least s n t (commands.Key name key (key_commands.Read wanted)) asked found is gives =
+    let here = read_at (record { bucket = name; key = key }) wanted in
+    let same : here ≡ asked = cc in
     let goal = λ (q : Read). (read : Version (List ℕ) × Data (List ℕ)) × (pick q.version (versions_at s q.address) ≡ Ok read)
     × (found_in (versioning_of s q.address.bucket) read ≡ found) in
     subst goal same
-    (after_line (λ st. given st.1 ≡ Some found → goal (whole (record { bucket = name; key = key }) version)) s
+    (after_line (λ st. given st.1 ≡ Some found → goal here) s
     (not (has_bucket s name)) NoSuchBucket
-    (key_done s n t name key (key_commands.Get version))
+    (key_done s n t name key (key_commands.Read wanted))
     (λ none. absurd (cc))
-    (λ there ok. given_of s name (pick version (versions_of s name key)) found ok) gives)
+    (λ there ok. given_of s name wanted.conditions (pick wanted.version (versions_of s name key)) found ok) gives)
 step_given least s n t _ asked found is gives = absurd (cc)
 
-reads_found : IdsAreTold (List ℕ) → (least : ℕ) (s : State) (n t : ℕ) (command : Command) (asked : Read) (found : Found (List ℕ))
+pub reads_found : IdsAreTold (List ℕ) → (least : ℕ) (s : State) (n t : ℕ) (command : Command) (asked : Read) (found : Found (List ℕ))
     → reads command ≡ Some asked → given (step least s n t command).1 ≡ Some found
     → (id : VersionId) × IsFoundUnder id asked found × Stands s (found_object asked.address id found)
 reads_found ids least s n t command asked found is gives =

@@ -1,8 +1,15 @@
 -- What a command asks for, and what came of it, in words that every operation shares.
-use Rattle.std.specs.Prelude.{ℕ, Bool, true, false, not, List, Option, Some, None, option_map}
+use Rattle.std.specs.Prelude.{ℕ, Bool, true, false, if◌then◌else◌, List, Option, Some, None, option_map, Result, Ok, Err}
 use Rattle.std.specs.Option.{unwrap_or}
+use Rattle.std.specs.Result.{result_ok}
 use Rattle.s3_names.specs.declared.ids.VersionId.{VersionId}
 use Rattle.s3_names.specs.declared.ids.VersionId.TheVariants.{Null}
+use Rattle.s3_conditions.specs.declared.conditions.Conditions.{Conditions}
+use Rattle.s3_conditions.specs.declared.conditions.Selection.{Selection}
+use Rattle.s3_conditions.specs.declared.conditions.Selection.TheVariants.{Whole, Unchanged}
+use Rattle.s3_conditions.specs.Conditions.{plain}
+use Rattle.s3_versions.specs.declared.picking.Facts.{Facts}
+use Rattle.s3_versions.specs.declared.picking.Refusal.{Refusal}
 use Rattle.s3_versions.specs.declared.version.Data.{Data}
 use Rattle.s3_versions.specs.declared.version.Versioning.{Versioning}
 use Rattle.s3_versions.specs.Rules.{new_id}
@@ -13,10 +20,12 @@ use Rattle.s3_machine.specs.declared.command.Command.{Command}
 use Rattle.s3_machine.specs.declared.command.Command.TheVariants as commands
 use Rattle.s3_machine.specs.declared.command.KeyCommand.{KeyCommand}
 use Rattle.s3_machine.specs.declared.command.KeyCommand.TheVariants as key_commands
+use Rattle.s3_machine.specs.declared.command.Source.{Source}
+use Rattle.s3_machine.specs.declared.command.ObjectRead.{ObjectRead}
 use Rattle.s3_machine.specs.declared.command.Found.{Found}
 use Rattle.s3_machine.specs.declared.command.Outcome.{Outcome}
 use Rattle.s3_machine.specs.declared.command.Outcome.TheVariants as outcomes
-use Rattle.s3_machine.specs.Step.{State, data_of, makes_marker}
+use Rattle.s3_machine.specs.Step.{State, copied, data_of, makes_marker, shown_by}
 
 -- a key of a bucket
 pub record Address : Type 0 where
@@ -24,8 +33,9 @@ pub record Address : Type 0 where
   pub key : List ℕ
 
 -- the address whose versions a command may change
-abbrev pub key_written : Address → KeyCommand → Option Address
-key_written address (key_commands.Put content_type metadata payload) = Some address
+abbrev pub key_written : Address → KeyCommand (List ℕ) → Option Address
+key_written address (key_commands.Put put) = Some address
+key_written address (key_commands.Copy copy) = Some address
 key_written address (key_commands.Delete asked) = Some address
 key_written address other = None
 
@@ -34,8 +44,8 @@ writes (commands.Key bucket key asked) = key_written (record { bucket = bucket; 
 writes other = None
 
 -- the data that a command brings along, to be stored as they are
-abbrev pub key_brought : KeyCommand → Option (Data (List ℕ))
-key_brought (key_commands.Put content_type metadata payload) = Some (data_of content_type metadata payload)
+abbrev pub key_brought : KeyCommand (List ℕ) → Option (Data (List ℕ))
+key_brought (key_commands.Put put) = Some (data_of put)
 key_brought other = None
 
 abbrev pub brought : Command → Option (Data (List ℕ))
@@ -59,34 +69,52 @@ object_of s n t address stored =
     record { address = address; id = new_id (versioning_of s address.bucket) n; moment = t; stored = stored }
 
 -- the data that a command stores under its key, where it isn't refused in this state
-abbrev pub key_stored : State → Address → KeyCommand → Option (Data (List ℕ))
-key_stored s address (key_commands.Put content_type metadata payload) = Some (data_of content_type metadata payload)
+abbrev pub key_stored : State → Address → KeyCommand (List ℕ) → Option (Data (List ℕ))
+key_stored s address (key_commands.Put put) = Some (data_of put)
+key_stored s address (key_commands.Copy copy) = result_ok (copied s copy.source)
 key_stored s address other = None
 
 -- the object that it stores as entry n at moment t
-abbrev pub stored_at : State → ℕ → ℕ → Address → KeyCommand → Option Object
+abbrev pub stored_at : State → ℕ → ℕ → Address → KeyCommand (List ℕ) → Option Object
 stored_at s n t address asked = option_map (object_of s n t address) (key_stored s address asked)
 
 abbrev pub stored_by : State → ℕ → ℕ → Command → Option Object
 stored_by s n t (commands.Key bucket key asked) = stored_at s n t (record { bucket = bucket; key = key }) asked
 stored_by s n t other = None
 
--- what a command reads with its bytes: an address, and the version that it names, if it names one
+-- what a command reads: an address, the version that it names, if it names one, and by which conditions
 pub record Read : Type 0 where
   pub address : Address
   pub version : Option VersionId
+  pub conditions : Conditions
 
--- a read of all of it
+-- a plain read, which is shown all of it
 abbrev pub whole : Address → Option VersionId → Read
-whole address version = record { address = address; version = version }
+whole address version = record { address = address; version = version; conditions = plain }
 
-abbrev pub key_read : Address → KeyCommand → Option Read
-key_read address (key_commands.Get version) = Some (whole address version)
+-- the read that is asked for at an address
+abbrev pub read_at : Address → ObjectRead → Read
+read_at address asked = record { address = address; version = asked.version; conditions = asked.conditions }
+
+abbrev pub key_read : Address → KeyCommand (List ℕ) → Option Read
+key_read address (key_commands.Read asked) = Some (read_at address asked)
 key_read address other = None
 
 abbrev pub reads : Command → Option Read
 reads (commands.Key bucket key asked) = key_read (record { bucket = bucket; key = key }) asked
 reads other = None
+
+-- what a command copies: all of a version
+abbrev pub source_read : Source → Read
+source_read source = whole (record { bucket = source.bucket; key = source.key }) source.version
+
+abbrev pub key_copies : KeyCommand (List ℕ) → Option Read
+key_copies (key_commands.Copy copy) = Some (source_read copy.source)
+key_copies other = None
+
+abbrev pub copies : Command → Option Read
+copies (commands.Key bucket key asked) = key_copies asked
+copies other = None
 
 -- the command only reads
 abbrev pub only_reads_bucket : BucketCommand → Bool
@@ -94,9 +122,8 @@ only_reads_bucket bucket_commands.Head = true
 only_reads_bucket bucket_commands.GetVersioning = true
 only_reads_bucket other = false
 
-abbrev pub only_reads_key : KeyCommand → Bool
-only_reads_key (key_commands.Get asked) = true
-only_reads_key (key_commands.Head asked) = true
+abbrev pub only_reads_key : KeyCommand (List ℕ) → Bool
+only_reads_key (key_commands.Read asked) = true
 only_reads_key other = false
 
 abbrev pub only_reads : Command → Bool
@@ -109,10 +136,10 @@ abbrev pub takes_room_in_bucket : BucketCommand → Bool
 takes_room_in_bucket bucket_commands.Create = true
 takes_room_in_bucket other = false
 
-abbrev pub takes_room_at_key : Versioning → KeyCommand → Bool
-takes_room_at_key versioning (key_commands.Put content_type metadata payload) = true
-takes_room_at_key versioning (key_commands.Get asked) = true
-takes_room_at_key versioning (key_commands.Head asked) = true
+abbrev pub takes_room_at_key : Versioning → KeyCommand (List ℕ) → Bool
+takes_room_at_key versioning (key_commands.Put put) = true
+takes_room_at_key versioning (key_commands.Copy copy) = true
+takes_room_at_key versioning (key_commands.Read asked) = true
 takes_room_at_key versioning (key_commands.Delete None) = makes_marker versioning
 takes_room_at_key versioning other = false
 
@@ -126,14 +153,40 @@ abbrev pub is_refused : Outcome → Bool
 is_refused (outcomes.Refused code is_delete_marker) = true
 is_refused other = false
 
--- the command succeeds
+-- something of a version is shown, and not that it is as the reader knows it
+abbrev pub shows_bytes : Selection → Bool
+shows_bytes Unchanged = false
+shows_bytes other = true
+
+-- the command succeeds: the machine doesn't refuse, and what was read isn't as the reader knows it (RFC 9110, section 15.4.5)
 abbrev pub succeeds : Outcome → Bool
-succeeds outcome = not (is_refused outcome)
+succeeds (outcomes.Refused code is_delete_marker) = false
+succeeds (outcomes.Got found selection) = shows_bytes selection
+succeeds other = true
+
+-- the version whose bytes are handed out, all of them or a part
+abbrev pub given : Outcome → Option (Found (List ℕ))
+given (outcomes.Got found selection) = if shows_bytes selection then Some found else None
+given other = None
 
 -- the version that is handed out with all its bytes
-abbrev pub given : Outcome → Option (Found (List ℕ))
-given (outcomes.Got found) = Some found
-given other = None
+abbrev pub given_whole : Outcome → Option (Found (List ℕ))
+given_whole (outcomes.Got found Whole) = Some found
+given_whole other = None
+
+-- what comes of a version that was found, by the judgement of the conditions of a read
+abbrev pub shown_as : Found (List ℕ) → Result Selection Refusal → Outcome
+shown_as found (Ok selection) = outcomes.Got found selection
+shown_as found (Err refusal) = outcomes.Refused refusal.code refusal.is_delete_marker
+
+-- what is known of a version that was found
+abbrev pub facts_found : Found (List ℕ) → Facts
+facts_found found = record { moment = found.moment; tag = found.stored.tag; size = found.stored.size }
+
+-- what comes of a read by conditions, where this comes of the plain one
+abbrev pub by_conditions : Conditions → Outcome → Outcome
+by_conditions conditions (outcomes.Got found selection) = shown_as found (shown_by conditions (facts_found found))
+by_conditions conditions other = other
 
 -- what was found of a version of this id
 abbrev pub found_object : Address → VersionId → Found (List ℕ) → Object
@@ -142,6 +195,7 @@ found_object address id found = record { address = address; id = id; moment = fo
 -- the tag under which something is stored
 abbrev pub acknowledged : Outcome → Option (List ℕ)
 acknowledged (outcomes.Put tag shown) = Some tag
+acknowledged (outcomes.Copied tag moment shown) = Some tag
 acknowledged other = None
 
 -- an id that is shown or not: it isn't where versioning was never set, where all versions are `null`
@@ -150,6 +204,7 @@ told shown = unwrap_or shown Null
 
 abbrev pub told_id : Outcome → Option VersionId
 told_id (outcomes.Put tag shown) = Some (told shown)
+told_id (outcomes.Copied tag moment shown) = Some (told shown)
 told_id (outcomes.Deleted shown is_delete_marker) = Some (told shown)
 told_id other = None
 

@@ -1,44 +1,49 @@
 -- What the machine keeps: what an entry stored comes back and nothing else does, by its key and by its version; a
 -- delete marker hides and takes nothing away; what was refused or only read changes nothing.
-use Rattle.std.specs.Prelude.{◌≡◌, ◌≢◌, ◌⊎◌, ℕ, true, false, List, [], ◌∷◌, ◌++◌, Option, Some, None, is_some}
+use Rattle.std.specs.Prelude.{◌≡◌, ◌≢◌, ◌⊎◌, ℕ, true, false, List, [], ◌∷◌, ◌++◌, Option, Some, None, is_some, Ok}
 use Rattle.std.specs.List.{AllByRecursion}
 use Rattle.s3_terms.specs.declared.code.Code.TheVariants.{NoSuchKey}
 use Rattle.s3_names.specs.declared.ids.VersionId.{VersionId}
 use Rattle.s3_bodies.specs.Payload.{tag_of}
+use Rattle.s3_conditions.specs.declared.conditions.Conditions.{Conditions}
+use Rattle.s3_conditions.specs.declared.conditions.Selection.{Selection}
+use Rattle.s3_conditions.specs.Conditions.{judged}
 use Rattle.s3_versions.specs.declared.version.Data.{Data}
 use Rattle.s3_versions.specs.declared.version.Version.{Version}
 use Rattle.s3_versions.specs.Rules.{stored}
 use Rattle.s3_records.specs.Catalogue.{opening}
 use Rattle.s3_records.specs.Places.{version_at}
+use Rattle.s3_machine.specs.declared.command.Command.{Command}
 use Rattle.s3_machine.specs.declared.command.Command.TheVariants as commands
 use Rattle.s3_machine.specs.declared.command.KeyCommand.TheVariants as key_commands
 use Rattle.s3_machine.specs.declared.command.Found.{Found}
+use Rattle.s3_machine.specs.declared.command.Outcome.{Outcome}
 use Rattle.s3_machine.specs.declared.command.Outcome.TheVariants as outcomes
-use Rattle.s3_machine.specs.Step.{State}
-use Rattle.s3_machine.specs.Effects.{Address, Object, Read, writes, brought, brings, object_of, stored_by, whole, reads, given, found_object, acknowledged, touched, is_refused, succeeds, only_reads}
+use Rattle.s3_machine.specs.Step.{State, step}
+use Rattle.s3_machine.specs.Effects.{Address, Object, Read, writes, copies, brought, brings, object_of, stored_by, whole, reads, given, given_whole, found_object, acknowledged, touched, is_refused, succeeds, only_reads}
 use Rattle.s3_machine.specs.History.{Entry, Legal, after}
 
--- the entry, if it may change the versions of the address, is refused
+-- the entry, if it may change the versions of the address, doesn't succeed
 abbrev pub Leaves : Address → Entry → Type 0
-Leaves address e = writes e.command ≡ Some address → is_refused e.answer.outcome ≡ true
+Leaves address e = writes e.command ≡ Some address → succeeds e.answer.outcome ≡ false
 
--- no entry that is not refused changes them
+-- no entry that succeeds changes them
 abbrev pub LeavesKey : Address → List Entry → Type 0
 LeavesKey address entries = AllByRecursion (Leaves address) entries
 
--- the entry, if it may change the versions of the address and isn't refused, doesn't touch this id
+-- the entry, if it may change the versions of the address and succeeds, doesn't touch this id
 abbrev pub Spares : Address → VersionId → Entry → Type 0
 Spares address id e =
-    writes e.command ≡ Some address → is_refused e.answer.outcome ≡ false → touched e.command e.answer.outcome ≢ Some id
+    writes e.command ≡ Some address → succeeds e.answer.outcome ≡ true → touched e.command e.answer.outcome ≢ Some id
 
 -- no entry makes, replaces or deletes the version of this id there
 abbrev pub SparesVersion : Address → VersionId → List Entry → Type 0
 SparesVersion address id entries = AllByRecursion (Spares address id) entries
 
--- in this state the entry, which was not refused, stored this object
+-- in this state the entry, which succeeded, stored this object
 pub record Stores (s : State) (e : Entry) (object : Object) : Type 0 where
   pub by : stored_by s e.answer.number e.moment e.command ≡ Some object
-  pub accepted : is_refused e.answer.outcome ≡ false
+  pub accepted : succeeds e.answer.outcome ≡ true
 
 -- the object was stored by one of the entries, and none behind that one touched its id
 pub record WasStored (least : ℕ) (s : State) (entries : List Entry) (object : Object) : Type 0 where
@@ -62,35 +67,70 @@ pub record Stands (s : State) (object : Object) : Type 0 where
   pub moment : version.moment ≡ object.moment
   pub holds : stored version ≡ Some object.stored
 
--- the entry reads all of the current version of the address, or of the version of an id
+-- the entry reads the current version of the address, or the version of an id, without conditions
 abbrev pub ReadsKey : Address → Entry → Type 0
 ReadsKey address e = reads e.command ≡ Some (whole address None)
 
 abbrev pub ReadsVersion : Address → VersionId → Entry → Type 0
 ReadsVersion address id e = reads e.command ≡ Some (whole address (Some id))
 
--- it is given these data, of moment t
+-- the entry reads the current version of the address, by whichever conditions
+pub record AsksForKey (address : Address) (e : Entry) : Type 0 where
+  pub conditions : Conditions
+  pub read : reads e.command ≡ Some (record { address = address; version = None; conditions = conditions })
+
+-- it is given all of these data, of moment t
 pub record IsGiven (t : ℕ) (what : Data (List ℕ)) (e : Entry) : Type 0 where
   pub found : Found (List ℕ)
-  pub gives : given e.answer.outcome ≡ Some found
+  pub gives : given_whole e.answer.outcome ≡ Some found
   pub moment : found.moment ≡ t
   pub holds : found.stored ≡ what
+
+-- what is told is what these conditions select of a version, bytes among it
+pub record IsShown (conditions : Conditions) (outcome : Outcome) : Type 0 where
+  pub found : Found (List ℕ)
+  pub selection : Selection
+  pub shows : outcome ≡ outcomes.Got found selection
+  pub gives : given outcome ≡ Some found
+  pub selects : judged conditions found.moment found.stored.tag found.stored.size ≡ Ok selection
 
 -- the version that was found has this id: the one that was named, if one was, and the one that is shown, if it is
 pub record IsFoundUnder (id : VersionId) (asked : Read) (found : Found (List ℕ)) : Type 0 where
   pub named : (v : VersionId) → asked.version ≡ Some v → v ≡ id
   pub shown : (v : VersionId) → found.shown ≡ Some v → v ≡ id
 
--- the entry puts these data under the address, and was not refused
+-- the entry puts these data under the address, and succeeds
 pub record Puts (address : Address) (what : Data (List ℕ)) (e : Entry) : Type 0 where
   pub written : writes e.command ≡ Some address
   pub brings : brought e.command ≡ Some what
-  pub accepted : is_refused e.answer.outcome ≡ false
+  pub accepted : succeeds e.answer.outcome ≡ true
+
+-- the entry copies this version to the address, and succeeds
+pub record Copies (address : Address) (asked : Read) (e : Entry) : Type 0 where
+  pub written : writes e.command ≡ Some address
+  pub from : copies e.command ≡ Some asked
+  pub accepted : succeeds e.answer.outcome ≡ true
+
+-- in this state each read of that version is given all of these data, and could be the next entry
+pub record WouldGive (s : State) (asked : Read) (what : Data (List ℕ)) : Type 0 where
+  pub found : Found (List ℕ)
+  pub gives : (least n t : ℕ) (read : Command) → reads read ≡ Some asked → given_whole (step least s n t read).1 ≡ Some found
+  pub holds : found.stored ≡ what
 
 -- How an entry comes to store an object in a state. Each operation that stores one has a case: a put stores what it
--- brings.
+-- brings, and a copy what its source has.
 pub data Source (s : State) (e : Entry) (object : Object) : Type 0 where
   Put : Puts object.address object.stored e → Source s e object
+  Copy : (asked : Read) → Copies object.address asked e → WouldGive s asked object.stored → Source s e object
+
+-- these data were put by one of the entries
+pub record WasPut (entries : List Entry) (what : Data (List ℕ)) : Type 0 where
+  pub before : List Entry
+  pub put : Entry
+  pub later : List Entry
+  pub parts : entries ≡ before ++ put ∷ later
+  pub address : Address
+  pub puts : Puts address what put
 
 -- the entry deletes the key, names no version, and makes a delete marker
 pub record Marks (address : Address) (e : Entry) : Type 0 where
@@ -141,7 +181,7 @@ module _ (least : ℕ) (s : State) (entries : List Entry) where
       → Stands (after least s entries) object
       → WasStored least s entries object
 
-  -- and what a read is given was stored before it.
+  -- and what a read is given, by whichever conditions, was stored before it.
   abbrev pub OnlyStoredIsGiven : Type 0
   OnlyStoredIsGiven =
       (names : List (List ℕ)) (earlier later : List Entry) (read : Entry) (asked : Read) (found : Found (List ℕ))
@@ -151,13 +191,31 @@ module _ (least : ℕ) (s : State) (entries : List Entry) where
       → given read.answer.outcome ≡ Some found
       → (id : VersionId) × IsFoundUnder id asked found × WasStored least s earlier (found_object asked.address id found)
 
-  -- A read of all of a version hands it out, or doesn't succeed.
+  -- However often data were copied since, a put brought them once.
+  abbrev pub OnlyPutsAreStored : Type 0
+  OnlyPutsAreStored =
+      (names : List (List ℕ)) (earlier later : List Entry) (object : Object)
+      → s ≡ opening names
+      → entries ≡ earlier ++ later
+      → WasStored least s earlier object
+      → WasPut earlier object.stored
+
+  -- A read without conditions hands out all of a version, or doesn't succeed.
   abbrev pub ReadsGiveOrFail : Type 0
   ReadsGiveOrFail =
       (before later : List Entry) (read : Entry) (address : Address) (version : Option VersionId)
       → entries ≡ before ++ read ∷ later
       → reads read.command ≡ Some (whole address version)
-      → is_some (given read.answer.outcome) ≡ succeeds read.answer.outcome
+      → is_some (given_whole read.answer.outcome) ≡ succeeds read.answer.outcome
+
+  -- A read by whichever conditions is shown what they select of a version, or doesn't succeed.
+  abbrev pub ReadsAreJudged : Type 0
+  ReadsAreJudged =
+      (before later : List Entry) (read : Entry) (asked : Read)
+      → entries ≡ before ++ read ∷ later
+      → reads read.command ≡ Some asked
+      → succeeds read.answer.outcome ≡ true
+      → IsShown asked.conditions read.answer.outcome
 
   -- A delete marker hides: a read of the key is answered that there is no such key, and that it is a delete marker, until
   -- an entry changes the versions of the key. That it takes nothing away is said by version: it touches its own id alone.
@@ -167,7 +225,7 @@ module _ (least : ℕ) (s : State) (entries : List Entry) where
       → entries ≡ before ++ mark ∷ between ++ read ∷ later
       → Marks address mark
       → LeavesKey address between
-      → ReadsKey address read
+      → AsksForKey address read
       → read.answer.outcome ≡ outcomes.Refused NoSuchKey true
 
   -- An entry that is refused leaves the state as it was, and so does one that only reads.
@@ -178,7 +236,7 @@ module _ (least : ℕ) (s : State) (entries : List Entry) where
       → ((is_refused e.answer.outcome ≡ true) ⊎ (only_reads e.command ≡ true))
       → after least s (before ++ e ∷ []) ≡ after least s before
 
-  -- So a put that isn't refused comes back: its type, its metadata and its bytes, by key,
+  -- So a put that succeeds comes back: its type, its metadata and its bytes, by key,
   abbrev pub PutsAreKept : Type 0
   PutsAreKept =
       (before between later : List Entry) (put read : Entry) (address : Address) (what : Data (List ℕ))
@@ -188,7 +246,7 @@ module _ (least : ℕ) (s : State) (entries : List Entry) where
       → ReadsKey address read
       → IsGiven put.moment what read
 
-  -- and by the version that it is told;
+  -- and by the version that it is told.
   abbrev pub PutVersionsAreKept : Type 0
   PutVersionsAreKept =
       (before between later : List Entry) (put read : Entry) (address : Address) (what : Data (List ℕ)) (id : VersionId)
@@ -199,21 +257,50 @@ module _ (least : ℕ) (s : State) (entries : List Entry) where
       → ReadsVersion address id read
       → IsGiven put.moment what read
 
-  -- and what it is told is the tag of its bytes.
+  -- What a copy finds at its source comes back just so, by key,
+  abbrev pub CopiesAreKept : Type 0
+  CopiesAreKept =
+      (before between later : List Entry) (copy read : Entry) (address : Address) (asked : Read)
+      → entries ≡ before ++ copy ∷ between ++ read ∷ later
+      → Copies address asked copy
+      → LeavesKey address between
+      → ReadsKey address read
+      → (what : Data (List ℕ)) × WouldGive (after least s before) asked what × IsGiven copy.moment what read
+
+  -- and by version.
+  abbrev pub CopyVersionsAreKept : Type 0
+  CopyVersionsAreKept =
+      (before between later : List Entry) (copy read : Entry) (address : Address) (asked : Read) (id : VersionId)
+      → entries ≡ before ++ copy ∷ between ++ read ∷ later
+      → Copies address asked copy
+      → touched copy.command copy.answer.outcome ≡ Some id
+      → SparesVersion address id between
+      → ReadsVersion address id read
+      → (what : Data (List ℕ)) × WouldGive (after least s before) asked what × IsGiven copy.moment what read
+
+  -- What a put is told is the tag of its bytes.
   abbrev pub BodiesAreTagged : Type 0
   BodiesAreTagged =
       (before later : List Entry) (e : Entry) (body : List ℕ)
       → entries ≡ before ++ e ∷ later
       → brings e.command ≡ Some body
-      → is_refused e.answer.outcome ≡ false
+      → succeeds e.answer.outcome ≡ true
       → acknowledged e.answer.outcome ≡ Some (tag_of body)
 
--- A put that isn't refused stores what it brings.
+-- A put that succeeds stores what it brings.
 abbrev pub PutsStoreTheirContents : Type 0
 PutsStoreTheirContents =
     (s : State) (e : Entry) (address : Address) (what : Data (List ℕ))
     → Puts address what e
     → Stores s e (object_of s e.answer.number e.moment address what)
+
+-- What a copy stores is what a read of all of its source would be given.
+abbrev pub CopiesStoreTheirSource : Type 0
+CopiesStoreTheirSource =
+    (s : State) (e : Entry) (asked : Read) (object : Object)
+    → copies e.command ≡ Some asked
+    → Stores s e object
+    → WouldGive s asked object.stored
 
 -- What an entry stores has a source.
 abbrev pub StoredHasSource : Type 0

@@ -3,29 +3,34 @@
 use Rattle.std.specs.Prelude.{ℕ, Bool, true, false, not, List, length, Option, Some, None, find, Result, Ok, Err}
 use Rattle.std.specs.Option.{option_map, unwrap_or}
 use Rattle.s3_bodies.specs.Payload.{tag_of}
-use Rattle.s3_terms.specs.declared.code.Code.TheVariants.{NoSuchBucket, BucketAlreadyOwnedByYou, BucketNotEmpty}
+use Rattle.s3_terms.specs.declared.code.Code.{Code}
+use Rattle.s3_terms.specs.declared.code.Code.TheVariants.{NoSuchBucket, BucketAlreadyOwnedByYou, BucketNotEmpty, InvalidRequest, MethodNotAllowed}
 use Rattle.s3_names.specs.declared.ids.VersionId.{VersionId}
-use Rattle.s3_versions.specs.Metadata.{Entry}
+use Rattle.s3_conditions.specs.declared.conditions.Conditions.{Conditions}
+use Rattle.s3_conditions.specs.declared.conditions.Selection.{Selection}
+use Rattle.s3_conditions.specs.Conditions.{judged}
+use Rattle.s3_versions.specs.declared.picking.Facts.{Facts}
 use Rattle.s3_versions.specs.declared.picking.Refusal.{Refusal}
 use Rattle.s3_versions.specs.declared.version.Data.{Data}
 use Rattle.s3_versions.specs.declared.version.Version.{Version}
 use Rattle.s3_versions.specs.declared.version.Versioning.{Versioning}
 use Rattle.s3_versions.specs.declared.version.Versioning.TheVariants.{Unversioned, Enabled, Suspended}
-use Rattle.s3_versions.specs.Rules.{id_of, is_under, is_delete_marker, pick, new_id}
-use Rattle.s3_versions.specs.Filling.{filled_data}
+use Rattle.s3_versions.specs.Rules.{id_of, is_under, is_delete_marker, pick, facts_of, new_id, VersionPut, KeyDeleted, VersionDropped}
 use Rattle.s3_records.specs.Catalogue.{Catalogue, has_bucket, listed_buckets, is_empty_bucket, versions_of, versioning_of}
-use Rattle.s3_records.specs.Changes.{bucket_added, bucket_dropped, versioning_changed, version_put, key_deleted, version_dropped}
+use Rattle.s3_records.specs.Changes.{BucketAdded, BucketDropped, VersioningSet, KeyChanged, changed}
 use Rattle.s3_machine.specs.declared.command.BucketCommand.{BucketCommand}
 use Rattle.s3_machine.specs.declared.command.BucketCommand.TheVariants as bucket_commands
 use Rattle.s3_machine.specs.declared.command.Command.{Command}
 use Rattle.s3_machine.specs.declared.command.Command.TheVariants as commands
 use Rattle.s3_machine.specs.declared.command.KeyCommand.{KeyCommand}
 use Rattle.s3_machine.specs.declared.command.KeyCommand.TheVariants as key_commands
+use Rattle.s3_machine.specs.declared.command.ObjectPut.{ObjectPut}
+use Rattle.s3_machine.specs.declared.command.Source.{Source}
 use Rattle.s3_machine.specs.declared.command.Found.{Found}
 use Rattle.s3_machine.specs.declared.command.Outcome.{Outcome}
 use Rattle.s3_machine.specs.declared.command.Outcome.TheVariants as outcomes
 use Rattle.s3_terms.specs.Fault.{◌>>◌, ◌>>=◌}
-use Rattle.s3_machine.specs.Fault.{refuse}
+use Rattle.s3_machine.specs.Fault.{refuse, as_refusal}
 
 -- the buckets, with their keys and the versions under these, with their bytes
 abbrev pub State : Type 0
@@ -52,59 +57,85 @@ abbrev pub is_marker_under : {B : Type 0} → VersionId → List (Version B) →
 is_marker_under id vs = unwrap_or (option_map is_delete_marker (find (is_under id) vs)) false
 
 -- what a put stores
-abbrev pub data_of : List ℕ → List Entry → List ℕ → Data (List ℕ)
-data_of content_type metadata bytes =
-    record { tag = tag_of bytes; content_type = content_type; metadata = metadata; size = length bytes; body = bytes }
+abbrev pub data_of : ObjectPut (List ℕ) → Data (List ℕ)
+data_of put =
+    record {
+      tag = tag_of put.payload;
+      content_type = put.content_type;
+      metadata = put.metadata;
+      size = length put.payload;
+      body = put.payload;
+    }
 
 -- what is told of a version that is read, and what it stores
 abbrev pub found_in : {B : Type 0} → Versioning → Version B × Data B → Found B
 found_in versioning read =
     record { shown = shown_in versioning (id_of read.0); moment = read.0.moment; stored = read.1 }
 
--- the same without the bytes
-abbrev pub head_of : {B : Type 0} → Found B → Found (Unit {0})
-head_of found = record { shown = found.shown; moment = found.moment; stored = filled_data (λ body. tt) found.stored }
+-- a copy of what can't be read is refused as the read is, but it never tells of a delete marker: that an id names one is
+-- a fault of the request (Amazon S3 User Guide, "Working with delete markers")
+abbrev pub source_code : Code → Code
+source_code MethodNotAllowed = InvalidRequest
+source_code other = other
+
+abbrev pub data_read : {B : Type 0} → Result (Version B × Data B) Refusal → Result (Data B) Refusal
+data_read (Ok read) = Ok read.1
+data_read (Err refusal) = Err (record { code = source_code refusal.code; is_delete_marker = false })
+
+-- what a copy stores: what its source stores, which is the version that a read of it picks
+unfoldable pub copied : State → Source → Result (Data (List ℕ)) Refusal
+copied s source = do
+  refuse (not (has_bucket s source.bucket)) NoSuchBucket
+  data_read (pick source.version (versions_of s source.bucket source.key))
+
+-- what is shown of a version by the conditions of a read
+abbrev pub shown_by : Conditions → Facts → Result Selection Refusal
+shown_by conditions facts = as_refusal (judged conditions facts.moment facts.tag facts.size)
 
 -- what a command on a bucket does at moment t
 unfoldable pub bucket_done : State → ℕ → List ℕ → BucketCommand → Result Stepped Refusal
 bucket_done s t name bucket_commands.Create = do
   refuse (has_bucket s name) BucketAlreadyOwnedByYou
-  Ok (bucket_added s name t, outcomes.BucketMade name)
+  Ok (changed s name (BucketAdded t), outcomes.BucketMade name)
 bucket_done s t name bucket_commands.Head = do
   refuse (not (has_bucket s name)) NoSuchBucket
   Ok (s, outcomes.BucketFound)
 bucket_done s t name bucket_commands.Delete = do
   refuse (not (has_bucket s name)) NoSuchBucket
   refuse (not (is_empty_bucket s name)) BucketNotEmpty
-  Ok (bucket_dropped s name, outcomes.BucketDropped)
+  Ok (changed s name BucketDropped, outcomes.BucketDropped)
 bucket_done s t name (bucket_commands.PutVersioning status) = do
   refuse (not (has_bucket s name)) NoSuchBucket
-  Ok (versioning_changed s name status, outcomes.VersioningSet)
+  Ok (changed s name (VersioningSet status), outcomes.VersioningSet)
 bucket_done s t name bucket_commands.GetVersioning = do
   refuse (not (has_bucket s name)) NoSuchBucket
   Ok (s, outcomes.BucketVersioning (versioning_of s name))
 
 -- what a command on a key does, as entry n at moment t, in a bucket that is there
-unfoldable pub key_done : State → ℕ → ℕ → List ℕ → List ℕ → KeyCommand → Result Stepped Refusal
-key_done s n t name key (key_commands.Put content_type metadata payload) =
+unfoldable pub key_done : State → ℕ → ℕ → List ℕ → List ℕ → KeyCommand (List ℕ) → Result Stepped Refusal
+key_done s n t name key (key_commands.Put put) =
     Ok (
-      version_put s name key n t (data_of content_type metadata payload),
-      outcomes.Put (tag_of payload) (shown_in (versioning_of s name) (new_id (versioning_of s name) n)),
+      changed s name (KeyChanged key (VersionPut n t (data_of put))),
+      outcomes.Put (tag_of put.payload) (shown_in (versioning_of s name) (new_id (versioning_of s name) n)),
     )
-key_done s n t name key (key_commands.Get asked) = do
-  read ← pick asked (versions_of s name key)
-  Ok (s, outcomes.Got (found_in (versioning_of s name) read))
-key_done s n t name key (key_commands.Head asked) = do
-  read ← pick asked (versions_of s name key)
-  Ok (s, outcomes.HeadGot (head_of (found_in (versioning_of s name) read)))
+key_done s n t name key (key_commands.Copy copy) = do
+  stored ← copied s copy.source
+  Ok (
+    changed s name (KeyChanged key (VersionPut n t stored)),
+    outcomes.Copied stored.tag t (shown_in (versioning_of s name) (new_id (versioning_of s name) n)),
+  )
+key_done s n t name key (key_commands.Read asked) = do
+  read ← pick asked.version (versions_of s name key)
+  selection ← shown_by asked.conditions (facts_of read)
+  Ok (s, outcomes.Got (found_in (versioning_of s name) read) selection)
 key_done s n t name key (key_commands.Delete None) =
     Ok (
-      key_deleted s name key n t,
+      changed s name (KeyChanged key (KeyDeleted n t)),
       outcomes.Deleted (shown_in (versioning_of s name) (new_id (versioning_of s name) n)) (makes_marker (versioning_of s name)),
     )
 key_done s n t name key (key_commands.Delete (Some id)) =
     Ok (
-      version_dropped s name key id,
+      changed s name (KeyChanged key (VersionDropped id)),
       outcomes.Deleted (shown_in (versioning_of s name) id) (is_marker_under id (versions_of s name key)),
     )
 

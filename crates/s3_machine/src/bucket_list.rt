@@ -31,14 +31,15 @@ impl Model for BucketList {
 }
 
 impl BucketList {
-    /// The list of these rows, which are moved and not copied, with its document, which takes memory.
+    /// The list of these rows, which are moved and not copied, with its document, which takes memory whatever they are, and
+    /// is moved too, as long as one block has it all.
     pub fn new(alloc: Global, rows: Vec<ListedBucket>) -> Result<BucketList, NoMemory>
         ensures { IfOk result (λ list. list ≡ rows.items) }
     {
         let text = buckets_document(alloc, rows.as_slice())?;
         Ok(BucketList {
             rows,
-            document: Body::of(alloc, text.as_slice())?,
+            document: Body::of_vec(alloc, text)?,
         })
     }
 

@@ -3,6 +3,7 @@
 use crate::BucketList;
 use s3_bodies::{Body, Payload};
 use s3_calendar::Moment;
+use s3_conditions::{Conditions, Selection};
 use s3_names::{BucketName, Key, Tag, VersionId};
 use s3_terms::Code;
 use s3_versions::{ContentType, Data, Metadata, Versioning, VersioningStatus};
@@ -21,7 +22,7 @@ pub enum Command {
     Key {
         bucket: BucketName,
         key: Key,
-        asked: KeyCommand,
+        asked: KeyCommand<Payload>,
     },
 }
 
@@ -40,27 +41,46 @@ pub enum BucketCommand {
     GetVersioning,
 }
 
-/// What is asked of a key.
+/// What is asked of a key. `B` is what came as a body: nothing before it is read, and the payload after.
 #[derive(Drop)]
-pub enum KeyCommand {
-    /// Stores the payload under it (PutObject).
-    Put {
-        content_type: ContentType,
-        metadata: Metadata,
-        payload: Payload,
-    },
-    /// Reads the version of this id, or the current one (GetObject).
-    Get {
-        version: Option<VersionId>,
-    },
-    /// The same without the bytes (HeadObject).
-    Head {
-        version: Option<VersionId>,
-    },
+pub enum KeyCommand<B> {
+    /// Stores the body under it (PutObject).
+    Put(ObjectPut<B>),
+    /// Stores under it what a version has (CopyObject).
+    Copy(ObjectCopy),
+    /// Reads a version (GetObject and HeadObject, whose reply leaves the bytes out).
+    Read(ObjectRead),
     /// Deletes it, or its version of this id (DeleteObject).
-    Delete {
-        version: Option<VersionId>,
-    },
+    Delete { version: Option<VersionId> },
+}
+
+/// What is to be stored.
+#[derive(Drop)]
+pub struct ObjectPut<B> {
+    pub content_type: ContentType,
+    pub metadata: Metadata,
+    pub payload: B,
+}
+
+/// What is to be copied.
+#[derive(Drop)]
+pub struct ObjectCopy {
+    pub source: Source,
+}
+
+/// Where a copy is from: the version of this id, or the current one.
+#[derive(Drop)]
+pub struct Source {
+    pub bucket: BucketName,
+    pub key: Key,
+    pub version: Option<VersionId>,
+}
+
+/// What is to be read: the version of this id, or the current one, and what is asked of it.
+#[derive(Drop)]
+pub struct ObjectRead {
+    pub version: Option<VersionId>,
+    pub conditions: Conditions,
 }
 
 /// The machine's answer to one command.
@@ -97,13 +117,16 @@ pub enum Outcome {
         tag: Tag,
         shown: Option<VersionId>,
     },
-    /// The version with its bytes.
+    /// What a version has is stored: under its tag, at this moment, and as a version of this id.
+    Copied {
+        tag: Tag,
+        moment: Moment,
+        shown: Option<VersionId>,
+    },
+    /// The version with all its bytes, and what of them is shown.
     Got {
         found: Found<Body>,
-    },
-    /// What is told of the version beside its bytes.
-    HeadGot {
-        found: Found<()>,
+        selection: Selection,
     },
     /// What was to be deleted is not there now: the id is that of the delete marker that was made, or the one
     /// that the request named. Says whether a delete marker was made or is gone.
@@ -118,7 +141,7 @@ pub enum Outcome {
     },
 }
 
-/// A version that was read: when it was made, and what a put stored.
+/// A version that was read: when it was made, and what it stores.
 #[derive(Drop)]
 pub struct Found<B> {
     pub shown: Option<VersionId>,

@@ -2,8 +2,9 @@
 ghost use Rattle.std.specs.Prelude.{◌≡◌, ℕ, ◌+◌, List, [], ◌∷◌, ◌++◌, length};
 ghost use Rattle.s3_machine.specs.Step.{State};
 ghost use Rattle.s3_machine.specs.History.{Entry, IsAnswer, Legal, after, after_entry};
-ghost use Rattle.s3_machine.specs.Kept.{EveryHistory, StoredIsKept, VersionsAreKept, StoredIsTold, OnlyStoredStands, OnlyStoredIsGiven, ReadsGiveOrFail, PutsStoreTheirContents, StoredHasSource, PutsAreKept, PutVersionsAreKept, BodiesAreTagged, MarkersHide, QuietEntriesChangeNothing};
+ghost use Rattle.s3_machine.specs.Kept.{EveryHistory, StoredIsKept, VersionsAreKept, StoredIsTold, OnlyStoredStands, OnlyStoredIsGiven, OnlyPutsAreStored, ReadsGiveOrFail, ReadsAreJudged, PutsStoreTheirContents, StoredHasSource, PutsAreKept, PutVersionsAreKept, CopiesStoreTheirSource, CopiesAreKept, CopyVersionsAreKept, BodiesAreTagged, MarkersHide, QuietEntriesChangeNothing};
 
+use crate::laws::steps_keep;
 use s3_bodies::Body;
 use s3_records::{changes_are_by_place, changes_follow_rules, versions_stay_in_order};
 use s3_versions::{ids_differ, puts_are_current};
@@ -32,12 +33,15 @@ pub fn stored_is_kept()
 }
 
 /// A law, with nothing to run: in a legal history from the opening state, what stands was stored by an entry, and so was
-/// what a read is given, and no entry behind that one replaced or deleted it. A read of all of a version is given one, or
+/// what a read is given, and no entry behind that one replaced or deleted it. What was stored was put once, and may have been
+/// copied since. A read of all of a version is given one, or doesn't succeed; one by conditions is shown what they select, or
 /// doesn't succeed.
 pub fn only_stored_is_given()
     ensures stands { EveryHistory OnlyStoredStands }
     ensures given { EveryHistory OnlyStoredIsGiven }
+    ensures put { EveryHistory OnlyPutsAreStored }
     ensures or_fails { EveryHistory ReadsGiveOrFail }
+    ensures judged { EveryHistory ReadsAreJudged }
 {
     changes_are_by_place::<Body>();
     changes_follow_rules::<Body>();
@@ -45,10 +49,11 @@ pub fn only_stored_is_given()
     versions_stay_in_order::<Body>();
 }
 
-/// A law, with nothing to run: which data an entry stores, one clause an operation: a put stores what it brings. An entry
-/// that stores something is of one of these operations.
+/// A law, with nothing to run: which data an entry stores, one clause an operation: a put stores what it brings, and a copy
+/// what a read of all of its source would be given. An entry that stores something is of one of these operations.
 pub fn stored_has_a_source()
     ensures put { PutsStoreTheirContents }
+    ensures copied { CopiesStoreTheirSource }
     ensures sources { StoredHasSource }
 {}
 
@@ -58,6 +63,15 @@ pub fn puts_are_kept()
     ensures by_key { EveryHistory PutsAreKept }
     ensures by_version { EveryHistory PutVersionsAreKept }
     ensures tagged { EveryHistory BodiesAreTagged }
+{
+    stored_is_kept();
+}
+
+/// A law, with nothing to run: and what a copy that was acknowledged found at its source comes back as if it had been put, with
+/// the moment of the copy.
+pub fn copies_are_kept()
+    ensures by_key { EveryHistory CopiesAreKept }
+    ensures by_version { EveryHistory CopyVersionsAreKept }
 {
     stored_is_kept();
 }
@@ -75,4 +89,6 @@ pub fn delete_markers_hide()
 /// A law, with nothing to run: an entry that is refused leaves the state as it was, and so does one that only reads.
 pub fn entries_change_nothing()
     ensures quiet { EveryHistory QuietEntriesChangeNothing }
-{}
+{
+    steps_keep();
+}

@@ -1,8 +1,22 @@
 //! Laws of every step, with nothing to run.
-ghost use Rattle.s3_machine.specs.Laws.{RefusalsChangeNothing, ReadsChangeNothing};
+ghost use Rattle.s3_machine.specs.Laws.{QuietStepsChangeNothing, StepsStayBelow, ConditionsJudgeReads};
 
-/// A law, with nothing to run: a refusal leaves the state as it was, and so does a command that only reads.
-pub fn nothing_changes()
-    ensures refusals { RefusalsChangeNothing }
-    ensures reads { ReadsChangeNothing }
+use s3_bodies::Body;
+use s3_records::{changes_are_by_place, changes_follow_rules, numbers_stay_below};
+
+/// A law, with nothing to run: a refusal leaves the state as it was, and so does a command that only reads. Where the
+/// number of an entry is above those of all versions, the next one is above them after its step.
+pub fn steps_keep()
+    ensures quiet { QuietStepsChangeNothing }
+    ensures numbers { StepsStayBelow }
+{
+    changes_are_by_place::<Body>();
+    changes_follow_rules::<Body>();
+    numbers_stay_below::<Body>();
+}
+
+/// A law, with nothing to run: a read by conditions comes to what the plain read comes to, judged by them. Where that is
+/// refused, it is refused so; else by the conditions, or it is shown that the version is as it knows it, a part, or all.
+pub fn conditions_judge_reads()
+    ensures { ConditionsJudgeReads }
 {}

@@ -9,10 +9,13 @@ mod laws;
 mod turn;
 
 pub use bucket_list::BucketList;
-pub use command::{Answer, BucketCommand, Command, Found, KeyCommand, Outcome};
-pub use history::{
-    delete_markers_hide, entries_change_nothing, one_more_entry, only_stored_is_given,
-    puts_are_kept, stored_has_a_source, stored_is_kept,
+pub use command::{
+    Answer, BucketCommand, Command, Found, KeyCommand, ObjectCopy, ObjectPut, ObjectRead, Outcome,
+    Source,
 };
-pub use laws::nothing_changes;
+pub use history::{
+    copies_are_kept, delete_markers_hide, entries_change_nothing, one_more_entry,
+    only_stored_is_given, puts_are_kept, stored_has_a_source, stored_is_kept,
+};
+pub use laws::{conditions_judge_reads, steps_keep};
 pub use turn::Turn;

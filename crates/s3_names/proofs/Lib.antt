@@ -1,2 +1,3 @@
 pub mod IdLemmas
 pub mod NameLemmas
+pub mod TagLemmas

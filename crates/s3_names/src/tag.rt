@@ -1,6 +1,8 @@
 //! The entity tag of an object that was put whole.
-ghost use Rattle.std.specs.Prelude.{◌≡◌, ℕ, List, length};
+ghost use Rattle.std.specs.Prelude.{◌≡◌, ℕ, List, length, true};
+ghost use Rattle.std.specs.List.{list_all};
 ghost use Rattle.hex.specs.Hex.{encode_lower};
+ghost use Rattle.s3_text.specs.Characters.{is_lower_hex};
 
 use std::marker::Model;
 
@@ -28,11 +30,10 @@ impl Tag {
 
     /// The tag's text.
     pub fn text(&self) -> [u8; 32]
-        ensures { result ≡ self.now }
+        ensures value { result ≡ self.now }
+        ensures digits { list_all is_lower_hex self.now ≡ true }
     {
-        let mut text = [0u8; 32];
-        let _fits = hex::encode_to_slice(self.md5, &mut text);
-        text
+        hex_text(&self.md5)
     }
 
     /// A tag with the same text.
@@ -41,4 +42,15 @@ impl Tag {
     {
         Tag { md5: self.md5 }
     }
+}
+
+// The digits of an MD5.
+fn hex_text(md5: &[u8]) -> [u8; 32]
+    requires { length md5.now ≡ 16 }
+    ensures value { result ≡ encode_lower md5.now }
+    ensures digits { list_all is_lower_hex (encode_lower md5.now) ≡ true }
+{
+    let mut text = [0u8; 32];
+    let _fits = hex::encode_to_slice(md5, &mut text);
+    text
 }

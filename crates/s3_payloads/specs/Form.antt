@@ -1,7 +1,7 @@
 -- What a head says of its body: how it is sent, and what has to be found of it (AWS Signature Version 4,
 -- "Signature calculations for the Authorization header: transferring payload in multiple chunks"; Amazon S3
 -- API Reference, "PutObject", Content-MD5; RFC 1864).
-use Rattle.std.specs.Prelude.{ℕ, ◌==◌, nat_lt, if◌then◌else◌, List, [], ◌∷◌, length, codes, Option, Some, None, option_and_then, option_map, ok_or, unwrap_or, Result, Ok, Err}
+use Rattle.std.specs.Prelude.{ℕ, ◌==◌, nat_lt, if◌then◌else◌, List, [], ◌∷◌, length, codes, Option, Some, None, option_and_then, option_map, ok_or, Result, Ok, Err}
 use Rattle.std.specs.Str.{bytes_eq}
 use Rattle.base64.specs.Engines.{standard}
 use Rattle.base64.specs.GeneralPurpose.{decoded_of}
@@ -10,7 +10,7 @@ use Rattle.s3_terms.specs.declared.code.Code.{Code}
 use Rattle.s3_terms.specs.declared.code.Code.TheVariants.{InvalidRequest, EntityTooLarge, InvalidDigest}
 use Rattle.s3_config.specs.Settings.{Settings}
 use Rattle.s3_http_heads.specs.Head.{HeadParts, values_of}
-use Rattle.s3_http_heads.specs.BodyLength.{announced, decoded_length, length_lines}
+use Rattle.s3_http_heads.specs.BodyLength.{decoded_length}
 use Rattle.s3_signing.specs.Verdict.{Proved}
 use Rattle.s3_signing.specs.Word.{signed_chunks, unsigned_payload}
 use Rattle.s3_payloads.specs.declared.form.Form.{Form}
@@ -64,12 +64,12 @@ pub record Announced : Type 0 where
   pub form : Form
   pub proved : Proved
 
--- what a head announces of its body once it has proved this, or what is wrong with it; no bytes where there is no
--- Content-Length
-unfoldable pub announced_payload : Settings → HeadParts → Proved → Result Announced Code
-announced_payload settings head proved = do
+-- what a head announces of its body, which has so many bytes as it is sent, once it has proved this, or what is wrong
+-- with it
+unfoldable pub announced_payload : Settings → HeadParts → ℕ → Proved → Result Announced Code
+announced_payload settings head size proved = do
   form ← form_of settings head proved.word
-  Ok (record { length = unwrap_or (announced (length_lines head)) 0; form = form; proved = proved })
+  Ok (record { length = size; form = form; proved = proved })
 
 -- the body is sent as it is, and not in chunks
 abbrev pub IsSentAsItIs : Form → Type 0

@@ -1,9 +1,8 @@
 //! The reader of a payload, whichever way it is sent.
 
-ghost use Rattle.std.specs.Prelude.{◌≡◌, ◌≤◌, ◌+◌, ℕ, Bool, false, List, [], length, Err, IfErr, IfOk, IsSome};
+ghost use Rattle.std.specs.Prelude.{◌≡◌, ◌≤◌, ◌+◌, ℕ, Bool, false, List, [], length, Err, IfErr, IfOk};
 ghost use Rattle.s3_aws_chunked.specs.Reader.{said_at_end};
 ghost use Rattle.s3_aws_chunked.specs.Verdict.{accepts};
-ghost use Rattle.s3_http_heads.specs.BodyLength.{announced, length_lines};
 ghost use Rattle.s3_payloads.specs.Form.{Announced, announced_payload};
 ghost use Rattle.s3_payloads.specs.Outcome.{finished};
 ghost use Rattle.s3_payloads.specs.Reader.{ModeStands};
@@ -13,7 +12,7 @@ use crate::form::{Form, form_of};
 use crate::whole::WholeReader;
 use s3_bodies::Payload;
 use s3_config::Config;
-use s3_http_heads::{Head, announced_length};
+use s3_http_heads::Head;
 use s3_signing::Verified;
 use s3_terms::Code;
 use std::alloc::Global;
@@ -52,8 +51,8 @@ pub struct PayloadReader {
 impl PayloadReader {
     ghost use Rattle.s3_payloads.specs.Reader.{Begins, HasFailed, IsEnded, IsFed, Stands, taken_of, verdict_of};
 
-    /// The reader of the body behind this head, of which nothing has come. The framing of the head has to be
-    /// sound (`s3_http_heads::framing`). Takes no memory.
+    /// The reader of the body behind this head, of which nothing has come, and which has so many bytes as it is sent
+    /// (`s3_http_heads::framing`). Takes no memory.
     ///
     /// # Errors
     ///
@@ -65,15 +64,14 @@ impl PayloadReader {
         alloc: Global,
         config: &Config,
         head: &Head,
+        size: u64,
         verified: Verified,
     ) -> Result<PayloadReader, Code>
-        requires framed { IsSome (announced (length_lines head.now)) }
-        ensures { Begins (announced_payload config.now head.now verified) result }
+        ensures { Begins (announced_payload config.now head.now size verified) result }
     {
         let form = form_of(config, head, &verified.word())?;
-        let length = announced_length(head).unwrap();
         Ok(PayloadReader {
-            mode: mode_of(alloc, form, length, &verified),
+            mode: mode_of(alloc, form, size, &verified),
         })
     }
 

@@ -8,7 +8,7 @@ use Rattle.s3_versions.specs.declared.version.Version.{Version}
 use Rattle.s3_versions.specs.Rules.{without}
 use Rattle.s3_records.specs.Catalogue.{Keys}
 use Rattle.s3_records.specs.Changes.{with_versions}
-use Rattle.s3_text.proofs.MapLemmas.{value_at, made_by_write, put_again}
+use Rattle.s3_text.proofs.MapLemmas.{value_at, get_by_tree, made_by_write, put_again}
 
 -- what holds of a value follows to another, whatever the call answered
 pub then_ok : {T E P Q : Type 0} (r : Result T E) → (P → Q) → OnOk r P → OnOk r Q
@@ -27,8 +27,9 @@ on_err (Err e) p = p
 pub written : {X : Type 0} (before after : BTreeMap (List ℕ) X) (m : map.FinMap byte_order X) (k : List ℕ) (old new w : X) → map.from_entries before.entries ≡ m → Some old ≡ value_at before.entries k → WritesThrough byte_order (byte_order k) before new after → new ≡ w → map.from_entries after.entries ≡ map.insert m k w
 written before after m k old new w view found writes is = made_by_write before after m k old new view found writes ∙ ap (map.insert m k) is
 
-pub left : {X : Type 0} (before after : BTreeMap (List ℕ) X) (m : map.FinMap byte_order X) (k : List ℕ) (old new : X) → map.from_entries before.entries ≡ m → Some old ≡ value_at before.entries k → map.get m k ≡ Some old → WritesThrough byte_order (byte_order k) before new after → new ≡ old → map.from_entries after.entries ≡ m
-left before after m k old new view found there writes is = written before after m k old new old view found writes is ∙ put_again m k old there
+pub left : {X : Type 0} (before after : BTreeMap (List ℕ) X) (m : map.FinMap byte_order X) (k : List ℕ) (old new : X) → map.from_entries before.entries ≡ m → Some old ≡ value_at before.entries k → WritesThrough byte_order (byte_order k) before new after → new ≡ old → map.from_entries after.entries ≡ m
+left before after m k old new view found writes is =
+    written before after m k old new old view found writes is ∙ put_again m k old (get_by_tree before.entries m k (Some old) view found)
 
 -- where versions are left the key stays, and where none are it goes
 pub with_versions-some : {B : Type 0} (keys : Keys B) (key : List ℕ) (vs : List (Version B)) → (vs ≡ [] → ⊥) → map.insert keys key vs ≡ with_versions keys key vs

@@ -1,13 +1,18 @@
 -- What changes do to the catalogue (Amazon S3 API Reference, CreateBucket, DeleteBucket, PutBucketVersioning,
 -- PutObject and DeleteObject).
-use Rattle.std.specs.Prelude.{ℕ, List, [], ◌∷◌, Option, Some, None}
+use Rattle.std.specs.Prelude.{ℕ, List, [], ◌∷◌, Option, Some, None, option_map}
 use Rattle.std.specs.FinMap as map
-use Rattle.s3_names.specs.declared.ids.VersionId.{VersionId}
-use Rattle.s3_versions.specs.declared.version.Data.{Data}
 use Rattle.s3_versions.specs.declared.version.Version.{Version}
 use Rattle.s3_versions.specs.declared.version.VersioningStatus.{VersioningStatus}
-use Rattle.s3_versions.specs.Rules.{versioning_set, after_put, after_delete, after_delete_version}
+use Rattle.s3_versions.specs.Rules.{versioning_set, KeyChange, after_change}
 use Rattle.s3_records.specs.Catalogue.{Keys, Bucket, Catalogue, new_bucket, versions_at}
+
+-- a change of one bucket: it is made at moment t, it is dropped, its versioning is set, or the versions under a key change
+pub data Change (B : Type 0) : Type 0 where
+  BucketAdded : (t : ℕ) → Change B
+  BucketDropped : Change B
+  VersioningSet : VersioningStatus → Change B
+  KeyChanged : (key : List ℕ) → KeyChange B → Change B
 
 -- the keys, where these are the versions under one: a key without versions is not there
 abbrev pub with_versions : {B : Type 0} → Keys B → List ℕ → List (Version B) → Keys B
@@ -18,43 +23,22 @@ with_versions keys key (v ∷ vs) = map.insert keys key (v ∷ vs)
 abbrev pub set_in : {B : Type 0} → VersioningStatus → Bucket B → Bucket B
 set_in status b = record b { versioning = versioning_set status }
 
--- a bucket in which entry n puts under a key at moment t
-abbrev pub put_in : {B : Type 0} → List ℕ → ℕ → ℕ → Data B → Bucket B → Bucket B
-put_in key n t stored b =
-    record b { keys = with_versions b.keys key (after_put b.versioning n t stored (versions_at b.keys key)) }
+-- a bucket where the versions under a key changed, by the rules of its versioning
+abbrev pub change_in : {B : Type 0} → List ℕ → KeyChange B → Bucket B → Bucket B
+change_in key what b = record b { keys = with_versions b.keys key (after_change b.versioning what (versions_at b.keys key)) }
 
--- a bucket in which entry n deletes a key at moment t and names no version
-abbrev pub delete_in : {B : Type 0} → List ℕ → ℕ → ℕ → Bucket B → Bucket B
-delete_in key n t b =
-    record b { keys = with_versions b.keys key (after_delete b.versioning n t (versions_at b.keys key)) }
+-- what a change makes of a bucket, which is there or not
+abbrev pub bucket_after : {B : Type 0} → Change B → Option (Bucket B) → Option (Bucket B)
+bucket_after (BucketAdded t) found = Some (new_bucket t)
+bucket_after BucketDropped found = None
+bucket_after (VersioningSet status) found = option_map (set_in status) found
+bucket_after (KeyChanged key what) found = option_map (change_in key what) found
 
--- a bucket without the version of an id under a key
-abbrev pub drop_in : {B : Type 0} → List ℕ → VersionId → Bucket B → Bucket B
-drop_in key id b = record b { keys = with_versions b.keys key (after_delete_version id (versions_at b.keys key)) }
+-- the catalogue with this bucket of a name, or without one
+abbrev pub with_bucket : {B : Type 0} → Catalogue B → List ℕ → Option (Bucket B) → Catalogue B
+with_bucket c name None = map.remove c name
+with_bucket c name (Some b) = map.insert c name b
 
--- the catalogue where one bucket, if it is there, is changed
-abbrev pub changed : {B : Type 0} → Catalogue B → List ℕ → (Bucket B → Bucket B) → Option (Bucket B) → Catalogue B
-changed c name change None = c
-changed c name change (Some b) = map.insert c name (change b)
-
-abbrev pub in_bucket : {B : Type 0} → Catalogue B → List ℕ → (Bucket B → Bucket B) → Catalogue B
-in_bucket c name change = changed c name change (map.get c name)
-
--- the changes by name
-abbrev pub bucket_added : {B : Type 0} → Catalogue B → List ℕ → ℕ → Catalogue B
-bucket_added c name t = map.insert c name (new_bucket t)
-
-abbrev pub bucket_dropped : {B : Type 0} → Catalogue B → List ℕ → Catalogue B
-bucket_dropped c name = map.remove c name
-
-abbrev pub versioning_changed : {B : Type 0} → Catalogue B → List ℕ → VersioningStatus → Catalogue B
-versioning_changed c name status = in_bucket c name (set_in status)
-
-abbrev pub version_put : {B : Type 0} → Catalogue B → List ℕ → List ℕ → ℕ → ℕ → Data B → Catalogue B
-version_put c name key n t stored = in_bucket c name (put_in key n t stored)
-
-abbrev pub key_deleted : {B : Type 0} → Catalogue B → List ℕ → List ℕ → ℕ → ℕ → Catalogue B
-key_deleted c name key n t = in_bucket c name (delete_in key n t)
-
-abbrev pub version_dropped : {B : Type 0} → Catalogue B → List ℕ → List ℕ → VersionId → Catalogue B
-version_dropped c name key id = in_bucket c name (drop_in key id)
+-- the catalogue after a change of the bucket of a name
+abbrev pub changed : {B : Type 0} → Catalogue B → List ℕ → Change B → Catalogue B
+changed c name change = with_bucket c name (bucket_after change (map.get c name))

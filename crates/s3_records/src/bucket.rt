@@ -2,7 +2,7 @@
 ghost use Rattle.std.specs.Prelude.{◌≡◌, ◌≢◌, None, OnOk, OnErr, IsTrue, find};
 ghost use Rattle.std.specs.Option.{option_copied};
 ghost use Rattle.std.specs.FinMap as map;
-ghost use Rattle.s3_versions.specs.Rules.{is_under, replaced, is_new_number};
+ghost use Rattle.s3_versions.specs.Rules.{is_under, replaced, is_new_number, VersionPut, KeyDeleted, VersionDropped};
 
 use crate::keys::KeyMap;
 use crate::records::BucketFacts;
@@ -37,7 +37,7 @@ impl Model for StoredBucket {
 
 impl StoredBucket {
     ghost use Rattle.s3_records.specs.Catalogue.{new_bucket, facts_of, has_no_keys, versions_at};
-    ghost use Rattle.s3_records.specs.Changes.{set_in, put_in, delete_in, drop_in};
+    ghost use Rattle.s3_records.specs.Changes.{set_in, change_in};
 
     /// A bucket made at this moment, unversioned and empty. It takes no memory yet.
     pub(crate) fn new(alloc: Global, made: Moment) -> StoredBucket
@@ -92,7 +92,7 @@ impl StoredBucket {
         stored: Data<Body>,
     ) -> Result<(), NoMemory>
         requires { IsTrue (is_new_number number (versions_at self.old.keys key)) }
-        ensures ok { OnOk result (self.new ≡ put_in key number moment stored self.old) }
+        ensures ok { OnOk result (self.new ≡ change_in key (VersionPut number moment stored) self.old) }
         ensures err { OnErr result (self.new ≡ self.old) }
         ensures memory { OnErr result (replaced self.old.versioning number (versions_at self.old.keys key) ≡ None) }
     {
@@ -112,7 +112,7 @@ impl StoredBucket {
         moment: Moment,
     ) -> Result<(), NoMemory>
         requires { IsTrue (is_new_number number (versions_at self.old.keys key)) }
-        ensures ok { OnOk result (self.new ≡ delete_in key number moment self.old) }
+        ensures ok { OnOk result (self.new ≡ change_in key (KeyDeleted number moment) self.old) }
         ensures err { OnErr result (self.new ≡ self.old) }
         ensures memory { OnErr result (replaced self.old.versioning number (versions_at self.old.keys key) ≡ None) }
         ensures held { OnErr result (self.old.versioning ≢ Versioning.Unversioned) }
@@ -132,7 +132,7 @@ impl StoredBucket {
 
     /// Takes out the version of this id under the key, and answers it. Takes no memory.
     pub(crate) fn drop_version(&mut self, key: &Key, id: VersionId) -> Option<Version<Body>>
-        ensures value { self.new ≡ drop_in key.now id self.old }
+        ensures value { self.new ≡ change_in key.now (VersionDropped id) self.old }
         ensures gone { result ≡ find (is_under id) (versions_at self.old.keys key.now) }
     {
         self.keys.drop_version(key, id)

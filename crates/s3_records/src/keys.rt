@@ -2,7 +2,7 @@
 ghost use Rattle.std.specs.Prelude.{◌≡◌, [], None, IfOk, OnOk, OnErr, IsTrue, find};
 ghost use Rattle.std.specs.Option.{option_copied};
 ghost use Rattle.std.specs.FinMap as map;
-ghost use Rattle.s3_versions.specs.Rules.{is_under, after_adding, after_delete_version, replaced, is_new_number};
+ghost use Rattle.s3_versions.specs.Rules.{is_under, without, after_adding, replaced, is_new_number};
 
 use s3_bodies::Body;
 use s3_calendar::Moment;
@@ -90,8 +90,7 @@ impl KeyMap {
 
     /// Takes the version of this id from those under the key, and answers it. Takes no memory.
     pub(crate) fn drop_version(&mut self, key: &Key, id: VersionId) -> Option<Version<Body>>
-        ensures value { self.new
-            ≡ with_versions self.old key.now (after_delete_version id (versions_at self.old key.now)) }
+        ensures value { self.new ≡ with_versions self.old key.now (without id (versions_at self.old key.now)) }
         ensures gone { result ≡ find (is_under id) (versions_at self.old key.now) }
     {
         let versions = self.by_key.get_mut(key)?;

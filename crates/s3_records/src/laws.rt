@@ -1,8 +1,8 @@
 //! Laws of the catalogue: what every change keeps, with nothing to run.
 ghost use Rattle.s3_records.specs.Laws.{ChangesAreLocal, ChangesNameOneKey, ChangesFollowRules, SwitchesKeepKeys, VersionsStayInOrder, OpeningIsEmpty, EmptyHasNothing, KeysStayFilled, OthersHaveSomething};
-ghost use Rattle.s3_records.specs.Places.{ChangesAreByPlace, NumbersStayBelow, OpeningIsBelow};
+ghost use Rattle.s3_records.specs.Places.{ChangesAreByPlace, NumbersStayBelow, LaterIsBelow, OpeningIsBelow};
 
-use s3_versions::{one_id_changes, one_version_goes, stay_versions};
+use s3_versions::{one_id_changes, stay_versions};
 
 /// A law, with nothing to run: a change leaves every bucket but the one that it names, and one that names a
 /// key leaves every other key of that bucket, its moment and its versioning.
@@ -42,13 +42,13 @@ pub fn changes_are_by_place<B>()
     ensures places { ChangesAreByPlace B }
 {
     one_id_changes::<B>();
-    one_version_goes::<B>();
 }
 
-/// A law, with nothing to run: where the number of an entry is above those of all versions, the next one is above them
-/// again after it, from the opening on.
+/// A law, with nothing to run: a number that is above those of the entries that made a version, and above that of a change,
+/// is above them after it, from the opening on; and so is every later one.
 pub fn numbers_stay_below<B>()
-    ensures rise { NumbersStayBelow B }
+    ensures stay { NumbersStayBelow B }
+    ensures later { LaterIsBelow B }
     ensures opening { OpeningIsBelow B }
 {
     stay_versions::<B>();

@@ -14,7 +14,9 @@ use s3_calendar::Moment;
 use s3_config::Config;
 use s3_names::{BucketName, Key, VersionId};
 use s3_terms::NoMemory;
-use s3_versions::{Data, Version, VersioningStatus, Versions, current, version_under};
+use s3_versions::{
+    Data, Facts, Refusal, Version, VersioningStatus, Versions, current, read_facts, version_under,
+};
 use std::alloc::Global;
 use std::collections::BTreeMap;
 use std::marker::Model;
@@ -166,6 +168,16 @@ impl Records for MapRecords {
             None => Ok(None),
             Some(version) => Ok(Some(version.copy(alloc)?)),
         }
+    }
+
+    fn facts(
+        &mut self,
+        _alloc: Global,
+        bucket: &BucketName,
+        key: &Key,
+        asked: Option<VersionId>,
+    ) -> Result<Result<Facts, Refusal>, NoMemory> {
+        Ok(read_facts(asked, self.asked_for(bucket, key, asked)))
     }
 
     fn add_bucket(

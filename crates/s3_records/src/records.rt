@@ -1,14 +1,14 @@
 //! What every keeper of records promises.
 ghost use Rattle.std.specs.Prelude.{◌≡◌, ◌≢◌, ℕ, List, [], Bool, true, false, None, IfOk, OnOk, OnErr, IsTrue, find, is_some, option_and_then};
-ghost use Rattle.s3_versions.specs.Rules.{is_under, asked_for, stored, replaced, is_new_number};
+ghost use Rattle.s3_versions.specs.Rules.{is_under, asked_for, facts_read, pick, stored, replaced, is_new_number, VersionPut, KeyDeleted, VersionDropped};
 ghost use Rattle.s3_records.specs.Catalogue.{Catalogue, facts_in, listed_buckets, has_bucket, is_empty_bucket, versions_of, versioning_of};
-ghost use Rattle.s3_records.specs.Changes.{bucket_added, bucket_dropped, versioning_changed, version_put, key_deleted, version_dropped};
+ghost use Rattle.s3_records.specs.Changes.{changed, BucketAdded, BucketDropped, VersioningSet, KeyChanged};
 
 use s3_bodies::Body;
 use s3_calendar::Moment;
 use s3_names::{BucketName, Key, VersionId};
 use s3_terms::NoMemory;
-use s3_versions::{Data, Version, Versioning, VersioningStatus};
+use s3_versions::{Data, Facts, Refusal, Version, Versioning, VersioningStatus};
 use std::alloc::Global;
 
 /// What is told of one bucket.
@@ -82,6 +82,19 @@ pub trait Records {
         ensures memory { OnErr result (
             is_in_memory ≡ true → option_and_then stored (asked_for asked (versions_of (catalogue self.old) bucket.now key.now)) ≢ None) };
 
+    /// What is known of the version that a request reads beside what its put sent, or why none is read.
+    fn facts(
+        &mut self,
+        alloc: Global,
+        bucket: &BucketName,
+        key: &Key,
+        asked: Option<VersionId>,
+    ) -> Result<Result<Facts, Refusal>, NoMemory>
+        ensures value { IfOk result (λ facts. facts
+            ≡ facts_read (pick asked (versions_of (catalogue self.old) bucket.now key.now))) }
+        ensures same { catalogue self.new ≡ catalogue self.old }
+        ensures memory { OnErr result (is_in_memory ≡ false) };
+
     /// Makes a bucket at this moment, unversioned and empty. There is none of this name.
     fn add_bucket(
         &mut self,
@@ -90,14 +103,14 @@ pub trait Records {
         moment: Moment,
     ) -> Result<(), NoMemory>
         requires { has_bucket (catalogue self.old) name ≡ false }
-        ensures ok { OnOk result (catalogue self.new ≡ bucket_added (catalogue self.old) name moment) }
+        ensures ok { OnOk result (catalogue self.new ≡ changed (catalogue self.old) name (BucketAdded moment)) }
         ensures err { OnErr result (catalogue self.new ≡ catalogue self.old) };
 
     /// Drops a bucket, which is there and has nothing in it.
     fn drop_bucket(&mut self, alloc: Global, name: &BucketName) -> Result<(), NoMemory>
         requires there { IsTrue (has_bucket (catalogue self.old) name.now) }
         requires empty { IsTrue (is_empty_bucket (catalogue self.old) name.now) }
-        ensures ok { OnOk result (catalogue self.new ≡ bucket_dropped (catalogue self.old) name.now) }
+        ensures ok { OnOk result (catalogue self.new ≡ changed (catalogue self.old) name.now BucketDropped) }
         ensures err { OnErr result (catalogue self.new ≡ catalogue self.old) }
         ensures memory { OnErr result (is_in_memory ≡ false) };
 
@@ -109,7 +122,7 @@ pub trait Records {
         status: VersioningStatus,
     ) -> Result<(), NoMemory>
         requires { IsTrue (has_bucket (catalogue self.old) name.now) }
-        ensures ok { OnOk result (catalogue self.new ≡ versioning_changed (catalogue self.old) name.now status) }
+        ensures ok { OnOk result (catalogue self.new ≡ changed (catalogue self.old) name.now (VersioningSet status)) }
         ensures err { OnErr result (catalogue self.new ≡ catalogue self.old) }
         ensures memory { OnErr result (is_in_memory ≡ false) };
 
@@ -128,7 +141,7 @@ pub trait Records {
         requires there { IsTrue (has_bucket (catalogue self.old) bucket.now) }
         requires newer { IsTrue (is_new_number number (versions_of (catalogue self.old) bucket.now key)) }
         ensures ok { OnOk result (catalogue self.new
-            ≡ version_put (catalogue self.old) bucket.now key number moment stored) }
+            ≡ changed (catalogue self.old) bucket.now (KeyChanged key (VersionPut number moment stored))) }
         ensures err { OnErr result (catalogue self.new ≡ catalogue self.old) }
         ensures memory { OnErr result (is_in_memory ≡ true
             → replaced (versioning_of (catalogue self.old) bucket.now) number (versions_of (catalogue self.old) bucket.now key) ≡ None) };
@@ -146,7 +159,8 @@ pub trait Records {
     ) -> Result<(), NoMemory>
         requires there { IsTrue (has_bucket (catalogue self.old) bucket.now) }
         requires newer { IsTrue (is_new_number number (versions_of (catalogue self.old) bucket.now key)) }
-        ensures ok { OnOk result (catalogue self.new ≡ key_deleted (catalogue self.old) bucket.now key number moment) }
+        ensures ok { OnOk result (catalogue self.new
+            ≡ changed (catalogue self.old) bucket.now (KeyChanged key (KeyDeleted number moment))) }
         ensures err { OnErr result (catalogue self.new ≡ catalogue self.old) }
         ensures memory { OnErr result (is_in_memory ≡ true
             → replaced (versioning_of (catalogue self.old) bucket.now) number (versions_of (catalogue self.old) bucket.now key) ≡ None) }
@@ -163,7 +177,8 @@ pub trait Records {
         id: VersionId,
     ) -> Result<Option<Version<Body>>, NoMemory>
         requires { IsTrue (has_bucket (catalogue self.old) bucket.now) }
-        ensures ok { OnOk result (catalogue self.new ≡ version_dropped (catalogue self.old) bucket.now key.now id) }
+        ensures ok { OnOk result (catalogue self.new
+            ≡ changed (catalogue self.old) bucket.now (KeyChanged key.now (VersionDropped id))) }
         ensures gone { IfOk result (λ gone. gone ≡ find (is_under id) (versions_of (catalogue self.old) bucket.now key.now)) }
         ensures err { OnErr result (catalogue self.new ≡ catalogue self.old) }
         ensures memory { OnErr result (is_in_memory ≡ false) };

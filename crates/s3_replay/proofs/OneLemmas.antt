@@ -5,7 +5,7 @@ use Rattle.s3_config.specs.Settings.{Settings}
 use Rattle.s3_records.specs.Catalogue.{opening}
 use Rattle.s3_machine.specs.History.{Entry, Legal}
 use Rattle.s3_machine.specs.declared.turn.Turn.{Turn}
-use Rattle.s3_journal.specs.Book.{Recorded, entries_of_seat, history_of}
+use Rattle.s3_journal.specs.Recorded.{Recorded, entries_of_seat, history_of}
 use Rattle.s3_session.specs.Output.{is_dead, is_waiting}
 use Rattle.s3_session.specs.Replay.{Replays, entries_of}
 use Rattle.s3_events.specs.declared.event.Event.{Event}
@@ -13,9 +13,10 @@ use Rattle.s3_buffered_session.specs.Buffered.{Buffered}
 use Rattle.s3_buffered_session.specs.Moments.{handed, handed_after}
 use Rattle.s3_buffered_session.specs.Output.{Input, answer_of, answered_turn, past_of}
 use Rattle.s3_world.specs.Events.{TurnAt, received, turns_given}
-use Rattle.s3_world.specs.Laws.{WorldsRun}
+use Rattle.s3_world.specs.StandsAfter.{WorldsRun, StandsAfter}
 use Rattle.s3_world.specs.Run.{AreTaken, Runs, output_of}
-use Rattle.s3_world.specs.World.{Serving, StandsAfter, nothing_sent, standing_at, unsent_at}
+use Rattle.s3_world.specs.World.{Serving}
+use Rattle.s3_world.specs.Shown.{nothing_sent, standing_at, unsent_at}
 use Rattle.s3_replay.specs.Replaying.{all_at}
 
 -- ---- the moments of a list with one are all that one

@@ -9,8 +9,10 @@ use Rattle.s3_session.specs.Replay.{Replays}
 use Rattle.s3_events.specs.declared.event.Event.TheVariants as events
 use Rattle.s3_buffered_session.specs.Output.{Input}
 use Rattle.s3_world.specs.Events.{received}
-use Rattle.s3_world.specs.Laws.{EventsBring, WorldsRun}
-use Rattle.s3_world.specs.World.{Serving, StandsAfter, nothing_sent, standing_at, unsent_at}
+use Rattle.s3_world.specs.Laws.{EventsBring}
+use Rattle.s3_world.specs.StandsAfter.{WorldsRun, StandsAfter}
+use Rattle.s3_world.specs.World.{Serving}
+use Rattle.s3_world.specs.Shown.{nothing_sent, standing_at, unsent_at}
 use Rattle.s3_replay.specs.Replaying.{HasCome, HasTaken, all_at}
 use Rattle.s3_replay.proofs.OneLemmas.{world_replays}
 

@@ -6,7 +6,9 @@ use Rattle.s3_config.specs.Settings.{Settings}
 use Rattle.s3_session.specs.Output.{is_waiting}
 use Rattle.s3_events.specs.declared.event.Event.{Event}
 use Rattle.s3_world.specs.Events.{received}
-use Rattle.s3_world.specs.World.{Serving, StandsAfter, nothing_sent, standing_at}
+use Rattle.s3_world.specs.World.{Serving}
+use Rattle.s3_world.specs.Shown.{nothing_sent, standing_at}
+use Rattle.s3_world.specs.StandsAfter.{StandsAfter}
 
 -- the moments of one connection, all of whose messages have this one
 abbrev pub all_at : ℕ → List (List ℕ)

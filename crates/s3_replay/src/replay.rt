@@ -3,7 +3,7 @@
 ghost use Rattle.std.specs.Prelude.{◌≡◌, ◌≢◌, ◌<◌, ◌++◌, ℕ, List, [], length, IfOk, OnOk, OnErr};
 ghost use Rattle.s3_config.specs.Settings.{Settings};
 ghost use Rattle.s3_session.specs.Replay.{Replays};
-ghost use Rattle.s3_world.specs.World.{each_moments};
+ghost use Rattle.s3_world.specs.Run.{each_moments};
 ghost use Rattle.s3_replay.specs.Replaying.{HasCome, HasTaken, all_at};
 
 use s3_calendar::Moment;

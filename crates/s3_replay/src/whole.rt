@@ -5,7 +5,7 @@ ghost use Rattle.s3_config.specs.Settings.{Settings};
 ghost use Rattle.s3_http_heads.specs.Find.{found_in};
 ghost use Rattle.s3_session.specs.Decision.{Judges, open_yet};
 ghost use Rattle.s3_session.specs.Replay.{Replays};
-ghost use Rattle.s3_world.specs.World.{each_moments};
+ghost use Rattle.s3_world.specs.Run.{each_moments};
 ghost use Rattle.s3_replay.specs.Replaying.{HasTaken, all_at};
 
 use crate::replay::{Replay, at_moment};

@@ -1,67 +1,67 @@
 -- What is known of the texts of replies: each is one text, in which a client sees what came.
-use Rattle.std.proofs.Common.{◌≡◌, ℕ, Bool, true, false, List, ◌++◌, ◌∷◌, [], map, ap, refl, sym, ◌∙◌, append_assoc, append-nil, subst, Option, Some, None, codes, length, not}
+use Rattle.std.proofs.Common.{◌≡◌, ℕ, Bool, true, false, List, ◌++◌, ◌∷◌, [], map, ap, ap₂, refl, sym, ◌∙◌, append_assoc, append-nil, subst, Option, Some, None, codes, length, arith}
 use Rattle.std.specs.List.{flat_map, list_all}
 use Rattle.std.specs.Fmt.{digits, decimal}
 use Rattle.std.proofs.lemmas.List.Concat.{flat_map-append}
+use Rattle.std.proofs.lemmas.List.Elements.{Contains-append_right}
 use Rattle.s3_text.specs.Characters.{crlf}
+use Rattle.s3_text.specs.Digits.{number_digits}
+use Rattle.s3_terms.specs.Code.{status_of}
 use Rattle.s3_terms.specs.declared.code.Code.{Code}
 use Rattle.s3_terms.specs.declared.code.Code.TheVariants.{MalformedHead}
+use Rattle.s3_terms.specs.Status.{tells_size}
+use Rattle.s3_terms.specs.declared.status.Status.{Status}
+use Rattle.s3_terms.specs.declared.status.Status.TheVariants as statuses
 use Rattle.s3_names.specs.declared.ids.VersionId.{VersionId}
 use Rattle.s3_versions.specs.declared.version.Data.{Data}
-use Rattle.s3_records.specs.declared.records.ListedBucket.{ListedBucket}
-use Rattle.s3_documents.specs.Buckets.{IsBucketsText}
-use Rattle.s3_documents.specs.Laws.{OneTextForBuckets}
-use Rattle.s3_documents.specs.Versioning.{versioning_text}
-use Rattle.s3_machine.specs.Effects.{is_refused}
+use Rattle.s3_machine.specs.Effects.{succeeds as command_succeeds}
+use Rattle.s3_conditions.specs.declared.conditions.Selection.TheVariants.{Whole, Part, Unchanged}
 use Rattle.s3_machine.specs.declared.command.Answer.{Answer}
 use Rattle.s3_machine.specs.declared.command.Found.{Found}
 use Rattle.s3_machine.specs.declared.command.Outcome.{Outcome}
-use Rattle.s3_machine.specs.declared.command.Outcome.TheVariants.{Buckets, BucketVersioning, Got, HeadGot, Refused}
+use Rattle.s3_machine.specs.declared.command.Outcome.TheVariants.{Got, Refused}
 use Rattle.s3_replies.specs.declared.context.Context.{Context}
-use Rattle.s3_terms.specs.Code.{status_of}
-use Rattle.s3_terms.specs.declared.status.Status.{Status}
-use Rattle.s3_terms.specs.declared.status.Status.TheVariants as statuses
+use Rattle.s3_replies.specs.declared.head.Opening.{Opening}
 use Rattle.s3_replies.specs.Lines.{Line, status_line, print_line, print_lines, flag, optional, metadata_line, quoted}
-use Rattle.s3_text.specs.Digits.{number_digits}
-use Rattle.s3_replies.specs.Date.{IsHttpDate}
-use Rattle.s3_replies.specs.Document.{error_document}
-use Rattle.s3_replies.proofs.UnbrokenLemmas.{joined, lines_joined, number_unbroken, id_unbroken, date_unbroken}
-use Rattle.s3_replies.specs.Head.{Fields, bare, opening_lines, version_lines, print_head}
-use Rattle.s3_replies.specs.Replies.{Prints, PrintsOutcome, IsOutcomeHead, document_fields, got_fields, error_fields, print_reply, sent_body, sized, shown_text}
-use Rattle.s3_replies.specs.Laws.{Carries, IsUnbroken, is_unbroken, is_whole_line, tells_success, SuccessIsShown, ObjectsAreCarried, HeadsTellOfObjects}
+use Rattle.s3_replies.specs.Date.{IsHttpDate, IsDateShown}
+use Rattle.s3_replies.specs.Head.{bare, opening_lines, version_lines, print_head}
+use Rattle.s3_replies.specs.Replies.{Reply, alone, beside, behind, front, back, reply_to, shown_at, opening_of, Prints, IsHead, content_range, got_fields, part, part_fields, sent_body, sized, shown_text}
+use Rattle.s3_replies.specs.Laws.{Carries, CarriesPart, IsUnbroken, is_unbroken, is_whole_line, tells_success, SuccessIsShown, ObjectsAreCarried, PartsAreCarried, HeadsTellOfReplies}
+use Rattle.s3_replies.proofs.UnbrokenLemmas.{joined, lines_joined, number_unbroken, id_unbroken, date_unbroken, range_unbroken}
 use Rattle.httpdate.specs.Text.{imf_fixdate}
 use Rattle.httpdate.proofs.Theorems.{unix_secs_injective}
 
 -- ---- a reply has one text: its moments have one date each, and nothing else in it is chosen
 
-pub IsHttpDate_unique : (t : ℕ) (a b : List ℕ) → IsHttpDate t a → IsHttpDate t b → a ≡ b
+IsHttpDate_unique : (t : ℕ) (a b : List ℕ) → IsHttpDate t a → IsHttpDate t b → a ≡ b
 IsHttpDate_unique t a b h k =
     h.2 ∙ ap imf_fixdate (unix_secs_injective h.0 k.0 (h.1 ∙ sym k.1)) ∙ sym k.2
 
-PrintsOutcome_unique : OneTextForBuckets → (number : ℕ) (outcome : Outcome) (context : Context) (date t u : List ℕ) → PrintsOutcome number outcome context date t → PrintsOutcome number outcome context date u → t ≡ u
-PrintsOutcome_unique one number (Buckets buckets) context date t u h k =
-    let print = λ (document : List ℕ). print_reply (document_fields number context.closes date) context.head_only document in
-    h.2 ∙ ap print (one buckets h.0 k.0 h.1 k.1) ∙ sym k.2
-PrintsOutcome_unique one number (Got found) context date t u h k =
-    let print = λ (modified : List ℕ). print_reply (got_fields found number context.closes date modified) context.head_only found.stored.body in
-    h.2 ∙ ap print (IsHttpDate_unique found.moment h.0 k.0 h.1 k.1) ∙ sym k.2
-PrintsOutcome_unique one number (HeadGot found) context date t u h k =
-    let print = λ (modified : List ℕ). print_head (got_fields found number context.closes date modified) in
-    h.2 ∙ ap print (IsHttpDate_unique found.moment h.0 k.0 h.1 k.1) ∙ sym k.2
-PrintsOutcome_unique one number _ context date t u h k = h ∙ sym k
+IsDateShown_unique : (t : Option ℕ) (a b : Option (List ℕ)) → IsDateShown t a → IsDateShown t b → a ≡ b
+IsDateShown_unique None a b h k = h ∙ sym k
+IsDateShown_unique (Some t) (Some a) (Some b) h k = ap Some (IsHttpDate_unique t a b h k)
+IsDateShown_unique (Some t) None b h k = absurd h
+IsDateShown_unique (Some t) a None h k = absurd k
 
-pub Prints_unique : OneTextForBuckets → (answer : Answer) (context : Context) (t u : List ℕ) → Prints answer context t → Prints answer context u → t ≡ u
-Prints_unique one answer context t u h k =
-    let same = IsHttpDate_unique context.moment h.0 k.0 h.1 k.1 in
-    let P : List ℕ → Type 0 = λ date. PrintsOutcome answer.number answer.outcome context date t in
-    PrintsOutcome_unique one answer.number answer.outcome context k.0 t u (subst P same h.2) k.2
+-- the printed text
+abbrev text_of : Answer → Context → List ℕ → Option (List ℕ) → List ℕ
+text_of answer context date modified =
+    let reply = reply_to (opening_of answer.number context date) modified answer.outcome in
+    front context.head_only reply ++ back context.head_only reply
 
--- the head of a list goes before the one document of the buckets
-pub list_printed : OneTextForBuckets → (number : ℕ) (buckets : List ListedBucket) (context : Context) (date head document : List ℕ) → IsBucketsText buckets document
-    → head ≡ print_head (sized (document_fields number context.closes date) document) → IsOutcomeHead number (Buckets buckets) context date head
-list_printed one number buckets context date head document told is = λ bytes body.
-    let same = body.2 ∙ ap (sent_body context.head_only) (one buckets body.0 document body.1 told) in
-    (document, told, ap (λ b. head ++ b) same ∙ ap (λ h. h ++ sent_body context.head_only document) is)
+pub Prints_unique : (answer : Answer) (context : Context) (t u : List ℕ) → Prints answer context t → Prints answer context u → t ≡ u
+Prints_unique answer context t u h k =
+    h.printed
+    ∙ ap₂ (text_of answer context) (IsHttpDate_unique context.moment h.date k.date h.dated k.dated) (IsDateShown_unique (shown_at answer.outcome) h.modified k.modified h.shown k.shown)
+    ∙ sym k.printed
+
+-- what is written of a reply is its head
+pub is_head : (answer : Answer) (context : Context) (date : List ℕ) (modified : Option (List ℕ)) → IsHttpDate context.moment date → IsDateShown (shown_at answer.outcome) modified
+    → IsHead answer context (front context.head_only (reply_to (opening_of answer.number context date) modified answer.outcome))
+is_head answer context date modified dated shown = λ bytes body.
+    let opening = opening_of answer.number context date in
+    let written = front context.head_only (reply_to opening modified answer.outcome) in
+    record { date = date; modified = modified; dated = dated; shown = shown; printed = ap (λ b. written ++ b) (body opening modified) }
 
 -- ---- what a client sees of it
 
@@ -86,59 +86,79 @@ behind_status : (status : Status) (lines end body : List ℕ) → status_line st
 behind_status status lines end body =
     ap (λ r. r ++ body) (append_assoc (status_line status) lines end) ∙ append_assoc (status_line status) (lines ++ end) body
 
--- what the status shows, a reply that is a head shows, and one with a body
-head_shows : (head : Fields) (text : List ℕ) → text ≡ print_head head → tells_success text ≡ succeeds head.status
-unfolding print_head
-head_shows head text is = ap tells_success (is ∙ append_assoc (status_line head.status) _ crlf) ∙ status_shows head.status _
+-- what the status of a reply is
+abbrev status_in : Reply → Status
+status_in (alone head) = head.status
+status_in (beside head text) = head.status
+status_in (behind head body) = head.status
 
-reply_shows : (head : Fields) (head_only : Bool) (body text : List ℕ) → text ≡ print_reply head head_only body → tells_success text ≡ succeeds head.status
+-- what it shows, all of the reply shows
+reply_shows : (head_only : Bool) (reply : Reply) → tells_success (front head_only reply ++ back head_only reply) ≡ succeeds (status_in reply)
 unfolding print_head
-reply_shows head head_only body text is = ap tells_success (is ∙ behind_status head.status _ _ _) ∙ status_shows head.status _
+reply_shows head_only (alone head) = ap tells_success (behind_status head.status _ crlf []) ∙ status_shows head.status _
+reply_shows head_only (beside head text) =
+    ap tells_success (append-nil (front head_only (beside head text)) ∙ behind_status head.status _ crlf (sent_body head_only text)) ∙ status_shows head.status _
+reply_shows head_only (behind head body) = ap tells_success (behind_status head.status _ crlf (sent_body head_only body)) ∙ status_shows head.status _
 
-shown : (number : ℕ) (outcome : Outcome) (context : Context) (date text : List ℕ) → PrintsOutcome number outcome context date text
-    → tells_success text ≡ not (is_refused outcome)
-shown number (Buckets buckets) context date text is = reply_shows (document_fields number context.closes date) context.head_only is.0 text is.2
-shown number (BucketVersioning versioning) context date text is =
-    reply_shows (document_fields number context.closes date) context.head_only (versioning_text versioning) text is
-shown number (Got found) context date text is =
-    reply_shows (got_fields found number context.closes date is.0) context.head_only found.stored.body text is.2
-shown number (HeadGot found) context date text is = head_shows _ text is.2
-shown number (Refused code is_delete_marker) context date text is =
-    reply_shows (error_fields code is_delete_marker number context.closes date) context.head_only (error_document code) text is ∙ refusal_fails code
-shown number _ context date text is = head_shows _ text is
+-- which tells of success where the command succeeds
+status_tells : (opening : Opening) (modified : Option (List ℕ)) (outcome : Outcome) → succeeds (status_in (reply_to opening modified outcome)) ≡ command_succeeds outcome
+status_tells opening modified (Refused code is_delete_marker) = refusal_fails code
+status_tells opening modified (Got found Whole) = refl
+status_tells opening modified (Got found (Part first last)) = refl
+status_tells opening modified (Got found Unchanged) = refl
+status_tells opening modified _ = refl
 
 pub success_is_shown : SuccessIsShown
-success_is_shown answer context text prints = shown answer.number answer.outcome context prints.0 text prints.2
+success_is_shown answer context text prints =
+    let opening = opening_of answer.number context prints.date in
+    ap tells_success prints.printed
+    ∙ reply_shows context.head_only (reply_to opening prints.modified answer.outcome)
+    ∙ status_tells opening prints.modified answer.outcome
 
 last_line : (lines : List Line) (line : Line) → print_lines (lines ++ line ∷ []) ≡ print_lines lines ++ print_line line
 unfolding print_lines
 last_line lines line = flat_map-append print_line lines (line ∷ []) ∙ ap (λ r. flat_map print_line lines ++ r) (append-nil (print_line line))
+
+-- a text that may be absent has no carriage return
+abbrev all_unbroken : Option (List ℕ) → Bool
+all_unbroken None = true
+all_unbroken (Some text) = is_unbroken text
 
 flag_unbroken : (closes : Bool) → list_all is_whole_line (flag (codes "Connection") (codes "close") closes) ≡ true
 flag_unbroken true = refl
 flag_unbroken false = refl
 
 -- the lines that tell of an object's body, in front of its size
-abbrev told : Data (List ℕ) → List Line
-told stored = (codes "Accept-Ranges", codes "bytes") ∷ (codes "Content-Type", stored.content_type) ∷ map metadata_line stored.metadata
+abbrev told : Data (List ℕ) → Option (List ℕ) → List Line
+told stored range =
+    (codes "Accept-Ranges", codes "bytes")
+    ∷ (optional (codes "Content-Range") range ++ (codes "Content-Type", stored.content_type) ∷ [] ++ map metadata_line stored.metadata)
+
+-- all lines in front of its size
+abbrev lines_in_front : Opening → Found (List ℕ) → List ℕ → Option (List ℕ) → List Line
+lines_in_front opening found modified range =
+    let head = got_fields opening found (Some modified) in opening_lines head ++ version_lines head ++ told found.stored range
 
 id_line_unbroken : (shown : Option VersionId) → list_all is_whole_line (optional (codes "x-amz-version-id") (shown_text shown)) ≡ true
 id_line_unbroken None = refl
 id_line_unbroken (Some id) = rw (id_unbroken id) refl
 
+range_line_unbroken : (range : Option (List ℕ)) → (all_unbroken range) ≡ true → list_all is_whole_line (optional (codes "Content-Range") range) ≡ true
+range_line_unbroken None are = refl
+range_line_unbroken (Some range) are = rw are refl
+
 -- the lines that tell who answers, and when
-opening_unbroken : (number : ℕ) (closes : Bool) (date : List ℕ) → is_unbroken date ≡ true
-    → list_all is_whole_line (opening_lines (bare statuses.Ok date closes number)) ≡ true
-opening_unbroken number closes date at =
-    let first : List Line = (codes "Date", date) ∷ [] in
-    let keeps = flag (codes "Connection") (codes "close") closes in
-    let id : List Line = (codes "x-amz-request-id", number_digits number) ∷ [] in
-    lines_joined (first ++ keeps) id (lines_joined first keeps (rw at refl) (flag_unbroken closes)) (rw (number_unbroken number) refl)
+opening_unbroken : (status : Status) (opening : Opening) → is_unbroken opening.date ≡ true → list_all is_whole_line (opening_lines (bare status opening)) ≡ true
+opening_unbroken status opening at =
+    let first : List Line = (codes "Date", opening.date) ∷ [] in
+    let keeps = flag (codes "Connection") (codes "close") opening.closes in
+    let id : List Line = (codes "x-amz-request-id", number_digits opening.number) ∷ [] in
+    lines_joined (first ++ keeps) id (lines_joined first keeps (rw at refl) (flag_unbroken opening.closes)) (rw (number_unbroken opening.number) refl)
 
 -- the lines that tell of a version
-version_unbroken : (found : Found (List ℕ)) (number : ℕ) (closes : Bool) (date modified : List ℕ) → IsUnbroken found.stored → is_unbroken modified ≡ true
-    → list_all is_whole_line (version_lines (got_fields found number closes date modified)) ≡ true
-version_unbroken found number closes date modified unbroken since =
+version_unbroken : (opening : Opening) (found : Found (List ℕ)) (modified : List ℕ) → IsUnbroken found.stored → is_unbroken modified ≡ true
+    → list_all is_whole_line (version_lines (got_fields opening found (Some modified))) ≡ true
+version_unbroken opening found modified unbroken since =
     let id = optional (codes "x-amz-version-id") (shown_text found.shown) in
     let tag : List Line = (codes "ETag", quoted found.stored.tag) ∷ [] in
     let made : List Line = (codes "Last-Modified", modified) ∷ [] in
@@ -147,47 +167,115 @@ version_unbroken found number closes date modified unbroken since =
     let no_place = lines_joined (id ++ []) [] no_marker refl in
     lines_joined (id ++ [] ++ [] ++ tag) made (lines_joined (id ++ [] ++ []) tag no_place (rw quotes refl)) (rw since refl)
 
--- the lines of a get's reply in front of its size
-front_unbroken : (found : Found (List ℕ)) (context : Context) (number : ℕ) (date modified : List ℕ) → IsHttpDate context.moment date → IsHttpDate found.moment modified
-    → IsUnbroken found.stored
-    → list_all is_whole_line (opening_lines (got_fields found number context.closes date modified) ++ version_lines (got_fields found number context.closes date modified)
-    ++ told found.stored) ≡ true
-front_unbroken found context number date modified dated made unbroken =
-    let head = got_fields found number context.closes date modified in
-    let at : is_unbroken date ≡ true = ap is_unbroken dated.2 ∙ date_unbroken dated.0.parts in
-    let since : is_unbroken modified ≡ true = ap is_unbroken made.2 ∙ date_unbroken made.0.parts in
-    let opening = opening_unbroken number context.closes date at in
-    let version = version_unbroken found number context.closes date modified unbroken since in
-    let body : list_all is_whole_line (told found.stored) ≡ true = rw unbroken.content_type unbroken.metadata in
-    lines_joined (opening_lines head ++ version_lines head) (told found.stored) (lines_joined (opening_lines head) (version_lines head) opening version) body
+-- the lines that tell of its body
+told_unbroken : (stored : Data (List ℕ)) (range : Option (List ℕ)) → IsUnbroken stored → all_unbroken range ≡ true → list_all is_whole_line (told stored range) ≡ true
+told_unbroken stored range unbroken are =
+    let ranged = optional (codes "Content-Range") range in
+    let kind : List Line = (codes "Content-Type", stored.content_type) ∷ [] in
+    lines_joined (ranged ++ kind) (map metadata_line stored.metadata)
+    (lines_joined ranged kind (range_line_unbroken range are) (rw unbroken.content_type refl))
+    unbroken.metadata
 
-got_carries : (number : ℕ) (found : Found (List ℕ)) (context : Context) (date text : List ℕ) → PrintsOutcome number (Got found) context date text
-    → IsHttpDate context.moment date → IsUnbroken found.stored → context.head_only ≡ false → Carries found.stored.body text
-unfolding print_head status_line digits
-got_carries number found context date text is dated unbroken whole =
-    let head = got_fields found number context.closes date is.0 in
-    let size : Line = (codes "Content-Length", decimal (length found.stored.body)) in
+date_is_unbroken : (t : ℕ) (date : List ℕ) → IsHttpDate t date → is_unbroken date ≡ true
+date_is_unbroken t date is = ap is_unbroken is.2 ∙ date_unbroken is.0.parts
+
+-- the lines in front of the size
+front_unbroken : (opening : Opening) (found : Found (List ℕ)) (modified : List ℕ) (range : Option (List ℕ)) → is_unbroken opening.date ≡ true → is_unbroken modified ≡ true
+    → IsUnbroken found.stored → all_unbroken range ≡ true → list_all is_whole_line (lines_in_front opening found modified range) ≡ true
+front_unbroken opening found modified range at since unbroken are =
+    let head = got_fields opening found (Some modified) in
+    lines_joined (opening_lines head ++ version_lines head) (told found.stored range)
+    (lines_joined (opening_lines head) (version_lines head) (opening_unbroken statuses.Ok opening at) (version_unbroken opening found modified unbroken since))
+    (told_unbroken found.stored range unbroken are)
+
+-- the head of a reply that carries bytes of a version, and these bytes behind it
+object_printed : (status : Status) (opening : Opening) (found : Found (List ℕ)) (modified : List ℕ) (range : Option (List ℕ)) (size : ℕ) (body : List ℕ) → tells_size status ≡ true
+    → print_head (record (got_fields opening found (Some modified)) { status = status; content_range = range; size = size }) ++ body
+    ≡ status_line status ++ print_lines (lines_in_front opening found modified range) ++ print_line (codes "Content-Length", decimal size) ++ crlf ++ body
+unfolding print_head
+object_printed status opening found modified range size body tells =
+    let head = got_fields opening found (Some modified) in
+    let told_size : Line = (codes "Content-Length", decimal size) in
     let front = opening_lines head ++ version_lines head in
-    let lines = ap print_lines (sym (append_assoc front (told found.stored) (size ∷ []))) ∙ last_line (front ++ told found.stored) size in
-    let sent : sent_body context.head_only found.stored.body ≡ found.stored.body = rw whole refl in
+    let whole = front ++ told found.stored range in
+    ap (λ b. status_line status ++ print_lines (front ++ (told found.stored range ++ flag told_size.0 told_size.1 b)) ++ crlf ++ body) tells
+    ∙ ap (λ l. status_line status ++ l ++ crlf ++ body) (ap print_lines (sym (append_assoc front (told found.stored range) (told_size ∷ []))) ∙ last_line whole told_size)
+    ∙ ap (λ r. r ++ crlf ++ body) (sym (append_assoc (status_line status) (print_lines whole) (print_line told_size)))
+
+-- the date of the version that is shown
+modified_of : (t : ℕ) (modified : Option (List ℕ)) → IsDateShown (Some t) modified → (date : List ℕ) × IsHttpDate t date × (modified ≡ Some date)
+modified_of t (Some date) is = (date, is, refl)
+modified_of t None is = absurd is
+
+got_carries : (opening : Opening) (found : Found (List ℕ)) (modified text : List ℕ) → is_unbroken opening.date ≡ true → is_unbroken modified ≡ true → IsUnbroken found.stored
+    → text ≡ print_head (sized (got_fields opening found (Some modified)) found.stored.body) ++ found.stored.body → Carries found.stored.body text
+unfolding status_line digits
+got_carries opening found modified text at since unbroken is =
     record {
-      lines = front ++ told found.stored;
-      whole = front_unbroken found context number date is.0 dated is.1 unbroken;
-      printed = is.2
-          ∙ ap (λ l. status_line statuses.Ok ++ l ++ crlf ++ sent_body context.head_only found.stored.body) lines
-          ∙ ap (λ r. r ++ crlf ++ sent_body context.head_only found.stored.body) (sym (append_assoc (status_line statuses.Ok) (print_lines (front ++ told found.stored)) (print_line size)))
-          ∙ ap (λ b. status_line statuses.Ok ++ print_lines (front ++ told found.stored) ++ print_line size ++ crlf ++ b) sent;
+      lines = lines_in_front opening found modified None;
+      whole = front_unbroken opening found modified None at since unbroken refl;
+      printed = is ∙ object_printed statuses.Ok opening found modified None (length found.stored.body) found.stored.body refl;
     }
+
+part_carries : (opening : Opening) (found : Found (List ℕ)) (modified : List ℕ) (first last : ℕ) (text : List ℕ) → is_unbroken opening.date ≡ true → is_unbroken modified ≡ true → IsUnbroken found.stored
+    → text ≡ print_head (sized (part_fields opening found (Some modified) first last) (part first last found.stored.body)) ++ part first last found.stored.body
+    → CarriesPart first last found.stored.body text
+unfolding status_line digits
+part_carries opening found modified first last text at since unbroken is =
+    let range = content_range first last (length found.stored.body) in
+    let head = got_fields opening found (Some modified) in
+    let bytes = part first last found.stored.body in
+    record {
+      lines = lines_in_front opening found modified (Some range);
+      whole = front_unbroken opening found modified (Some range) at since unbroken (range_unbroken first last (length found.stored.body));
+      told = Contains-append_right (opening_lines head ++ version_lines head) (told found.stored (Some range)) (codes "Content-Range", range) (1, omega arith, refl);
+      printed = is ∙ object_printed statuses.PartialContent opening found modified (Some range) (length bytes) bytes refl;
+    }
+
+-- what is printed of an answer that came out so
+printed_as : (answer : Answer) (context : Context) (text : List ℕ) (outcome : Outcome) (prints : Prints answer context text) → answer.outcome ≡ outcome
+    → Prints (record { number = answer.number; outcome = outcome }) context text
+printed_as answer context text outcome prints is = subst (λ o. Prints (record { number = answer.number; outcome = o }) context text) is prints
 
 pub objects_are_carried : ObjectsAreCarried
 objects_are_carried answer context text found prints gives unbroken whole =
-    let P : Outcome → Type 0 = λ outcome. PrintsOutcome answer.number outcome context prints.0 text in
-    got_carries answer.number found context prints.0 text (subst P gives prints.2) prints.1 unbroken whole
+    let got = printed_as answer context text (Got found Whole) prints gives in
+    let opening = opening_of answer.number context got.date in
+    let made = modified_of found.moment got.modified got.shown in
+    let bytes = found.stored.body in
+    let sent : sent_body context.head_only bytes ≡ bytes = rw whole refl in
+    got_carries opening found made.0 text (date_is_unbroken context.moment got.date got.dated) (date_is_unbroken found.moment made.0 made.1) unbroken
+    (got.printed
+    ∙ ap (λ b. print_head (sized (got_fields opening found got.modified) bytes) ++ b) sent
+    ∙ ap (λ m. print_head (sized (got_fields opening found m) bytes) ++ bytes) made.2)
 
-pub heads_tell_of_objects : HeadsTellOfObjects
-heads_tell_of_objects number found context text size whole prints =
-    let is = prints.2 in
-    let head = got_fields found number context.closes prints.0 is.0 in
-    let told : print_head (record head { size = found.stored.size }) ≡ print_reply head context.head_only found.stored.body =
-    rw (whole, size) (sym (append-nil (print_head (sized head found.stored.body)))) in
-    (prints.0, prints.1, (is.0, is.1, is.2 ∙ told))
+pub parts_are_carried : PartsAreCarried
+parts_are_carried answer context text found first last prints gives unbroken whole =
+    let got = printed_as answer context text (Got found (Part first last)) prints gives in
+    let opening = opening_of answer.number context got.date in
+    let made = modified_of found.moment got.modified got.shown in
+    let bytes = part first last found.stored.body in
+    let sent : sent_body context.head_only bytes ≡ bytes = rw whole refl in
+    part_carries opening found made.0 first last text (date_is_unbroken context.moment got.date got.dated) (date_is_unbroken found.moment made.0 made.1) unbroken
+    (got.printed
+    ∙ ap (λ b. print_head (sized (part_fields opening found got.modified first last) bytes) ++ b) sent
+    ∙ ap (λ m. print_head (sized (part_fields opening found m first last) bytes) ++ bytes) made.2)
+
+-- what a HEAD leaves out
+abbrev left_out : Reply → List ℕ
+left_out (alone head) = []
+left_out (beside head text) = text
+left_out (behind head body) = body
+
+heads_tell : (reply : Reply) → front false reply ++ back false reply ≡ front true reply ++ back true reply ++ left_out reply
+heads_tell (alone head) = simp append-nil
+heads_tell (beside head text) = simp append-nil
+heads_tell (behind head body) = simp append-nil
+
+pub heads_tell_of_replies : HeadsTellOfReplies
+heads_tell_of_replies answer context text prints whole =
+    let reply = reply_to (opening_of answer.number context prints.date) prints.modified answer.outcome in
+    let asked : Context = record context { head_only = true } in
+    let told : Prints answer asked (front true reply ++ back true reply) =
+    record { date = prints.date; modified = prints.modified; dated = prints.dated; shown = prints.shown; printed = refl } in
+    (front true reply ++ back true reply, left_out reply, told, prints.printed ∙ ap (λ h. front h reply ++ back h reply) whole ∙ heads_tell reply)

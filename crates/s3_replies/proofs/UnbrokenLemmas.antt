@@ -1,6 +1,8 @@
 -- No line of a reply has a carriage return in it.
 use Rattle.std.proofs.Common.{◌≡◌, ℕ, zero, suc, ◌+◌, ◌-◌, ◌/◌, ◌%◌, ◌&&◌, Bool, true, false, not, List, [], ◌∷◌, ◌++◌, refl, ◌∙◌, arith, codes, slice_index_or}
-use Rattle.std.specs.Prelude.{◌==◌}
+use Rattle.std.specs.Prelude.{◌==◌, if◌then◌else◌, decimal}
+use Rattle.std.specs.Fmt.{digit_glyph, digits, digits_onto}
+use Rattle.std.proofs.lemmas.Bool.Decides.{nat_tests}
 use Rattle.std.specs.List.{list_all}
 use Rattle.std.specs.Int.{w64, to_be_bytes}
 use Rattle.std.proofs.lemmas.List.Folds.{list_all-append}
@@ -12,6 +14,7 @@ use Rattle.s3_names.specs.Ids.{numbered_id, version_id_text}
 use Rattle.s3_names.specs.declared.ids.VersionId.{VersionId}
 use Rattle.s3_names.specs.declared.ids.VersionId.TheVariants.{Null, Numbered}
 use Rattle.s3_replies.specs.Lines.{Line}
+use Rattle.s3_replies.specs.Replies.{content_range}
 use Rattle.s3_replies.specs.Laws.{is_unbroken, is_whole_line, TagsAreUnbroken}
 
 -- two texts without one, joined, have none
@@ -52,6 +55,35 @@ id_unbroken (Numbered number) = number_unbroken number
 
 pub tags_are_unbroken : TagsAreUnbroken
 tags_are_unbroken body = hex_unbroken _
+
+-- nor has a number in decimal digits
+glyph_unbroken : (d : ℕ) → not (digit_glyph false d == 13) ≡ true
+glyph_unbroken d = grind (arith, nat_tests)
+
+either_unbroken : (b : Bool) (x y : List ℕ) → is_unbroken x ≡ true → is_unbroken y ≡ true → is_unbroken (if b then x else y) ≡ true
+either_unbroken true x y first second = first
+either_unbroken false x y first second = second
+
+more_digits_unbroken : (k n : ℕ) (rest : List ℕ) → is_unbroken rest ≡ true → is_unbroken (digits_onto k 10 false n rest) ≡ true
+more_digits_unbroken zero n rest are = are
+more_digits_unbroken (suc k) n rest are =
+    let more : is_unbroken (digit_glyph false (n % 10) ∷ rest) ≡ true = rw (glyph_unbroken (n % 10)) are in
+    either_unbroken (n / 10 == 0) (digit_glyph false (n % 10) ∷ rest) (digits_onto k 10 false (n / 10) (digit_glyph false (n % 10) ∷ rest))
+    more (more_digits_unbroken k (n / 10) (digit_glyph false (n % 10) ∷ rest) more)
+
+decimal_unbroken : (n : ℕ) → is_unbroken (decimal n) ≡ true
+unfolding digits
+decimal_unbroken n = more_digits_unbroken 64 n [] refl
+
+pub range_unbroken : (first last size : ℕ) → is_unbroken (content_range first last size) ≡ true
+range_unbroken first last size =
+    let begun = codes "bytes " ++ decimal first in
+    let ended = begun ++ codes "-" ++ decimal last in
+    joined (ended ++ codes "/") (decimal size)
+    (joined ended (codes "/")
+    (joined (begun ++ codes "-") (decimal last) (joined begun (codes "-") (joined (codes "bytes ") (decimal first) refl (decimal_unbroken first)) refl) (decimal_unbroken last))
+    refl)
+    (decimal_unbroken size)
 
 digit_unbroken : (d : ℕ) → not (48 + d == 13) ≡ true
 digit_unbroken d = grind arith

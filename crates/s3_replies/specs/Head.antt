@@ -5,6 +5,7 @@ use Rattle.std.specs.Fmt.{decimal}
 use Rattle.s3_text.specs.Characters.{crlf}
 use Rattle.s3_text.specs.Digits.{number_digits}
 use Rattle.s3_replies.specs.declared.head.Head.{Head}
+use Rattle.s3_replies.specs.declared.head.Opening.{Opening}
 use Rattle.s3_terms.specs.declared.status.Status.{Status}
 use Rattle.s3_terms.specs.Status.{tells_size}
 use Rattle.s3_replies.specs.Lines.{Line, status_line, print_lines, flag, optional, metadata_line, quoted, value_of, value_length}
@@ -54,12 +55,12 @@ fields_of head = record {
 }
 
 -- a head that says what every head has to say, of an empty body
-abbrev pub bare : Status → List ℕ → Bool → ℕ → Fields
-bare status date closes number = record {
+abbrev pub bare : Status → Opening → Fields
+bare status opening = record {
   status = status;
-  date = date;
-  closes = closes;
-  number = number;
+  date = opening.date;
+  closes = opening.closes;
+  number = opening.number;
   version_id = None;
   is_delete_marker = false;
   location = None;
@@ -114,7 +115,7 @@ pub record HasRoomFor (head : Fields) : Type 0 where
   pub location : value_length head.location ≤ 64
   pub tag : value_length head.tag ≤ 40
   pub modified : value_length head.modified ≤ 29
-  pub content_range : value_length head.content_range ≤ 64
+  pub content_range : value_length head.content_range ≤ 68
   pub content_type : value_length head.content_type ≤ 255
   pub metadata : metadata_size head.metadata ≤ 2048
   pub metadata_count : length head.metadata ≤ 64

@@ -2,20 +2,20 @@
 -- its request (RFC 9112, sections 4 to 6; RFC 9110, sections 8.6 and 15.3).
 use Rattle.std.specs.Prelude.{◌≡◌, IsTrue, ℕ, ◌==◌, Bool, true, false, not, ◌&&◌, List, ◌++◌, map, take, length, codes}
 use Rattle.std.specs.Fmt.{decimal}
-use Rattle.std.specs.List.{list_all}
+use Rattle.std.specs.List.{Contains, list_all}
 use Rattle.std.specs.Str.{bytes_eq}
 use Rattle.s3_text.specs.Characters.{crlf, carriage_return}
 use Rattle.s3_terms.specs.declared.code.Code.{Code}
 use Rattle.s3_bodies.specs.Payload.{tag_of}
+use Rattle.s3_conditions.specs.declared.conditions.Selection.TheVariants.{Whole, Part}
 use Rattle.s3_versions.specs.declared.version.Data.{Data}
 use Rattle.s3_machine.specs.Effects.{succeeds}
 use Rattle.s3_machine.specs.declared.command.Answer.{Answer}
 use Rattle.s3_machine.specs.declared.command.Found.{Found}
-use Rattle.s3_machine.specs.declared.command.Outcome.TheVariants.{Got, HeadGot}
-use Rattle.s3_machine.specs.Step.{head_of}
+use Rattle.s3_machine.specs.declared.command.Outcome.TheVariants.{Got}
 use Rattle.s3_replies.specs.declared.context.Context.{Context}
 use Rattle.s3_replies.specs.Lines.{Line, print_line, print_lines, metadata_line}
-use Rattle.s3_replies.specs.Replies.{Prints, PrintsRefusal}
+use Rattle.s3_replies.specs.Replies.{Prints, PrintsRefusal, content_range, part}
 
 -- an answer has one printed reply to a message
 abbrev pub RepliesAreUnique : Type 0
@@ -56,6 +56,19 @@ pub record Carries (body reply : List ℕ) : Type 0 where
       ++ crlf
       ++ body
 
+-- the reply has the status 206; a line tells which part of the bytes it has, from the first position to the last, and of how many; its
+-- last header line tells the size of the part, and behind the first empty line come the bytes of the part, and no more
+pub record CarriesPart (first last : ℕ) (body reply : List ℕ) : Type 0 where
+  pub lines : List Line
+  pub whole : IsTrue (list_all is_whole_line lines)
+  pub told : Contains lines (codes "Content-Range", content_range first last (length body))
+  pub printed : reply
+      ≡ codes "HTTP/1.1 206 Partial Content" ++ crlf
+      ++ print_lines lines
+      ++ print_line (codes "Content-Length", decimal (length (part first last body)))
+      ++ crlf
+      ++ part first last body
+
 -- a tag that a put gives has no carriage return
 abbrev pub TagsAreUnbroken : Type 0
 TagsAreUnbroken = (body : List ℕ) → is_unbroken (tag_of body) ≡ true
@@ -76,13 +89,18 @@ SuccessIsShown =
 abbrev pub ObjectsAreCarried : Type 0
 ObjectsAreCarried =
     (answer : Answer) (context : Context) (text : List ℕ) (found : Found (List ℕ)) → Prints answer context text
-    → answer.outcome ≡ Got found → IsUnbroken found.stored → context.head_only ≡ false
+    → answer.outcome ≡ Got found Whole → IsUnbroken found.stored → context.head_only ≡ false
     → Carries found.stored.body text
 
--- a HeadObject is answered as a HEAD that asked for the bytes would be, where the size that is kept is theirs
--- (RFC 9110, section 9.3.2)
-abbrev pub HeadsTellOfObjects : Type 0
-HeadsTellOfObjects =
-    (number : ℕ) (found : Found (List ℕ)) (context : Context) (text : List ℕ) → found.stored.size ≡ length found.stored.body
-    → context.head_only ≡ true → Prints (record { number = number; outcome = HeadGot (head_of found) }) context text
-    → Prints (record { number = number; outcome = Got found }) context text
+-- so is a part of them, where one was asked for
+abbrev pub PartsAreCarried : Type 0
+PartsAreCarried =
+    (answer : Answer) (context : Context) (text : List ℕ) (found : Found (List ℕ)) (first last : ℕ) → Prints answer context text
+    → answer.outcome ≡ Got found (Part first last) → IsUnbroken found.stored → context.head_only ≡ false
+    → CarriesPart first last found.stored.body text
+
+-- the reply to a HEAD is the one that any other request would get, without its body (RFC 9110, section 9.3.2)
+abbrev pub HeadsTellOfReplies : Type 0
+HeadsTellOfReplies =
+    (answer : Answer) (context : Context) (text : List ℕ) → Prints answer context text → context.head_only ≡ false
+    → (head : List ℕ) × (body : List ℕ) × Prints answer (record context { head_only = true }) head × (text ≡ head ++ body)

@@ -1,21 +1,26 @@
 -- What is printed for an answer of the machine and for a refusal (Amazon S3 API Reference, "Common
 -- response headers" and "Error responses").
-use Rattle.std.specs.Prelude.{◌≡◌, ℕ, Bool, true, false, if◌then◌else◌, List, [], ◌∷◌, ◌++◌, length, codes, Option, Some, option_map}
+use Rattle.std.specs.Prelude.{◌≡◌, ℕ, ◌+◌, Bool, true, false, if◌then◌else◌, List, [], ◌∷◌, ◌++◌, length, take, drop, codes, decimal, Option, Some, None, option_map}
 use Rattle.s3_terms.specs.Code.{status_of}
 use Rattle.s3_terms.specs.declared.code.Code.{Code}
 use Rattle.s3_text.specs.Characters.{crlf}
 use Rattle.s3_text.specs.Digits.{number_digits}
 use Rattle.s3_names.specs.Ids.{version_id_text}
 use Rattle.s3_names.specs.declared.ids.VersionId.{VersionId}
-use Rattle.s3_documents.specs.Buckets.{IsBucketsText}
+use Rattle.s3_conditions.specs.declared.conditions.Selection.{Selection}
+use Rattle.s3_conditions.specs.declared.conditions.Selection.TheVariants.{Whole, Part, Unchanged}
+use Rattle.s3_documents.specs.Buckets.{buckets_tree}
+use Rattle.s3_documents.specs.Copied.{copied_text}
+use Rattle.s3_documents.specs.Tree.{tree_text}
 use Rattle.s3_documents.specs.Versioning.{versioning_text}
 use Rattle.s3_machine.specs.declared.command.Answer.{Answer}
 use Rattle.s3_machine.specs.declared.command.Found.{Found}
 use Rattle.s3_machine.specs.declared.command.Outcome.{Outcome}
 use Rattle.s3_machine.specs.declared.command.Outcome.TheVariants as outcomes
 use Rattle.s3_replies.specs.declared.context.Context.{Context}
+use Rattle.s3_replies.specs.declared.head.Opening.{Opening}
 use Rattle.s3_terms.specs.declared.status.Status.TheVariants as statuses
-use Rattle.s3_replies.specs.Date.{IsHttpDate}
+use Rattle.s3_replies.specs.Date.{IsHttpDate, IsDateShown}
 use Rattle.s3_replies.specs.Document.{error_document}
 use Rattle.s3_replies.specs.Head.{Fields, bare, print_head, print_with_lines}
 
@@ -23,102 +28,132 @@ use Rattle.s3_replies.specs.Head.{Fields, bare, print_head, print_with_lines}
 abbrev pub sent_body : Bool → List ℕ → List ℕ
 sent_body head_only body = if head_only then [] else body
 
--- the head, where the body has this size
-abbrev pub with_size : Fields → ℕ → Fields
-with_size head size = record head { size = size }
+-- a reply: a head alone, or a head, which tells the size of a body, and the body, which is a short text that is written with
+-- the head, or stands behind what is written
+pub data Reply : Type 0 where
+  alone : Fields → Reply
+  beside : Fields → List ℕ → Reply
+  behind : Fields → List ℕ → Reply
 
 -- the head, where this is the body
 abbrev pub sized : Fields → List ℕ → Fields
-sized head body = with_size head (length body)
+sized head body = record head { size = length body }
 
--- all of a reply: its head, which tells the size of the body, and the body
-abbrev pub print_reply : Fields → Bool → List ℕ → List ℕ
-print_reply head head_only body = print_head (sized head body) ++ sent_body head_only body
+-- all of a reply but what stands behind it
+abbrev pub front : Bool → Reply → List ℕ
+front head_only (alone head) = print_head head
+front head_only (beside head text) = print_head (sized head text) ++ sent_body head_only text
+front head_only (behind head body) = print_head (sized head body)
+
+-- and what does
+abbrev pub back : Bool → Reply → List ℕ
+back head_only (behind head body) = sent_body head_only body
+back head_only other = []
 
 -- the text of a version's id, where one is shown
 abbrev pub shown_text : Option VersionId → Option (List ℕ)
 shown_text shown = option_map version_id_text shown
 
 -- CreateBucket: where the bucket is
-abbrev pub made_fields : List ℕ → ℕ → Bool → List ℕ → Fields
-made_fields name number closing date =
-    let base = bare statuses.Ok date closing number in record base { location = Some (codes "/" ++ name) }
+abbrev pub made_fields : Opening → List ℕ → Fields
+made_fields opening name = let base = bare statuses.Ok opening in record base { location = Some (codes "/" ++ name) }
 
 -- ListBuckets and GetBucketVersioning: a document
-abbrev pub document_fields : ℕ → Bool → List ℕ → Fields
-document_fields number closing date =
-    let base = bare statuses.Ok date closing number in record base { content_type = Some (codes "application/json") }
+abbrev pub document_fields : Opening → Fields
+document_fields opening = let base = bare statuses.Ok opening in record base { content_type = Some (codes "application/json") }
 
 -- PutObject: the tag of what is stored, and the id of its version
-abbrev pub put_fields : List ℕ → Option VersionId → ℕ → Bool → List ℕ → Fields
-put_fields tag shown number closing date =
-    let base = bare statuses.Ok date closing number in
-    record base { version_id = shown_text shown; tag = Some tag }
+abbrev pub put_fields : Opening → List ℕ → Option VersionId → Fields
+put_fields opening tag shown = let base = bare statuses.Ok opening in record base { version_id = shown_text shown; tag = Some tag }
 
--- GetObject and HeadObject: what is known of the version
-abbrev pub got_fields : {B : Type 0} → Found B → ℕ → Bool → List ℕ → List ℕ → Fields
-got_fields found number closing date modified =
-    let base = bare statuses.Ok date closing number in
+-- GetObject and HeadObject: what is known of the version, and the date at which it was made
+abbrev pub got_fields : Opening → Found (List ℕ) → Option (List ℕ) → Fields
+got_fields opening found modified =
+    let base = bare statuses.Ok opening in
     record base {
       version_id = shown_text found.shown;
       tag = Some found.stored.tag;
-      modified = Some modified;
+      modified = modified;
       accepts_ranges = true;
       content_type = Some found.stored.content_type;
       metadata = found.stored.metadata;
-      size = found.stored.size;
     }
+
+-- which bytes of an object a reply has, of how many (RFC 9110, section 14.4)
+abbrev pub content_range : ℕ → ℕ → ℕ → List ℕ
+content_range first last size = codes "bytes " ++ decimal first ++ codes "-" ++ decimal last ++ codes "/" ++ decimal size
+
+-- the bytes from a first position to a last one
+abbrev pub part : ℕ → ℕ → List ℕ → List ℕ
+part first last bytes = drop first (take (last + 1) bytes)
+
+-- GetObject and HeadObject of a range: the same, and which bytes these are
+abbrev pub part_fields : Opening → Found (List ℕ) → Option (List ℕ) → ℕ → ℕ → Fields
+part_fields opening found modified first last =
+    let whole = got_fields opening found modified in
+    record whole { status = statuses.PartialContent; content_range = Some (content_range first last (length found.stored.body)) }
+
+-- the same of a version that is as the reader knows it (RFC 9110, section 15.4.5): nothing of its bytes
+abbrev pub unchanged_fields : Opening → Found (List ℕ) → Option (List ℕ) → Fields
+unchanged_fields opening found modified =
+    let base = bare statuses.NotModified opening in
+    record base { version_id = shown_text found.shown; tag = Some found.stored.tag; modified = modified }
+
+-- CopyObject: a document, and the id of the version that was made
+abbrev pub copied_fields : Opening → Option VersionId → Fields
+copied_fields opening shown = let base = document_fields opening in record base { version_id = shown_text shown }
 
 -- DeleteObject: the id of the delete marker that was made or of the version that is gone, and whether it is
 -- that of a delete marker
-abbrev pub deleted_fields : Option VersionId → Bool → ℕ → Bool → List ℕ → Fields
-deleted_fields shown is_delete_marker number closing date =
-    let base = bare statuses.NoContent date closing number in
+abbrev pub deleted_fields : Opening → Option VersionId → Bool → Fields
+deleted_fields opening shown is_delete_marker =
+    let base = bare statuses.NoContent opening in
     record base { version_id = shown_text shown; is_delete_marker = is_delete_marker }
 
 -- a refusal: the status of its code, whether it is about a delete marker, and the type of its document
-abbrev pub error_fields : Code → Bool → ℕ → Bool → List ℕ → Fields
-error_fields code is_delete_marker number closing date =
-    let base = bare (status_of code) date closing number in
+abbrev pub error_fields : Opening → Code → Bool → Fields
+error_fields opening code is_delete_marker =
+    let base = bare (status_of code) opening in
     record base { is_delete_marker = is_delete_marker; content_type = Some (codes "application/json") }
 
--- the text is the printed reply to what came of the command with this number
-abbrev pub PrintsOutcome : ℕ → Outcome → Context → List ℕ → List ℕ → Type 0
-PrintsOutcome number (outcomes.Buckets buckets) context date text =
-    (document : List ℕ) × IsBucketsText buckets document
-    × (text ≡ print_reply (document_fields number context.closes date) context.head_only document)
-PrintsOutcome number (outcomes.BucketMade name) context date text =
-    text ≡ print_head (made_fields name number context.closes date)
-PrintsOutcome number outcomes.BucketFound context date text =
-    text ≡ print_head (bare statuses.Ok date context.closes number)
-PrintsOutcome number outcomes.BucketDropped context date text =
-    text ≡ print_head (bare statuses.NoContent date context.closes number)
-PrintsOutcome number outcomes.VersioningSet context date text =
-    text ≡ print_head (bare statuses.Ok date context.closes number)
-PrintsOutcome number (outcomes.BucketVersioning versioning) context date text =
-    text
-    ≡ print_reply (document_fields number context.closes date) context.head_only (versioning_text versioning)
-PrintsOutcome number (outcomes.Put tag shown) context date text =
-    text ≡ print_head (put_fields tag shown number context.closes date)
-PrintsOutcome number (outcomes.Got found) context date text =
-    (modified : List ℕ) × IsHttpDate found.moment modified
-    × (text
-    ≡ print_reply (got_fields found number context.closes date modified) context.head_only found.stored.body)
-PrintsOutcome number (outcomes.HeadGot found) context date text =
-    (modified : List ℕ) × IsHttpDate found.moment modified
-    × (text ≡ print_head (got_fields found number context.closes date modified))
-PrintsOutcome number (outcomes.Deleted shown is_delete_marker) context date text =
-    text ≡ print_head (deleted_fields shown is_delete_marker number context.closes date)
-PrintsOutcome number (outcomes.Refused code is_delete_marker) context date text =
-    text
-    ≡ print_reply (error_fields code is_delete_marker number context.closes date) context.head_only (error_document code)
+-- the moment of the version that is shown, if one is
+abbrev pub shown_at : Outcome → Option ℕ
+shown_at (outcomes.Got found selection) = Some found.moment
+shown_at other = None
 
--- the text is the printed reply to a message: what the machine answered, dated by the moment of the
--- message
-abbrev pub Prints : Answer → Context → List ℕ → Type 0
-Prints answer context text =
-    (date : List ℕ) × IsHttpDate context.moment date
-    × PrintsOutcome answer.number answer.outcome context date text
+-- the reply that shows this of a version
+abbrev pub reply_with : Opening → Option (List ℕ) → Found (List ℕ) → Selection → Reply
+reply_with opening modified found Whole = behind (got_fields opening found modified) found.stored.body
+reply_with opening modified found (Part first last) = behind (part_fields opening found modified first last) (part first last found.stored.body)
+reply_with opening modified found Unchanged = alone (unchanged_fields opening found modified)
+
+-- the reply to what came of a command; that moment is written as this date
+abbrev pub reply_to : Opening → Option (List ℕ) → Outcome → Reply
+reply_to opening modified (outcomes.Buckets buckets) = behind (document_fields opening) (tree_text (buckets_tree buckets))
+reply_to opening modified (outcomes.BucketMade name) = alone (made_fields opening name)
+reply_to opening modified outcomes.BucketFound = alone (bare statuses.Ok opening)
+reply_to opening modified outcomes.BucketDropped = alone (bare statuses.NoContent opening)
+reply_to opening modified outcomes.VersioningSet = alone (bare statuses.Ok opening)
+reply_to opening modified (outcomes.BucketVersioning versioning) = beside (document_fields opening) (versioning_text versioning)
+reply_to opening modified (outcomes.Put tag shown) = alone (put_fields opening tag shown)
+reply_to opening modified (outcomes.Got found selection) = reply_with opening modified found selection
+reply_to opening modified (outcomes.Copied tag moment shown) = beside (copied_fields opening shown) (copied_text tag moment)
+reply_to opening modified (outcomes.Deleted shown is_delete_marker) = alone (deleted_fields opening shown is_delete_marker)
+reply_to opening modified (outcomes.Refused code is_delete_marker) = beside (error_fields opening code is_delete_marker) (error_document code)
+
+-- who answers a message, and when
+abbrev pub opening_of : ℕ → Context → List ℕ → Opening
+opening_of number context date = record { number = number; closes = context.closes; date = date }
+
+-- the text is the printed reply to a message: what the machine answered, dated by the moment of the message
+pub record Prints (answer : Answer) (context : Context) (text : List ℕ) : Type 0 where
+  pub date : List ℕ
+  pub modified : Option (List ℕ)
+  pub dated : IsHttpDate context.moment date
+  pub shown : IsDateShown (shown_at answer.outcome) modified
+  pub printed : text
+      ≡ front context.head_only (reply_to (opening_of answer.number context date) modified answer.outcome)
+      ++ back context.head_only (reply_to (opening_of answer.number context date) modified answer.outcome)
 
 -- what a refusal takes from its message: its moment, and whether it is a HEAD. It ends the connection
 abbrev pub closing : ℕ → Bool → Context
@@ -132,24 +167,12 @@ unnumbered code = record { number = 0; outcome = outcomes.Refused code false }
 abbrev pub PrintsRefusal : Code → ℕ → Bool → List ℕ → Type 0
 PrintsRefusal code moment head_only text = Prints (unnumbered code) (closing moment head_only) text
 
--- the bytes of a reply that do not stand beside its head: the document of a list, and those of an object
-abbrev pub IsOutcomeBody : Outcome → Bool → List ℕ → Type 0
-IsOutcomeBody (outcomes.Buckets buckets) head_only bytes =
-    (document : List ℕ) × IsBucketsText buckets document × (bytes ≡ sent_body head_only document)
-IsOutcomeBody (outcomes.Got found) head_only bytes = bytes ≡ sent_body head_only found.stored.body
-IsOutcomeBody other head_only bytes = bytes ≡ []
-
--- the same of the reply to a message
+-- the bytes are what stands behind the reply, whatever its head says
 abbrev pub IsBody : Answer → Context → List ℕ → Type 0
-IsBody answer context bytes = IsOutcomeBody answer.outcome context.head_only bytes
+IsBody answer context bytes =
+    (opening : Opening) (modified : Option (List ℕ)) → bytes ≡ back context.head_only (reply_to opening modified answer.outcome)
 
--- the bytes are a reply up to what follows its head: with any bytes that may stand behind, they are the reply
-abbrev pub IsOutcomeHead : ℕ → Outcome → Context → List ℕ → List ℕ → Type 0
-IsOutcomeHead number outcome context date head =
-    (bytes : List ℕ) → IsOutcomeBody outcome context.head_only bytes
-    → PrintsOutcome number outcome context date (head ++ bytes)
-
--- the same of the reply to a message
+-- the bytes are all else of the reply: with what stands behind it, they are the reply
 abbrev pub IsHead : Answer → Context → List ℕ → Type 0
 IsHead answer context head = (bytes : List ℕ) → IsBody answer context bytes → Prints answer context (head ++ bytes)
 

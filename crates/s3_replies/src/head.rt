@@ -4,6 +4,7 @@ ghost use Rattle.std.specs.Prelude.{◌≡◌, ◌≤◌, ◌+◌, [], ◌++◌}
 ghost use Rattle.s3_replies.specs.Head.{fields_of, bare, opening_lines, version_lines, body_lines, print_head, HasRoomFor, body_room, head_room};
 ghost use Rattle.s3_replies.specs.Lines.{print_lines};
 
+use crate::date::DateText;
 use crate::lines::{
     write_flag, write_line, write_metadata, write_number, write_optional, write_quoted,
     write_status,
@@ -15,6 +16,17 @@ use s3_versions::MetadataEntry;
 
 /// No head is longer.
 pub(crate) const HEAD_MAX: usize = 3840;
+
+/// Who answers a message, and when: what each head has to say.
+#[derive(Clone, Copy)]
+pub(crate) struct Opening {
+    /// The number of the entry, 0 where there is none.
+    pub number: u64,
+    /// The connection ends with the reply.
+    pub closes: bool,
+    /// The date of HTTP at which the reply is made.
+    pub date: DateText,
+}
 
 /// What a head says, in the order of its lines. Contracts see it as `fields_of` it.
 #[derive(Drop)]
@@ -44,14 +56,14 @@ pub(crate) struct Head<'a> {
 
 impl<'a> Head<'a> {
     /// A head that says what every head has to say, of an empty body.
-    pub(crate) fn bare(status: Status, date: &'a [u8], closes: bool, number: u64) -> Head<'a>
-        ensures { fields_of result ≡ bare status date.now closes number }
+    pub(crate) fn bare(status: Status, opening: &'a Opening) -> Head<'a>
+        ensures { fields_of result ≡ bare status opening.now }
     {
         Head {
             status,
-            date,
-            closes,
-            number,
+            date: opening.date.as_bytes(),
+            closes: opening.closes,
+            number: opening.number,
             version_id: None,
             is_delete_marker: false,
             location: None,
@@ -111,13 +123,13 @@ impl<'a> Head<'a> {
         write_optional(out, "Last-Modified", self.modified);
     }
 
-    /// Appends the lines that tell of a body: 3,420 bytes at most, and no more than what they say needs.
+    /// Appends the lines that tell of a body: 3,424 bytes at most, and no more than what they say needs.
     fn write_body_lines<R: Room>(&self, out: &mut R)
         requires fits { HasRoomFor (fields_of self.now) }
-        requires room { R.size out.old + 3420 ≤ R.capacity out.old }
+        requires room { R.size out.old + 3424 ≤ R.capacity out.old }
         ensures items { R.written out.new
             ≡ R.written out.old ++ print_lines (body_lines (fields_of self.now)) }
-        ensures bound { R.size out.new ≤ R.size out.old + 3420 }
+        ensures bound { R.size out.new ≤ R.size out.old + 3424 }
         ensures short { R.size out.new ≤ R.size out.old + body_room (fields_of self.now) }
         ensures capacity { R.capacity out.old ≤ R.capacity out.new }
     {

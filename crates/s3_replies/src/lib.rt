@@ -2,12 +2,14 @@
 //! here takes memory or fails: all but the bytes of an object and the document of a list fits into 4,096 bytes.
 #![tactic(auto)]
 
+mod body;
 mod context;
 mod date;
 mod document;
 mod head;
 mod laws;
 mod lines;
+mod objects;
 mod replies;
 mod room;
 mod values;

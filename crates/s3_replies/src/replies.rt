@@ -2,191 +2,91 @@
 
 ghost use Rattle.std.specs.Prelude.{◌≡◌, ◌+◌, ◌≤◌, [], ◌++◌, length, List, ℕ, unwrap_or};
 ghost use Rattle.s3_documents.specs.Versioning.{versioning_text};
-ghost use Rattle.s3_replies.specs.Replies.{Prints, PrintsRefusal, IsBody, IsHead, IsOutcomeHead, made_fields, document_fields, put_fields, got_fields, deleted_fields, error_fields, with_size, sized, print_reply, internal_error, continue_line, sent_body};
+ghost use Rattle.s3_replies.specs.Date.{IsDateShown};
 ghost use Rattle.s3_replies.specs.Document.{error_document};
 ghost use Rattle.s3_replies.specs.Head.{bare, print_head};
+ghost use Rattle.s3_replies.specs.Replies.{PrintsRefusal, IsBody, IsHead, beside, front, reply_to, shown_at, made_fields, document_fields, error_fields, internal_error, continue_line};
 
 use crate::Context;
-use crate::date::date_of;
+use crate::body::{sent, write_body};
+use crate::date::DateText;
 use crate::document::{document_of, versioning_document};
-use crate::head::Head;
+use crate::head::{Head, Opening};
+use crate::objects::{copied_reply, deleted_reply, got_reply, put_reply, shown_body};
 use crate::room::Room;
-use crate::values::{id_bytes, id_text, location_of};
+use crate::values::location_of;
 use arrayvec::ArrayVec;
 use s3_bodies::Body;
 use s3_calendar::Moment;
-use s3_documents::documents_are_one;
-use s3_machine::{Answer, BucketList, Found, Outcome};
-use s3_names::{BucketName, Tag, VersionId};
+use s3_machine::{Answer, Outcome};
+use s3_names::BucketName;
 use s3_terms::{Code, Status};
 use s3_versions::Versioning;
 
 /// Appends the whole reply that tells of nothing but its status.
-fn bare_reply<R: Room>(out: &mut R, status: Status, number: u64, closes: bool, date: [u8; 29])
+fn bare_reply<R: Room>(out: &mut R, opening: Opening, status: Status)
     requires { R.size out.old + 4096 ≤ R.capacity out.old }
-    ensures written { R.written out.new ≡ R.written out.old ++ print_head (bare status date closes number) }
+    ensures written { R.written out.new ≡ R.written out.old ++ print_head (bare status opening) }
     ensures capacity { R.capacity out.old ≤ R.capacity out.new }
 {
-    let head = Head::bare(status, &date, closes, number);
+    let head = Head::bare(status, &opening);
     head.print(out);
 }
 
 /// Appends the whole reply that says where a bucket is.
-fn made_reply<R: Room>(out: &mut R, name: &BucketName, number: u64, closes: bool, date: [u8; 29])
+fn made_reply<R: Room>(out: &mut R, opening: Opening, name: &BucketName)
     requires { R.size out.old + 4096 ≤ R.capacity out.old }
-    ensures written { R.written out.new ≡ R.written out.old ++ print_head (made_fields name.now number closes date) }
+    ensures written { R.written out.new ≡ R.written out.old ++ print_head (made_fields opening name.now) }
     ensures capacity { R.capacity out.old ≤ R.capacity out.new }
 {
     let location = location_of(name);
     let head = Head {
         location: Some(location.as_slice()),
-        ..Head::bare(Status::Ok, &date, closes, number)
+        ..Head::bare(Status::Ok, &opening)
     };
     head.print(out);
 }
 
 /// Appends the reply that is a document of this size, without the document.
-fn document_head<R: Room>(out: &mut R, size: u64, number: u64, closes: bool, date: [u8; 29])
+fn document_head<R: Room>(out: &mut R, opening: Opening, size: u64)
     requires { R.size out.old + 4096 ≤ R.capacity out.old }
     ensures written { R.written out.new
-        ≡ R.written out.old ++ print_head (with_size (document_fields number closes date) size) }
+        ≡ R.written out.old ++ print_head (record (document_fields opening) { size = size }) }
     ensures bound { R.size out.new ≤ R.size out.old + 3840 }
     ensures capacity { R.capacity out.old ≤ R.capacity out.new }
 {
     let head = Head {
         content_type: Some(b"application/json"),
         size,
-        ..Head::bare(Status::Ok, &date, closes, number)
+        ..Head::bare(Status::Ok, &opening)
     };
     head.print(out);
-}
-
-/// Appends the reply that is the document of a list, without the document. The buckets have
-/// one document, so any that is theirs may stand behind it.
-fn list_head<R: Room>(
-    out: &mut R,
-    buckets: &BucketList,
-    number: u64,
-    context: &Context,
-    date: [u8; 29],
-)
-    requires { R.size out.old + 4096 ≤ R.capacity out.old }
-    ensures printed { (head : List ℕ) × (R.written out.new ≡ R.written out.old ++ head)
-        × IsOutcomeHead number (Outcome.Buckets buckets.now) context.now date head }
-    ensures capacity { R.capacity out.old ≤ R.capacity out.new }
-{
-    documents_are_one();
-    let size = buckets.document().size();
-    document_head(out, size, number, context.closes, date);
 }
 
 /// Appends the whole reply that tells of a bucket's versioning.
-fn versioning_reply<R: Room>(
-    out: &mut R,
-    versioning: Versioning,
-    number: u64,
-    context: &Context,
-    date: [u8; 29],
-)
+fn versioning_reply<R: Room>(out: &mut R, opening: Opening, versioning: Versioning, head_only: bool)
     requires { R.size out.old + 4096 ≤ R.capacity out.old }
-    ensures written { R.written out.new
-        ≡ R.written out.old ++ print_reply (document_fields number context.now.closes date)
-        context.now.head_only (versioning_text versioning) }
+    ensures written { R.written out.new ≡ R.written out.old
+        ++ front head_only (beside (document_fields opening) (versioning_text versioning)) }
     ensures capacity { R.capacity out.old ≤ R.capacity out.new }
 {
     let document = versioning_document(versioning);
-    document_head(out, document.len() as u64, number, context.closes, date);
-    write_body(out, context.head_only, document);
+    document_head(out, opening, document.len() as u64);
+    write_body(out, head_only, document);
 }
 
-/// Appends all of the reply to a put.
-fn put_reply<R: Room>(
-    out: &mut R,
-    tag: &Tag,
-    shown: Option<VersionId>,
-    number: u64,
-    closes: bool,
-    date: [u8; 29],
-)
-    requires { R.size out.old + 4096 ≤ R.capacity out.old }
-    ensures written { R.written out.new ≡ R.written out.old ++ print_head (put_fields tag.now shown number closes date) }
-    ensures capacity { R.capacity out.old ≤ R.capacity out.new }
-{
-    let id = id_text(shown);
-    let head = Head {
-        version_id: id_bytes(&id),
-        tag: Some(&tag.text()),
-        ..Head::bare(Status::Ok, &date, closes, number)
-    };
-    head.print(out);
-}
-
-/// Appends what is known of a version, with that many bytes. Its date is `modified`.
-fn got_head<B, R: Room>(
-    out: &mut R,
-    found: &Found<B>,
-    size: u64,
-    number: u64,
-    closes: bool,
-    date: [u8; 29],
-    modified: [u8; 29],
-)
-    requires { R.size out.old + 4096 ≤ R.capacity out.old }
-    ensures written { R.written out.new
-        ≡ R.written out.old ++ print_head (with_size (got_fields found.now number closes date modified) size) }
-    ensures capacity { R.capacity out.old ≤ R.capacity out.new }
-{
-    let id = id_text(found.shown);
-    let head = Head {
-        version_id: id_bytes(&id),
-        tag: Some(&found.stored.tag.text()),
-        modified: Some(&modified),
-        accepts_ranges: true,
-        content_type: Some(found.stored.content_type.as_bytes()),
-        metadata: found.stored.metadata.entries(),
-        size,
-        ..Head::bare(Status::Ok, &date, closes, number)
-    };
-    head.print(out);
-}
-
-/// Appends the whole reply to a delete.
-fn deleted_reply<R: Room>(
-    out: &mut R,
-    shown: Option<VersionId>,
-    is_delete_marker: bool,
-    number: u64,
-    closes: bool,
-    date: [u8; 29],
-)
-    requires { R.size out.old + 4096 ≤ R.capacity out.old }
-    ensures written { R.written out.new
-        ≡ R.written out.old ++ print_head (deleted_fields shown is_delete_marker number closes date) }
-    ensures capacity { R.capacity out.old ≤ R.capacity out.new }
-{
-    let id = id_text(shown);
-    let head = Head {
-        version_id: id_bytes(&id),
-        is_delete_marker,
-        ..Head::bare(Status::NoContent, &date, closes, number)
-    };
-    head.print(out);
-}
-
-/// Appends the whole reply that refuses with the code, under that number, and says whether what was asked for
-/// is a delete marker. It is 768 bytes long at most.
+/// Appends the whole reply that refuses with the code, and says whether what was asked for is a delete marker. It is
+/// 768 bytes long at most.
 fn error_reply<R: Room>(
     out: &mut R,
+    opening: Opening,
     code: Code,
     is_delete_marker: bool,
-    number: u64,
-    context: &Context,
-    date: [u8; 29],
+    head_only: bool,
 )
     requires { R.size out.old + 4096 ≤ R.capacity out.old }
-    ensures written { R.written out.new
-        ≡ R.written out.old ++ print_reply (error_fields code is_delete_marker number context.now.closes date)
-        context.now.head_only (error_document code) }
+    ensures written { R.written out.new ≡ R.written out.old
+        ++ front head_only (beside (error_fields opening code is_delete_marker) (error_document code)) }
     ensures short { R.size out.new ≤ R.size out.old + 768 }
     ensures capacity { R.capacity out.old ≤ R.capacity out.new }
 {
@@ -195,68 +95,59 @@ fn error_reply<R: Room>(
         is_delete_marker,
         content_type: Some(b"application/json"),
         size: document.len() as u64,
-        ..Head::bare(code.status(), &date, context.closes, number)
+        ..Head::bare(code.status(), &opening)
     };
     head.print(out);
-    write_body(out, context.head_only, document.as_slice());
+    write_body(out, head_only, document.as_slice());
 }
 
-/// Appends the body, which a reply to a HEAD leaves out.
-fn write_body<R: Room>(out: &mut R, head_only: bool, body: &[u8])
-    requires { R.size out.old + length body.now ≤ R.capacity out.old }
-    ensures written { R.written out.new ≡ R.written out.old ++ sent_body head_only body.now }
-    ensures bound { R.size out.new ≤ R.size out.old + length body.now }
-    ensures capacity { R.capacity out.old ≤ R.capacity out.new }
-{
-    if !head_only {
-        out.write(body);
-    }
-}
-
-/// Appends the reply to what came of the command with this number, without what `body_of`
-/// gives.
+/// Appends the reply to what came of a command, without what `body_of` gives. The version that it shows was made at
+/// the date `modified`.
 fn outcome_reply<R: Room>(
     out: &mut R,
+    opening: Opening,
     outcome: &Outcome,
-    number: u64,
-    context: &Context,
-    date: [u8; 29],
+    modified: Option<DateText>,
+    head_only: bool,
 )
     requires { R.size out.old + 4096 ≤ R.capacity out.old }
-    ensures printed { (head : List ℕ) × (R.written out.new ≡ R.written out.old ++ head)
-        × IsOutcomeHead number outcome.now context.now date head }
+    ensures written { R.written out.new
+        ≡ R.written out.old ++ front head_only (reply_to opening modified outcome.now) }
     ensures capacity { R.capacity out.old ≤ R.capacity out.new }
 {
-    let closes = context.closes;
     match outcome {
-        Outcome::Buckets { buckets } => list_head(out, buckets, number, context, date),
-        Outcome::BucketMade { name } => made_reply(out, name, number, closes, date),
-        Outcome::BucketFound | Outcome::VersioningSet => {
-            bare_reply(out, Status::Ok, number, closes, date);
-        }
-        Outcome::BucketDropped => bare_reply(out, Status::NoContent, number, closes, date),
+        Outcome::Buckets { buckets } => document_head(out, opening, buckets.document().size()),
+        Outcome::BucketMade { name } => made_reply(out, opening, name),
+        Outcome::BucketFound | Outcome::VersioningSet => bare_reply(out, opening, Status::Ok),
+        Outcome::BucketDropped => bare_reply(out, opening, Status::NoContent),
         Outcome::BucketVersioning { versioning } => {
-            versioning_reply(out, *versioning, number, context, date);
+            versioning_reply(out, opening, *versioning, head_only);
         }
-        Outcome::Put { tag, shown } => put_reply(out, tag, *shown, number, closes, date),
-        Outcome::Got { found } => {
-            let size = found.stored.body.size();
-            let modified = date_of(found.moment);
-            got_head(out, found, size, number, closes, date, modified);
+        Outcome::Put { tag, shown } => put_reply(out, opening, tag, *shown),
+        Outcome::Got { found, selection } => {
+            got_reply(out, opening, found, *selection, modified, head_only);
         }
-        Outcome::HeadGot { found } => {
-            let size = found.stored.size;
-            let modified = date_of(found.moment);
-            got_head(out, found, size, number, closes, date, modified);
+        Outcome::Copied { tag, moment, shown } => {
+            copied_reply(out, opening, tag, *moment, *shown, head_only);
         }
         Outcome::Deleted {
             shown,
             is_delete_marker,
-        } => deleted_reply(out, *shown, *is_delete_marker, number, closes, date),
+        } => deleted_reply(out, opening, *shown, *is_delete_marker),
         Outcome::Refused {
             code,
             is_delete_marker,
-        } => error_reply(out, *code, *is_delete_marker, number, context, date),
+        } => error_reply(out, opening, *code, *is_delete_marker, head_only),
+    }
+}
+
+/// The date at which the version was made that the reply shows, if it shows one.
+fn modified_in(outcome: &Outcome) -> Option<DateText>
+    ensures { IsDateShown (shown_at outcome.now) result }
+{
+    match outcome {
+        Outcome::Got { found, .. } => Some(DateText::of(found.moment)),
+        _ => None,
     }
 }
 
@@ -268,8 +159,13 @@ pub fn head_of<R: Room>(answer: &Answer, context: &Context, out: &mut R)
         × IsHead answer.now context.now head }
     ensures capacity { R.capacity out.old ≤ R.capacity out.new }
 {
-    let date = date_of(context.moment);
-    outcome_reply(out, &answer.outcome, answer.number, context, date);
+    let opening = Opening {
+        number: answer.number,
+        closes: context.closes,
+        date: DateText::of(context.moment),
+    };
+    let modified = modified_in(&answer.outcome);
+    outcome_reply(out, opening, &answer.outcome, modified, context.head_only);
 }
 
 /// What stands behind the bytes of `head_of` in the reply to the answer, which it moves and does not copy.
@@ -278,16 +174,13 @@ pub fn body_of(answer: Answer, context: &Context) -> Option<Body>
 {
     match answer.outcome {
         Outcome::Buckets { buckets } => sent(context.head_only, buckets.into_document()),
-        Outcome::Got { found } => sent(context.head_only, found.stored.body),
+        Outcome::Got { found, selection } => shown_body(
+            context.head_only,
+            found.stored.body,
+            selection,
+        ),
         _ => None,
     }
-}
-
-/// The body, which a reply to a HEAD leaves out.
-fn sent(head_only: bool, body: Body) -> Option<Body>
-    ensures { unwrap_or result [] ≡ sent_body head_only body }
-{
-    if head_only { None } else { Some(body) }
 }
 
 /// The reply to a message of this moment that is refused before it comes to the machine; `head_only` says
@@ -296,13 +189,13 @@ pub fn refusal(code: Code, moment: Moment, head_only: bool) -> ArrayVec<u8, 4096
     ensures printed { PrintsRefusal code moment head_only result.items }
     ensures short { length result.items ≤ 768 }
 {
-    let closing = Context {
-        moment,
-        head_only,
+    let opening = Opening {
+        number: 0,
         closes: true,
+        date: DateText::of(moment),
     };
     let mut reply: ArrayVec<u8, 4096> = ArrayVec::new();
-    error_reply(&mut reply, code, false, 0, &closing, date_of(moment));
+    error_reply(&mut reply, opening, code, false, head_only);
     reply
 }
 

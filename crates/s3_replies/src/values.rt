@@ -1,12 +1,17 @@
-//! The values of header lines that are made of parts: the id of a version, and the place of a bucket.
+//! The values of header lines that are made of parts or may be absent: the id of a
+//! version, a date, a part, and the place of a bucket.
 
-ghost use Rattle.std.specs.Prelude.{◌≡◌, ◌≤◌, ◌++◌, codes};
+ghost use Rattle.std.specs.Prelude.{◌≡◌, ◌+◌, ◌≤◌, ◌++◌, length, codes, decimal};
+ghost use Rattle.arrayvec.specs.ArrayVec.{array_vec_len};
 ghost use Rattle.s3_replies.specs.Lines.{value_of, value_length};
-ghost use Rattle.s3_replies.specs.Replies.{shown_text};
+ghost use Rattle.s3_replies.specs.Replies.{content_range, shown_text};
 
+use crate::date::DateText;
 use crate::room::Room;
 use arrayvec::ArrayVec;
+use itoa::Buffer;
 use s3_names::{BucketName, IdText, VersionId};
+use std::marker::Model;
 
 /// A slash and the longest name of a bucket.
 const LOCATION_MAX: usize = 64;
@@ -28,6 +33,79 @@ pub(crate) fn id_bytes(text: &Option<IdText>) -> Option<&[u8]>
 {
     match text {
         Some(text) => Some(text.as_bytes()),
+        None => None,
+    }
+}
+
+/// The bytes of a date, where one is shown.
+pub(crate) fn date_bytes(date: &Option<DateText>) -> Option<&[u8]>
+    ensures value { value_of result ≡ date.now }
+    ensures bound { value_length (value_of result) ≤ 29 }
+{
+    match date {
+        Some(date) => Some(date.as_bytes()),
+        None => None,
+    }
+}
+
+/// The longest text: `bytes `, three numbers of 64 bits, and what stands between them.
+const RANGE_MAX: usize = 68;
+
+/// The text that says which part of an object is sent. Contracts see its bytes.
+#[derive(Drop)]
+pub(crate) struct RangeText {
+    text: ArrayVec<u8, RANGE_MAX>,
+}
+
+impl Model for RangeText {
+    ghost use Rattle.std.specs.Prelude.{ℕ, List};
+
+    ghost Value = { List ℕ };
+
+    ghost view = { λ range. range.text.items };
+}
+
+impl RangeText {
+    /// Which bytes of so many these are.
+    pub(crate) fn of(first: u64, last: u64, size: u64) -> RangeText
+        ensures { result ≡ content_range first last size }
+    {
+        let mut text: ArrayVec<u8, RANGE_MAX> = ArrayVec::new();
+        text.write(b"bytes ");
+        write_decimal(&mut text, first);
+        text.write(b"-");
+        write_decimal(&mut text, last);
+        text.write(b"/");
+        write_decimal(&mut text, size);
+        RangeText { text }
+    }
+
+    /// Its bytes.
+    pub(crate) fn as_bytes(&self) -> &[u8]
+        ensures value { result.now ≡ self.now }
+        ensures bound { length self.now ≤ 68 }
+    {
+        self.text.as_slice()
+    }
+}
+
+/// Appends the number in decimal digits, of which there are 20 at most.
+fn write_decimal(text: &mut ArrayVec<u8, RANGE_MAX>, number: u64)
+    requires { array_vec_len text.old + 20 ≤ RANGE_MAX }
+    ensures items { text.new.items ≡ text.old.items ++ decimal number }
+    ensures bound { array_vec_len text.new ≤ array_vec_len text.old + 20 }
+{
+    let mut digits = Buffer::new();
+    text.write(digits.format(number).as_bytes());
+}
+
+/// The bytes of the text that says which part is sent, if a part is.
+pub(crate) fn range_bytes(range: &Option<RangeText>) -> Option<&[u8]>
+    ensures value { value_of result ≡ range.now }
+    ensures bound { value_length (value_of result) ≤ 68 }
+{
+    match range {
+        Some(range) => Some(range.as_bytes()),
         None => None,
     }
 }

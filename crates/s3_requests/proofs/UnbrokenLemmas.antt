@@ -13,6 +13,7 @@ use Rattle.s3_text.specs.Sorting.{insert_by, sorted_by}
 use Rattle.s3_terms.specs.Fault.{refuse, ◌>>◌, ◌>>=◌}
 use Rattle.s3_terms.specs.declared.code.Code.{Code}
 use Rattle.s3_terms.specs.declared.code.Code.TheVariants.{MethodNotAllowed}
+use Rattle.s3_http_heads.specs.Method.{method_of}
 use Rattle.s3_http_heads.specs.Head.{HeadParts, LinesAreWhole, is_named, is_unbroken, is_whole_line, values_of}
 use Rattle.s3_http_heads.specs.Target.{TargetParts}
 use Rattle.s3_versions.specs.ContentType.{content_type}
@@ -20,16 +21,18 @@ use Rattle.s3_versions.specs.Metadata.{Entry, metadata, metadata_size}
 use Rattle.s3_requests.specs.declared.routing.Plan.{Plan}
 use Rattle.s3_requests.specs.declared.routing.Plan.TheVariants as plans
 use Rattle.s3_requests.specs.declared.routing.BucketPlan.{BucketPlan}
-use Rattle.s3_requests.specs.declared.routing.KeyPlan.{KeyPlan}
-use Rattle.s3_requests.specs.declared.routing.KeyPlan.TheVariants as key_plans
+use Rattle.s3_machine.specs.declared.command.KeyCommand.TheVariants as key_commands
+use Rattle.s3_machine.specs.declared.command.Source.{Source}
 use Rattle.s3_requests.specs.declared.operations.Operation.{Operation}
 use Rattle.s3_requests.specs.declared.operations.Operation.TheVariants as operations
 use Rattle.s3_names.specs.Names.{object_key}
 use Rattle.s3_names.specs.declared.ids.VersionId.{VersionId}
 use Rattle.s3_requests.specs.Arguments.{version_argument}
-use Rattle.s3_requests.specs.Operations.{method_of, service_operation, key_operation}
+use Rattle.s3_requests.specs.ReadConditions.{conditions_of}
+use Rattle.s3_requests.specs.Operations.{service_operation, key_operation}
+use Rattle.s3_requests.specs.CopySource.{source_of}
 use Rattle.s3_requests.specs.Description.{type_sent, content_type_of, front, name_in, names_of, entry_of, metadata_of}
-use Rattle.s3_requests.specs.Routing.{is_service, address_at, service_plan_for, service_plan, bucket_named, bucket_plan, put_plan, version_plan, key_plan_for, key_plan, plan_of_bucket, plan_of_key, named_plan, route_of}
+use Rattle.s3_requests.specs.Routing.{KeyPlan, is_service, address_at, service_plan_for, service_plan, bucket_named, bucket_plan, put_plan, read_plan, delete_plan, key_plan_for, key_plan, plan_of_bucket, plan_of_key, named_plan, route_of}
 use Rattle.s3_requests.specs.Laws.{is_unbroken_entry, IsUnbrokenAsk, IsUnbrokenPlan, PlansAreUnbroken}
 
 both : (a b : Bool) → (a && b) ≡ true → (a ≡ true) × (b ≡ true)
@@ -167,16 +170,28 @@ service_planned operations.ListBuckets plan is =
     subst IsUnbrokenPlan same tt
 service_planned _ plan is = absurd (cc)
 
-no_put : (operation : Operation) (version : Result (Option VersionId) Code) (kind : List ℕ) (entries : List Entry) → version_plan operation version ≡ Ok (key_plans.Put kind entries) → ⊥
-no_put operations.GetObject (Ok version) kind entries is = cc
-no_put operations.GetObject (Err code) kind entries is = cc
-no_put _ (Ok version) kind entries is = cc
-no_put _ (Err code) kind entries is = cc
+-- what asks for no put stores nothing
+no_put : (version : Result (Option VersionId) Code) (other : Option VersionId → KeyPlan) (asked : KeyPlan)
+    → ((v : Option VersionId) → IsUnbrokenAsk (other v)) → (version >>= (λ v. Ok (other v))) ≡ Ok asked → IsUnbrokenAsk asked
+no_put (Ok version) other asked unbroken is =
+    let same : other version ≡ asked = cc in subst IsUnbrokenAsk same (unbroken version)
+no_put (Err code) other asked unbroken is = absurd (cc)
 
--- an operation on a version stores nothing
-version_unbroken : (operation : Operation) (version : Result (Option VersionId) Code) (asked : KeyPlan) → version_plan operation version ≡ Ok asked → IsUnbrokenAsk asked
-version_unbroken operation version (key_plans.Put kind entries) is = absurd (no_put operation version kind entries is)
-version_unbroken operation version _ is = tt
+read_unbroken : (head : HeadParts) (target : TargetParts) (asked : KeyPlan) → read_plan head target ≡ Ok asked → IsUnbrokenAsk asked
+unfolding read_plan
+read_unbroken head target asked is =
+    no_put (version_argument target) (λ (v : Option VersionId). key_commands.Read (record { version = v; conditions = conditions_of head })) asked (λ v. tt) is
+
+delete_unbroken : (target : TargetParts) (asked : KeyPlan) → delete_plan target ≡ Ok asked → IsUnbrokenAsk asked
+unfolding delete_plan
+delete_unbroken target asked is = no_put (version_argument target) (λ (v : Option VersionId). key_commands.Delete v) asked (λ v. tt) is
+
+-- a copy stores what is stored already, and nothing that its head says
+copy_unbroken : (source : Result Source Code) (asked : KeyPlan) → (source >>= (λ (from : Source). Ok (key_commands.Copy (record { source = from })))) ≡ Ok asked → IsUnbrokenAsk asked
+copy_unbroken (Ok from) asked is =
+    let same : key_commands.Copy (record { source = from }) ≡ asked = cc in
+    subst IsUnbrokenAsk same tt
+copy_unbroken (Err code) asked is = absurd (cc)
 
 type_unbroken : (values : List (List ℕ)) → list_all is_unbroken values ≡ true → is_unbroken (type_sent (slice_get values 0)) ≡ true
 type_unbroken [] all = refl
@@ -196,17 +211,25 @@ module _ (head : HeadParts) (lines : list_all is_whole_line head.headers ≡ tru
       let all = map (entry_of head) (names_of head) in
       ap (list_all is_unbroken_entry) (sym (passed (nat_lt 2_048 (metadata_size all)) _ all entries is)) ∙ entries_unbroken head (names_of head) lines (names_unbroken head lines)
 
+  -- a put with this type and this metadata
+  putting : List ℕ → List Entry → KeyPlan
+  putting kind entries = key_commands.Put (record { content_type = kind; metadata = entries; payload = tt })
+
   put_unbroken : (asked : KeyPlan) → put_plan head ≡ Ok asked → IsUnbrokenAsk asked
-  unfolding put_plan
+  unfolding put_plan putting
   put_unbroken asked is =
-      let one = bound (content_type_of head) (λ (kind : List ℕ). metadata_of head >>= (λ (entries : List Entry). Ok (key_plans.Put kind entries))) asked is in
-      let two = bound (metadata_of head) (λ (entries : List Entry). Ok (key_plans.Put one.0 entries)) asked one.2 in
-      let same : key_plans.Put one.0 two.0 ≡ asked = cc in
+      let one = bound (content_type_of head) (λ (kind : List ℕ). metadata_of head >>= (λ (entries : List Entry). Ok (putting kind entries))) asked is in
+      let two = bound (metadata_of head) (λ (entries : List Entry). Ok (putting one.0 entries)) asked one.2 in
+      let same : putting one.0 two.0 ≡ asked = cc in
       subst IsUnbrokenAsk same (content_type_unbroken one.0 one.1, metadata_unbroken two.0 two.1)
 
   planned_unbroken : (operation : Operation) (target : TargetParts) (asked : KeyPlan) → key_plan_for operation head target ≡ Ok asked → IsUnbrokenAsk asked
   planned_unbroken operations.PutObject target asked is = put_unbroken asked is
-  planned_unbroken operation target asked is = version_unbroken operation (version_argument target) asked is
+  planned_unbroken operations.CopyObject target asked is = copy_unbroken (source_of head) asked is
+  planned_unbroken operations.GetObject target asked is = read_unbroken head target asked is
+  planned_unbroken operations.HeadObject target asked is = read_unbroken head target asked is
+  planned_unbroken operations.DeleteObject target asked is = delete_unbroken target asked is
+  planned_unbroken _ target asked is = absurd (cc)
 
   asked_unbroken : (target : TargetParts) (asked : KeyPlan) → key_plan head target ≡ Ok asked → IsUnbrokenAsk asked
   unfolding key_plan

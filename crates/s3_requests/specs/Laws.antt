@@ -5,9 +5,8 @@ use Rattle.s3_http_heads.specs.Head.{HeadParts, Says, is_unbroken}
 use Rattle.s3_versions.specs.Metadata.{Entry}
 use Rattle.s3_requests.specs.declared.routing.Plan.{Plan}
 use Rattle.s3_requests.specs.declared.routing.Plan.TheVariants as plans
-use Rattle.s3_requests.specs.declared.routing.KeyPlan.{KeyPlan}
-use Rattle.s3_requests.specs.declared.routing.KeyPlan.TheVariants as key_plans
-use Rattle.s3_requests.specs.Routing.{route_of}
+use Rattle.s3_machine.specs.declared.command.KeyCommand.TheVariants as key_commands
+use Rattle.s3_requests.specs.Routing.{KeyPlan, route_of}
 
 -- no carriage return is in the name and the value
 abbrev pub is_unbroken_entry : Entry → Bool
@@ -15,8 +14,8 @@ is_unbroken_entry entry = is_unbroken entry.name && is_unbroken entry.value
 
 -- nor in what is to be stored under a key beside a body
 abbrev pub IsUnbrokenAsk : KeyPlan → Type 0
-IsUnbrokenAsk (key_plans.Put content_type metadata) =
-    (is_unbroken content_type ≡ true) × (list_all is_unbroken_entry metadata ≡ true)
+IsUnbrokenAsk (key_commands.Put put) =
+    (is_unbroken put.content_type ≡ true) × (list_all is_unbroken_entry put.metadata ≡ true)
 IsUnbrokenAsk other = Unit {0}
 
 abbrev pub IsUnbrokenPlan : Plan → Type 0

@@ -1,11 +1,14 @@
 pub mod Arguments
+pub mod CopySource
 pub mod Description
 pub mod Laws
 pub mod Name
 pub mod Operations
+pub mod ReadConditions
 pub mod Routing
 pub use Rattle.s3_http_heads.specs.Head
 pub use Rattle.s3_http_heads.specs.Target
+pub use Rattle.s3_conditions.specs.Conditions
 pub use Rattle.s3_terms.specs.Code
 pub use Rattle.s3_terms.specs.Fault
 pub use Rattle.s3_names.specs.Ids

@@ -1,13 +1,13 @@
 -- The table of S3's operations (Amazon S3 API Reference, "Actions", and POST Object): which one a request asks
 -- for, by its method, by what its address names, and by the parameters and lines that tell operations apart. Of
 -- several rows that apply the first one counts.
-use Rattle.std.specs.Prelude.{ℕ, Bool, false, ◌&&◌, ◌||◌, if◌then◌else◌, List, [], ◌∷◌, codes, Option, Some, None}
+use Rattle.std.specs.Prelude.{Bool, false, ◌&&◌, ◌||◌, if◌then◌else◌, List, [], ◌∷◌, codes, Option, Some, None}
 use Rattle.std.specs.Option.{option_map_or}
 use Rattle.std.specs.Str.{bytes_eq}
 use Rattle.s3_http_heads.specs.Head.{HeadParts, is_sent}
 use Rattle.s3_http_heads.specs.Target.{TargetParts, has_parameter, first_parameter}
-use Rattle.s3_requests.specs.declared.operations.Method.{Method}
-use Rattle.s3_requests.specs.declared.operations.Method.TheVariants.{Get, Head, Put, Post, Delete, Other}
+use Rattle.s3_http_heads.specs.declared.method.Method.{Method}
+use Rattle.s3_http_heads.specs.declared.method.Method.TheVariants.{Get, Head, Put, Post, Delete, Other}
 use Rattle.s3_requests.specs.declared.operations.Operation.{Operation}
 use Rattle.s3_requests.specs.declared.operations.Operation.TheVariants.{ListBuckets, CreateBucket, HeadBucket, DeleteBucket, PutBucketVersioning, GetBucketVersioning, ListObjects, ListObjectsV2, ListObjectVersions, ListMultipartUploads, PostObject, PutObject, CopyObject, GetObject, HeadObject, GetObjectPart, HeadObjectPart, DeleteObject, CreateMultipartUpload, UploadPart, UploadPartCopy, ListParts, CompleteMultipartUpload, AbortMultipartUpload}
 
@@ -15,17 +15,6 @@ use Rattle.s3_requests.specs.declared.operations.Operation.TheVariants.{ListBuck
 abbrev pub first_row : {A : Type 0} → List (Bool × A) → A → A
 first_row [] otherwise = otherwise
 first_row (row ∷ rows) otherwise = if row.0 then row.1 else first_row rows otherwise
-
--- the methods by their names (RFC 9110, section 9.1), whose case counts
-abbrev pub method_of : List ℕ → Method
-method_of name =
-    first_row (
-    (bytes_eq name (codes "GET"), Get)
-    ∷ (bytes_eq name (codes "HEAD"), Head)
-    ∷ (bytes_eq name (codes "PUT"), Put)
-    ∷ (bytes_eq name (codes "POST"), Post)
-    ∷ (bytes_eq name (codes "DELETE"), Delete)
-    ∷ []) Other
 
 -- the operations on the service
 abbrev pub service_operation : Method → Option Operation

@@ -1,15 +1,15 @@
 -- What a head asks for, and of which bucket and which key (addresses are path-style: Amazon S3 User Guide,
 -- "Path-style requests"), and the faults of routing in their order.
-use Rattle.std.specs.Prelude.{ℕ, Bool, true, false, ◌==◌, if◌then◌else◌, List, length, codes, Option, ok_or, Result, Ok, Err}
+use Rattle.std.specs.Prelude.{ℕ, Bool, true, false, ◌==◌, if◌then◌else◌, List, length, codes, ok_or, Result, Ok, Err}
 use Rattle.std.specs.List.{list_any}
 use Rattle.std.specs.Str.{bytes_eq}
 use Rattle.s3_text.specs.Characters.{space}
 use Rattle.s3_text.specs.Cut.{parts_at}
 use Rattle.s3_names.specs.Names.{bucket_name, object_key}
-use Rattle.s3_names.specs.declared.ids.VersionId.{VersionId}
 use Rattle.s3_terms.specs.Fault.{refuse, ◌>>◌, ◌>>=◌}
 use Rattle.s3_terms.specs.declared.code.Code.{Code}
 use Rattle.s3_terms.specs.declared.code.Code.TheVariants.{NotImplemented, MethodNotAllowed}
+use Rattle.s3_http_heads.specs.Method.{method_of}
 use Rattle.s3_http_heads.specs.Head.{HeadParts}
 use Rattle.s3_http_heads.specs.Target.{TargetParts, target_of, has_parameter}
 use Rattle.s3_requests.specs.declared.operations.Operation.{Operation}
@@ -18,18 +18,19 @@ use Rattle.s3_requests.specs.declared.routing.Plan.{Plan}
 use Rattle.s3_requests.specs.declared.routing.Plan.TheVariants as plans
 use Rattle.s3_requests.specs.declared.routing.BucketPlan.{BucketPlan}
 use Rattle.s3_requests.specs.declared.routing.BucketPlan.TheVariants as bucket_plans
-use Rattle.s3_requests.specs.declared.routing.KeyPlan.{KeyPlan}
-use Rattle.s3_requests.specs.declared.routing.KeyPlan.TheVariants as key_plans
 use Rattle.s3_machine.specs.declared.command.Command.{Command}
 use Rattle.s3_machine.specs.declared.command.Command.TheVariants as commands
 use Rattle.s3_machine.specs.declared.command.BucketCommand.{BucketCommand}
 use Rattle.s3_machine.specs.declared.command.BucketCommand.TheVariants as bucket_commands
 use Rattle.s3_machine.specs.declared.command.KeyCommand.{KeyCommand}
 use Rattle.s3_machine.specs.declared.command.KeyCommand.TheVariants as key_commands
+use Rattle.s3_machine.specs.declared.command.ObjectPut.{ObjectPut}
 use Rattle.s3_documents.specs.Versioning.{versioning_read}
 use Rattle.s3_requests.specs.Arguments.{version_argument}
+use Rattle.s3_requests.specs.CopySource.{source_of}
+use Rattle.s3_requests.specs.ReadConditions.{conditions_of}
 use Rattle.s3_requests.specs.Description.{content_type_of, metadata_of}
-use Rattle.s3_requests.specs.Operations.{method_of, service_operation, bucket_operation, key_operation}
+use Rattle.s3_requests.specs.Operations.{service_operation, bucket_operation, key_operation}
 
 -- the sub-resources of S3 that this server doesn't have
 abbrev pub lacking : List (List ℕ)
@@ -81,30 +82,43 @@ bucket_plan head target = do
   operation ← ok_or (bucket_operation (method_of head.method) target) MethodNotAllowed
   bucket_plan_for operation
 
+-- what is asked of a key before the body is read
+abbrev pub KeyPlan : Type 0
+KeyPlan = KeyCommand (Unit {0})
+
 -- PutObject, with what the head says of the object
 unfoldable pub put_plan : HeadParts → Result KeyPlan Code
 put_plan head = do
   content_type ← content_type_of head
   metadata ← metadata_of head
-  Ok (key_plans.Put content_type metadata)
+  Ok (key_commands.Put (record { content_type = content_type; metadata = metadata; payload = tt }))
 
--- an operation on the version that is asked for, if this server has it
-abbrev pub version_plan : Operation → Result (Option VersionId) Code → Result KeyPlan Code
-version_plan operations.GetObject asked = do
-  version ← asked
-  Ok (key_plans.Get version)
-version_plan operations.HeadObject asked = do
-  version ← asked
-  Ok (key_plans.Head version)
-version_plan operations.DeleteObject asked = do
-  version ← asked
-  Ok (key_plans.Delete version)
-version_plan other asked = Err NotImplemented
+-- CopyObject, with what it copies
+abbrev pub copy_plan : HeadParts → Result KeyPlan Code
+copy_plan head = do
+  source ← source_of head
+  Ok (key_commands.Copy (record { source = source }))
+
+-- GetObject and HeadObject, whose reply leaves the bytes out
+unfoldable pub read_plan : HeadParts → TargetParts → Result KeyPlan Code
+read_plan head target = do
+  version ← version_argument target
+  Ok (key_commands.Read (record { version = version; conditions = conditions_of head }))
+
+-- DeleteObject
+unfoldable pub delete_plan : TargetParts → Result KeyPlan Code
+delete_plan target = do
+  version ← version_argument target
+  Ok (key_commands.Delete version)
 
 -- an operation on a key with its arguments, if this server has it
 abbrev pub key_plan_for : Operation → HeadParts → TargetParts → Result KeyPlan Code
 key_plan_for operations.PutObject head target = put_plan head
-key_plan_for other head target = version_plan other (version_argument target)
+key_plan_for operations.CopyObject head target = copy_plan head
+key_plan_for operations.GetObject head target = read_plan head target
+key_plan_for operations.HeadObject head target = read_plan head target
+key_plan_for operations.DeleteObject head target = delete_plan target
+key_plan_for other head target = Err NotImplemented
 
 -- what is asked of a key
 unfoldable pub key_plan : HeadParts → TargetParts → Result KeyPlan Code
@@ -157,12 +171,16 @@ bucket_command_of bucket_plans.Delete body = Ok bucket_commands.Delete
 bucket_command_of bucket_plans.PutVersioning body = versioning_command_of body
 bucket_command_of bucket_plans.GetVersioning body = Ok bucket_commands.GetVersioning
 
+-- what is to be stored, with its body
+abbrev pub put_with : ObjectPut (Unit {0}) → List ℕ → ObjectPut (List ℕ)
+put_with put body = record { content_type = put.content_type; metadata = put.metadata; payload = body }
+
 -- the same of a key
-abbrev pub key_command_of : KeyPlan → List ℕ → KeyCommand
-key_command_of (key_plans.Put content_type metadata) body = key_commands.Put content_type metadata body
-key_command_of (key_plans.Get version) body = key_commands.Get version
-key_command_of (key_plans.Head version) body = key_commands.Head version
-key_command_of (key_plans.Delete version) body = key_commands.Delete version
+abbrev pub key_command_of : KeyPlan → List ℕ → KeyCommand (List ℕ)
+key_command_of (key_commands.Put put) body = key_commands.Put (put_with put body)
+key_command_of (key_commands.Copy copy) body = key_commands.Copy copy
+key_command_of (key_commands.Read read) body = key_commands.Read read
+key_command_of (key_commands.Delete version) body = key_commands.Delete version
 
 -- the operation with the body that came, if it can use the body
 unfoldable pub command_of : Plan → List ℕ → Result Command Code

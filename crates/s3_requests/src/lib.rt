@@ -3,11 +3,13 @@
 #![tactic(auto)]
 
 mod arguments;
+mod copy_source;
 mod description;
 mod laws;
 mod operations;
+mod read_conditions;
 mod routing;
 
 pub use laws::plans_are_unbroken;
-pub use routing::{BucketPlan, KeyPlan, Plan, command, route};
-pub use s3_machine::{BucketCommand, Command, KeyCommand};
+pub use routing::{BucketPlan, Plan, command, route};
+pub use s3_machine::{BucketCommand, Command, KeyCommand, ObjectPut, ObjectRead};

@@ -3,39 +3,7 @@
 ghost use Rattle.std.specs.Prelude.{◌≡◌};
 ghost use Rattle.s3_requests.specs.Operations as rules;
 
-use s3_http_heads::{Head, Target};
-
-/// A method that S3 has operations for (RFC 9110, section 9.3), or any other. Its case counts.
-#[derive(Clone, Copy)]
-pub(crate) enum Method {
-    Get,
-    Head,
-    Put,
-    Post,
-    Delete,
-    Other,
-}
-
-impl Method {
-    // The method of that name.
-    pub(crate) fn read(name: &[u8]) -> Method
-        ensures { result ≡ rules.method_of name.now }
-    {
-        if name == b"GET".as_slice() {
-            Method::Get
-        } else if name == b"HEAD".as_slice() {
-            Method::Head
-        } else if name == b"PUT".as_slice() {
-            Method::Put
-        } else if name == b"POST".as_slice() {
-            Method::Post
-        } else if name == b"DELETE".as_slice() {
-            Method::Delete
-        } else {
-            Method::Other
-        }
-    }
-}
+use s3_http_heads::{Head, Method, Target};
 
 /// An operation, by its name in the Amazon S3 API Reference.
 #[derive(Clone, Copy)]

@@ -8,15 +8,16 @@ ghost use Rattle.s3_http_heads.specs.Target.{has_parameter};
 ghost use Rattle.s3_requests.specs.Routing as rules;
 
 use crate::arguments::version_argument;
+use crate::copy_source::copy_source;
 use crate::description::{content_type_of, metadata_of};
-use crate::operations::{Method, Operation, bucket_operation, key_operation, service_operation};
+use crate::operations::{Operation, bucket_operation, key_operation, service_operation};
+use crate::read_conditions::conditions_of;
 use s3_bodies::Payload;
 use s3_documents::read_versioning;
 use s3_http_heads::{Head, Target};
-use s3_machine::{BucketCommand, Command, KeyCommand};
-use s3_names::{BucketName, Key, VersionId};
+use s3_machine::{BucketCommand, Command, KeyCommand, ObjectCopy, ObjectPut, ObjectRead};
+use s3_names::{BucketName, Key};
 use s3_terms::{Code, NoMemory};
-use s3_versions::{ContentType, Metadata};
 use std::alloc::Global;
 
 /// What a head asks for, before the body is read: an operation with its arguments.
@@ -29,11 +30,11 @@ pub enum Plan {
         name: BucketName,
         asked: BucketPlan,
     },
-    /// One about the object under a key of a bucket.
+    /// One about the object under a key of a bucket: its command without the body.
     Key {
         bucket: BucketName,
         key: Key,
-        asked: KeyPlan,
+        asked: KeyCommand<()>,
     },
 }
 
@@ -52,38 +53,16 @@ pub enum BucketPlan {
     GetVersioning,
 }
 
-/// What is asked of a key, before the body is read.
-#[derive(Drop)]
-pub enum KeyPlan {
-    /// Store the body under it, with this media type and this metadata (PutObject).
-    Put {
-        content_type: ContentType,
-        metadata: Metadata,
-    },
-    /// Give the version of this id, or the current one (GetObject).
-    Get {
-        version: Option<VersionId>,
-    },
-    /// The same without the bytes (HeadObject).
-    Head {
-        version: Option<VersionId>,
-    },
-    /// Delete it, or its version of this id (DeleteObject).
-    Delete {
-        version: Option<VersionId>,
-    },
-}
-
 /// The sub-resources of S3 that this server doesn't have, with a space between each two.
 const LACKING: &[u8] =
     b"accelerate acl analytics attributes cors delete encryption intelligent-tiering inventory legal-hold lifecycle location logging metrics notification object-lock ownershipControls policy policyStatus publicAccessBlock replication requestPayment restore retention select tagging torrent website";
 
 /// The operation that a verified head asks for, with its bucket, its key and its arguments (Amazon S3 User
 /// Guide, "Path-style requests"). A refusal is the first fault of routing in the order of
-/// `docs/PROTOCOL.md`; `InternalError` says that there was no memory for the names and for what a put says of
-/// its object, of an address that may have them: without a sub-resource that this server lacks, and with the
-/// name of a bucket. The cost is linear in the names and the query, and in the header lines times the names of
-/// metadata.
+/// `docs/PROTOCOL.md`; `InternalError` says that there was no memory for the names, for what a put says of
+/// its object and for the tags that a read names, of an address that may have them: without a sub-resource that this
+/// server lacks, and with the name of a bucket. The cost is linear in the names and the query, and in the header
+/// lines times the names of metadata.
 #[tactic(auto, unfolding(crate::specs::Routing::route_of, crate::specs::Routing::bucket_at))]
 pub fn route(alloc: Global, head: &Head) -> Result<Plan, Code>
     ensures { FollowsPast (rules.bucket_at head.now) result (rules.route_of head.now) }
@@ -155,21 +134,25 @@ fn text_of(alloc: Global, payload: Payload) -> Result<Vec<u8>, NoMemory>
 }
 
 // What is asked of a key, with the body.
-fn key_command(asked: KeyPlan, payload: Payload) -> KeyCommand
+fn key_command(asked: KeyCommand<()>, payload: Payload) -> KeyCommand<Payload>
     ensures { result ≡ rules.key_command_of asked payload }
 {
     match asked {
-        KeyPlan::Put {
-            content_type,
-            metadata,
-        } => KeyCommand::Put {
-            content_type,
-            metadata,
-            payload,
-        },
-        KeyPlan::Get { version } => KeyCommand::Get { version },
-        KeyPlan::Head { version } => KeyCommand::Head { version },
-        KeyPlan::Delete { version } => KeyCommand::Delete { version },
+        KeyCommand::Put(put) => KeyCommand::Put(put_with(put, payload)),
+        KeyCommand::Copy(copy) => KeyCommand::Copy(copy),
+        KeyCommand::Read(read) => KeyCommand::Read(read),
+        KeyCommand::Delete { version } => KeyCommand::Delete { version },
+    }
+}
+
+// What is to be stored, with its body.
+fn put_with(put: ObjectPut<()>, payload: Payload) -> ObjectPut<Payload>
+    ensures { result ≡ rules.put_with put payload }
+{
+    ObjectPut {
+        content_type: put.content_type,
+        metadata: put.metadata,
+        payload,
     }
 }
 
@@ -214,7 +197,7 @@ fn is_service(target: &Target) -> bool
 fn service_plan(head: &Head) -> Result<Plan, Code>
     ensures { result ≡ rules.service_plan head.now }
 {
-    match service_operation(Method::read(head.method())) {
+    match service_operation(head.method()) {
         Some(Operation::ListBuckets) => Ok(Plan::ListBuckets),
         Some(_) => Err(Code::NotImplemented),
         None => Err(Code::MethodNotAllowed),
@@ -245,7 +228,7 @@ fn named_plan(alloc: Global, head: &Head, target: &Target) -> Result<Plan, Code>
 fn bucket_plan(head: &Head, target: &Target) -> Result<BucketPlan, Code>
     ensures { result ≡ rules.bucket_plan head.now target.now }
 {
-    match bucket_operation(Method::read(head.method()), target) {
+    match bucket_operation(head.method(), target) {
         Some(Operation::CreateBucket) => Ok(BucketPlan::Create),
         Some(Operation::HeadBucket) => Ok(BucketPlan::Head),
         Some(Operation::DeleteBucket) => Ok(BucketPlan::Delete),
@@ -258,23 +241,14 @@ fn bucket_plan(head: &Head, target: &Target) -> Result<BucketPlan, Code>
 
 // What is asked of a key.
 #[tactic(auto, unfolding(crate::specs::Routing::key_plan))]
-fn key_plan(alloc: Global, head: &Head, target: &Target) -> Result<KeyPlan, Code>
+fn key_plan(alloc: Global, head: &Head, target: &Target) -> Result<KeyCommand<()>, Code>
     ensures { Follows result (rules.key_plan head.now target.now) }
 {
-    match key_operation(Method::read(head.method()), head, target) {
+    match key_operation(head.method(), head, target) {
         Some(Operation::PutObject) => put_plan(alloc, head),
-        Some(Operation::GetObject) => {
-            let version = version_argument(target)?;
-            Ok(KeyPlan::Get { version })
-        }
-        Some(Operation::HeadObject) => {
-            let version = version_argument(target)?;
-            Ok(KeyPlan::Head { version })
-        }
-        Some(Operation::DeleteObject) => {
-            let version = version_argument(target)?;
-            Ok(KeyPlan::Delete { version })
-        }
+        Some(Operation::CopyObject) => copy_plan(alloc, head),
+        Some(Operation::GetObject | Operation::HeadObject) => read_plan(alloc, head, target),
+        Some(Operation::DeleteObject) => delete_plan(target),
         Some(_) => Err(Code::NotImplemented),
         None => Err(Code::MethodNotAllowed),
     }
@@ -282,13 +256,44 @@ fn key_plan(alloc: Global, head: &Head, target: &Target) -> Result<KeyPlan, Code
 
 // PutObject, with what the head says of the object.
 #[tactic(auto, unfolding(crate::specs::Routing::put_plan))]
-fn put_plan(alloc: Global, head: &Head) -> Result<KeyPlan, Code>
+fn put_plan(alloc: Global, head: &Head) -> Result<KeyCommand<()>, Code>
     ensures { Follows result (rules.put_plan head.now) }
 {
     let content_type = content_type_of(alloc, head)?;
     let metadata = metadata_of(alloc, head)?;
-    Ok(KeyPlan::Put {
+    Ok(KeyCommand::Put(ObjectPut {
         content_type,
         metadata,
-    })
+        payload: (),
+    }))
+}
+
+// GetObject and HeadObject, with what the head asks of the version.
+#[tactic(auto, unfolding(crate::specs::Routing::read_plan))]
+fn read_plan(alloc: Global, head: &Head, target: &Target) -> Result<KeyCommand<()>, Code>
+    ensures { Follows result (rules.read_plan head.now target.now) }
+{
+    let version = version_argument(target)?;
+    let conditions = conditions_of(alloc, head)?;
+    Ok(KeyCommand::Read(ObjectRead {
+        version,
+        conditions,
+    }))
+}
+
+// DeleteObject.
+#[tactic(auto, unfolding(crate::specs::Routing::delete_plan))]
+fn delete_plan(target: &Target) -> Result<KeyCommand<()>, Code>
+    ensures { result ≡ rules.delete_plan target.now }
+{
+    let version = version_argument(target)?;
+    Ok(KeyCommand::Delete { version })
+}
+
+// CopyObject, with what it copies.
+fn copy_plan(alloc: Global, head: &Head) -> Result<KeyCommand<()>, Code>
+    ensures { Follows result (rules.copy_plan head.now) }
+{
+    let source = copy_source(alloc, head)?;
+    Ok(KeyCommand::Copy(ObjectCopy { source }))
 }

@@ -8,14 +8,15 @@ use Rattle.s3_payloads.specs.Laws.{PayloadsJudge}
 use Rattle.s3_payloads.specs.Verdict as payloads
 use Rattle.s3_session.specs.Decision.{AwaitsBody, behind_text, text_at}
 use Rattle.s3_session.specs.Output.{Behind, Exchange, Past, Reading, ReadsBody, Serves, Standing, is_dead}
-use Rattle.s3_session.specs.Laws.{OneWriting, SessionsWrite}
+use Rattle.s3_session.specs.Laws.{OneWriting}
+use Rattle.s3_session.specs.Stands.{SessionsWrite, Stands, is_in_body}
 use Rattle.s3_session.specs.declared.incoming.Incoming.{Incoming}
 use Rattle.s3_session.specs.declared.session.Stage.{Stage}
 use Rattle.s3_session.specs.declared.session.Stage.TheVariants as stages
 use Rattle.s3_session.specs.declared.session.Closing.TheVariants as closings
 use Rattle.s3_machine.specs.declared.turn.Turn.{Turn}
 use Rattle.s3_session.specs.Incoming.{IsInBody}
-use Rattle.s3_session.specs.Session.{Connection, Stands, is_in_body, moment_at, standing_at, standing_of, unsent_of}
+use Rattle.s3_session.specs.Session.{Connection, moment_at, standing_at, standing_of, unsent_of}
 use Rattle.s3_session.proofs.StandsLemmas.{body_in, receiving_at, stands_behind}
 
 -- the verdict on the body of a message that is open

@@ -1,5 +1,5 @@
 -- What is read back over one connection is what was stored.
-use Rattle.std.proofs.Common.{◌≡◌, ℕ, Bool, true, false, not, List, [], ◌∷◌, ◌++◌, Option, Some, None, option_map, is_some, Ok, refl, sym, ap, subst, ◌∙◌}
+use Rattle.std.proofs.Common.{◌≡◌, ℕ, true, false, List, [], ◌∷◌, ◌++◌, Option, Some, None, option_map, is_some, Ok, refl, sym, ap, subst, ◌∙◌}
 use Rattle.std.specs.List.{AllByRecursion}
 use Rattle.std.proofs.lemmas.List.{map-append}
 use Rattle.s3_config.specs.Settings.{Settings}
@@ -8,50 +8,44 @@ use Rattle.s3_versions.specs.declared.version.Data.{Data}
 use Rattle.s3_records.specs.Catalogue.{opening}
 use Rattle.s3_requests.specs.declared.routing.Plan.{Plan}
 use Rattle.s3_requests.specs.declared.routing.Plan.TheVariants as plans
-use Rattle.s3_requests.specs.declared.routing.KeyPlan.TheVariants as key_plans
+use Rattle.s3_machine.specs.declared.command.KeyCommand.TheVariants as key_commands
 use Rattle.s3_requests.specs.Laws.{PlansAreUnbroken}
 use Rattle.s3_requests.specs.Routing.{bucket_command_of, command_of}
+use Rattle.s3_conditions.specs.declared.conditions.Selection.{Selection}
+use Rattle.s3_conditions.specs.declared.conditions.Selection.TheVariants.{Whole, Part, Unchanged}
 use Rattle.s3_machine.specs.declared.command.Command.{Command}
 use Rattle.s3_machine.specs.declared.command.Found.{Found}
 use Rattle.s3_machine.specs.declared.command.Outcome.{Outcome}
 use Rattle.s3_machine.specs.declared.command.Outcome.TheVariants.{Got}
 use Rattle.s3_machine.specs.Step.{State}
-use Rattle.s3_machine.specs.Effects.{Address, Read, brought, brings, whole, given, found_object, is_refused}
+use Rattle.s3_machine.specs.Effects.{Address, Read, brought, brings, whole, given, given_whole, found_object, succeeds}
 use Rattle.s3_machine.specs.History.{Entry, Legal}
-use Rattle.s3_machine.specs.Kept.{LeavesKey, SparesVersion, IsGiven, Puts, EveryHistory, StoredIsKept, VersionsAreKept, OnlyStoredIsGiven, ReadsGiveOrFail, PutsAreKept, PutVersionsAreKept}
-use Rattle.s3_replies.specs.Laws.{Carries, tells_success, SuccessIsShown, ObjectsAreCarried, TagsAreUnbroken}
+use Rattle.s3_machine.specs.Kept.{LeavesKey, SparesVersion, IsGiven, Puts, Copies, EveryHistory, StoredIsKept, VersionsAreKept, OnlyStoredIsGiven, OnlyPutsAreStored, ReadsGiveOrFail, ReadsAreJudged, PutsAreKept, PutVersionsAreKept, CopiesAreKept, CopyVersionsAreKept}
+use Rattle.s3_replies.specs.Laws.{Carries, IsUnbroken, PartsAreCarried, tells_success, SuccessIsShown, ObjectsAreCarried, TagsAreUnbroken}
 use Rattle.s3_payloads.specs.Laws.{WholePayloadsAreBodies}
 use Rattle.s3_session.specs.Output.{Exchange, IsReplied}
 use Rattle.s3_session.specs.Laws.{SoundMessages}
-use Rattle.s3_session.specs.ReadBack.{entry_of, entries_from, AsksFor, Wrote, LeavesAlone, SparesId, EveryReplay, StoredIsReadBack, VersionsAreReadBack, OnlyStoredIsReadBack, PutsAreReadBack, PutVersionsAreReadBack, PayloadsAreBrought}
+use Rattle.s3_session.specs.ReadBack.{entry_of, entries_from, AsksFor, Wrote, WroteCopy, LeavesAlone, SparesId, EveryReplay, StoredIsReadBack, VersionsAreReadBack, OnlyStoredIsReadBack, Shows, OnlyStoredIsShown, PutsAreReadBack, PutVersionsAreReadBack, CopiesAreReadBack, CopyVersionsAreReadBack, PayloadsAreBrought}
 use Rattle.s3_session.proofs.ReplayLemmas.{replayed_legal, replayed_walk}
 use Rattle.s3_session.proofs.ServesLemmas.{all_of_two}
 use Rattle.s3_session.proofs.SoundLemmas.{admitted_length, one_count}
-use Rattle.s3_session.proofs.UnbrokenLemmas.{StoresUnbroken, bucket_command, walked_unbroken}
+use Rattle.s3_session.proofs.UnbrokenLemmas.{BringsUnbroken, bucket_command, walked_unbroken}
 
 -- ---- what a reply shows of its entry
 
-not_true : (b : Bool) → not b ≡ true → b ≡ false
-not_true true is = absurd (cc)
-not_true false is = refl
-
-not_false : (b : Bool) → not b ≡ false → b ≡ true
-not_false true is = refl
-not_false false is = absurd (cc)
-
 module _ (success : SuccessIsShown) (address : Address) where
-  shows : (x : Exchange) → IsReplied x → tells_success x.reply ≡ not (is_refused x.answer.outcome)
+  shows : (x : Exchange) → IsReplied x → tells_success x.reply ≡ succeeds x.answer.outcome
   shows x answered = success x.answer x.context x.reply answered
 
   leaves_key : (xs : List Exchange) → AllByRecursion IsReplied xs → AllByRecursion (LeavesAlone address) xs → LeavesKey address (entries_from xs)
   leaves_key [] answered alone = tt
   leaves_key (x ∷ xs) answered alone =
-      ((λ is. not_false _ (sym (shows x answered.0) ∙ alone.0 is)), leaves_key xs answered.1 alone.1)
+      ((λ is. sym (shows x answered.0) ∙ alone.0 is), leaves_key xs answered.1 alone.1)
 
   spares_version : (id : VersionId) (xs : List Exchange) → AllByRecursion IsReplied xs → AllByRecursion (SparesId address id) xs → SparesVersion address id (entries_from xs)
   spares_version id [] answered spared = tt
   spares_version id (x ∷ xs) answered spared = (
-    (λ is accepted. spared.0 is (shows x answered.0 ∙ ap not accepted)),
+    (λ is accepted. spared.0 is (shows x answered.0 ∙ accepted)),
     spares_version id xs answered.1 spared.1,
   )
 
@@ -66,14 +60,17 @@ all_entries P (x ∷ xs) all = (all.0, all_entries P xs all.1)
 entries_at : (earlier : List Exchange) (x : Exchange) (later : List Exchange) → entries_from (earlier ++ x ∷ later) ≡ entries_from earlier ++ entry_of x ∷ entries_from later
 entries_at earlier x later = map-append entry_of earlier (x ∷ later)
 
--- what a read hands out
+-- what a read hands out whole
 found_there : (given : Option (Found (List ℕ))) → is_some given ≡ true → (found : Found (List ℕ)) × (given ≡ Some found)
 found_there (Some found) is = (found, refl)
 found_there None is = absurd (cc)
 
-got_given : (outcome : Outcome) (found : Found (List ℕ)) → given outcome ≡ Some found → outcome ≡ Got found
-got_given (Got other) found is = let same : other ≡ found = cc in ap Got same
+got_given : (outcome : Outcome) (found : Found (List ℕ)) → given_whole outcome ≡ Some found → outcome ≡ Got found Whole
+got_given (Got other Whole) found is = let same : other ≡ found = cc in ap (λ (f : Found (List ℕ)). Got f Whole) same
 got_given _ found is = absurd (cc)
+
+whole_is_given : (outcome : Outcome) (found : Found (List ℕ)) → given_whole outcome ≡ Some found → given outcome ≡ Some found
+whole_is_given outcome found is = ap given (got_given outcome found is)
 
 -- the data that a command brings whose bytes are these
 data_with : (found : Option (Data (List ℕ))) (body : List ℕ) → option_map (λ (what : Data (List ℕ)). what.body) found ≡ Some body
@@ -81,19 +78,19 @@ data_with : (found : Option (Data (List ℕ))) (body : List ℕ) → option_map 
 data_with (Some what) body is = (what, refl, cc)
 data_with None body is = absurd (cc)
 
--- ---- the laws, of messages whose entries are a legal history, which were replied to, and which store no carriage return
+-- ---- the laws, of messages whose entries are a legal history, which were replied to, and which bring no carriage return
 -- beside bodies
 
 -- what the messages of a replay are
 pub record AreReplayed (settings : Settings) (exchanges : List Exchange) : Type 0 where
   pub legal : Legal settings.min_part (opening settings.buckets) 0 (entries_from exchanges)
   pub replied : AllByRecursion IsReplied exchanges
-  pub unbroken : AllByRecursion (λ (x : Exchange). StoresUnbroken x.command) exchanges
+  pub unbroken : AllByRecursion (λ (x : Exchange). BringsUnbroken x.command) exchanges
 
-abbrev StoresWhole : Entry → Type 0
-StoresWhole e = StoresUnbroken e.command
+abbrev BringsWhole : Entry → Type 0
+BringsWhole e = BringsUnbroken e.command
 
-module _ (success : SuccessIsShown) (carried : ObjectsAreCarried) (only : EveryHistory OnlyStoredIsGiven)
+module _ (success : SuccessIsShown) (carried : ObjectsAreCarried) (parts_carried : PartsAreCarried) (only : EveryHistory OnlyStoredIsGiven) (brought_once : EveryHistory OnlyPutsAreStored)
     (settings : Settings) (exchanges : List Exchange) (are : AreReplayed settings exchanges) where
   -- what holds of every history holds of theirs
   of_history : {Law : ℕ → State → List Entry → Type 0} → EveryHistory Law
@@ -104,19 +101,26 @@ module _ (success : SuccessIsShown) (carried : ObjectsAreCarried) (only : EveryH
   replied_at earlier later x at =
       (all_of_two IsReplied earlier (x ∷ later) (subst (AllByRecursion IsReplied) at are.replied)).1.0
 
-  -- what a read is given, its reply carries: it was stored before
-  given_carried : (earlier later : List Exchange) (read : Exchange) (asked : Read) (found : Found (List ℕ))
-      → exchanges ≡ earlier ++ read ∷ later → AsksFor asked read → given read.answer.outcome ≡ Some found
-      → Carries found.stored.body read.reply
-  given_carried earlier later read asked found at asks gives =
+  -- what a read is given was stored before, and brought by a put
+  unbroken_given : (earlier later : List Exchange) (read : Exchange) (asked : Read) (found : Found (List ℕ))
+      → exchanges ≡ earlier ++ read ∷ later → AsksFor asked read → given read.answer.outcome ≡ Some found → IsUnbroken found.stored
+  unbroken_given earlier later read asked found at asks gives =
       let entries = ap entries_from at ∙ entries_at earlier read later in
       let was = (of_history only settings.buckets (entries_from earlier) (entries_from later) (entry_of read) asked found
       refl entries asks.read gives).2 in
-      let all = subst (AllByRecursion StoresWhole) entries (all_entries StoresUnbroken exchanges are.unbroken) in
-      let past = (all_of_two StoresWhole (entries_from earlier) (entry_of read ∷ entries_from later) all).0 in
-      let mine = all_of_two StoresWhole was.before (was.write ∷ was.between) (subst (AllByRecursion StoresWhole) was.parts past) in
-      carried read.answer read.context read.reply found (replied_at earlier later read at)
-      (got_given read.answer.outcome found gives) (mine.1.0 _ _ _ _ was.stores.by) asks.with_bytes
+      let all = subst (AllByRecursion BringsWhole) entries (all_entries BringsUnbroken exchanges are.unbroken) in
+      let past = (all_of_two BringsWhole (entries_from earlier) (entry_of read ∷ entries_from later) all).0 in
+      let once = of_history brought_once settings.buckets (entries_from earlier) (entry_of read ∷ entries_from later) _ refl entries was in
+      let mine = all_of_two BringsWhole once.before (once.put ∷ once.later) (subst (AllByRecursion BringsWhole) once.parts past) in
+      mine.1.0 found.stored once.puts.brings
+
+  -- so its reply carries it, where it is given all of it
+  given_carried : (earlier later : List Exchange) (read : Exchange) (asked : Read) (found : Found (List ℕ))
+      → exchanges ≡ earlier ++ read ∷ later → AsksFor asked read → given_whole read.answer.outcome ≡ Some found
+      → Carries found.stored.body read.reply
+  given_carried earlier later read asked found at asks gives =
+      carried read.answer read.context read.reply found (replied_at earlier later read at) (got_given read.answer.outcome found gives)
+      (unbroken_given earlier later read asked found at asks (whole_is_given read.answer.outcome found gives)) asks.with_bytes
 
   -- the same of data that it is given
   data_carried : (earlier later : List Exchange) (read : Exchange) (asked : Read) (t : ℕ) (what : Data (List ℕ))
@@ -151,16 +155,42 @@ module _ (success : SuccessIsShown) (carried : ObjectsAreCarried) (only : EveryH
   stored_before or_fails earlier later read address version at asks told =
       let entries = ap entries_from at ∙ entries_at earlier read later in
       let before = entries_from earlier in
-      let found = found_there (given read.answer.outcome)
+      let found = found_there (given_whole read.answer.outcome)
       (of_history or_fails before (entries_from later) (entry_of read) address version entries asks.read
       ∙ sym (shows success address read (replied_at earlier later read at)) ∙ told) in
       let was = of_history only settings.buckets before (entries_from later) (entry_of read) (whole address version) found.0
-      refl entries asks.read found.1 in (
+      refl entries asks.read (whole_is_given read.answer.outcome found.0 found.1) in (
         found_object address was.0 found.0,
         refl,
         was.1.named,
         was.2,
         given_carried earlier later read (whole address version) found.0 at asks found.1,
+      )
+
+  -- what is selected of it, the reply carries
+  shown_of : (read : Exchange) (found : Found (List ℕ)) (selection : Selection) → IsReplied read → read.answer.outcome ≡ Got found selection
+      → given read.answer.outcome ≡ Some found → IsUnbroken found.stored → read.context.head_only ≡ false → Shows selection found.stored.body read.reply
+  shown_of read found Whole replied shows gives unbroken whole = carried read.answer read.context read.reply found replied shows unbroken whole
+  shown_of read found (Part first last) replied shows gives unbroken whole =
+      parts_carried read.answer read.context read.reply found first last replied shows unbroken whole
+  shown_of read found Unchanged replied shows gives unbroken whole = let none = sym (ap given shows) ∙ gives in absurd (cc)
+
+  shown_before : EveryHistory ReadsAreJudged → OnlyStoredIsShown settings exchanges
+  shown_before judges earlier later read asked at asks told =
+      let entries = ap entries_from at ∙ entries_at earlier read later in
+      let before = entries_from earlier in
+      let replied = replied_at earlier later read at in
+      let shown = of_history judges before (entries_from later) (entry_of read) asked entries asks.read
+      (sym (shows success asked.address read replied) ∙ told) in
+      let was = of_history only settings.buckets before (entries_from later) (entry_of read) asked shown.found refl entries asks.read shown.gives in (
+        found_object asked.address was.0 shown.found,
+        refl,
+        was.1.named,
+        was.2,
+        shown.selection,
+        shown.selects,
+        shown_of read shown.found shown.selection replied shown.shows shown.gives
+            (unbroken_given earlier later read asked shown.found at asks shown.gives) asks.with_bytes,
       )
 
   -- ---- puts
@@ -177,8 +207,7 @@ module _ (success : SuccessIsShown) (carried : ObjectsAreCarried) (only : EveryH
   puts_of : (x : Exchange) (address : Address) (body : List ℕ) (what : Data (List ℕ)) → IsReplied x → Wrote address body x
       → brought x.command ≡ Some what → Puts address what (entry_of x)
   puts_of x address body what replied wrote brings =
-      let accepted = not_true _ (sym (shows success address x replied) ∙ wrote.answered) in
-      record { written = wrote.written; brings = brings; accepted = accepted }
+      record { written = wrote.written; brings = brings; accepted = sym (shows success address x replied) ∙ wrote.answered }
 
   put_read_back : EveryHistory PutsAreKept → PutsAreReadBack settings exchanges
   put_read_back kept before between later put read address body parts wrote alone asks =
@@ -200,10 +229,32 @@ module _ (success : SuccessIsShown) (carried : ObjectsAreCarried) (only : EveryH
       (entries_of_parts before between later put read parts) (puts_of put address body what.0 replied.0 wrote what.1) under
       (spares_version success address id between replied.1 spared) asks.read))
 
+  -- ---- copies
+
+  copies_of : (x : Exchange) (address : Address) (asked : Read) → IsReplied x → WroteCopy address asked x → Copies address asked (entry_of x)
+  copies_of x address asked replied wrote =
+      record { written = wrote.written; from = wrote.from; accepted = sym (shows success address x replied) ∙ wrote.answered }
+
+  copy_read_back : EveryHistory CopiesAreKept → CopiesAreReadBack settings exchanges
+  copy_read_back kept before between later copy read address asked parts wrote alone asks =
+      let replied = replied_from before between later copy read parts in
+      let found = of_history kept (entries_from before) (entries_from between) (entries_from later) (entry_of copy) (entry_of read) address asked
+      (entries_of_parts before between later copy read parts) (copies_of copy address asked replied.0 wrote)
+      (leaves_key success address between replied.1 alone) asks.read in
+      (found.0, found.1, data_carried (before ++ copy ∷ between) later read _ copy.context.moment found.0 parts asks found.2)
+
+  copy_version_read_back : EveryHistory CopyVersionsAreKept → CopyVersionsAreReadBack settings exchanges
+  copy_version_read_back kept before between later copy read address asked id parts wrote under spared asks =
+      let replied = replied_from before between later copy read parts in
+      let found = of_history kept (entries_from before) (entries_from between) (entries_from later) (entry_of copy) (entry_of read) address asked id
+      (entries_of_parts before between later copy read parts) (copies_of copy address asked replied.0 wrote) under
+      (spares_version success address id between replied.1 spared) asks.read in
+      (found.0, found.1, data_carried (before ++ copy ∷ between) later read _ copy.context.moment found.0 parts asks found.2)
+
 -- ---- of every replay
 
 module _ (plans : PlansAreUnbroken) (messages : SoundMessages) (tags : TagsAreUnbroken)
-    (success : SuccessIsShown) (carried : ObjectsAreCarried) (only : EveryHistory OnlyStoredIsGiven) where
+    (success : SuccessIsShown) (carried : ObjectsAreCarried) (parts_carried : PartsAreCarried) (only : EveryHistory OnlyStoredIsGiven) (brought_once : EveryHistory OnlyPutsAreStored) where
   of_replays : {Law : Settings → List Exchange → Type 0}
       → ((settings : Settings) (exchanges : List Exchange) → AreReplayed settings exchanges → Law settings exchanges) → EveryReplay Law
   of_replays law standing settings moment bytes out replay =
@@ -216,29 +267,41 @@ module _ (plans : PlansAreUnbroken) (messages : SoundMessages) (tags : TagsAreUn
       })
 
   pub stored_is_read_back : EveryHistory StoredIsKept → EveryReplay StoredIsReadBack
-  stored_is_read_back kept = of_replays (λ settings exchanges are. key_read_back success carried only settings exchanges are kept)
+  stored_is_read_back kept = of_replays (λ settings exchanges are. key_read_back success carried parts_carried only brought_once settings exchanges are kept)
 
   pub versions_are_read_back : EveryHistory VersionsAreKept → EveryReplay VersionsAreReadBack
-  versions_are_read_back kept = of_replays (λ settings exchanges are. version_read_back success carried only settings exchanges are kept)
+  versions_are_read_back kept = of_replays (λ settings exchanges are. version_read_back success carried parts_carried only brought_once settings exchanges are kept)
 
   pub only_stored_is_read_back : EveryHistory ReadsGiveOrFail → EveryReplay OnlyStoredIsReadBack
   only_stored_is_read_back or_fails =
-      of_replays (λ settings exchanges are. stored_before success carried only settings exchanges are or_fails)
+      of_replays (λ settings exchanges are. stored_before success carried parts_carried only brought_once settings exchanges are or_fails)
+
+  pub only_stored_is_shown : EveryHistory ReadsAreJudged → EveryReplay OnlyStoredIsShown
+  only_stored_is_shown judges =
+      of_replays (λ settings exchanges are. shown_before success carried parts_carried only brought_once settings exchanges are judges)
 
   pub puts_are_read_back : EveryHistory PutsAreKept → EveryReplay PutsAreReadBack
-  puts_are_read_back kept = of_replays (λ settings exchanges are. put_read_back success carried only settings exchanges are kept)
+  puts_are_read_back kept = of_replays (λ settings exchanges are. put_read_back success carried parts_carried only brought_once settings exchanges are kept)
 
   pub put_versions_are_read_back : EveryHistory PutVersionsAreKept → EveryReplay PutVersionsAreReadBack
   put_versions_are_read_back kept =
-      of_replays (λ settings exchanges are. put_version_read_back success carried only settings exchanges are kept)
+      of_replays (λ settings exchanges are. put_version_read_back success carried parts_carried only brought_once settings exchanges are kept)
+
+  pub copies_are_read_back : EveryHistory CopiesAreKept → EveryReplay CopiesAreReadBack
+  copies_are_read_back kept = of_replays (λ settings exchanges are. copy_read_back success carried parts_carried only brought_once settings exchanges are kept)
+
+  pub copy_versions_are_read_back : EveryHistory CopyVersionsAreKept → EveryReplay CopyVersionsAreReadBack
+  copy_versions_are_read_back kept =
+      of_replays (λ settings exchanges are. copy_version_read_back success carried parts_carried only brought_once settings exchanges are kept)
 
 -- ---- payloads
 
 planned_payload : (plan : Plan) (came brought : List ℕ) (command : Command) → command_of plan came ≡ Ok command → brings command ≡ Some brought → brought ≡ came
 unfolding command_of
 planned_payload (plans.Bucket name asked) came brought command made is =
-    let none : None ≡ Some brought = sym (bucket_command (bucket_command_of asked came) name command made).0 ∙ is in absurd (cc)
-planned_payload (plans.Key bucket key (key_plans.Put kind metadata)) came brought command made is = cc
+    let none : None ≡ Some brought =
+    sym (ap (option_map (λ (what : Data (List ℕ)). what.body)) (bucket_command (bucket_command_of asked came) name command made)) ∙ is in absurd (cc)
+planned_payload (plans.Key bucket key (key_commands.Put put)) came brought command made is = cc
 planned_payload _ came brought command made is = absurd (cc)
 
 pub payloads_are_brought : WholePayloadsAreBodies → PayloadsAreBrought

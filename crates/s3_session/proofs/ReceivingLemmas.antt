@@ -35,7 +35,8 @@ use Rattle.s3_session.specs.declared.session.Stage.{Stage}
 use Rattle.s3_session.specs.declared.session.Stage.TheVariants as stages
 use Rattle.s3_session.specs.declared.session.Closing.TheVariants as closings
 use Rattle.s3_session.specs.Incoming.{IsIncoming, Opens, TextOpens, Progresses, is_open}
-use Rattle.s3_session.specs.Session.{Connection, Asks, GoesOn, Here, IsDying, IsFed, IsLonger, StandsAt, added, moment_at, turns_of, unsent_of}
+use Rattle.s3_session.specs.Session.{Connection, IsLonger, added, moment_at, turns_of, unsent_of}
+use Rattle.s3_session.specs.Stands.{Asks, GoesOn, Here, IsDying, IsFed, StandsAt}
 use Rattle.s3_session.proofs.StayLemmas.{HeadsStay}
 use Rattle.s3_session.proofs.FrontLemmas.{IsFront, said_judged, said_invites}
 use Rattle.s3_session.proofs.UndecidedLemmas.{found_undecided, nothing_taken, searching, take_on}
@@ -168,7 +169,7 @@ module _ (settings : Settings) (moment : ℕ) (rest : List ℕ) where
       → (incoming : Incoming) (rule : Result Asked Code) → admission_of settings head moment ≡ rule
       → IsRuled rule incoming.admission → incoming.context ≡ context_of head moment → IsIncoming settings incoming rest
   admitted_incoming within found head says incoming (Err code) is ruled context = absurd ruled
-  admitted_incoming within found head says incoming (Ok asked) is (stands, planned) context =
+  admitted_incoming within found head says incoming (Ok asked) is (stands, planned, sized) context =
       let front = whole_front found in
       let same : incoming.context.moment ≡ moment = ap (λ (c : Context). c.moment) context in
       record {
@@ -190,12 +191,12 @@ module _ (settings : Settings) (moment : ℕ) (rest : List ℕ) where
   -- and its client is told to go on, or nothing is said
   admitted_invites : found_in rest ≡ found.Head (length (skip_pairs rest)) → (head : HeadParts) → Says (skip_pairs rest) head
       → (incoming : Incoming) (rule : Result Asked Code) → admission_of settings head moment ≡ rule → IsRuled rule incoming.admission
-      → (invited : Bool) → invited ≡ may_be_invited head
+      → (invited : Bool) → invited ≡ may_be_invited head incoming.admission.length
       → Invites settings moment rest (if invited then continue_line else [])
   admitted_invites found head says incoming (Err code) is ruled invited may = absurd ruled
   admitted_invites found head says incoming (Ok asked) is ruled invited may =
       let told = said_invites settings moment false rest (skip_pairs rest) [] head (whole_front found) says in
-      let text : invitation head (admission_of settings head moment) ≡ (if invited then continue_line else []) = rw (is, may) refl in
+      let text : invitation head (admission_of settings head moment) ≡ (if invited then continue_line else []) = rw (is, may, ruled.2) refl in
       subst (Invites settings moment rest) text told
 
   -- a text that is no head

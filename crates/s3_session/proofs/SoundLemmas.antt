@@ -1,6 +1,6 @@
 -- A sound verdict is about a sound message at the front of the bytes, and each of those has one.
 use Rattle.std.proofs.Common.{◌≡◌, ℕ, ◌≤◌, ◌&&◌, Bool, false, List, ◌++◌, take, drop, length, refl, sym, ap, subst, ◌∙◌, inl, inr, Option, Some, None, Result, Ok, Err}
-use Rattle.std.specs.Prelude.{codes, not, nat_lt, ok_or, unwrap_or}
+use Rattle.std.specs.Prelude.{codes, not, nat_lt, ok_or}
 use Rattle.std.proofs.lemmas.List.{take-append-drop, length-take-le, take_at, drop_at}
 use Rattle.s3_config.specs.Settings.{Settings}
 use Rattle.s3_terms.specs.Fault.{◌>>=◌}
@@ -50,10 +50,10 @@ framed head limit size is =
     count.1 ∙ ap Some (one_value count.0 size (test_ok (nat_lt limit count.0) EntityTooLarge _ size counted.1).1)
 
 -- and what it announces of its body has that size
-announced_size : (settings : Settings) (head : HeadParts) (proved : Proved) (announces : Announced)
-    → announced_payload settings head proved ≡ Ok announces → announces.length ≡ unwrap_or (announced (length_lines head)) 0
+pub announced_size : (settings : Settings) (head : HeadParts) (size : ℕ) (proved : Proved) (announces : Announced)
+    → announced_payload settings head size proved ≡ Ok announces → announces.length ≡ size
 unfolding announced_payload
-announced_size settings head proved announces is =
+announced_size settings head size proved announces is =
     let form = stage_ok (form_of settings head proved.word) _ announces is in
     sym (ap (λ (a : Announced). a.length) (one_value _ announces form.2))
 
@@ -64,12 +64,11 @@ unfolding admission_of
 admitted_length settings head moment asked is =
     let size = stage_ok (framing_of head settings.body_limit) _ asked is in
     let proved = stage_ok (head_verdict settings head moment) _ asked size.2 in
-    let announces = stage_ok (announced_payload settings head proved.0) _ asked proved.2 in
+    let announces = stage_ok (announced_payload settings head size.0 proved.0) _ asked proved.2 in
     let plan = stage_ok (route_of head) _ asked announces.2 in
     let same : announces.0 ≡ asked.announced = ap (λ (a : Asked). a.announced) (one_value _ asked plan.2) in
-    let told = framed head settings.body_limit size.0 size.1 in
-    let length_is : announces.0.length ≡ size.0 = announced_size settings head proved.0 announces.0 announces.1 ∙ ap (λ (count : Option ℕ). unwrap_or count 0) told in
-    told ∙ ap Some (sym length_is ∙ ap (λ (a : Announced). a.length) same)
+    let length_is = announced_size settings head size.0 proved.0 announces.0 announces.1 in
+    framed head settings.body_limit size.0 size.1 ∙ ap Some (sym length_is ∙ ap (λ (a : Announced). a.length) same)
 
 -- and asks for what routing plans
 pub admitted_route : (settings : Settings) (head : HeadParts) (moment : ℕ) (asked : Asked)
@@ -78,7 +77,7 @@ unfolding admission_of
 admitted_route settings head moment asked is =
     let size = stage_ok (framing_of head settings.body_limit) _ asked is in
     let proved = stage_ok (head_verdict settings head moment) _ asked size.2 in
-    let announces = stage_ok (announced_payload settings head proved.0) _ asked proved.2 in
+    let announces = stage_ok (announced_payload settings head size.0 proved.0) _ asked proved.2 in
     let plan = stage_ok (route_of head) _ asked announces.2 in
     plan.1 ∙ ap Ok (ap (λ (a : Asked). a.plan) (one_value _ asked plan.2))
 

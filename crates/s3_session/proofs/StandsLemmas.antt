@@ -19,7 +19,8 @@ use Rattle.s3_session.specs.Decision.{Decision, Judges, FoundJudged}
 use Rattle.s3_session.specs.Invitation.{Invites, FoundInvites}
 use Rattle.s3_session.specs.Walk.{Message, Walks}
 use Rattle.s3_session.specs.Output.{Behind, Exchange, IsDead, IsRefused, IsReplied, IsWaiting, Past, Serves, Standing, Reading, Waiting, Over, Dead, message_of, nothing_yet, turn_of, written_for}
-use Rattle.s3_session.specs.Laws.{InvitationsStay, OutputsStay, SessionsWrite, VerdictsStay}
+use Rattle.s3_session.specs.Laws.{InvitationsStay, OutputsStay, VerdictsStay}
+use Rattle.s3_session.specs.Stands.{SessionsWrite, Here, HereOr, IsCutTo, IsFed, IsReady, Stands, StandsAt, is_in_body}
 use Rattle.s3_machine.specs.declared.turn.Turn.{Turn}
 use Rattle.s3_session.specs.declared.incoming.Incoming.{Incoming}
 use Rattle.s3_session.specs.declared.session.Need.{Need}
@@ -27,7 +28,7 @@ use Rattle.s3_session.specs.declared.session.Stage.{Stage}
 use Rattle.s3_session.specs.declared.session.Stage.TheVariants as stages
 use Rattle.s3_session.specs.declared.session.Closing.TheVariants as closings
 use Rattle.s3_session.specs.Incoming.{IsInBody}
-use Rattle.s3_session.specs.Session.{Connection, Here, HereOr, IsCutTo, IsFed, IsLonger, IsReady, Stands, StandsAt, added, fed, gave_between, is_in_body, moment_at, standing_at, standing_of, turns_of, unsent_of}
+use Rattle.s3_session.specs.Session.{Connection, IsLonger, added, fed, gave_between, moment_at, standing_at, standing_of, turns_of, unsent_of}
 use Rattle.s3_session.proofs.StayLemmas.{HeadsStay}
 use Rattle.s3_session.proofs.EarlyLemmas.{sound_text}
 use Rattle.s3_session.proofs.FrontLemmas.{body_judged}

@@ -1,5 +1,5 @@
--- What is stored through a connection has no carriage return beside its body.
-use Rattle.std.proofs.Common.{◌≡◌, ℕ, Bool, true, List, [], ◌∷◌, map, inl, inr, Option, Some, None, option_map, Result, Ok, Err, sym, ap, subst, ◌∙◌}
+-- What is brought through a connection has no carriage return beside its body.
+use Rattle.std.proofs.Common.{◌≡◌, ℕ, Bool, true, List, [], ◌∷◌, map, inl, inr, Option, Some, None, Result, Ok, Err, sym, ap, subst, ◌∙◌}
 use Rattle.std.specs.List.{AllByRecursion, list_all}
 use Rattle.std.proofs.lemmas.Bool.{cases_Bool, MatchBool-at_true, MatchBool-at_false}
 use Rattle.std.proofs.lemmas.List.Folds.{list_all-map}
@@ -13,12 +13,11 @@ use Rattle.s3_machine.specs.declared.command.BucketCommand.{BucketCommand}
 use Rattle.s3_machine.specs.declared.command.Command.TheVariants as commands
 use Rattle.s3_requests.specs.declared.routing.Plan.{Plan}
 use Rattle.s3_requests.specs.declared.routing.Plan.TheVariants as plans
-use Rattle.s3_requests.specs.declared.routing.KeyPlan.TheVariants as key_plans
 use Rattle.s3_requests.specs.Laws.{is_unbroken_entry, IsUnbrokenPlan, PlansAreUnbroken}
-use Rattle.s3_requests.specs.Routing.{bucket_command_of, command_of}
+use Rattle.s3_requests.specs.Routing.{bucket_command_of, put_with, command_of}
 use Rattle.s3_machine.specs.declared.command.KeyCommand.TheVariants as key_commands
-use Rattle.s3_machine.specs.Step.{State, data_of}
-use Rattle.s3_machine.specs.Effects.{Object, brings, stored_by}
+use Rattle.s3_machine.specs.Step.{data_of}
+use Rattle.s3_machine.specs.Effects.{brought}
 use Rattle.s3_replies.specs.declared.context.Context.{Context}
 use Rattle.s3_replies.specs.Laws.{IsUnbroken, TagsAreUnbroken, is_whole_line}
 use Rattle.s3_replies.specs.Lines.{metadata_line}
@@ -27,53 +26,51 @@ use Rattle.s3_session.specs.Output.{Exchange, message_of}
 use Rattle.s3_session.specs.Walk.{Walks}
 use Rattle.s3_session.proofs.SoundLemmas.{admitted_route}
 
--- all that the command stores, in whichever state, is so
-abbrev pub StoresUnbroken : Command → Type 0
-StoresUnbroken command = (s : State) (n t : ℕ) (object : Object) → stored_by s n t command ≡ Some object → IsUnbroken object.stored
+-- all that the command brings along is so
+abbrev pub BringsUnbroken : Command → Type 0
+BringsUnbroken command = (what : Data (List ℕ)) → brought command ≡ Some what → IsUnbroken what
 
 told_whole : (entries : List Entry) → list_all is_unbroken_entry entries ≡ true → list_all is_whole_line (map metadata_line entries) ≡ true
 told_whole entries all = list_all-map is_whole_line metadata_line entries ∙ all
 
--- a command on a bucket brings nothing, and stores nothing
+-- a command on a bucket brings nothing
 pub bucket_command : (rule : Result BucketCommand Code) (name : List ℕ) (command : Command)
-    → (rule >>= (λ (asked : BucketCommand). Ok (commands.Bucket name asked))) ≡ Ok command
-    → (brings command ≡ None) × ((s : State) (n t : ℕ) → stored_by s n t command ≡ None)
+    → (rule >>= (λ (asked : BucketCommand). Ok (commands.Bucket name asked))) ≡ Ok command → brought command ≡ None
 bucket_command (Ok asked) name command made =
-    let same : commands.Bucket name asked ≡ command = cc in (ap brings (sym same), λ s n t. ap (stored_by s n t) (sym same))
+    let same : commands.Bucket name asked ≡ command = cc in ap brought (sym same)
 bucket_command (Err code) name command made = absurd (cc)
 
 planned : TagsAreUnbroken → (plan : Plan) (payload : List ℕ) (command : Command) → IsUnbrokenPlan plan
-    → command_of plan payload ≡ Ok command → StoresUnbroken command
+    → command_of plan payload ≡ Ok command → BringsUnbroken command
 unfolding command_of
-planned tags (plans.Bucket name asked) payload command unbroken made s n t object is =
-    let none : None ≡ Some object = sym ((bucket_command (bucket_command_of asked payload) name command made).1 s n t) ∙ is in absurd (cc)
-planned tags (plans.Key bucket key (key_plans.Put kind metadata)) payload command unbroken made s n t object is =
-    let same : commands.Key bucket key (key_commands.Put kind metadata payload) ≡ command = cc in
-    let holds : ◌≡◌ {A = Option (Data (List ℕ))} (Some (data_of kind metadata payload)) (Some object.stored) =
-    ap (option_map (λ (o : Object). o.stored)) (ap (stored_by s n t) same ∙ is) in
-    let stored : data_of kind metadata payload ≡ object.stored = cc in
-    subst IsUnbroken stored (record { tag = tags payload; content_type = unbroken.0; metadata = told_whole metadata unbroken.1 })
-planned tags _ payload command unbroken made s n t object is = absurd (cc)
+planned tags (plans.Bucket name asked) payload command unbroken made what is =
+    let none : None ≡ Some what = sym (bucket_command (bucket_command_of asked payload) name command made) ∙ is in absurd (cc)
+planned tags (plans.Key bucket key (key_commands.Put put)) payload command unbroken made what is =
+    let same : commands.Key bucket key (key_commands.Put (put_with put payload)) ≡ command = cc in
+    let holds : ◌≡◌ {A = Option (Data (List ℕ))} (Some (data_of (put_with put payload))) (Some what) = ap brought same ∙ is in
+    let stored : data_of (put_with put payload) ≡ what = cc in
+    subst IsUnbroken stored (record { tag = tags payload; content_type = unbroken.0; metadata = told_whole put.metadata unbroken.1 })
+planned tags _ payload command unbroken made what is = absurd (cc)
 
 module _ (law : PlansAreUnbroken) (messages : SoundMessages) (tags : TagsAreUnbroken) (settings : Settings) where
   sound_unbroken : (moment : ℕ) (bytes rest : List ℕ) (context : Context) (command : Command)
-      → IsSound settings moment bytes context command rest → StoresUnbroken command
+      → IsSound settings moment bytes context command rest → BringsUnbroken command
   sound_unbroken moment bytes rest context command sound =
       let routed = admitted_route settings sound.head moment sound.asks sound.admitted in
       planned tags sound.asks.plan sound.payload command
       (law sound.message.text sound.head sound.asks.plan sound.message.says routed) sound.asked
 
-  no_more : (xs : List Exchange) → map message_of xs ≡ [] → AllByRecursion (λ (x : Exchange). StoresUnbroken x.command) xs
+  no_more : (xs : List Exchange) → map message_of xs ≡ [] → AllByRecursion (λ (x : Exchange). BringsUnbroken x.command) xs
   no_more [] none = tt
   no_more (x ∷ xs) none = absurd (cc)
 
-  -- all messages that were answered store nothing else
+  -- all messages that were answered bring nothing else
   pub walked_unbroken : (ended : Bool) (bytes : List ℕ) (xs : List Exchange) (left : Option (List ℕ)) → Walks settings ended bytes (map message_of xs) left
-      → AllByRecursion (λ (x : Exchange). StoresUnbroken x.command) xs
+      → AllByRecursion (λ (x : Exchange). BringsUnbroken x.command) xs
   walked_unbroken ended bytes [] left walk = tt
   walked_unbroken ended bytes (x ∷ xs) left walk =
       let sound = messages settings x.context.moment ended bytes walk.0 x.context x.command walk.1 in
-      let more : AllByRecursion (λ (y : Exchange). StoresUnbroken y.command) xs = elim (cases_Bool x.context.closes) [
+      let more : AllByRecursion (λ (y : Exchange). BringsUnbroken y.command) xs = elim (cases_Bool x.context.closes) [
         | inl closing ↦ no_more xs (MatchBool-at_true _ _ closing walk.3).0
         | inr open_still ↦ walked_unbroken ended walk.0 xs left (MatchBool-at_false _ _ open_still walk.3)
       ] in

@@ -21,7 +21,8 @@ use Rattle.s3_session.specs.declared.incoming.Progress.TheVariants as progress
 use Rattle.s3_session.specs.declared.session.Need.{Need}
 use Rattle.s3_session.specs.declared.session.Stage.TheVariants as stages
 use Rattle.s3_session.specs.Incoming.{IsInBody, IsIncoming, context_in}
-use Rattle.s3_session.specs.Session.{Connection, GoesOn, IsFed, IsUndecided, Stands, StaysOpen, fed, gave_between, moment_at, standing_of}
+use Rattle.s3_session.specs.Session.{Connection, StaysOpen, fed, gave_between, moment_at, standing_of}
+use Rattle.s3_session.specs.Stands.{GoesOn, IsFed, IsUndecided, Stands}
 use Rattle.s3_session.proofs.StayLemmas.{HeadsStay}
 use Rattle.s3_session.proofs.StandsLemmas.{nothing_found, reading_at, receiving_at, walk_more}
 

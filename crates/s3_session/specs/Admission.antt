@@ -21,6 +21,6 @@ unfoldable pub admission_of : Settings → HeadParts → ℕ → Result Asked Co
 admission_of settings head moment = do
   size ← framing_of head settings.body_limit
   proved ← head_verdict settings head moment
-  announced ← announced_payload settings head proved
+  announced ← announced_payload settings head size proved
   plan ← route_of head
   Ok (record { announced = announced; plan = plan })

@@ -20,7 +20,10 @@ early_admission settings head moment = do
 
 -- this is what the head asks for: the reader stands before all bytes of its body
 abbrev pub IsAsked : Asked → Admission → Type 0
-IsAsked asked admission = Stands admission.reader asked.announced [] false × (admission.plan ≡ asked.plan)
+IsAsked asked admission =
+    Stands admission.reader asked.announced [] false
+    × (admission.plan ≡ asked.plan)
+    × (admission.length ≡ asked.announced.length)
 
 -- what a rule says that refuses nothing
 abbrev pub IsRuled : Result Asked Code → Admission → Type 0

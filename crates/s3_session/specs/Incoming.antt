@@ -28,7 +28,7 @@ abbrev pub HeadOpens : HeadParts → ℕ → Result Asked Code → Opening → T
 HeadOpens head moment rule (opening.Admitted incoming invited) =
     IsRuled rule incoming.admission
     × (incoming.context ≡ context_of head moment)
-    × (invited ≡ may_be_invited head)
+    × (invited ≡ may_be_invited head incoming.admission.length)
 HeadOpens head moment rule (opening.Refused code head_only) = (rule ≡ Err code) × (head_only ≡ asks_head_only head)
 HeadOpens head moment rule opening.Died = Unit {0}
 

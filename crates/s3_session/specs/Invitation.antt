@@ -1,28 +1,23 @@
 -- What is written before the body of a message is read (RFC 9110, section 10.1.1).
-use Rattle.std.specs.Prelude.{◌≡◌, ◌⊎◌, ℕ, Bool, false, ◌&&◌, nat_lt, if◌then◌else◌, List, [], unwrap_or, Result, Ok, Err}
+use Rattle.std.specs.Prelude.{◌≡◌, ◌⊎◌, ℕ, Bool, false, ◌&&◌, nat_lt, if◌then◌else◌, List, [], Result, Ok, Err}
 use Rattle.s3_config.specs.Settings.{Settings}
 use Rattle.s3_terms.specs.declared.code.Code.{Code}
 use Rattle.s3_http_heads.specs.Find.{found_in}
 use Rattle.s3_http_heads.specs.declared.find.Found.{Found}
 use Rattle.s3_http_heads.specs.declared.find.Found.TheVariants as found
 use Rattle.s3_http_heads.specs.Head.{HeadParts, Says, HasNoHead, expects_continue}
-use Rattle.s3_http_heads.specs.BodyLength.{announced, length_lines}
 use Rattle.s3_replies.specs.Replies.{continue_line}
 use Rattle.s3_session.specs.Admission.{Asked, admission_of}
 use Rattle.s3_session.specs.Decision.{text_at}
 
--- a body follows the head (RFC 9112, section 6.2)
-abbrev pub has_body : HeadParts → Bool
-has_body head = nat_lt 0 (unwrap_or (announced (length_lines head)) 0)
-
--- the client waits to be told to go on, with a body that isn't empty
-abbrev pub may_be_invited : HeadParts → Bool
-may_be_invited head = expects_continue head && has_body head
+-- the client waits to be told to go on, with a body of so many bytes, which isn't empty
+abbrev pub may_be_invited : HeadParts → ℕ → Bool
+may_be_invited head size = expects_continue head && nat_lt 0 size
 
 -- it is told so where nothing refuses the head
 abbrev pub is_invited : HeadParts → Result Asked Code → Bool
 is_invited head (Err code) = false
-is_invited head (Ok asked) = may_be_invited head
+is_invited head (Ok asked) = may_be_invited head asked.announced.length
 
 abbrev pub invitation : HeadParts → Result Asked Code → List ℕ
 invitation head rule = if is_invited head rule then continue_line else []

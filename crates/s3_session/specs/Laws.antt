@@ -19,7 +19,6 @@ use Rattle.s3_session.specs.Decision.{Decision, Judges, context_of, open_yet}
 use Rattle.s3_session.specs.Invitation.{Invites}
 use Rattle.s3_session.specs.Output.{Past, Standing, Reading, Writes, is_dead}
 use Rattle.s3_session.specs.Replay.{LiveReplays, Replays}
-use Rattle.s3_session.specs.Session.{Connection, Stands, standing_of, unsent_of}
 
 -- settings, moment, bytes and whether they end leave at most one verdict, with one rest
 abbrev pub OneVerdict : Type 0
@@ -126,9 +125,3 @@ abbrev pub OneOutput : Type 0
 OneOutput =
     (settings : Settings) (moment : ℕ) (bytes a b : List ℕ)
     → LiveReplays settings moment bytes a → LiveReplays settings moment bytes b → a ≡ b
-
--- a session that stands after all this has written the output of the connection, sent or not
-abbrev pub SessionsWrite : Type 0
-SessionsWrite =
-    (session : Connection) (settings : Settings) (past : Past) (sent : List ℕ)
-    → Stands session settings past sent → Writes (standing_of session) settings past (sent ++ unsent_of session)

@@ -8,6 +8,7 @@ pub mod Output
 pub mod ReadBack
 pub mod Replay
 pub mod Session
+pub mod Stands
 pub mod Verdict
 pub mod Walk
 pub use Rattle.s3_http_heads.specs.Find

@@ -87,6 +87,13 @@ is_dead Waiting = false
 is_dead Over = false
 is_dead Dead = true
 
+-- no more is read
+abbrev pub is_closed : Standing → Bool
+is_closed Reading = false
+is_closed Waiting = false
+is_closed Over = true
+is_closed Dead = true
+
 -- the clock is asked once for each message: when its whole head has come, or more than a head may have
 abbrev pub asked_of_clock : Found → ℕ → List ℕ
 asked_of_clock found.NeedMore moment = []

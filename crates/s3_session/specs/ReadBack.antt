@@ -1,18 +1,22 @@
 -- What a client reads back over one connection, in the bytes of its replies: what was stored, and nothing else (Amazon S3
 -- User Guide, "Amazon S3 data consistency model" and "Using versioning in S3 buckets").
-use Rattle.std.specs.Prelude.{◌≡◌, ◌≢◌, ℕ, true, false, List, ◌∷◌, ◌++◌, map, Option, Some, None}
+use Rattle.std.specs.Prelude.{◌≡◌, ◌≢◌, ℕ, true, false, List, ◌∷◌, ◌++◌, map, Option, Some, None, Ok}
 use Rattle.std.specs.List.{AllByRecursion}
 use Rattle.s3_config.specs.Settings.{Settings}
 use Rattle.s3_names.specs.declared.ids.VersionId.{VersionId}
 use Rattle.s3_payloads.specs.Form.{IsSentAsItIs}
+use Rattle.s3_versions.specs.declared.version.Data.{Data}
 use Rattle.s3_records.specs.Catalogue.{opening}
+use Rattle.s3_conditions.specs.declared.conditions.Selection.{Selection}
+use Rattle.s3_conditions.specs.declared.conditions.Selection.TheVariants.{Whole, Part, Unchanged}
+use Rattle.s3_conditions.specs.Conditions.{judged}
 use Rattle.s3_machine.specs.declared.command.Command.{Command}
 use Rattle.s3_machine.specs.Step.{State}
-use Rattle.s3_machine.specs.Effects.{Address, Object, Read, writes, brings, whole, reads, touched}
+use Rattle.s3_machine.specs.Effects.{Address, Object, Read, writes, copies, brings, whole, reads, touched}
 use Rattle.s3_machine.specs.History.{Entry, after}
-use Rattle.s3_machine.specs.Kept.{LeavesKey, SparesVersion, Stores, WasStored}
+use Rattle.s3_machine.specs.Kept.{LeavesKey, SparesVersion, Stores, WasStored, WouldGive}
 use Rattle.s3_replies.specs.declared.context.Context.{Context}
-use Rattle.s3_replies.specs.Laws.{Carries, tells_success}
+use Rattle.s3_replies.specs.Laws.{Carries, CarriesPart, tells_success}
 use Rattle.s3_session.specs.Output.{Exchange, Standing}
 use Rattle.s3_session.specs.Replay.{ReplaysAs}
 use Rattle.s3_session.specs.Laws.{IsSound}
@@ -33,10 +37,22 @@ pub record AsksFor (asked : Read) (x : Exchange) : Type 0 where
   pub read : reads x.command ≡ Some asked
   pub with_bytes : x.context.head_only ≡ false
 
+-- the reply carries what is selected of these bytes: all, or the part that it names; nothing else is selected of them
+abbrev pub Shows : Selection → List ℕ → List ℕ → Type 0
+Shows Whole body reply = Carries body reply
+Shows (Part first last) body reply = CarriesPart first last body reply
+Shows Unchanged body reply = ⊥
+
 -- the message puts these bytes under the address, and its reply tells of success
 pub record Wrote (address : Address) (body : List ℕ) (x : Exchange) : Type 0 where
   pub written : writes x.command ≡ Some address
   pub brought : brings x.command ≡ Some body
+  pub answered : tells_success x.reply ≡ true
+
+-- the message copies this version to the address, and its reply tells of success
+pub record WroteCopy (address : Address) (asked : Read) (x : Exchange) : Type 0 where
+  pub written : writes x.command ≡ Some address
+  pub from : copies x.command ≡ Some asked
   pub answered : tells_success x.reply ≡ true
 
 -- the message doesn't write under the address, or its reply doesn't tell of success
@@ -91,6 +107,19 @@ module _ (settings : Settings) (exchanges : List Exchange) where
       → (object : Object) × (object.address ≡ address) × ((v : VersionId) → version ≡ Some v → v ≡ object.id)
       × WasStored settings.min_part (opening settings.buckets) (entries_from earlier) object × Carries object.stored.body read.reply
 
+  -- And where the reply to a read by conditions tells of success, they select all of what was stored so, or a part of it, and
+  -- it carries that.
+  abbrev pub OnlyStoredIsShown : Type 0
+  OnlyStoredIsShown =
+      (earlier later : List Exchange) (read : Exchange) (asked : Read)
+      → exchanges ≡ earlier ++ read ∷ later
+      → AsksFor asked read
+      → tells_success read.reply ≡ true
+      → (object : Object) × (object.address ≡ asked.address) × ((v : VersionId) → asked.version ≡ Some v → v ≡ object.id)
+      × WasStored settings.min_part (opening settings.buckets) (entries_from earlier) object
+      × (selection : Selection) × (judged asked.conditions object.moment object.stored.tag object.stored.size ≡ Ok selection)
+      × Shows selection object.stored.body read.reply
+
   -- So a put whose reply tells of success is read back: by its key, until a message there does so too,
   abbrev pub PutsAreReadBack : Type 0
   PutsAreReadBack =
@@ -111,6 +140,28 @@ module _ (settings : Settings) (exchanges : List Exchange) where
       → AllByRecursion (SparesId address id) between
       → AsksFor (whole address (Some id)) read
       → Carries body read.reply
+
+  -- What a copy whose reply tells of success found at its source, as a read of that would have been given it, is read back
+  -- in the same way: by the key to which it was copied,
+  abbrev pub CopiesAreReadBack : Type 0
+  CopiesAreReadBack =
+      (before between later : List Exchange) (copy read : Exchange) (address : Address) (asked : Read)
+      → exchanges ≡ before ++ copy ∷ between ++ read ∷ later
+      → WroteCopy address asked copy
+      → AllByRecursion (LeavesAlone address) between
+      → AsksFor (whole address None) read
+      → (what : Data (List ℕ)) × WouldGive (state_behind settings before) asked what × Carries what.body read.reply
+
+  -- and by the version that the copy made.
+  abbrev pub CopyVersionsAreReadBack : Type 0
+  CopyVersionsAreReadBack =
+      (before between later : List Exchange) (copy read : Exchange) (address : Address) (asked : Read) (id : VersionId)
+      → exchanges ≡ before ++ copy ∷ between ++ read ∷ later
+      → WroteCopy address asked copy
+      → touched copy.command copy.answer.outcome ≡ Some id
+      → AllByRecursion (SparesId address id) between
+      → AsksFor (whole address (Some id)) read
+      → (what : Data (List ℕ)) × WouldGive (state_behind settings before) asked what × Carries what.body read.reply
 
 -- the bytes that a command brings are the payload of its message's body, which is the body where that is sent as it is
 abbrev pub PayloadsAreBrought : Type 0

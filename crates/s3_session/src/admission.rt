@@ -16,6 +16,8 @@ use std::alloc::Global;
 /// What a head that nothing refuses asks for.
 #[derive(Drop)]
 pub struct Admission {
+    /// How many bytes its body has as it is sent.
+    pub length: u64,
     /// The reader of its body, of which nothing has come.
     pub reader: PayloadReader,
     /// The operation.
@@ -25,7 +27,7 @@ pub struct Admission {
 /// Judges a head that has been read: its framing, its signature, what it announces of its body, and its
 /// routing, in this order (`docs/PROTOCOL.md`, "Refusals"). The refusal is the first fault; `InternalError`
 /// says that memory ran out, past all that shows before the signature. `kept` is what `verify_head` keeps.
-#[tactic(auto, unfolding(crate::specs::Admission::admission_of, crate::specs::Admitting::early_admission, s3_signing::specs::Verdict::head_verdict))]
+#[tactic(auto, unfolding(crate::specs::Admission::admission_of, crate::specs::Admitting::early_admission, s3_signing::specs::Verdict::head_verdict), using(crate::proofs::SoundLemmas::announced_size))]
 pub fn admit(
     alloc: Global,
     config: &Config,
@@ -36,9 +38,13 @@ pub fn admit(
     ensures { rules.Admits (rules.early_admission config.now head.now moment) result
         (admission_of config.now head.now moment) }
 {
-    let _size = framing(head, config.body_limit())?;
+    let length = framing(head, config.body_limit())?;
     let verified = verify_head(alloc, config, head, moment, kept)?;
-    let reader = PayloadReader::new(alloc, config, head, verified)?;
+    let reader = PayloadReader::new(alloc, config, head, length, verified)?;
     let plan = route(alloc, head)?;
-    Ok(Admission { reader, plan })
+    Ok(Admission {
+        length,
+        reader,
+        plan,
+    })
 }

@@ -94,7 +94,7 @@ impl Incoming {
         if !self.admission.reader.is_whole() {
             return Progress::Open(self);
         }
-        let Admission { reader, plan } = self.admission;
+        let Admission { reader, plan, .. } = self.admission;
         match reader.finish() {
             Ok(payload) => commanded(alloc, plan, payload),
             Err(code) => Progress::Refused(code),

@@ -1,10 +1,11 @@
 //! What is known of all connections: laws, with nothing to run.
 
-ghost use Rattle.s3_session.specs.ReadBack.{EveryReplay, StoredIsReadBack, VersionsAreReadBack, OnlyStoredIsReadBack, PutsAreReadBack, PutVersionsAreReadBack, PayloadsAreBrought};
-ghost use Rattle.s3_session.specs.Laws.{HeadlessAreSilent, HeadsAreDecided, InvitationsStay, OneInvitation, OneOutput, OneVerdict, OneWriting, OutputsStay, VerdictsExist, VerdictsStay, SessionsWrite, SoundMessages, SoundIsJudged};
+ghost use Rattle.s3_session.specs.ReadBack.{EveryReplay, StoredIsReadBack, VersionsAreReadBack, OnlyStoredIsReadBack, OnlyStoredIsShown, PutsAreReadBack, PutVersionsAreReadBack, CopiesAreReadBack, CopyVersionsAreReadBack, PayloadsAreBrought};
+ghost use Rattle.s3_session.specs.Laws.{HeadlessAreSilent, HeadsAreDecided, InvitationsStay, OneInvitation, OneOutput, OneVerdict, OneWriting, OutputsStay, VerdictsExist, VerdictsStay, SoundMessages, SoundIsJudged};
+ghost use Rattle.s3_session.specs.Stands.{SessionsWrite};
 
 use s3_http_heads::{texts_say_one_thing, verdict_is_exact};
-use s3_machine::{only_stored_is_given, puts_are_kept, stored_is_kept};
+use s3_machine::{copies_are_kept, only_stored_is_given, puts_are_kept, stored_is_kept};
 use s3_payloads::{accepted_bodies_are_whole, payloads_are_judged, verdicts_are_final};
 use s3_replies::{refusals_are_unique, replies_are_unique, replies_show_what_came};
 use s3_requests::plans_are_unbroken;
@@ -115,11 +116,13 @@ pub fn sessions_write()
 
 /// A law: in the output of a connection, the reply to a read carries the bytes that the last message stored which changed
 /// its key; the reply to a read of a version those that were stored in it, until a message replaces or deletes it; and a
-/// reply that tells of success carries what such a message stored. There is nothing to run.
+/// reply that tells of success carries what such a message stored, or the part of it that the read's conditions select. There is
+/// nothing to run.
 pub fn stored_is_read_back()
     ensures back { EveryReplay StoredIsReadBack }
     ensures versions { EveryReplay VersionsAreReadBack }
     ensures only { EveryReplay OnlyStoredIsReadBack }
+    ensures shown { EveryReplay OnlyStoredIsShown }
 {
     sound_verdicts_are_exact();
     plans_are_unbroken();
@@ -139,6 +142,19 @@ pub fn puts_are_read_back()
     sound_verdicts_are_exact();
     plans_are_unbroken();
     puts_are_kept();
+    only_stored_is_given();
+    replies_show_what_came();
+}
+
+/// A law: and what a copy whose reply tells of success found at its source is read back by its own key and version, as if
+/// it had been put. There is nothing to run.
+pub fn copies_are_read_back()
+    ensures back { EveryReplay CopiesAreReadBack }
+    ensures versions { EveryReplay CopyVersionsAreReadBack }
+{
+    sound_verdicts_are_exact();
+    plans_are_unbroken();
+    copies_are_kept();
     only_stored_is_given();
     replies_show_what_came();
 }

@@ -10,7 +10,7 @@ use crate::admission::admit;
 use crate::incoming::Incoming;
 use s3_calendar::Moment;
 use s3_config::Config;
-use s3_http_heads::{Head, announced_length};
+use s3_http_heads::Head;
 use s3_replies::Context;
 use s3_signing::KeptKey;
 use s3_terms::Code;
@@ -61,13 +61,11 @@ fn open_head(
     ensures { rules.HeadOpens head.now moment (admission_of config.now head.now moment) result }
 {
     match admit(alloc, config, head, moment, kept) {
-        Ok(admission) => Opening::Admitted(
-            Incoming {
-                admission,
-                context: context_of(head, moment),
-            },
-            may_be_invited(head),
-        ),
+        Ok(admission) => {
+            let invited = may_be_invited(head, admission.length);
+            let context = context_of(head, moment);
+            Opening::Admitted(Incoming { admission, context }, invited)
+        }
         Err(Code::InternalError) => Opening::Died,
         Err(code) => Opening::Refused {
             code,
@@ -76,11 +74,11 @@ fn open_head(
     }
 }
 
-// Whether the client waits to be told to send a body.
-fn may_be_invited(head: &Head) -> bool
-    ensures { result ≡ may_be_invited head.now }
+// Whether the client waits to be told to send a body of so many bytes.
+fn may_be_invited(head: &Head, length: u64) -> bool
+    ensures { result ≡ may_be_invited head.now length }
 {
-    head.expects_continue() && announced_length(head).unwrap_or(0) > 0
+    head.expects_continue() && length > 0
 }
 
 // What a reply takes from a message with this head.

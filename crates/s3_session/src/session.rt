@@ -8,7 +8,9 @@ ghost use Rattle.s3_http_heads.specs.Search.{Stands, Holds};
 ghost use Rattle.s3_replies.specs.Replies.{Prints, PrintsRefusal, continue_line, internal_error};
 ghost use Rattle.s3_session.specs.Incoming.{IsIncoming, IsInBody};
 ghost use Rattle.s3_session.specs.Invitation.{Invites};
-ghost use Rattle.s3_session.specs.Output.{HasText, Past, Reading, ReadsBody, is_dead, is_waiting, nothing_yet};
+ghost use Rattle.s3_session.specs.Output.{HasText, Past, Reading, ReadsBody, is_closed, is_dead, is_waiting, nothing_yet};
+ghost use Rattle.s3_session.specs.Session.{Connection, NeedsNext, standing_of};
+ghost use Rattle.s3_session.specs.Stands.{IsReady};
 
 use crate::clock::Clock;
 use crate::incoming::{Incoming, Progress};
@@ -36,6 +38,15 @@ pub enum Need {
     More,
     /// The answer to this command.
     Turn(Turn),
+    /// That what it has still to send is sent, and nothing else: the connection ends with it.
+    Close,
+}
+
+/// What a connection needs behind an answer.
+#[derive(Clone, Copy, Debug, PartialEq, Eq)]
+pub enum Next {
+    /// More bytes, or the end of the input.
+    More,
     /// That what it has still to send is sent, and nothing else: the connection ends with it.
     Close,
 }
@@ -72,6 +83,13 @@ fn go_to(stage: &mut Stage, next: Stage)
     *stage = next;
 }
 
+// What a connection needs behind a reply, which closes it or doesn't.
+fn next_behind(closes: bool) -> Next
+    ensures { (session : Connection) → IsReady closes session → NeedsNext result (standing_of session) }
+{
+    if closes { Next::Close } else { Next::More }
+}
+
 /// A connection, which is fed with bytes in any pieces and writes the same for every cut, as long as memory does not
 /// run out.
 ///
@@ -98,10 +116,11 @@ impl Model for Session {
 
 impl Session {
     ghost use Rattle.s3_session.specs.Session as rules;
+    ghost use Rattle.s3_session.specs.Stands as inside;
 
     /// A connection of which nothing has come. It takes no memory.
     pub fn new(alloc: Global) -> Session
-        ensures begins { (settings : Settings) → rules.Stands result settings nothing_yet [] }
+        ensures begins { (settings : Settings) → inside.Stands result settings nothing_yet [] }
         ensures standing { rules.standing_of result ≡ Reading }
         ensures goes_on { result.is_ended ≡ false }
         ensures nothing { rules.unsent_of result ≡ [] }
@@ -137,17 +156,17 @@ impl Session {
         requires answered { is_waiting (rules.standing_of self.old) ≡ false }
         requires goes_on { self.old.is_ended ≡ false }
         ensures within { result.0 ≤ length piece.now }
-        ensures stands { (past : Past) (sent : List ℕ) → rules.Stands self.old config.now past sent
-            → rules.Stands self.new config.now
+        ensures stands { (past : Past) (sent : List ℕ) → inside.Stands self.old config.now past sent
+            → inside.Stands self.new config.now
             (rules.fed past (take result.0 piece.now) (rules.gave_between self.old self.new) (rules.turns_of result.1)) sent }
         ensures clock { rules.IsClockAsked C.gives clock.old clock.new (rules.gave_between self.old self.new) }
         ensures needs { rules.Needs result.1 (rules.standing_of self.new) }
-        ensures closed { rules.is_closed (rules.standing_of self.old) ≡ true → result.0 ≡ 0 }
-        ensures all { (past : Past) (sent : List ℕ) → rules.Stands self.old config.now past sent
+        ensures closed { is_closed (rules.standing_of self.old) ≡ true → result.0 ≡ 0 }
+        ensures all { (past : Past) (sent : List ℕ) → inside.Stands self.old config.now past sent
             → result.1 ≡ Need.More → result.0 ≡ length piece.now }
 
         // Where memory doesn't run out, it stops at the first byte with which something is decided.
-        ensures at_once { (past : Past) (sent : List ℕ) → rules.Stands self.old config.now past sent
+        ensures at_once { (past : Past) (sent : List ℕ) → inside.Stands self.old config.now past sent
             → is_dead (rules.standing_of self.new) ≡ false
             → rules.StaysOpen config.now past (take result.0 piece.now) (rules.gave_between self.old self.new) }
         ensures longer { rules.IsLonger (rules.unsent_of self.old) (rules.unsent_of self.new) }
@@ -180,7 +199,7 @@ impl Session {
         requires goes_on { self.old.is_ended ≡ false }
         ensures within { result.0 ≤ length piece.now }
         ensures fed { (rest : List ℕ) → Stands self.old.search rest
-            → rules.IsFed config.now self.old self.new rest [] piece.now result.0 result.1 }
+            → inside.IsFed config.now self.old self.new rest [] piece.now result.0 result.1 }
         ensures clock { rules.IsClockAsked C.gives clock.old clock.new (rules.moment_at self.new.stage) }
         ensures needs { rules.Needs result.1 (rules.standing_of self.new) }
         ensures longer { rules.IsLonger (rules.unsent_of self.old) (rules.unsent_of self.new) }
@@ -211,7 +230,7 @@ impl Session {
         requires stage { self.old.stage ≡ Stage.Reading }
         ensures within { result.0 ≤ length piece.now }
         ensures fed { (rest : List ℕ) → Holds self.old.search rest → HasText rest
-            → rules.IsFed config.now self.old self.new rest [] piece.now result.0 result.1 }
+            → inside.IsFed config.now self.old self.new rest [] piece.now result.0 result.1 }
         ensures moment { rules.moment_at self.new.stage ≡ moment ∷ [] }
         ensures needs { rules.Needs result.1 (rules.standing_of self.new) }
         ensures longer { rules.IsLonger (rules.unsent_of self.old) (rules.unsent_of self.new) }
@@ -259,7 +278,7 @@ impl Session {
         ensures within { result.0 ≤ length piece.now }
         ensures fed { (settings : Settings) (rest last : List ℕ) → IsIncoming settings incoming rest
             → Invites settings incoming.context.moment rest last
-            → rules.IsFed settings self.old self.new rest last piece.now result.0 result.1 }
+            → inside.IsFed settings self.old self.new rest last piece.now result.0 result.1 }
         ensures moment { rules.moment_at self.new.stage ≡ incoming.context.moment ∷ [] }
         ensures needs { rules.Needs result.1 (rules.standing_of self.new) }
         ensures longer { rules.IsLonger (rules.unsent_of self.old) (rules.unsent_of self.new) }
@@ -275,7 +294,7 @@ impl Session {
     // Goes on with what became of a message.
     fn go_on(&mut self, context: Context, progress: Progress) -> Need
         requires unended { self.old.outbox.is_ended ≡ false }
-        ensures goes_on { rules.GoesOn context progress self.old self.new result }
+        ensures goes_on { inside.GoesOn context progress self.old self.new result }
         ensures needs { rules.Needs result (rules.standing_of self.new) }
         ensures longer { rules.IsLonger (rules.unsent_of self.old) (rules.unsent_of self.new) }
         ensures end { self.new.is_ended ≡ self.old.is_ended }
@@ -300,7 +319,7 @@ impl Session {
     // Asks for the turn of a command, once there is room for its reply.
     fn ask(&mut self, context: Context, command: Command) -> Need
         requires unended { self.old.outbox.is_ended ≡ false }
-        ensures asks { rules.Asks context command self.old self.new result }
+        ensures asks { inside.Asks context command self.old self.new result }
         ensures needs { rules.Needs result (rules.standing_of self.new) }
         ensures longer { rules.IsLonger (rules.unsent_of self.old) (rules.unsent_of self.new) }
         ensures end { self.new.is_ended ≡ self.old.is_ended }
@@ -343,22 +362,29 @@ impl Session {
     }
 
     /// Answers the turn that was asked for: the reply is written, or, where memory ran out at the turn, what stands
-    /// for one. It takes no memory: the room was made before the turn was asked for.
-    pub fn answer(&mut self, answered: Result<Answer, NoMemory>)
+    /// for one. It tells what the connection needs next: `Close` behind a reply that closes it, and where memory ran
+    /// out. It takes no memory: the room was made before the turn was asked for.
+    pub fn answer(&mut self, answered: Result<Answer, NoMemory>) -> Next
         requires waits { is_waiting (rules.standing_of self.old) ≡ true }
-        ensures stands { (settings : Settings) (past : Past) (sent : List ℕ) → rules.Stands self.old settings past sent
-            → rules.Stands self.new settings (rules.answered past answered) sent }
+        ensures stands { (settings : Settings) (past : Past) (sent : List ℕ) → inside.Stands self.old settings past sent
+            → inside.Stands self.new settings (rules.answered past answered) sent }
         ensures standing { rules.IsAnsweredTo answered (rules.standing_of self.new) }
+        ensures needs { rules.NeedsNext result (rules.standing_of self.new) }
         ensures longer { rules.IsLonger (rules.unsent_of self.old) (rules.unsent_of self.new) }
         ensures end { self.new.is_ended ≡ self.old.is_ended }
     {
-        if let Stage::Waiting(context) = self.stage {
-            match answered {
-                Ok(answer) => {
-                    self.make_ready(context.closes);
-                    self.reply(answer, &context);
-                }
-                Err(NoMemory) => self.die(context.moment),
+        let Stage::Waiting(context) = self.stage else {
+            unreachable!()
+        };
+        match answered {
+            Ok(answer) => {
+                self.make_ready(context.closes);
+                self.reply(answer, &context);
+                next_behind(context.closes)
+            }
+            Err(NoMemory) => {
+                self.die(context.moment);
+                Next::Close
             }
         }
     }
@@ -366,7 +392,7 @@ impl Session {
     // Makes ready for the next message, or closes.
     fn make_ready(&mut self, closes: bool)
         requires unended { self.old.outbox.is_ended ≡ false }
-        ensures ready { rules.IsReady closes self.new }
+        ensures ready { inside.IsReady closes self.new }
         ensures outbox { self.new.outbox ≡ self.old.outbox }
         ensures end { self.new.is_ended ≡ self.old.is_ended }
     {
@@ -380,10 +406,10 @@ impl Session {
 
     // Writes the reply to an answer.
     fn reply(&mut self, answer: Answer, context: &Context)
-        requires ready { rules.IsReady context.now.closes self.old }
+        requires ready { inside.IsReady context.now.closes self.old }
         requires room { self.old.outbox.has_room ≡ true }
         requires unended { self.old.outbox.is_ended ≡ false }
-        ensures ready { rules.IsReady context.now.closes self.new }
+        ensures ready { inside.IsReady context.now.closes self.new }
         ensures printed { Prints answer context.now (rules.added (rules.unsent_of self.old) (rules.unsent_of self.new)) }
         ensures longer { rules.IsLonger (rules.unsent_of self.old) (rules.unsent_of self.new) }
         ensures end { self.new.is_ended ≡ self.old.is_ended }
@@ -395,8 +421,8 @@ impl Session {
     /// Says that no more bytes come; what `feed` did not take has to be offered before. A message whose body isn't whole
     /// is refused with `IncompleteBody`; of a message whose head isn't whole nothing is said. A command that waits goes on waiting. It takes no memory.
     pub fn end(&mut self)
-        ensures stands { (settings : Settings) (past : Past) (sent : List ℕ) → rules.Stands self.old settings past sent
-            → rules.Stands self.new settings (record past { ended = true }) sent }
+        ensures stands { (settings : Settings) (past : Past) (sent : List ℕ) → inside.Stands self.old settings past sent
+            → inside.Stands self.new settings (record past { ended = true }) sent }
         ensures waits { is_waiting (rules.standing_of self.new) ≡ is_waiting (rules.standing_of self.old) }
         ensures lives { is_dead (rules.standing_of self.new) ≡ is_dead (rules.standing_of self.old) }
         ensures longer { rules.IsLonger (rules.unsent_of self.old) (rules.unsent_of self.new) }
@@ -416,9 +442,9 @@ impl Session {
 
     // Refuses the message whose body is cut short.
     fn cut(&mut self)
-        requires body { rules.is_in_body self.old.stage ≡ true }
+        requires body { inside.is_in_body self.old.stage ≡ true }
         ensures cut { (incoming : Incoming) → self.old.stage ≡ Stage.Body incoming → (settings : Settings) (rest : List ℕ)
-            → IsInBody settings incoming rest → rules.IsCutTo settings incoming.context rest self.old self.new }
+            → IsInBody settings incoming rest → inside.IsCutTo settings incoming.context rest self.old self.new }
         ensures waits { is_waiting (rules.standing_of self.new) ≡ false }
         ensures lives { is_dead (rules.standing_of self.new) ≡ false }
         ensures longer { rules.IsLonger (rules.unsent_of self.old) (rules.unsent_of self.new) }
@@ -436,9 +462,9 @@ impl Session {
     /// Whether the head of a message was admitted, and of its body, which isn't empty, nothing is decided yet.
     /// It takes no memory.
     pub fn in_body(&self) -> bool
-        ensures reads { (settings : Settings) (past : Past) (sent : List ℕ) → rules.Stands self.now settings past sent
+        ensures reads { (settings : Settings) (past : Past) (sent : List ℕ) → inside.Stands self.now settings past sent
             → result ≡ true → ReadsBody settings past }
-        ensures only { (settings : Settings) (past : Past) (sent : List ℕ) → rules.Stands self.now settings past sent
+        ensures only { (settings : Settings) (past : Past) (sent : List ℕ) → inside.Stands self.now settings past sent
             → is_dead (rules.standing_of self.now) ≡ false → ReadsBody settings past → result ≡ true }
     {
         payloads_are_judged();
@@ -449,7 +475,7 @@ impl Session {
 
     // Whether it reads a body.
     fn is_in_body(&self) -> bool
-        ensures { result ≡ rules.is_in_body self.now.stage }
+        ensures { result ≡ inside.is_in_body self.now.stage }
     {
         matches!(self.stage, Stage::Body(_))
     }
@@ -478,8 +504,8 @@ impl Session {
     /// memory.
     pub fn sent(&mut self, count: usize)
         requires within { count ≤ length (rules.unsent_of self.old) }
-        ensures stands { (settings : Settings) (past : Past) (sent : List ℕ) → rules.Stands self.old settings past sent
-            → rules.Stands self.new settings past (sent ++ take count (rules.unsent_of self.old)) }
+        ensures stands { (settings : Settings) (past : Past) (sent : List ℕ) → inside.Stands self.old settings past sent
+            → inside.Stands self.new settings past (sent ++ take count (rules.unsent_of self.old)) }
         ensures left { rules.unsent_of self.new ≡ drop count (rules.unsent_of self.old) }
         ensures standing { rules.standing_of self.new ≡ rules.standing_of self.old }
         ensures end { self.new.is_ended ≡ self.old.is_ended }

@@ -37,7 +37,7 @@ fn has_lines(head: &Head, lines: &[Line]) -> bool
 fn says(head: &Head, method: &[u8], target: &[u8], lines: &[Line]) -> bool
     ensures { (result ≡ true) ↔ (head.now ≡ parts_of (head_with method.now target.now lines.now)) }
 {
-    head.method() == method
+    head.method_name() == method
         && head.target() == target
         && head.minor() == 1
         && has_lines(head, lines)

@@ -1,2 +1,1 @@
-pub mod NumberLemmas
 pub mod StepLemmas

@@ -1,7 +1,11 @@
 -- What comes of commands, from what is told of the records.
-use Rattle.std.proofs.Common.{◌≡◌, refl, ap, ◌∙◌, ℕ, false, List, Option, Some, None, Result, Ok, Err, option_map, option_and_then}
+use Rattle.std.proofs.Common.{◌≡◌, refl, ap, ◌∙◌, sym, ℕ, Bool, true, false, not, List, Option, Some, None, Result, Ok, Err, option_map, option_and_then}
+use Rattle.std.specs.Prelude.{is_ok}
 use Rattle.std.specs.FinMap as map
+use Rattle.s3_terms.specs.declared.code.Code.TheVariants.{NoSuchBucket}
 use Rattle.s3_names.specs.declared.ids.VersionId.{VersionId}
+use Rattle.s3_conditions.specs.declared.conditions.Conditions.{Conditions}
+use Rattle.s3_conditions.specs.declared.conditions.Selection.{Selection}
 use Rattle.s3_versions.specs.declared.picking.Refusal.{Refusal}
 use Rattle.s3_versions.specs.declared.version.Content.{Content}
 use Rattle.s3_versions.specs.declared.version.Content.TheVariants.{DeleteMarker, Stored}
@@ -9,18 +13,22 @@ use Rattle.s3_versions.specs.declared.version.Data.{Data}
 use Rattle.s3_versions.specs.declared.version.Version.{Version}
 use Rattle.s3_versions.specs.declared.version.Versioning.{Versioning}
 use Rattle.s3_versions.specs.declared.version.Versioning.TheVariants.{Unversioned}
-use Rattle.s3_versions.specs.Rules.{stored, stored_in, judged, pick, read_as}
+use Rattle.s3_versions.specs.Rules.{stored, stored_in, asked_for, judged, pick, facts_of as version_facts, facts_read, read_as}
 use Rattle.s3_records.specs.declared.records.BucketFacts.{BucketFacts}
-use Rattle.s3_records.specs.Catalogue.{Bucket, facts_of, facts_in, listed_buckets, versions_of, versioning_in, versioning_of}
+use Rattle.s3_records.specs.Catalogue.{Bucket, facts_of, facts_in, has_bucket, listed_buckets, versions_of, versioning_in, versioning_of}
 use Rattle.s3_machine.specs.Effects.{is_refused}
 use Rattle.s3_machine.specs.declared.command.BucketCommand.{BucketCommand}
 use Rattle.s3_machine.specs.declared.command.Command.TheVariants as commands
 use Rattle.s3_machine.specs.declared.command.Found.{Found}
 use Rattle.s3_machine.specs.declared.command.KeyCommand.TheVariants as key_commands
+use Rattle.s3_machine.specs.declared.command.ObjectCopy.{ObjectCopy}
+use Rattle.s3_machine.specs.declared.command.ObjectRead.{ObjectRead}
+use Rattle.s3_machine.specs.declared.command.Source.{Source}
 use Rattle.s3_machine.specs.declared.command.Outcome.TheVariants as outcomes
-use Rattle.s3_terms.specs.Fault.{◌>>=◌}
-use Rattle.s3_machine.specs.Step.{State, step, key_done, done, stepped, found_in, head_of}
-use Rattle.s3_store.specs.Steps.{bucket_step, key_step, read_as_found, got_of, head_got_of}
+use Rattle.s3_terms.specs.Fault.{◌>>◌, ◌>>=◌}
+use Rattle.s3_machine.specs.Fault.{refuse}
+use Rattle.s3_machine.specs.Step.{State, step, copied, data_read, key_done, done, Stepped, stepped, found_in, shown_by}
+use Rattle.s3_store.specs.Steps.{bucket_step, key_step, copy_step, copied_as, data_found, read_as_found, selected_by, got_of}
 
 -- a bucket that is there tells its versioning
 abbrev told_versioning : Option BucketFacts → Versioning
@@ -47,22 +55,49 @@ module _ (least : ℕ) (s : State) (n t : ℕ) where
 abbrev Read : Type 0
 Read = Version (List ℕ) × Data (List ℕ)
 
-got : (s : State) (v : Versioning) (r : Result Read Refusal) → stepped s (r >>= (λ read. Ok (s, outcomes.Got (found_in v read)))) ≡ (s, got_of (read_as_found v r))
-got s v (Ok read) = refl
-got s v (Err refusal) = refl
+-- what a rule answers that shows what conditions select of a version
+abbrev showing : State → Versioning → Conditions → Result Read Refusal → Result Stepped Refusal
+showing s v conditions read =
+    read >>= (λ r. shown_by conditions (version_facts r) >>= (λ selection. Ok (s, outcomes.Got (found_in v r) selection)))
 
-head_got : (s : State) (v : Versioning) (r : Result Read Refusal) → stepped s (r >>= (λ read. Ok (s, outcomes.HeadGot (head_of (found_in v read))))) ≡ (s, head_got_of (read_as_found v r))
-head_got s v (Ok read) = refl
-head_got s v (Err refusal) = refl
+shows : (s : State) (v : Versioning) (conditions : Conditions) (read : Result Read Refusal) (selection : Selection)
+    → selected_by conditions (facts_read read) ≡ Ok selection
+    → stepped s (showing s v conditions read) ≡ (s, got_of selection (read_as_found v read))
+shows s v conditions (Ok read) selection selects =
+    ap (λ (r : Result Selection Refusal). stepped s (r >>= (λ chosen. Ok (s, outcomes.Got (found_in v read) chosen)))) selects
+shows s v conditions (Err refusal) selection selects = absurd (cc)
 
-module _ (s : State) (n t : ℕ) (name key : List ℕ) (asked : Option VersionId) where
-  pub gets : key_step s n t name key (key_commands.Get asked) ≡ (s, got_of (read_as_found (versioning_of s name) (pick asked (versions_of s name key))))
+refuses : (s : State) (v : Versioning) (conditions : Conditions) (read : Result Read Refusal) (refusal : Refusal)
+    → selected_by conditions (facts_read read) ≡ Err refusal
+    → stepped s (showing s v conditions read) ≡ (s, outcomes.Refused refusal.code refusal.is_delete_marker)
+refuses s v conditions (Ok read) refusal selects =
+    ap (λ (r : Result Selection Refusal). stepped s (r >>= (λ chosen. Ok (s, outcomes.Got (found_in v read) chosen)))) selects
+refuses s v conditions (Err other) refusal selects = cc
+
+accepts : (s : State) (v : Versioning) (conditions : Conditions) (read : Result Read Refusal) (selection : Selection)
+    → selected_by conditions (facts_read read) ≡ Ok selection → is_refused (stepped s (showing s v conditions read)).1 ≡ false
+accepts s v conditions (Ok read) selection selects =
+    ap (λ (r : Result Selection Refusal). is_refused (stepped s (r >>= (λ chosen. Ok (s, outcomes.Got (found_in v read) chosen)))).1) selects
+accepts s v conditions (Err refusal) selection selects = absurd (cc)
+
+module _ (s : State) (n t : ℕ) (name key : List ℕ) (asked : ObjectRead) where
+  pub read_shown : (selection : Selection)
+      → selected_by asked.conditions (facts_read (pick asked.version (versions_of s name key))) ≡ Ok selection
+      → key_step s n t name key (key_commands.Read asked) ≡ (s, got_of selection (read_as_found (versioning_of s name) (pick asked.version (versions_of s name key))))
   unfolding key_done
-  gets = got s (versioning_of s name) (pick asked (versions_of s name key))
+  read_shown selection = shows s (versioning_of s name) asked.conditions (pick asked.version (versions_of s name key)) selection
 
-  pub heads : key_step s n t name key (key_commands.Head asked) ≡ (s, head_got_of (read_as_found (versioning_of s name) (pick asked (versions_of s name key))))
+  pub read_refused : (refusal : Refusal)
+      → selected_by asked.conditions (facts_read (pick asked.version (versions_of s name key))) ≡ Err refusal
+      → key_step s n t name key (key_commands.Read asked) ≡ (s, outcomes.Refused refusal.code refusal.is_delete_marker)
   unfolding key_done
-  heads = head_got s (versioning_of s name) (pick asked (versions_of s name key))
+  read_refused refusal = refuses s (versioning_of s name) asked.conditions (pick asked.version (versions_of s name key)) refusal
+
+  pub read_accepted : (selection : Selection)
+      → selected_by asked.conditions (facts_read (pick asked.version (versions_of s name key))) ≡ Ok selection
+      → is_refused (key_step s n t name key (key_commands.Read asked)).1 ≡ false
+  unfolding key_done
+  read_accepted selection = accepts s (versioning_of s name) asked.conditions (pick asked.version (versions_of s name key)) selection
 
 -- a version that stores something is read
 stores_content : (refusal : Refusal) (v : Version (List ℕ)) (c : Content (List ℕ)) → v.content ≡ c → (stored v ≡ None → ⊥) → (read : Read) × (read_as refusal v c ≡ Ok read)
@@ -74,12 +109,6 @@ stores_found None None stores = absurd (stores refl)
 stores_found None (Some v) stores = stores_content _ v v.content refl stores
 stores_found (Some id) None stores = absurd (stores refl)
 stores_found (Some id) (Some v) stores = stores_content _ v v.content refl stores
-
-pub got_accepted : (v : Versioning) (asked : Option VersionId) (found : Option (Version (List ℕ))) → (option_and_then stored found ≡ None → ⊥) → is_refused (got_of (read_as_found v (judged asked found))) ≡ false
-got_accepted v asked found stores = ap (λ (r : Result Read Refusal). is_refused (got_of (read_as_found v r))) (stores_found asked found stores).1
-
-pub head_accepted : (v : Versioning) (asked : Option VersionId) (found : Option (Version (List ℕ))) → (option_and_then stored found ≡ None → ⊥) → is_refused (head_got_of (read_as_found v (judged asked found))) ≡ false
-head_accepted v asked found stores = ap (λ (r : Result Read Refusal). is_refused (head_got_of (read_as_found v r))) (stores_found asked found stores).1
 
 -- what is told of a version that is read is told of the one found
 abbrev pub IsToldOf : Versioning → Option (Version (List ℕ)) → Found (List ℕ) → Type 0
@@ -97,6 +126,50 @@ told_of versioning None (Some v) read f reads told = told_as versioning _ v v.co
 told_of versioning (Some id) None read f reads told = absurd (cc)
 told_of versioning (Some id) (Some v) read f reads told = told_as versioning _ v v.content read f refl reads told
 
+-- ---- copies
+
+copied_after : (s : State) (n t : ℕ) (name key : List ℕ) (source : Result (Data (List ℕ)) Refusal)
+    → stepped s (source >>= (λ stored. Ok (copy_step s n t name key stored))) ≡ copied_as s n t name key source
+copied_after s n t name key (Ok stored) = refl
+copied_after s n t name key (Err refusal) = refl
+
+pub copies : (s : State) (n t : ℕ) (name key : List ℕ) (asked : ObjectCopy) → key_step s n t name key (key_commands.Copy asked) ≡ copied_as s n t name key (copied s asked.source)
+unfolding key_done
+copies s n t name key asked = copied_after s n t name key (copied s asked.source)
+
+pub copy_accepted : (s : State) (n t : ℕ) (name key : List ℕ) (source : Result (Data (List ℕ)) Refusal) → is_ok source ≡ true → is_refused (copied_as s n t name key source).1 ≡ false
+copy_accepted s n t name key (Ok stored) is = refl
+copy_accepted s n t name key (Err refusal) is = absurd (cc)
+
+found_data : (versioning : Versioning) (read : Result Read Refusal) → data_found (read_as_found versioning read) ≡ data_read read
+found_data versioning (Ok read) = refl
+found_data versioning (Err refusal) = refl
+
+-- a source in a bucket that is there, and in one that isn't
+pub source_found : (s : State) (source : Source) (versioning : Versioning) → has_bucket s source.bucket ≡ true
+    → copied s source ≡ data_found (read_as_found versioning (pick source.version (versions_of s source.bucket source.key)))
+unfolding copied
+source_found s source versioning there =
+    ap (λ (b : Bool). refuse (not b) NoSuchBucket >> data_read (pick source.version (versions_of s source.bucket source.key))) there
+    ∙ sym (found_data versioning (pick source.version (versions_of s source.bucket source.key)))
+
+pub source_lost : (s : State) (source : Source) → has_bucket s source.bucket ≡ false → copied s source ≡ Err (record { code = NoSuchBucket; is_delete_marker = false })
+unfolding copied
+source_lost s source none =
+    ap (λ (b : Bool). refuse (not b) NoSuchBucket >> data_read (pick source.version (versions_of s source.bucket source.key))) none
+
+-- a source that is there with something stored is read
+pub source_read : (s : State) (source : Source) → has_bucket s source.bucket ≡ true
+    → (option_and_then stored (asked_for source.version (versions_of s source.bucket source.key)) ≡ None → ⊥) → is_ok (copied s source) ≡ true
+unfolding copied
+source_read s source there stores =
+    ap (λ (b : Bool). is_ok (refuse (not b) NoSuchBucket >> data_read (pick source.version (versions_of s source.bucket source.key)))) there
+    ∙ ap (λ (r : Result Read Refusal). is_ok (data_read r)) (stores_found source.version (asked_for source.version (versions_of s source.bucket source.key)) stores).1
+
+pub ruleset copy_steps = (copies, copy_accepted)
+
+pub ruleset source_steps = (source_found, source_lost, source_read)
+
 pub ruleset all_steps = (lists, on_bucket)
 
-pub ruleset read_steps = (gets, heads, got_accepted, head_accepted)
+pub ruleset read_steps = (read_shown, read_refused, read_accepted)

@@ -1,3 +1,2 @@
-pub mod Laws
 pub mod Steps
 pub use Rattle.s3_machine.specs.Step

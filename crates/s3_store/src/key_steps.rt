@@ -6,17 +6,19 @@ ghost use Rattle.s3_records.specs.Catalogue.{has_bucket, versioning_of};
 ghost use Rattle.s3_records.specs.Places.{AreBelow};
 ghost use Rattle.s3_machine.specs.Effects.{is_refused, takes_room, takes_room_at_key};
 ghost use Rattle.s3_machine.specs.Step.{step, data_of, makes_marker};
-ghost use Rattle.s3_store.specs.Steps.{key_step, got_of, head_got_of};
+ghost use Rattle.s3_store.specs.Steps.{key_step, got_of, selected_by};
 
 use crate::bucket_steps::refused;
-use crate::reading::{look, shown, without_bytes};
+use crate::copying::copy;
+use crate::reading::{look, shown};
 use s3_bodies::{Body, Payload};
 use s3_calendar::Moment;
-use s3_machine::{Command, Found, KeyCommand, Outcome};
+use s3_conditions::{Conditions, Selection, judge};
+use s3_machine::{Command, Found, KeyCommand, ObjectPut, ObjectRead, Outcome};
 use s3_names::{BucketName, Key, VersionId};
 use s3_records::Records;
 use s3_terms::{Code, NoMemory};
-use s3_versions::{ContentType, Data, Metadata, Refusal, Version, Versioning};
+use s3_versions::{Data, Facts, Refusal, Version, Versioning};
 use std::alloc::Global;
 
 /// Takes the step of a command on a key, as the entry of this number. `NoMemory` leaves the records as they were.
@@ -26,7 +28,7 @@ pub(crate) fn take_on_key<R: Records>(
     alloc: Global,
     bucket: &BucketName,
     key: Key,
-    asked: KeyCommand,
+    asked: KeyCommand<Payload>,
     number: u64,
     moment: Moment,
 ) -> Result<Outcome, NoMemory>
@@ -38,9 +40,8 @@ pub(crate) fn take_on_key<R: Records>(
         → is_refused (step least (R.catalogue records.old) number moment (Command.Key bucket.now key asked)).1 ≡ false) }
     ensures room { OnErr result (R.is_in_memory ≡ true → IsTrue (takes_room (R.catalogue records.old) (Command.Key bucket.now key asked))) }
 {
-    match records.bucket(alloc, bucket)? {
-        None => Ok(refused(Code::NoSuchBucket)),
-        Some(facts) => take_in_bucket(
+    match records.bucket(alloc, bucket) {
+        Ok(Some(facts)) => take_in_bucket(
             records,
             alloc,
             bucket,
@@ -50,8 +51,19 @@ pub(crate) fn take_on_key<R: Records>(
             number,
             moment,
         ),
+        Ok(None) => {
+            let_go(key, asked);
+            Ok(refused(Code::NoSuchBucket))
+        }
+        Err(no_memory) => {
+            let_go(key, asked);
+            Err(no_memory)
+        }
     }
 }
+
+// Drops what no step is taken of.
+fn let_go(_key: Key, _asked: KeyCommand<Payload>) {}
 
 // The same in a bucket that is there, and has this versioning.
 fn take_in_bucket<R: Records>(
@@ -60,7 +72,7 @@ fn take_in_bucket<R: Records>(
     bucket: &BucketName,
     versioning: Versioning,
     key: Key,
-    asked: KeyCommand,
+    asked: KeyCommand<Payload>,
     number: u64,
     moment: Moment,
 ) -> Result<Outcome, NoMemory>
@@ -75,24 +87,13 @@ fn take_in_bucket<R: Records>(
     ensures room { OnErr result (R.is_in_memory ≡ true → IsTrue (takes_room_at_key versioning asked)) }
 {
     match asked {
-        KeyCommand::Put {
-            content_type,
-            metadata,
-            payload,
-        } => put(
-            records,
-            alloc,
-            bucket,
-            versioning,
-            key,
-            content_type,
-            metadata,
-            payload,
-            number,
-            moment,
+        KeyCommand::Put(asked) => put(
+            records, alloc, bucket, versioning, key, asked, number, moment,
         ),
-        KeyCommand::Get { version } => get(records, alloc, bucket, versioning, &key, version),
-        KeyCommand::Head { version } => head(records, alloc, bucket, versioning, &key, version),
+        KeyCommand::Copy(asked) => copy(
+            records, alloc, bucket, versioning, key, &asked, number, moment,
+        ),
+        KeyCommand::Read(asked) => read(records, alloc, bucket, versioning, &key, &asked),
         KeyCommand::Delete { version } => delete(
             records, alloc, bucket, versioning, key, version, number, moment,
         ),
@@ -107,9 +108,7 @@ fn put<R: Records>(
     bucket: &BucketName,
     versioning: Versioning,
     key: Key,
-    content_type: ContentType,
-    metadata: Metadata,
-    payload: Payload,
+    asked: ObjectPut<Payload>,
     number: u64,
     moment: Moment,
 ) -> Result<Outcome, NoMemory>
@@ -117,99 +116,84 @@ fn put<R: Records>(
     requires there { IsTrue (has_bucket (R.catalogue records.old) bucket.now) }
     requires versioning { versioning ≡ versioning_of (R.catalogue records.old) bucket.now }
     ensures ok { IfOk result (λ outcome.
-        key_step (R.catalogue records.old) number moment bucket.now key (KeyCommand.Put content_type metadata payload)
+        key_step (R.catalogue records.old) number moment bucket.now key (KeyCommand.Put asked)
         ≡ (R.catalogue records.new, outcome)) }
     ensures err { OnErr result (R.catalogue records.new ≡ R.catalogue records.old) }
-    ensures memory { OnErr result (R.is_in_memory ≡ true → is_refused
-        (key_step (R.catalogue records.old) number moment bucket.now key (KeyCommand.Put content_type metadata payload)).1 ≡ false) }
+    ensures memory { OnErr result (R.is_in_memory ≡ true
+        → is_refused (key_step (R.catalogue records.old) number moment bucket.now key (KeyCommand.Put asked)).1 ≡ false) }
 {
-    let tag = payload.tag();
-    let stored = stored_of(content_type, metadata, payload)?;
+    let tag = asked.payload.tag();
+    let stored = stored_of(asked)?;
     records.put_version(alloc, bucket, key, number, moment, stored)?;
     let shown = shown(versioning, versioning.new_id(number));
     Ok(Outcome::Put { tag, shown })
 }
 
 // What a put stores, which is moved and not copied.
-fn stored_of(
-    content_type: ContentType,
-    metadata: Metadata,
-    payload: Payload,
-) -> Result<Data<Body>, NoMemory>
-    ensures { IfOk result (λ stored. stored ≡ data_of content_type metadata payload) }
+fn stored_of(asked: ObjectPut<Payload>) -> Result<Data<Body>, NoMemory>
+    ensures { IfOk result (λ stored. stored ≡ data_of asked) }
 {
-    let tag = payload.tag();
-    let body = payload.into_body()?;
+    let tag = asked.payload.tag();
+    let body = asked.payload.into_body()?;
     let size = body.size();
     Ok(Data {
         tag,
-        content_type,
-        metadata,
+        content_type: asked.content_type,
+        metadata: asked.metadata,
         size,
         body,
     })
 }
 
-// GetObject.
+// GetObject and HeadObject.
 #[tactic(auto, using(crate::proofs::StepLemmas::read_steps))]
-fn get<R: Records>(
+fn read<R: Records>(
     records: &mut R,
     alloc: Global,
     bucket: &BucketName,
     versioning: Versioning,
     key: &Key,
-    asked: Option<VersionId>,
+    asked: &ObjectRead,
 ) -> Result<Outcome, NoMemory>
     requires { versioning ≡ versioning_of (R.catalogue records.old) bucket.now }
     ensures ok { IfOk result (λ outcome. (n t : ℕ)
-        → key_step (R.catalogue records.old) n t bucket.now key.now (KeyCommand.Get asked) ≡ (R.catalogue records.new, outcome)) }
+        → key_step (R.catalogue records.old) n t bucket.now key.now (KeyCommand.Read asked.now) ≡ (R.catalogue records.new, outcome)) }
     ensures same { R.catalogue records.new ≡ R.catalogue records.old }
     ensures memory { OnErr result (R.is_in_memory ≡ true → (n t : ℕ)
-        → is_refused (key_step (R.catalogue records.old) n t bucket.now key.now (KeyCommand.Get asked)).1 ≡ false) }
+        → is_refused (key_step (R.catalogue records.old) n t bucket.now key.now (KeyCommand.Read asked.now)).1 ≡ false) }
 {
-    let read = look(records, alloc, bucket, versioning, key, asked)?;
-    Ok(got(read))
-}
-
-// HeadObject.
-#[tactic(auto, using(crate::proofs::StepLemmas::read_steps))]
-fn head<R: Records>(
-    records: &mut R,
-    alloc: Global,
-    bucket: &BucketName,
-    versioning: Versioning,
-    key: &Key,
-    asked: Option<VersionId>,
-) -> Result<Outcome, NoMemory>
-    requires { versioning ≡ versioning_of (R.catalogue records.old) bucket.now }
-    ensures ok { IfOk result (λ outcome. (n t : ℕ)
-        → key_step (R.catalogue records.old) n t bucket.now key.now (KeyCommand.Head asked) ≡ (R.catalogue records.new, outcome)) }
-    ensures same { R.catalogue records.new ≡ R.catalogue records.old }
-    ensures memory { OnErr result (R.is_in_memory ≡ true → (n t : ℕ)
-        → is_refused (key_step (R.catalogue records.old) n t bucket.now key.now (KeyCommand.Head asked)).1 ≡ false) }
-{
-    let read = look(records, alloc, bucket, versioning, key, asked)?;
-    Ok(head_got(read))
-}
-
-// What came of a GetObject.
-fn got(read: Result<Found<Body>, Refusal>) -> Outcome
-    ensures { result ≡ got_of read }
-{
-    match read {
-        Ok(found) => Outcome::Got { found },
-        Err(refusal) => refused_with(refusal),
+    let facts = records.facts(alloc, bucket, key, asked.version)?;
+    match selected(facts, &asked.conditions) {
+        Ok(selection) => {
+            let read = look(records, alloc, bucket, versioning, key, asked.version)?;
+            Ok(got(read, selection))
+        }
+        Err(refusal) => Ok(refused_with(refusal)),
     }
 }
 
-// What came of a HeadObject.
-fn head_got(read: Result<Found<Body>, Refusal>) -> Outcome
-    ensures { result ≡ head_got_of read }
+// What is shown of a version that is read, or the refusal, by the conditions of the read.
+fn selected(facts: Result<Facts, Refusal>, conditions: &Conditions) -> Result<Selection, Refusal>
+    ensures { result ≡ selected_by conditions.now facts }
+{
+    match facts {
+        Ok(facts) => match judge(conditions, facts.moment, &facts.tag, facts.size) {
+            Ok(selection) => Ok(selection),
+            Err(code) => Err(Refusal {
+                code,
+                is_delete_marker: false,
+            }),
+        },
+        Err(refusal) => Err(refusal),
+    }
+}
+
+// What came of a read that is shown this.
+fn got(read: Result<Found<Body>, Refusal>, selection: Selection) -> Outcome
+    ensures { result ≡ got_of selection read }
 {
     match read {
-        Ok(found) => Outcome::HeadGot {
-            found: without_bytes(found),
-        },
+        Ok(found) => Outcome::Got { found, selection },
         Err(refusal) => refused_with(refusal),
     }
 }
@@ -296,7 +280,7 @@ fn drop_version<R: Records>(
 }
 
 // A refusal that tells whether what was asked for is a delete marker.
-fn refused_with(refusal: Refusal) -> Outcome
+pub(crate) fn refused_with(refusal: Refusal) -> Outcome
     ensures { result ≡ Outcome.Refused refusal.code refusal.is_delete_marker }
 {
     Outcome::Refused {

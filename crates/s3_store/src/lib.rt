@@ -3,8 +3,8 @@
 #![tactic(auto)]
 
 mod bucket_steps;
+mod copying;
 mod key_steps;
-mod laws;
 mod reading;
 mod store;
 mod take;

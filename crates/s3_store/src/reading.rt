@@ -2,10 +2,9 @@
 ghost use Rattle.std.specs.Prelude.{◌≡◌, ◌≢◌, ℕ, List, true, IsTrue, is_some, Some, None, IfOk, OnErr, option_and_then};
 ghost use Rattle.s3_versions.specs.declared.version.Data.{Data};
 ghost use Rattle.s3_versions.specs.declared.version.Version.{Version};
-ghost use Rattle.s3_versions.specs.Filling.{filled_data};
 ghost use Rattle.s3_versions.specs.Rules.{asked_for, judged, pick, stored};
 ghost use Rattle.s3_records.specs.Catalogue.{versions_of};
-ghost use Rattle.s3_machine.specs.Step.{shown_in, head_of, found_in};
+ghost use Rattle.s3_machine.specs.Step.{shown_in, found_in};
 ghost use Rattle.s3_store.specs.Steps.{read_as_found};
 
 use s3_bodies::Body;
@@ -87,29 +86,5 @@ fn found_under(shown: Option<VersionId>, version: Version<Body>) -> Found<Body>
             stored,
         },
         Content::DeleteMarker => unreachable!(),
-    }
-}
-
-/// The same without the bytes.
-pub(crate) fn without_bytes(found: Found<Body>) -> Found<()>
-    ensures { result ≡ head_of found }
-{
-    Found {
-        shown: found.shown,
-        moment: found.moment,
-        stored: data_without_bytes(found.stored),
-    }
-}
-
-// The same of what is stored.
-fn data_without_bytes(stored: Data<Body>) -> Data<()>
-    ensures { result ≡ filled_data (λ body. tt) stored }
-{
-    Data {
-        tag: stored.tag,
-        content_type: stored.content_type,
-        metadata: stored.metadata,
-        size: stored.size,
-        body: (),
     }
 }

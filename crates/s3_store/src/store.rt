@@ -4,11 +4,10 @@ ghost use Rattle.s3_records.specs.Catalogue.{opening};
 ghost use Rattle.s3_store.specs.Steps.{opened, after_step, outcome_of};
 ghost use Rattle.s3_machine.specs.Effects.{is_refused, takes_room};
 
-use crate::laws::steps_stay_below;
-use crate::take::take;
+use crate::take::{let_go, take};
 use s3_bodies::Body;
 use s3_calendar::Moment;
-use s3_machine::{Answer, Command};
+use s3_machine::{Answer, Command, steps_keep};
 use s3_names::BucketName;
 use s3_records::{MapRecords, Records, numbers_stay_below};
 use s3_terms::NoMemory;
@@ -78,9 +77,10 @@ impl<R: Records + Drop> Store<R> {
         ensures room { OnErr result (R.is_in_memory ≡ true → self.old.number ≢ 18446744073709551615
             → IsTrue (takes_room self.old.state command)) }
     {
-        steps_stay_below();
+        steps_keep();
         let number = self.number;
         if number == u64::MAX {
+            let_go(command);
             return Err(NoMemory);
         }
         let outcome = take(

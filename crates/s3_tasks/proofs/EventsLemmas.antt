@@ -3,7 +3,7 @@ use Rattle.std.proofs.Common.{◌≡◌, ◌∙◌, ◌<◌, ◌+◌, ℕ, zero,
 use Rattle.std.specs.Prelude.{OnOk}
 use Rattle.s3_events.specs.Printing.{outputs_text}
 use Rattle.s3_buffered_session.specs.Buffered.{Buffered, unsent_of}
-use Rattle.s3_world.specs.World.{unsent_at, unsent_of_all}
+use Rattle.s3_world.specs.Shown.{unsent_at, unsent_of_all}
 
 -- so many of the outputs are so many
 pub count_taken : (connections : List Buffered) (c : ℕ) → c < length connections → c ≡ length (take c (unsent_of_all connections))

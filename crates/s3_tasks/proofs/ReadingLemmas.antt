@@ -8,7 +8,7 @@ use Rattle.s3_settings.specs.declared.mode.ReplayMode.{ReplayMode}
 use Rattle.s3_settings.specs.Devices.{Gives, GivesAll, GivesSome, Reads}
 use Rattle.s3_replay.specs.Replaying.{HasTaken}
 use Rattle.s3_world.specs.World.{Serving}
-use Rattle.s3_tasks.specs.Run.{IsAnswerFault, IsFed, IsReadingFault}
+use Rattle.s3_tasks.specs.Reading.{IsAnswerFault, IsFed, IsReadingFault}
 
 -- one piece more came
 pub piece_came : (old between new : Traffic) (given buffer : List ℕ) (count : ℕ) (read : Option ℕ) → Gives old between given → read ≡ Some count → Reads read between new buffer → Gives old new (given ++ take count buffer)

@@ -1,5 +1,5 @@
 -- What a run of `s3d` does, over the traffic of its device, whose two sides are the input and the output.
-use Rattle.std.specs.Prelude.{◌≡◌, ◌⊎◌, IsTrue, ℕ, Bool, true, false, ◌&&◌, ⊤, List, Option, Some, ◌++◌, is_some}
+use Rattle.std.specs.Prelude.{◌≡◌, ◌⊎◌, IsTrue, ℕ, Bool, true, false, ◌&&◌, List, Option, Some, is_some}
 use Rattle.s3_config.specs.Settings.{Settings}
 use Rattle.s3_settings.specs.declared.fault.Fault.{Fault}
 use Rattle.s3_settings.specs.declared.fault.Fault.TheVariants.{CannotRead, BadKeysLine, BadEventLine, BadSetting, CannotListen, InputFailed, OutputFailed, OutOfMemory}
@@ -12,15 +12,13 @@ use Rattle.s3_settings.specs.Devices.{AppendsBeginning, FailsToGive, GivesAll, G
 use Rattle.s3_settings.specs.Fault.{line_of}
 use Rattle.s3_settings.specs.Settings.{replay_mode, are_options, IsSetupOf, IsConfigured, HasSettings, HasConfigFault}
 use Rattle.s3_session.specs.Replay.{Replays}
-use Rattle.s3_replay.specs.Replaying.{HasTaken}
 use Rattle.s3_text.specs.Lines.{lines_of, IsFirstBadLine}
 use Rattle.s3_events.specs.declared.script.Script.{Script}
 use Rattle.s3_events.specs.Lines.{AreEventLines}
 use Rattle.s3_events.specs.Printing.{outputs_text}
 use Rattle.s3_events.specs.Script.{IsScriptOf}
-use Rattle.s3_journal.specs.Book.{Recorded}
-use Rattle.s3_world.specs.Run.{Runs}
-use Rattle.s3_world.specs.World.{Serving, each_moments}
+use Rattle.s3_journal.specs.Recorded.{Recorded}
+use Rattle.s3_world.specs.Run.{Runs, each_moments}
 use Rattle.s3_command_line.specs.declared.task.Task.{Task}
 use Rattle.s3_command_line.specs.declared.task.Task.TheVariants.{Replay, Sign}
 use Rattle.s3_tasks.specs.Sign.{IsTextOf, IsSignFault}
@@ -141,29 +139,3 @@ pub record HasFailed (IsReason : Fault → Type 0) (errors errors_after : Option
   pub reason : IsReason fault
   pub told : AppendsBeginning errors errors_after (line_of fault)
   pub input : IsTrue (is_before_input fault) → untouched
-
--- The rest serves clauses of private functions alone.
-
--- why all that a device gives has no answer in a mode, and what it gave by then
-abbrev pub IsAnswerFault : ReplayMode → Traffic → Traffic → Fault → Type 0
-IsAnswerFault mode old new (BadEventLine number) = (mode ≡ Events) × GivesBadLine old new number
-IsAnswerFault mode old new InputFailed = FailsToGive old new
-IsAnswerFault mode old new OutOfMemory = GivesSome old new
-IsAnswerFault mode old new _ = ⊥
-
--- why it can't be read, or not be kept
-abbrev pub IsReadingFault : Traffic → Traffic → Fault → Type 0
-IsReadingFault old new InputFailed = FailsToGive old new
-IsReadingFault old new OutOfMemory = GivesSome old new
-IsReadingFault old new _ = ⊥
-
--- a replay was fed with these bytes
-abbrev pub IsFed : Serving → Serving → List ℕ → Type 0
-IsFed old new given =
-    (settings : Settings) (moment : ℕ) (bytes : List ℕ) → HasTaken old settings moment bytes → HasTaken new settings moment (bytes ++ given)
-
--- why event lines have none
-abbrev pub IsLinesFault : List ℕ → Fault → Type 0
-IsLinesFault text (BadEventLine number) = IsFirstBadLine AreEventLines (lines_of text) number
-IsLinesFault text OutOfMemory = ⊤
-IsLinesFault text _ = ⊥

@@ -7,9 +7,10 @@ ghost use Rattle.s3_events.specs.Printing.{outputs_text};
 ghost use Rattle.s3_events.specs.Script.{IsScriptOf};
 ghost use Rattle.s3_settings.specs.Devices.{GivesAll};
 ghost use Rattle.s3_settings.specs.declared.mode.ReplayMode.TheVariants.{Events as InEvents};
-ghost use Rattle.s3_world.specs.Run.{Runs};
-ghost use Rattle.s3_world.specs.World.{each_moments, unsent_of_all};
-ghost use Rattle.s3_tasks.specs.Run.{IsAnswerFault, IsEventsAnswered, IsLinesFault, IsReadingFault, IsScriptAnswered};
+ghost use Rattle.s3_world.specs.Run.{Runs, each_moments};
+ghost use Rattle.s3_world.specs.Shown.{unsent_of_all};
+ghost use Rattle.s3_tasks.specs.Run.{IsEventsAnswered, IsScriptAnswered};
+ghost use Rattle.s3_tasks.specs.Reading.{IsAnswerFault, IsLinesFault, IsReadingFault};
 
 use crate::run::PIECE;
 use s3_config::Config;

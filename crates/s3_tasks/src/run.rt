@@ -3,11 +3,12 @@
 ghost use Rattle.std.specs.Prelude.{◌≡◌, ◌≢◌, ◌≤◌, ◌⊎◌, ℕ, List, [], IfOk, OnOk, IfErr, IsTrue, map, true};
 ghost use Rattle.s3_config.specs.Settings.{Settings};
 ghost use Rattle.s3_session.specs.Replay.{Replays};
-ghost use Rattle.s3_world.specs.World.{each_moments};
+ghost use Rattle.s3_world.specs.Run.{each_moments};
 ghost use Rattle.s3_replay.specs.Replaying.{HasTaken, all_at};
 ghost use Rattle.s3_settings.specs.Devices.{AppendsBeginning, GivesAll, IsUnread};
 ghost use Rattle.s3_settings.specs.Fault.{line_of};
-ghost use Rattle.s3_tasks.specs.Run.{IsAnswered, IsAnswerFault, IsFed, IsReadingFault, IsReplayed, IsReplayFault, IsDone, IsTaskText, IsTextFault, IsTaskDone, IsTaskFault, is_before_input, is_signing, IsRunFault, HasFailed};
+ghost use Rattle.s3_tasks.specs.Run.{IsAnswered, IsReplayed, IsReplayFault, IsDone, IsTaskText, IsTextFault, IsTaskDone, IsTaskFault, is_before_input, is_signing, IsRunFault, HasFailed};
+ghost use Rattle.s3_tasks.specs.Reading.{IsAnswerFault, IsFed, IsReadingFault};
 ghost use Rattle.s3_command_line.specs.Words.{AreRightWords, AreSignWords, IsAskedBy};
 ghost use Rattle.s3_command_line.specs.declared.task.Asked.TheVariants.{Server};
 ghost use Rattle.s3_options.specs.declared.options.ServeOptions.{ServeOptions};

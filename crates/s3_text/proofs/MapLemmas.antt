@@ -1,5 +1,6 @@
 -- The finite map that the entries of a tree make, where the keys are lists of bytes.
-use Rattle.std.proofs.Common.{◌≡◌, refl, sym, ap, subst, ◌∙◌, Bool, true, false, cond, ℕ, List, [], ◌∷◌, Option, Some}
+use Rattle.std.proofs.Common.{◌≡◌, ◌≢◌, ◌⊎◌, inl, inr, refl, sym, ap, subst, ◌∙◌, Bool, true, false, cond, ℕ, List, [], ◌∷◌, Option, Some}
+use Rattle.std.proofs.lemmas.Bool.{false≢true}
 use Rattle.std.specs.BTreeMap.{BTreeMap, WritesThrough, is_at}
 use Rattle.std.specs.Cmp.{eq_by_cmp_equiv}
 use Rattle.std.specs.Cmp.Lexicographic.{nat_list_cmp_total, bytes_decides, texts_ties}
@@ -50,6 +51,14 @@ made_by_write before after m k old new view found writes =
 -- keys that compare alike are one
 pub tied_equal : (q k : List ℕ) → eq_by_cmp byte_order q k ≡ true → q ≡ k
 tied_equal q k tied = (bytes_decides q k).0 (texts_ties q k ∙ tied)
+
+-- two keys are the same, or not
+pub same_or : (q k : List ℕ) → (q ≡ k) ⊎ (q ≢ k)
+same_or q k =
+    elim (eq_by_cmp byte_order q k) as (λ b. eq_by_cmp byte_order q k ≡ b → (q ≡ k) ⊎ (q ≢ k)) [
+      | true ↦ λ is. inl (tied_equal q k is)
+      | false ↦ λ is. inr (λ same. false≢true (sym is ∙ ap (λ x. eq_by_cmp byte_order x k) same ∙ (eq_by_cmp_equiv nat_list_cmp_total).refl k))
+    ] refl
 
 same_at_key : {X : Type 0} (m : FinMap byte_order X) (k : List ℕ) (v : X) (q : List ℕ) (b : Bool) → get m k ≡ Some v → eq_by_cmp byte_order q k ≡ b → cond b (Some v) (get m q) ≡ get m q
 same_at_key m k v q true is tied = sym is ∙ ap (get m) (sym (tied_equal q k tied))

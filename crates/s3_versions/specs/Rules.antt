@@ -4,6 +4,7 @@ use Rattle.std.specs.List.{list_all}
 use Rattle.s3_terms.specs.declared.code.Code.TheVariants.{NoSuchKey, NoSuchVersion, MethodNotAllowed}
 use Rattle.s3_names.specs.declared.ids.VersionId.{VersionId}
 use Rattle.s3_names.specs.declared.ids.VersionId.TheVariants.{Null, Numbered}
+use Rattle.s3_versions.specs.declared.picking.Facts.{Facts}
 use Rattle.s3_versions.specs.declared.picking.Refusal.{Refusal}
 use Rattle.s3_versions.specs.declared.version.Content.{Content}
 use Rattle.s3_versions.specs.declared.version.Content.TheVariants.{DeleteMarker, Stored}
@@ -72,6 +73,15 @@ judged (Some id) (Some v) = read_as (record { code = MethodNotAllowed; is_delete
 abbrev pub pick : {B : Type 0} → Option VersionId → List (Version B) → Result (Version B × Data B) Refusal
 pick asked vs = judged asked (asked_for asked vs)
 
+-- what is known of a version that is read beside what its put sent
+abbrev pub facts_of : {B : Type 0} → Version B × Data B → Facts
+facts_of read = record { moment = read.0.moment; tag = read.1.tag; size = read.1.size }
+
+-- the same of what a request reads
+abbrev pub facts_read : {B : Type 0} → Result (Version B × Data B) Refusal → Result Facts Refusal
+facts_read (Ok read) = Ok (facts_of read)
+facts_read (Err refusal) = Err refusal
+
 -- the versions without the one under an id
 unfoldable pub without : {B : Type 0} → VersionId → List (Version B) → List (Version B)
 without id vs = filter (λ v. not (is_under id v)) vs
@@ -96,9 +106,11 @@ new_id versioning n = if makes_null versioning then Null else Numbered n
 abbrev pub after_adding : {B : Type 0} → Versioning → ℕ → ℕ → Content B → List (Version B) → List (Version B)
 after_adding versioning n t content vs = made versioning n t content ∷ without (new_id versioning n) vs
 
--- a PUT adds what it stores
-abbrev pub after_put : {B : Type 0} → Versioning → ℕ → ℕ → Data B → List (Version B) → List (Version B)
-after_put versioning n t stored vs = after_adding versioning n t (Stored stored) vs
+-- a change of a key's versions: a PUT by entry n at moment t, a DELETE that names no version, and one that names one
+pub data KeyChange (B : Type 0) : Type 0 where
+  VersionPut : (n t : ℕ) → Data B → KeyChange B
+  KeyDeleted : (n t : ℕ) → KeyChange B
+  VersionDropped : VersionId → KeyChange B
 
 -- a DELETE that names no version: where versioning is enabled it adds a delete marker and removes nothing
 -- ("Deleting object versions from a versioning-enabled bucket"); where it is suspended it removes the
@@ -109,14 +121,16 @@ after_delete Enabled n t vs = after_adding Enabled n t DeleteMarker vs
 after_delete Suspended n t vs = after_adding Suspended n t DeleteMarker vs
 after_delete Unversioned n t vs = without Null vs
 
+-- the versions after a change: a PUT adds what it stores, and a DELETE that names a version removes it, for good, and no
+-- other ("Deleting object versions from a versioning-enabled bucket")
+abbrev pub after_change : {B : Type 0} → Versioning → KeyChange B → List (Version B) → List (Version B)
+after_change versioning (VersionPut n t stored) vs = after_adding versioning n t (Stored stored) vs
+after_change versioning (KeyDeleted n t) vs = after_delete versioning n t vs
+after_change versioning (VersionDropped id) vs = without id vs
+
 -- the version that a PUT, or a DELETE that names no version, takes away
 abbrev pub replaced : {B : Type 0} → Versioning → ℕ → List (Version B) → Option (Version B)
 replaced versioning n vs = find (is_under (new_id versioning n)) vs
-
--- a DELETE that names a version removes it, for good, and no other ("Deleting object versions from a
--- versioning-enabled bucket")
-abbrev pub after_delete_version : {B : Type 0} → VersionId → List (Version B) → List (Version B)
-after_delete_version id vs = without id vs
 
 -- one version may stand before another: it is newer, and not both are `null`
 abbrev pub may_precede : {B : Type 0} → Version B → Version B → Bool

@@ -1,5 +1,5 @@
 //! Laws of the rules: what users rely on, with nothing to run.
-ghost use Rattle.s3_versions.specs.Laws.{OneUnderEachId, IdsAreTold, PutsLeaveVersions, DeletesLeaveVersions, DropsLeaveVersions, NextIsNew, PutsAreCurrent, MarkersHide, EnabledTakesNothing, OnlyNullGoes, OneVersionGoes, SumOfWhatGoes, AddsUnderNewId, DeletesUnderNewId};
+ghost use Rattle.s3_versions.specs.Laws.{OneUnderEachId, IdsAreTold, ChangesLeaveVersions, NumbersStayNew, LaterIsNew, PutsAreCurrent, MarkersHide, EnabledTakesNothing, OnlyNullGoes, SumOfWhatGoes, ChangesAreUnderOneId};
 
 /// A law, with nothing to run: no two versions of a key have one id, and a version is under its own id and
 /// no other.
@@ -8,14 +8,13 @@ pub fn ids_differ<B>()
     ensures told { IdsAreTold B }
 {}
 
-/// A law, with nothing to run: what a put or a delete leaves are versions of one key again, newest first and
-/// at most one of them `null`, if the number of the entry is above those that made the versions there. The next
-/// number is above them again.
+/// A law, with nothing to run: what a change leaves are versions of one key again, newest first and at most one of
+/// them `null`, if the number of the entry is above those that made the versions there. A number above all of these is
+/// above those of the versions after it, and so is every later one.
 pub fn stay_versions<B>()
-    ensures put { PutsLeaveVersions B }
-    ensures deleted { DeletesLeaveVersions B }
-    ensures version_gone { DropsLeaveVersions B }
-    ensures next { NextIsNew B }
+    ensures leave { ChangesLeaveVersions B }
+    ensures new { NumbersStayNew B }
+    ensures later { LaterIsNew B }
 {}
 
 /// A law, with nothing to run: after a put the current version is the one put, and a read that names no
@@ -33,16 +32,10 @@ pub fn markers_hide<B>()
     ensures others { OnlyNullGoes B }
 {}
 
-/// A law, with nothing to run: to delete a version by its id takes away that version alone. What goes and
-/// what stays are what was there, whatever is counted of it.
-pub fn one_version_goes<B>()
-    ensures one { OneVersionGoes B }
-    ensures sum { SumOfWhatGoes B }
-{}
-
-/// A law, with nothing to run: a put and a delete that names no version change what stands under one id, which is that of
-/// the version or of the delete marker that they make, and nothing else.
+/// A law, with nothing to run: a change leaves something else under one id, which is that of the version or of the delete
+/// marker that it makes, or that it names, and nothing else changes. What goes by its id and what stays are what was there,
+/// whatever is counted of it.
 pub fn one_id_changes<B>()
-    ensures added { AddsUnderNewId B }
-    ensures deleted { DeletesUnderNewId B }
+    ensures changes { ChangesAreUnderOneId B }
+    ensures sum { SumOfWhatGoes B }
 {}

@@ -11,10 +11,8 @@ mod version;
 mod versions;
 
 pub use content_type::ContentType;
-pub use laws::{
-    ids_differ, markers_hide, one_id_changes, one_version_goes, puts_are_current, stay_versions,
-};
+pub use laws::{ids_differ, markers_hide, one_id_changes, puts_are_current, stay_versions};
 pub use metadata::{Metadata, MetadataEntry};
-pub use picking::{Picked, Refusal, current, judge, pick, version_under};
+pub use picking::{Facts, Picked, Refusal, current, judge, pick, read_facts, version_under};
 pub use version::{Content, Data, Version, Versioning, VersioningStatus};
 pub use versions::Versions;

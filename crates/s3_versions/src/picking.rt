@@ -4,7 +4,8 @@ ghost use Rattle.s3_versions.specs.declared.version.Version.{Version};
 ghost use Rattle.std.specs.Option.{option_copied};
 
 use crate::{Data, Version};
-use s3_names::VersionId;
+use s3_calendar::Moment;
+use s3_names::{Tag, VersionId};
 use s3_terms::Code;
 
 /// Why no version is read.
@@ -15,6 +16,14 @@ pub struct Refusal {
     pub is_delete_marker: bool,
 }
 
+/// What is known of a version beside what its put sent: when it was made, and the tag and the size of its bytes.
+#[derive(Drop)]
+pub struct Facts {
+    pub moment: Moment,
+    pub tag: Tag,
+    pub size: u64,
+}
+
 /// The version that a request reads.
 #[derive(Clone, Copy)]
 pub struct Picked<'a, B> {
@@ -23,7 +32,7 @@ pub struct Picked<'a, B> {
     pub stored: &'a Data<B>,
 }
 
-ghost use Rattle.s3_versions.specs.Rules.{current as current_of, is_under, asked_for, judged as rule, pick as pick_rule, stored};
+ghost use Rattle.s3_versions.specs.Rules.{current as current_of, is_under, asked_for, judged as rule, pick as pick_rule, facts_read, stored};
 
 /// The current version, which is the newest. `versions` are those of one key, newest first.
 pub fn current<B>(versions: &[Version<B>]) -> Option<&Version<B>>
@@ -56,6 +65,20 @@ pub fn judge<B>(
             None => Err(marked::<B>(asked)),
             Some(stored) => Ok(Picked { version, stored }),
         },
+    }
+}
+
+/// What is known of the version that a request reads, or the refusal, by the rule of `judge`. Takes no memory.
+pub fn read_facts<B>(asked: Option<VersionId>, found: Option<&Version<B>>) -> Result<Facts, Refusal>
+    ensures { result ≡ facts_read (rule asked (option_copied found.entry)) }
+{
+    match judge(asked, found) {
+        Ok(picked) => Ok(Facts {
+            moment: picked.version.moment,
+            tag: picked.stored.tag.copy(),
+            size: picked.stored.size,
+        }),
+        Err(refusal) => Err(refusal),
     }
 }
 

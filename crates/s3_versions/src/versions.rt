@@ -1,6 +1,6 @@
 //! The list of a key's versions, as puts and deletes change it.
 ghost use Rattle.std.specs.Prelude.{◌≡◌, ◌<◌, ◌≢◌, ◌↔◌, ◌∷◌, [], Some, None, IfSome, IfNone, IfOk, OnOk, OnErr, IsTrue, find, length, remove, position, slice_get, vec_len, vec_capacity, false};
-ghost use Rattle.s3_versions.specs.Rules.{id_of, is_under, made, after_adding, after_put, after_delete, after_delete_version, replaced, without, are_versions, is_new_number};
+ghost use Rattle.s3_versions.specs.Rules.{id_of, is_under, made, after_adding, VersionPut, KeyDeleted, after_change, replaced, without, are_versions, is_new_number};
 
 use crate::{Content, Data, Version, Versioning};
 use s3_bodies::Body;
@@ -89,7 +89,7 @@ impl<B: Drop> Versions<B> {
         stored: Data<B>,
     ) -> Result<(), NoMemory>
         requires { IsTrue (is_new_number number self.old) }
-        ensures ok { OnOk result (self.new ≡ after_put versioning number moment stored self.old) }
+        ensures ok { OnOk result (self.new ≡ after_change versioning (VersionPut number moment stored) self.old) }
         ensures err { OnErr result (self.new ≡ self.old) }
         ensures memory { OnErr result (replaced versioning number self.old ≡ None) }
     {
@@ -108,7 +108,7 @@ impl<B: Drop> Versions<B> {
         moment: Moment,
     ) -> Result<(), NoMemory>
         requires { IsTrue (is_new_number number self.old) }
-        ensures ok { OnOk result (self.new ≡ after_delete versioning number moment self.old) }
+        ensures ok { OnOk result (self.new ≡ after_change versioning (KeyDeleted number moment) self.old) }
         ensures err { OnErr result (self.new ≡ self.old) }
         ensures memory { OnErr result (replaced versioning number self.old ≡ None) }
         ensures held { OnErr result (versioning ≢ Versioning.Unversioned) }
@@ -126,7 +126,7 @@ impl<B: Drop> Versions<B> {
 
     /// Takes out the version under this id, and answers it. Takes no memory, and costs the list's length.
     pub fn delete_version(&mut self, id: VersionId) -> Option<Version<B>>
-        ensures value { self.new ≡ after_delete_version id self.old }
+        ensures value { self.new ≡ without id self.old }
         ensures gone { result ≡ find (is_under id) self.old }
     {
         match self.place_of(id) {
@@ -206,7 +206,7 @@ fn first_under<B: Drop>(versions: &[Version<B>], id: VersionId) -> Option<usize>
     versions.iter().position(|version| version.is_under(id))
 }
 
-// Puts a version in front.
+// Puts a version in front. The first one gets room for itself alone, since most keys have no other.
 fn insert_first<B: Drop>(
     versions: &mut Vec<Version<B>>,
     version: Version<B>,
@@ -214,6 +214,9 @@ fn insert_first<B: Drop>(
     ensures ok { OnOk result (versions.new.items ≡ version ∷ versions.old.items) }
     ensures err { OnErr result (versions.new.items ≡ versions.old.items) }
 {
+    if versions.is_empty() {
+        versions.reserve_exact(1)?;
+    }
     versions.insert(0, version)?;
     Ok(())
 }

@@ -4,10 +4,11 @@ use Rattle.std.proofs.lemmas.Bool.{cases_Bool}
 use Rattle.s3_config.specs.Settings.{Settings}
 use Rattle.s3_machine.specs.History.{Entry}
 use Rattle.s3_machine.specs.declared.turn.Turn.{Turn}
-use Rattle.s3_session.specs.Output.{Past, Standing, Writes, Reading, Waiting, Over, Dead}
+use Rattle.s3_session.specs.Output.{Past, Standing, Writes, Reading, is_closed}
 use Rattle.s3_session.specs.Session as sessions
-use Rattle.s3_session.specs.Session.{is_closed, standing_of}
-use Rattle.s3_session.specs.Laws.{OutputsStay, SessionsWrite}
+use Rattle.s3_session.specs.Session.{standing_of}
+use Rattle.s3_session.specs.Laws.{OutputsStay}
+use Rattle.s3_session.specs.Stands.{SessionsWrite}
 use Rattle.s3_buffered_session.specs.Output.{answer_of, answered_turn}
 use Rattle.s3_devices.specs.Device.{Traffic}
 use Rattle.s3_workers.specs.Around.{Around, Ends, Fails, HasClosed, HasFailedToRead, HasWritten, Outputs, past_of}
@@ -25,10 +26,7 @@ past_is : (past : Past) (ended : Bool) (moments : List ℕ) (entries : List Entr
 past_is past ended moments entries waiting same times turns answers = rw (same, sym times, sym turns, sym answers) refl
 
 over_reads : (standing : Standing) → is_closed standing ≡ true → standing ≢ Reading
-over_reads Reading closed reads = let never = closed in absurd (cc)
-over_reads Waiting closed reads = let never = closed in absurd (cc)
-over_reads Over closed reads = absurd (cc)
-over_reads Dead closed reads = absurd (cc)
+over_reads _ closed reads = absurd (cc)
 
 -- what is done and has not heard of the end is closed
 done_closed : (session : sessions.Connection) (kept : List ℕ) → IsFit stages.Done session kept → session.is_ended ≡ false → is_closed (standing_of session) ≡ true

@@ -3,21 +3,21 @@ use Rattle.std.proofs.Common.{◌≡◌, ℕ, Bool, true, false, List, [], ◌++
 use Rattle.s3_config.specs.Settings.{Settings}
 use Rattle.s3_machine.specs.History.{Entry}
 use Rattle.s3_machine.specs.declared.turn.Turn.{Turn}
-use Rattle.s3_session.specs.Output.{Standing, is_dead, is_waiting, nothing_yet}
-use Rattle.s3_session.specs.Session.{Connection, Stands, is_closed, standing_of}
-use Rattle.s3_buffered_session.specs.Output.{answer_of, answered_turn}
-use Rattle.s3_buffered_session.specs.Buffered.{HasWaiting}
+use Rattle.s3_session.specs.Output.{Standing, is_waiting, nothing_yet, is_closed}
+use Rattle.s3_session.specs.Session.{Connection, standing_of}
+use Rattle.s3_session.specs.Stands.{Stands}
+use Rattle.s3_buffered_session.specs.Output.{answer_of, answered_turn, HasWaiting}
 use Rattle.s3_devices.specs.Device.{Traffic, with_received}
 use Rattle.s3_workers.specs.Around.{Around, Own, around, nothing_own, since}
 use Rattle.s3_workers.specs.Connection.{Carries, HasSent, Held, IsFit, IsHeld, IsNew, IsServed, Leaves, MayRest, Took, held}
 use Rattle.s3_workers.specs.declared.stage.Stage.{Stage}
 use Rattle.s3_workers.specs.declared.stage.Stage.TheVariants as stages
-use Rattle.s3_workers.proofs.CarriesLemmas.{carries_ended, carries_sent, no_turns}
+use Rattle.s3_workers.proofs.CarriesLemmas.{carries_as, none_waits}
 
 -- what fits a session fits another that stands alike
 pub fit_same : (stage : Stage) (old new : Connection) (kept : List ℕ) → standing_of new ≡ standing_of old → new.is_ended ≡ old.is_ended → IsFit stage old kept → IsFit stage new kept
 fit_same stages.Reading old new kept standing end fit = (standing ∙ fit.0, end ∙ fit.1, fit.2)
-fit_same stages.Answered old new kept standing end fit = (ap is_waiting standing ∙ fit.0, ap is_dead standing ∙ fit.1, end ∙ fit.2)
+fit_same stages.Answered old new kept standing end fit = (standing ∙ fit.0, end ∙ fit.1)
 fit_same stages.Done old new kept standing end fit = (ap is_waiting standing ∙ fit.0, λ opened. end ∙ fit.1 (sym (ap is_closed standing) ∙ opened))
 
 -- nothing came
@@ -97,7 +97,7 @@ module _ {C : Type 0} (gives : C → C → ℕ → Type 0) (settings : Settings)
   }
 
   module _ (old : Connection) (kept : List ℕ) (from : Around C) (clock : C) (entries : List Entry) (traffic : Traffic) where
-    -- a turn was answered, or it reads: nothing waits
+    -- it reads, or reads on behind an answer: nothing waits
     pub reading_idle : (h : IsServed gives settings (held old kept stages.Reading) from (around clock entries traffic)) → Carries gives settings old from clock entries h.past [] h.sent
     reading_idle h =
         let none = subst (λ (s : Standing). HasWaiting s h.waiting) h.fit.0 h.carries.waits in
@@ -105,7 +105,7 @@ module _ {C : Type 0} (gives : C → C → ℕ → Type 0) (settings : Settings)
 
     pub answered_idle : (h : IsServed gives settings (held old kept stages.Answered) from (around clock entries traffic)) → Carries gives settings old from clock entries h.past [] h.sent
     answered_idle h =
-        let none = no_turns (standing_of old) h.waiting h.fit.0 h.fit.1 h.carries.waits in
+        let none = subst (λ (s : Standing). HasWaiting s h.waiting) h.fit.0 h.carries.waits in
         subst (λ (ts : List Turn). Carries gives settings old from clock entries h.past ts h.sent) none h.carries
 
     -- a piece came, and was taken
@@ -141,7 +141,7 @@ module _ {C : Type 0} (gives : C → C → ℕ → Type 0) (settings : Settings)
       went = h.went;
       ended = h.ended ∙ sym t.same_end;
       fit = fit;
-      left = subst (λ (e : Bool). Leaves stage left t.behind e) (sym (t.same_end ∙ h.carries.stands.end ∙ h.fit.2)) t.left;
+      left = subst (λ (e : Bool). Leaves stage left t.behind e) (sym (t.same_end ∙ h.carries.stands.end ∙ h.fit.1)) t.left;
     }
 
     -- the end came
@@ -153,7 +153,8 @@ module _ {C : Type 0} (gives : C → C → ℕ → Type 0) (settings : Settings)
       waiting = [];
       sent = h.sent;
       behind = h.behind;
-      carries = carries_ended gives settings old new from clock entries h.past h.sent (reading_idle h) stands (waits ∙ ap is_waiting h.fit.0);
+      carries = carries_as gives settings old new from clock entries h.past h.sent (record h.past { ended = true }) [] h.sent (reading_idle h) stands refl refl refl
+          (none_waits (standing_of new) (waits ∙ ap is_waiting h.fit.0));
       came = ap (λ (f : Traffic). f.received) came ∙ h.came;
       went = ap (λ (f : Traffic). f.sent) came ∙ h.went;
       ended = ap (λ (f : Traffic). f.is_ended) came;
@@ -169,7 +170,8 @@ module _ {C : Type 0} (gives : C → C → ℕ → Type 0) (settings : Settings)
       waiting = h.waiting;
       sent = h.sent ++ s.bytes;
       behind = h.behind;
-      carries = carries_sent gives settings old new from clock entries h.past h.sent h.waiting (h.sent ++ s.bytes) h.carries (s.stands settings h.past h.sent h.carries.stands) s.standing;
+      carries = carries_as gives settings old new from clock entries h.past h.sent h.past h.waiting (h.sent ++ s.bytes) h.carries
+          (s.stands settings h.past h.sent h.carries.stands) refl refl refl (subst (λ (st : Standing). HasWaiting st h.waiting) (sym s.standing) h.carries.waits);
       came = ap (λ (f : Traffic). f.received) s.traffic ∙ h.came;
       went = ap (λ (f : Traffic). f.sent) s.traffic ∙ ap (λ (b : List ℕ). b ++ s.bytes) h.went ∙ append_assoc from.traffic.sent h.sent s.bytes;
       ended = ap (λ (f : Traffic). f.is_ended) s.traffic ∙ h.ended;

@@ -4,11 +4,9 @@ use Rattle.std.specs.Prelude.{◌≡◌, ◌⊎◌, ℕ, suc, Bool, true, false,
 use Rattle.s3_config.specs.Settings.{Settings}
 use Rattle.s3_machine.specs.History.{Entry}
 use Rattle.s3_machine.specs.declared.turn.Turn.{Turn}
-use Rattle.s3_session.specs.Output.{Past, Standing, Writes, is_waiting}
+use Rattle.s3_session.specs.Output.{Past, Standing, Writes, is_waiting, is_closed}
 use Rattle.s3_session.specs.Output as standings
-use Rattle.s3_session.specs.Session.{is_closed}
-use Rattle.s3_buffered_session.specs.Output.{answer_of, answered_turn}
-use Rattle.s3_buffered_session.specs.Buffered.{HasWaiting}
+use Rattle.s3_buffered_session.specs.Output.{answer_of, answered_turn, HasWaiting}
 use Rattle.s3_devices.specs.Device.{Traffic}
 use Rattle.s3_workers.specs.declared.outcome.Outcome.{Outcome}
 use Rattle.s3_workers.specs.declared.outcome.Outcome.TheVariants as outcomes

@@ -5,12 +5,12 @@ use Rattle.std.specs.Prelude.{◌≡◌, ◌≢◌, ◌<◌, ◌≤◌, ◌+◌,
 use Rattle.s3_config.specs.Settings.{Settings}
 use Rattle.s3_machine.specs.History.{Entry}
 use Rattle.s3_machine.specs.declared.turn.Turn.{Turn}
-use Rattle.s3_session.specs.Output.{Past, is_dead, is_waiting, nothing_yet}
+use Rattle.s3_session.specs.Output.{Past, is_waiting, nothing_yet, is_closed}
 use Rattle.s3_session.specs.Output as standings
 use Rattle.s3_session.specs.Session as sessions
-use Rattle.s3_session.specs.Session.{Connection, Stands, is_closed}
-use Rattle.s3_buffered_session.specs.Output.{answer_of, answered_turn}
-use Rattle.s3_buffered_session.specs.Buffered.{HasWaiting}
+use Rattle.s3_session.specs.Session.{Connection}
+use Rattle.s3_session.specs.Stands.{Stands}
+use Rattle.s3_buffered_session.specs.Output.{answer_of, answered_turn, HasWaiting}
 use Rattle.s3_devices.specs.Device.{Traffic}
 use Rattle.s3_workers.specs.Around.{Around, Fails, GivesAll, Own, with_own}
 use Rattle.s3_devices.specs.declared.device.Wanted.{Wanted}
@@ -37,12 +37,11 @@ unsent_of c = sessions.unsent_of c.session
 -- what a connection does next fits how its session stands, and what it keeps
 abbrev pub IsFit : Stage → Connection → List ℕ → Type 0
 IsFit stages.Reading session kept = (sessions.standing_of session ≡ standings.Reading) × (session.is_ended ≡ false) × (kept ≡ [])
-IsFit stages.Answered session kept =
-    (is_waiting (sessions.standing_of session) ≡ false) × (is_dead (sessions.standing_of session) ≡ false) × (session.is_ended ≡ false)
+IsFit stages.Answered session kept = (sessions.standing_of session ≡ standings.Reading) × (session.is_ended ≡ false)
 IsFit stages.Done session kept =
     (is_waiting (sessions.standing_of session) ≡ false) × (is_closed (sessions.standing_of session) ≡ false → session.is_ended ≡ true)
 
--- the bytes behind those that were taken: none where it reads on, those that are kept where a turn was answered, and any
+-- the bytes behind those that were taken: none where it reads, those that are kept where it reads on behind an answer, and any
 -- where nothing more is taken, unless the end was
 abbrev pub Leaves : Stage → List ℕ → List ℕ → Bool → Type 0
 Leaves stages.Reading kept behind ended = behind ≡ []

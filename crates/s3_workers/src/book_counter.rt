@@ -18,7 +18,7 @@ pub struct BookCounter<R: Records + Drop> {
 }
 
 impl<R: Records + Drop> Counter for BookCounter<R> {
-    ghost use Rattle.s3_journal.specs.Book.{entries_of_seat};
+    ghost use Rattle.s3_journal.specs.Recorded.{entries_of_seat};
     ghost use Rattle.s3_journal.specs.Keeper.{MayLack};
 
     ghost entries = { λ counter. entries_of_seat counter.seat counter.book.entries };

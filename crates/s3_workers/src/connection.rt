@@ -231,7 +231,7 @@ impl Connection {
             < rules.progress_of self.new (around worker.new.clock (N.entries worker.new.counter) traffic) }
         ensures seat { N.seat worker.new.counter ≡ N.seat worker.old.counter }
     {
-        let has_more = !self.kept.as_slice().is_empty();
+        let has_more = !self.kept.is_empty();
         let stage = take_kept(alloc, config, &mut self.session, &mut self.kept, worker);
         self.stage = stage;
         self.is_within = reads_on(has_more, stage);

@@ -4,7 +4,7 @@ ghost use Rattle.std.specs.Prelude.{◌≡◌, ◌≤◌, ◌+◌, suc, ℕ, tru
 ghost use Rattle.s3_config.specs.Settings.{Settings};
 ghost use Rattle.s3_machine.specs.History.{Entry};
 ghost use Rattle.s3_session.specs.Output.{Past, is_waiting};
-ghost use Rattle.s3_session.specs.Session.{Needs, fed, gave_between, standing_of, turns_of};
+ghost use Rattle.s3_session.specs.Session.{Connection, Needs, NeedsNext, fed, gave_between, standing_of, turns_of};
 ghost use Rattle.s3_workers.specs.Around.{Around};
 ghost use Rattle.s3_workers.specs.Connection.{Carries, IsAnswered, IsFit, Leaves, Took, stage_weight};
 
@@ -14,7 +14,7 @@ use crate::worker::Worker;
 use s3_buffered_session::Kept;
 use s3_config::Config;
 use s3_machine::Turn;
-use s3_session::{Clock, Need, Session};
+use s3_session::{Clock, Need, Next, Session};
 use std::alloc::Global;
 
 // Feeds a session: how many bytes it took, and what it needs.
@@ -41,6 +41,18 @@ fn feed_session<C: Clock>(
     session.feed(alloc, config, clock, piece)
 }
 
+// What a connection does next, by what its session needs behind an answer.
+fn stage_behind(next: Next) -> Stage
+    ensures fit { (session : Connection) (kept : List ℕ) → NeedsNext next (standing_of session) → session.is_ended ≡ false
+        → IsFit result session kept }
+    ensures leaves { (kept : List ℕ) → Leaves result kept kept false }
+{
+    match next {
+        Next::More => Stage::Answered,
+        Next::Close => Stage::Done,
+    }
+}
+
 // Gives the counter the turn that a session asks for, and the session its answer.
 fn answer_turn<C: Clock, N: Counter, G>(
     session: &mut Session,
@@ -58,10 +70,7 @@ fn answer_turn<C: Clock, N: Counter, G>(
     ensures seat { N.seat worker.new.counter ≡ N.seat worker.old.counter }
 {
     match worker.counter.call(turn) {
-        Ok(answer) => {
-            session.answer(Ok(answer));
-            Stage::Answered
-        }
+        Ok(answer) => stage_behind(session.answer(Ok(answer))),
         Err(e) => {
             session.answer(Err(e));
             Stage::Done
@@ -124,7 +133,8 @@ fn keep_and_answer<C: Clock, N: Counter, G>(
     }
 }
 
-// Feeds a session with what is kept, up to the end of the next message, whose turn is answered. What is behind that stays.
+// Feeds a session with what is kept, if something is, up to the end of the next message, whose turn is answered. What is behind
+// that stays.
 pub(crate) fn take_kept<C: Clock, N: Counter, G>(
     alloc: Global,
     config: &Config,
@@ -140,6 +150,9 @@ pub(crate) fn take_kept<C: Clock, N: Counter, G>(
     ensures made { suc (length (N.entries worker.old.counter)) ≤ length (N.entries worker.new.counter) + stage_weight result }
     ensures seat { N.seat worker.new.counter ≡ N.seat worker.old.counter }
 {
+    if kept.is_empty() {
+        return Stage::Reading;
+    }
     let (len, need) = feed_session(alloc, config, session, &mut worker.clock, kept.as_slice());
     match need {
         Need::More => {

@@ -5,7 +5,7 @@
 pub(crate) enum Stage {
     // It reads: all that came was taken.
     Reading,
-    // It takes what is kept: a turn was answered.
+    // It takes what is kept, if something is, and reads on: a turn was answered.
     Answered,
     // Nothing: no more is read.
     Done,

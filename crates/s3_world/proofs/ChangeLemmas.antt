@@ -13,12 +13,14 @@ use Rattle.s3_machine.specs.declared.command.Answer.{Answer}
 use Rattle.s3_machine.specs.declared.turn.Turn.{Turn}
 use Rattle.s3_store.specs.Steps.{outcome_of}
 use Rattle.s3_journal.specs.Book.{Journal}
-use Rattle.s3_session.specs.Output.{Standing, is_dead, is_waiting}
+use Rattle.s3_session.specs.Output.{Standing, is_dead, is_waiting, is_closed}
 use Rattle.s3_session.specs.Output as standings
-use Rattle.s3_session.specs.Session.{is_closed}
 use Rattle.s3_buffered_session.specs.Output.{Input}
-use Rattle.s3_buffered_session.specs.Buffered.{Buffered, Holds, entries_with, is_handed_out, standing_of, turn_of, unanswered}
-use Rattle.s3_world.specs.World.{HasTaken, IsChangedAt, IsChangedIn, IsEntered, IsFedWith, IsRecorded, IsTurnTaken, standing_at}
+use Rattle.s3_buffered_session.specs.Buffered.{Buffered, entries_with, is_handed_out, standing_of, turn_of, unanswered}
+use Rattle.s3_buffered_session.specs.Holds.{Holds}
+use Rattle.s3_world.specs.World.{IsEntered}
+use Rattle.s3_world.specs.Shown.{standing_at}
+use Rattle.s3_world.specs.StandsAfter.{HasTaken, IsChangedAt, IsChangedIn, IsFedWith, IsRecorded, IsTurnTaken}
 
 -- ---- the list
 

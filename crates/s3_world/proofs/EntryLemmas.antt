@@ -5,7 +5,7 @@ use Rattle.std.proofs.lemmas.List.{map-append}
 use Rattle.std.proofs.lemmas.List.Elements.{filter-append}
 use Rattle.s3_machine.specs.Step.{State}
 use Rattle.s3_machine.specs.History.{Entry, IsAnswer, Legal, after, after_entry}
-use Rattle.s3_journal.specs.Book.{Recorded, entries_of_seat, history_of}
+use Rattle.s3_journal.specs.Recorded.{Recorded, entries_of_seat, history_of}
 
 -- the entries of one, with one entry more
 seat_more : (seat : ℕ) (entries : List Recorded) (r : Recorded)

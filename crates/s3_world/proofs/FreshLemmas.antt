@@ -5,8 +5,9 @@ use Rattle.std.specs.Global.{Vec}
 use Rattle.std.specs.List.{slice_get}
 use Rattle.s3_session.specs.Output.{Reading}
 use Rattle.s3_buffered_session.specs.Buffered.{Buffered, standing_of, unsent_of}
-use Rattle.s3_world.specs.Run.{moments_of}
-use Rattle.s3_world.specs.World.{AreFresh, IsFresh, each_moments, standing_at, standing_in, unsent_at, unsent_in}
+use Rattle.s3_world.specs.Run.{moments_of, each_moments}
+use Rattle.s3_world.specs.Shown.{standing_at, standing_in, unsent_at, unsent_in}
+use Rattle.s3_world.specs.StandsAfter.{AreFresh, IsFresh}
 
 -- an element of a list with one more is the last, or was there before
 get_push : {X : Type 0} (xs : List X) (x y : X) (c : ℕ) → slice_get (xs ++ x ∷ []) c ≡ Some y → (slice_get xs c ≡ Some y) ⊎ ((c ≡ length xs) × (y ≡ x))

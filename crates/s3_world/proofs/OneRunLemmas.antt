@@ -7,7 +7,7 @@ use Rattle.s3_machine.specs.Step.{State, step}
 use Rattle.s3_machine.specs.History.{IsAnswer, Legal, after}
 use Rattle.s3_machine.specs.declared.command.Answer.{Answer}
 use Rattle.s3_machine.specs.declared.turn.Turn.{Turn}
-use Rattle.s3_journal.specs.Book.{Recorded, entries_of_seat, history_of}
+use Rattle.s3_journal.specs.Recorded.{Recorded, entries_of_seat, history_of}
 use Rattle.s3_session.specs.Output.{is_dead}
 use Rattle.s3_session.specs.Output as standings
 use Rattle.s3_buffered_session.specs.Output.{Input, OneOutput, Outputs, answered_turn}

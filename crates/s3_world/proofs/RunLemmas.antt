@@ -10,15 +10,17 @@ use Rattle.s3_store.specs.Steps.{opened}
 use Rattle.s3_store.specs.Steps as stores
 use Rattle.s3_machine.specs.History.{Entry, Legal}
 use Rattle.s3_machine.specs.declared.turn.Turn.{Turn}
-use Rattle.s3_journal.specs.Book.{Journal, entries_of_seat, history_of}
+use Rattle.s3_journal.specs.Book.{Journal}
+use Rattle.s3_journal.specs.Recorded.{entries_of_seat, history_of}
 use Rattle.s3_session.specs.Output.{is_dead}
 use Rattle.s3_events.specs.declared.event.Event.{Event}
 use Rattle.s3_buffered_session.specs.Output.{Input, Outputs}
-use Rattle.s3_buffered_session.specs.Buffered.{Buffered, BufferedSessionsWrite, listed, turn_of, unsent_of}
+use Rattle.s3_buffered_session.specs.Buffered.{Buffered, listed, turn_of, unsent_of}
+use Rattle.s3_buffered_session.specs.Holds.{BufferedSessionsWrite}
 use Rattle.s3_world.specs.Events.{received, turns_given}
-use Rattle.s3_world.specs.Run.{moments_of, output_of}
-use Rattle.s3_world.specs.World.{AreFresh, AreOutputs, Held, IsChangedAt, IsSentOn, StandsAfter, each_moments, is_lost_in, nothing_sent, sent_more, standing_at, standing_in, unsent_at, unsent_in, unsent_of_all}
-use Rattle.s3_world.specs.Laws.{WorldsRun}
+use Rattle.s3_world.specs.Run.{moments_of, output_of, each_moments}
+use Rattle.s3_world.specs.Shown.{AreOutputs, nothing_sent, sent_more, standing_at, standing_in, unsent_at, unsent_in, unsent_of_all}
+use Rattle.s3_world.specs.StandsAfter.{AreFresh, Held, IsChangedAt, IsSentOn, StandsAfter, is_lost_in, WorldsRun}
 use Rattle.s3_world.proofs.TakenLemmas.{taken_lost}
 use Rattle.s3_world.proofs.WorldLemmas.{lost_grows, one_was, same_or_not, there}
 

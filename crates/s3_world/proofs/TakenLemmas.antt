@@ -2,7 +2,7 @@
 use Rattle.std.proofs.Common.{◌≡◌, ℕ, Bool, true, false, List, [], ◌∷◌, ◌++◌, refl, sym, ap, subst, ◌∙◌, append-nil, append_assoc, inl, inr}
 use Rattle.std.proofs.lemmas.Bool.{true≢false}
 use Rattle.s3_config.specs.Settings.{Settings}
-use Rattle.s3_journal.specs.Book.{Recorded}
+use Rattle.s3_journal.specs.Recorded.{Recorded}
 use Rattle.s3_world.specs.Events.{TurnAt}
 use Rattle.s3_world.specs.Run.{AreTaken, HasEntry, HasNoEntry}
 use Rattle.s3_world.proofs.EntryLemmas.{seat_others}

@@ -10,17 +10,20 @@ use Rattle.s3_terms.specs.declared.memory.NoMemory.{NoMemory}
 use Rattle.s3_machine.specs.History.{Entry}
 use Rattle.s3_machine.specs.declared.command.Answer.{Answer}
 use Rattle.s3_machine.specs.declared.turn.Turn.{Turn}
-use Rattle.s3_journal.specs.Book.{Journal, KeepsHistory, Recorded, entries_of_seat}
+use Rattle.s3_journal.specs.Book.{Journal, KeepsHistory}
+use Rattle.s3_journal.specs.Recorded.{Recorded, entries_of_seat}
 use Rattle.s3_session.specs.Output.{Standing, Reading, Waiting, Over, Dead, is_dead, is_waiting}
 use Rattle.s3_session.specs.Output as standings
 use Rattle.s3_events.specs.declared.event.Event.{Event}
 use Rattle.s3_events.specs.declared.event.Event.TheVariants as events
-use Rattle.s3_buffered_session.specs.Output.{Input, OneOutput, Outputs}
+use Rattle.s3_buffered_session.specs.Output.{Input, OneOutput, Outputs, HasWaiting}
 use Rattle.s3_buffered_session.specs.Buffered as sessions
-use Rattle.s3_buffered_session.specs.Buffered.{Buffered, BufferedSessionsWrite, HasWaiting, Holds, TurnsWait, entries_with, is_handed_out, listed, standing_of, turn_of, unanswered, unsent_of}
+use Rattle.s3_buffered_session.specs.Buffered.{Buffered, entries_with, is_handed_out, listed, standing_of, turn_of, unanswered, unsent_of}
+use Rattle.s3_buffered_session.specs.Holds.{BufferedSessionsWrite, Holds, TurnsWait}
 use Rattle.s3_world.specs.Events.{TurnAt, received, turn_given, turns_given}
 use Rattle.s3_world.specs.Run.{AreTaken, HasNoEntry, WaitsAt, moments_of}
-use Rattle.s3_world.specs.World.{HadTurn, HasTaken, Held, IsChangedAt, IsChangedIn, IsFedWith, IsRecorded, IsTurnTaken, StandsAfter, is_lost_in, standing_in}
+use Rattle.s3_world.specs.Shown.{standing_in}
+use Rattle.s3_world.specs.StandsAfter.{HadTurn, HasTaken, Held, IsChangedAt, IsChangedIn, IsFedWith, IsRecorded, IsTurnTaken, StandsAfter, is_lost_in}
 use Rattle.s3_world.proofs.EntryLemmas.{seat_others, seat_own}
 use Rattle.s3_world.proofs.EventLemmas.{received_end, received_ended, received_others_end, received_others_piece, received_piece, received_turn, turns_more}
 use Rattle.s3_world.proofs.TakenLemmas.{taken_lost, taken_none, taken_one}

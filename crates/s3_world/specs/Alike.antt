@@ -3,7 +3,7 @@ use Rattle.std.specs.Prelude.{◌≡◌, ◌≢◌, ◌<◌, ◌&&◌, ℕ, Bool
 use Rattle.std.specs.Global.{Vec}
 use Rattle.s3_config.specs.Settings.{Settings}
 use Rattle.s3_replies.specs.Replies.{internal_error}
-use Rattle.s3_journal.specs.Book.{Recorded}
+use Rattle.s3_journal.specs.Recorded.{Recorded}
 use Rattle.s3_session.specs.Output.{is_dead}
 use Rattle.s3_events.specs.declared.event.Event.{Event}
 use Rattle.s3_events.specs.declared.event.Event.TheVariants as events

@@ -1,12 +1,11 @@
 -- What holds of all runs.
 use Rattle.std.specs.Prelude.{◌≡◌, ◌<◌, ℕ, false, List, [], ◌∷◌, ◌++◌, length}
 use Rattle.s3_config.specs.Settings.{Settings}
-use Rattle.s3_journal.specs.Book.{Recorded}
+use Rattle.s3_journal.specs.Recorded.{Recorded}
 use Rattle.s3_session.specs.Output.{is_dead}
 use Rattle.s3_events.specs.declared.event.Event.{Event}
 use Rattle.s3_world.specs.Events.{brought, is_end, received, turns_given}
 use Rattle.s3_world.specs.Run.{Runs}
-use Rattle.s3_world.specs.World.{AreOutputs, Serving, StandsAfter, standing_at}
 
 -- the events bring the same to each connection, in the whole and up to each turn of it, and give the same turns in the
 -- same order: so it is where pieces are cut otherwise, or stand at another place before their connection's next turn
@@ -28,14 +27,6 @@ OneRun =
     → IsWhole settings moments happened outs entries run → IsWhole settings moments other outs' entries' run'
     → AreAlike happened other
     → (entries ≡ entries') × (outs ≡ outs')
-
--- a world that stands after some events has made a run of them: its connections stand as in the run, and what they wrote is
--- the run's outputs
-abbrev pub WorldsRun : Type 0
-WorldsRun =
-    (world : Serving) (moments : List (List ℕ)) (happened : List Event) (sent : ℕ → List ℕ) (outs : List (List ℕ))
-    → StandsAfter world moments happened sent → AreOutputs world.connections sent outs
-    → (run : Runs world.settings moments happened outs world.book.entries) × ((c : ℕ) → run.standing c ≡ standing_at world.connections c)
 
 -- as long as its end has not come, a connection receives what each event brings it, and its end
 abbrev pub EventsBring : Type 0

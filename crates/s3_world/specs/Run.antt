@@ -1,15 +1,20 @@
 -- The headline: connections whose bytes come in pieces, and whose commands have their turns at one store, in any order of
 -- events. A relation between all events, the history of the store, and all that each connection wrote.
-use Rattle.std.specs.Prelude.{◌≡◌, ◌⊎◌, ◌<◌, ℕ, Bool, true, List, [], ◌∷◌, ◌++◌, length, slice_index_or}
+use Rattle.std.specs.Prelude.{◌≡◌, ◌⊎◌, ◌<◌, ℕ, Bool, true, List, [], ◌∷◌, ◌++◌, length, map, slice_index_or}
+use Rattle.std.specs.Global.{Vec}
 use Rattle.s3_config.specs.Settings.{Settings}
 use Rattle.s3_records.specs.Catalogue.{opening}
 use Rattle.s3_machine.specs.History.{Legal}
 use Rattle.s3_machine.specs.declared.turn.Turn.{Turn}
-use Rattle.s3_journal.specs.Book.{Recorded, history_of, entries_of_seat}
+use Rattle.s3_journal.specs.Recorded.{Recorded, history_of, entries_of_seat}
 use Rattle.s3_session.specs.Output.{Standing, is_dead}
 use Rattle.s3_events.specs.declared.event.Event.{Event}
 use Rattle.s3_buffered_session.specs.Output.{Outputs, Waits, answered_turn}
 use Rattle.s3_world.specs.Events.{TurnAt, received, turns_given}
+
+-- the moments of each connection, as they are given
+abbrev pub each_moments : List (Vec ℕ) → List (List ℕ)
+each_moments given = map (λ (moments : Vec ℕ). moments.items) given
 
 -- the moments of a connection's messages; they are given for each connection
 abbrev pub moments_of : ℕ → List (List ℕ) → List ℕ

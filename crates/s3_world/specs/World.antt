@@ -1,61 +1,21 @@
--- Connections and the store that they share, and how they stand after some events.
--- `StandsAfter` is what the clauses of a world carry along. What it comes to is a law, `worlds_run`: a run. So its inside need
--- not be believed. A reader believes the words up to `AreOutputs`; those behind it serve `StandsAfter` and the clauses of
--- private functions alone.
-use Rattle.std.specs.Prelude.{◌≡◌, ◌≢◌, ◌<◌, ◌+◌, ◌⊎◌, ◌==◌, IsTrue, ℕ, Bool, true, false, List, [], ◌∷◌, ◌++◌, length, map, take, Option, Some, None, Result, Ok, Err, if◌then◌else◌}
-use Rattle.std.specs.Global.{Vec}
-use Rattle.std.specs.List.{slice_get}
+-- A world: connections, and the book of the store that they share. What its connections show is another file's (`Shown`), and
+-- how it stands after some events (`StandsAfter`).
+use Rattle.std.specs.Prelude.{◌≡◌, ◌≢◌, ◌⊎◌, ◌+◌, IsTrue, Bool, true, false, List, length, Option, Some, None}
 use Rattle.s3_config.specs.Settings.{Settings}
-use Rattle.s3_records.specs.Catalogue.{opening}
-use Rattle.s3_terms.specs.declared.memory.NoMemory.{NoMemory}
 use Rattle.s3_machine.specs.Effects.{is_refused, takes_room}
-use Rattle.s3_machine.specs.History.{Entry}
-use Rattle.s3_machine.specs.declared.command.Answer.{Answer}
 use Rattle.s3_machine.specs.declared.turn.Turn.{Turn}
-use Rattle.s3_store.specs.Steps.{opened, outcome_of}
-use Rattle.s3_session.specs.Output.{Standing, Reading, is_dead, is_waiting}
-use Rattle.s3_journal.specs.Book.{Journal, KeepsHistory, entries_of_seat}
+use Rattle.s3_store.specs.Steps.{outcome_of}
+use Rattle.s3_journal.specs.Book.{Journal}
 use Rattle.s3_events.specs.declared.event.Event.{Event}
 use Rattle.s3_events.specs.declared.event.Event.TheVariants as events
-use Rattle.s3_buffered_session.specs.Buffered as sessions
-use Rattle.s3_buffered_session.specs.Buffered.{Buffered, Holds, entries_with, is_handed_out, nothing_received, turn_of, unanswered}
-use Rattle.s3_buffered_session.specs.Output.{Input}
-use Rattle.s3_world.specs.Events.{received, turns_given}
-use Rattle.s3_world.specs.Run.{AreTaken, moments_of, output_of}
+use Rattle.s3_buffered_session.specs.Buffered.{Buffered}
+use Rattle.s3_world.specs.Shown.{waiting_at}
 
 -- a world: the settings, the connections by their numbers, and the book of the store
 pub record Serving : Type 0 where
   pub settings : Settings
   pub connections : List Buffered
   pub book : Journal
-
--- the moments of each connection, as they are given
-abbrev pub each_moments : List (Vec ℕ) → List (List ℕ)
-each_moments given = map (λ (moments : Vec ℕ). moments.items) given
-
-abbrev pub unsent_in : Option Buffered → List ℕ
-unsent_in None = []
-unsent_in (Some b) = sessions.unsent_of b
-
--- what a connection wrote and has not sent; nothing where there is none of this number
-abbrev pub unsent_at : List Buffered → ℕ → List ℕ
-unsent_at connections c = unsent_in (slice_get connections c)
-
-abbrev pub standing_in : Option Buffered → Standing
-standing_in None = Reading
-standing_in (Some b) = sessions.standing_of b
-
--- how a connection stands; as if nothing had come where there is none of this number
-abbrev pub standing_at : List Buffered → ℕ → Standing
-standing_at connections c = standing_in (slice_get connections c)
-
-abbrev pub turn_in : Option Buffered → Option Turn
-turn_in None = None
-turn_in (Some b) = turn_of b
-
--- the turn that waits in a connection, if one does
-abbrev pub waiting_at : List Buffered → ℕ → Option Turn
-waiting_at connections c = turn_in (slice_get connections c)
 
 -- memory may be lacking for a turn: where the rows of the store are in memory and its numbers are not used up, only for a
 -- command that isn't refused and takes room
@@ -74,103 +34,3 @@ abbrev pub turn_of_event : List Buffered → Event → Option Turn
 turn_of_event connections (events.Piece c bytes) = None
 turn_of_event connections (events.End c) = None
 turn_of_event connections (events.Turn c) = waiting_at connections c
-
--- what the peers of connections were sent, with more for one of them
-abbrev pub sent_more : (ℕ → List ℕ) → ℕ → List ℕ → ℕ → List ℕ
-sent_more sent c bytes k = if (c == k) then sent k ++ bytes else sent k
-
--- nothing was sent
-abbrev pub nothing_sent : ℕ → List ℕ
-nothing_sent c = []
-
--- what the connections wrote and have not sent
-abbrev pub unsent_of_all : List Buffered → List (List ℕ)
-unsent_of_all connections = map sessions.unsent_of connections
-
--- these are what the connections wrote: what was sent of it, and what is unsent
-abbrev pub AreOutputs : List Buffered → (ℕ → List ℕ) → List (List ℕ) → Type 0
-AreOutputs connections sent outs =
-    (length outs ≡ length connections) × ((c : ℕ) → c < length connections → output_of c outs ≡ sent c ++ unsent_at connections c)
-
--- memory ran out in a connection
-abbrev pub is_lost_in : List Buffered → ℕ → Bool
-is_lost_in connections c = is_dead (standing_at connections c)
-
--- a connection stands so after this input and these entries, with so much sent, and with some turn handed out or none
-abbrev pub Held : Buffered → Settings → List ℕ → Input → List Entry → List ℕ → Type 0
-Held b settings moments input entries sent = (pending : List Turn) × Holds b settings moments input entries pending sent
-
--- a world stands so after these events, with so much sent
-pub record StandsAfter (world : Serving) (moments : List (List ℕ)) (happened : List Event) (sent : ℕ → List ℕ) : Type 0 where
-  pub each : length world.connections ≡ length moments
-  pub holds : (c : ℕ) (b : Buffered) → slice_get world.connections c ≡ Some b
-      → Held b world.settings (moments_of c moments) (received c happened) (entries_of_seat c world.book.entries) (sent c)
-  pub idle : (c : ℕ) (b : Buffered) → slice_get world.connections c ≡ Some b → is_handed_out b ≡ false
-  pub least : world.book.least ≡ world.settings.min_part
-  pub opens : world.book.opening ≡ opened (opening world.settings.buckets)
-  pub keeps : KeepsHistory world.book
-  pub taken : AreTaken world.settings moments (is_lost_in world.connections) [] (turns_given happened) world.book.entries
-
--- nothing came of a connection whose messages have these moments
-pub record IsFresh (b : Buffered) (moments : List ℕ) : Type 0 where
-  pub holds : (settings : Settings) → Holds b settings moments nothing_received [] [] []
-  pub idle : is_handed_out b ≡ false
-  pub reads : sessions.standing_of b ≡ Reading
-
--- so many of these connections were made, each for its list of moments
-pub record AreFresh (connections : List Buffered) (moments : List (List ℕ)) (made : ℕ) : Type 0 where
-  pub count : length connections ≡ made
-  pub fresh : (c : ℕ) (b : Buffered) → slice_get connections c ≡ Some b → IsFresh b (moments_of c moments)
-
--- what became of the connection of a number: where there is none, this holds
-abbrev pub IsChangedIn : Type 0 → (Buffered → Buffered → Type 0) → Option Buffered → Option Buffered → Type 0
-IsChangedIn Stays Change None None = Stays
-IsChangedIn Stays Change None (Some d) = ⊥
-IsChangedIn Stays Change (Some b) None = ⊥
-IsChangedIn Stays Change (Some b) (Some d) = Change b d
-
--- connections, of which only that of this number changed
-pub record IsChangedAt (c : ℕ) (old new : List Buffered) (Stays : Type 0) (Change : Buffered → Buffered → Type 0) : Type 0 where
-  pub count : length new ≡ length old
-  pub others : (k : ℕ) → k ≢ c → slice_get new k ≡ slice_get old k
-  pub one : IsChangedIn Stays Change (slice_get old c) (slice_get new c)
-
--- a connection received more
-pub record IsFedWith (settings : Settings) (more : Input → Input) (b d : Buffered) : Type 0 where
-  pub holds : (moments : List ℕ) (input : Input) (entries : List Entry) (pending : List Turn) (sent : List ℕ)
-      → Holds b settings moments input entries pending sent → Holds d settings moments (more input) entries pending sent
-  pub dead : is_dead (sessions.standing_of b) ≡ true → is_dead (sessions.standing_of d) ≡ true
-  pub idle : is_handed_out b ≡ false → is_handed_out d ≡ false
-
--- so many of the bytes that a connection wrote were sent
-pub record IsSentOn (count : ℕ) (b d : Buffered) : Type 0 where
-  pub holds : (settings : Settings) (moments : List ℕ) (input : Input) (entries : List Entry) (pending : List Turn) (sent : List ℕ)
-      → Holds b settings moments input entries pending sent
-      → Holds d settings moments input entries pending (sent ++ take count (sessions.unsent_of b))
-  pub standing : sessions.standing_of d ≡ sessions.standing_of b
-  pub idle : is_handed_out d ≡ is_handed_out b
-
--- the entry of a turn that was answered, or none where memory ran out at it, and then the connection is dead
-abbrev pub IsRecorded : ℕ → Buffered → Journal → Journal → Turn → Result Answer NoMemory → Type 0
-IsRecorded seat d old new turn (Ok answer) =
-    new.entries ≡ old.entries ++ record { seat = seat; entry = record { command = turn.command; moment = turn.moment; answer = answer } } ∷ []
-IsRecorded seat d old new turn (Err e) = (new.entries ≡ old.entries) × (is_dead (sessions.standing_of d) ≡ true)
-
--- the command of a connection that waited had its turn
-pub record HadTurn (settings : Settings) (seat : ℕ) (b d : Buffered) (old new : Journal) (turn : Turn) : Type 0 where
-  pub answered : Result Answer NoMemory
-  pub waited : is_waiting (sessions.standing_of b) ≡ true
-  pub recorded : IsRecorded seat d old new turn answered
-  pub holds : (moments : List ℕ) (input : Input) (entries : List Entry) (sent : List ℕ)
-      → Holds b settings moments input entries [] sent
-      → Holds d settings moments input (entries_with entries turn answered) (unanswered turn answered) sent
-  pub idle : is_handed_out d ≡ false
-
--- or none waited, and nothing changed
-abbrev pub IsTurnTaken : Settings → ℕ → Buffered → Buffered → Journal → Journal → Option Turn → Type 0
-IsTurnTaken settings seat b d old new None = (d ≡ b) × (new.entries ≡ old.entries) × (is_handed_out b ≡ false → is_waiting (sessions.standing_of b) ≡ false)
-IsTurnTaken settings seat b d old new (Some turn) = HadTurn settings seat b d old new turn
-
--- the command of a connection, if one waits, had its turn
-abbrev pub HasTaken : Settings → ℕ → Journal → Journal → Buffered → Buffered → Type 0
-HasTaken settings seat old new b d = IsTurnTaken settings seat b d old new (turn_of b)

@@ -4,7 +4,10 @@ ghost use Rattle.std.specs.Prelude.{◌≡◌, ◌≢◌, ◌<◌, ◌≤◌, �
 ghost use Rattle.s3_config.specs.Settings.{Settings};
 ghost use Rattle.s3_session.specs.Output.{Reading, is_waiting};
 ghost use Rattle.s3_buffered_session.specs.Buffered as sessions;
-ghost use Rattle.s3_world.specs.World.{AreFresh, HasTaken, IsChangedAt, IsEntered, IsFedWith, IsSentOn, each_moments, standing_at, unsent_at, waiting_at};
+ghost use Rattle.s3_world.specs.World.{IsEntered};
+ghost use Rattle.s3_world.specs.Run.{each_moments};
+ghost use Rattle.s3_world.specs.Shown.{standing_at, unsent_at, waiting_at};
+ghost use Rattle.s3_world.specs.StandsAfter.{AreFresh, HasTaken, IsChangedAt, IsFedWith, IsSentOn};
 
 use s3_buffered_session::BufferedSession;
 use s3_calendar::Moment;

@@ -1,6 +1,7 @@
 //! What is known of all worlds: laws, with nothing to run.
 
-ghost use Rattle.s3_world.specs.Laws.{EventsBring, OneRun, WorldsRun};
+ghost use Rattle.s3_world.specs.Laws.{EventsBring, OneRun};
+ghost use Rattle.s3_world.specs.StandsAfter.{WorldsRun};
 
 use s3_buffered_session::{buffered_sessions_write, outputs_are_one};
 

@@ -3,8 +3,9 @@
 ghost use Rattle.std.specs.Prelude.{◌≡◌, ℕ, List, [], IfOk, OnOk};
 ghost use Rattle.s3_records.specs.Catalogue.{opening};
 ghost use Rattle.s3_store.specs.Steps.{opened};
-ghost use Rattle.s3_world.specs.Run.{Runs};
-ghost use Rattle.s3_world.specs.World.{StandsAfter, each_moments, nothing_sent, unsent_of_all};
+ghost use Rattle.s3_world.specs.Run.{Runs, each_moments};
+ghost use Rattle.s3_world.specs.Shown.{nothing_sent, unsent_of_all};
+ghost use Rattle.s3_world.specs.StandsAfter.{StandsAfter};
 
 use crate::laws::worlds_run;
 use crate::world::World;

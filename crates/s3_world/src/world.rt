@@ -7,7 +7,10 @@ ghost use Rattle.s3_store.specs.Steps.{opened};
 ghost use Rattle.s3_session.specs.Output.{Reading, is_waiting};
 ghost use Rattle.s3_events.specs.declared.event.Event.{Event as Happening};
 ghost use Rattle.s3_world.specs.Events.{brings_bytes};
-ghost use Rattle.s3_world.specs.World.{IsEntered, StandsAfter, each_moments, nothing_sent, sent_more, standing_at, turn_of_event, unsent_at, waiting_at};
+ghost use Rattle.s3_world.specs.World.{IsEntered, turn_of_event};
+ghost use Rattle.s3_world.specs.Run.{each_moments};
+ghost use Rattle.s3_world.specs.Shown.{nothing_sent, sent_more, standing_at, unsent_at, waiting_at};
+ghost use Rattle.s3_world.specs.StandsAfter.{StandsAfter};
 
 use crate::connections::{
     all_of_one, end_one, feed_one, fresh, is_one_waiting, sent_one, turn_one, unsent_of_one,

@@ -7,7 +7,7 @@ use crate::sessions::clock::Counting;
 use s3_config::Config;
 use s3_machine::Turn;
 use s3_records::MapRecords;
-use s3_session::{Need, Session};
+use s3_session::{Need, Next, Session};
 use s3_store::Store;
 use s3_terms::NoMemory;
 use std::alloc::Global;
@@ -72,7 +72,7 @@ impl<'a> Line<'a> {
         self.session.in_body()
     }
 
-    /// What comes next, as it was told when it was fed last.
+    /// What comes next, as it was told last.
     pub(crate) fn then(&self) -> Then {
         self.then
     }
@@ -121,7 +121,8 @@ impl<'a> Line<'a> {
             let answer = self
                 .store
                 .apply(self.alloc, least, turn.command, turn.moment);
-            self.session.answer(answer);
+            let next = self.session.answer(answer);
+            self.then = self.behind(next);
         }
     }
 
@@ -129,7 +130,19 @@ impl<'a> Line<'a> {
     pub(crate) fn starve(&mut self) {
         if let Some(turn) = self.waiting.take() {
             drop(turn);
-            self.session.answer(Err(NoMemory));
+            let next = self.session.answer(Err(NoMemory));
+            self.then = self.behind(next);
+        }
+    }
+
+    // What comes next behind an answer.
+    fn behind(&self, next: Next) -> Then {
+        if self.has_ended {
+            return Then::Ended;
+        }
+        match next {
+            Next::More => self.reading(),
+            Next::Close => Then::Closed,
         }
     }
 
@@ -137,6 +150,9 @@ impl<'a> Line<'a> {
     pub(crate) fn end(&mut self) {
         self.session.end();
         self.has_ended = true;
+        if self.waiting.is_none() {
+            self.then = Then::Ended;
+        }
     }
 
     /// Takes all that was written and not taken: whether it is this.

@@ -87,8 +87,9 @@ impl Tried for Line<'_> {
             "end" => self.end(),
             _ => return false,
         }
-        // An empty piece changes nothing, and shows what comes next.
-        self.feed(&[]) == 0
+        // An empty piece changes nothing, and what comes next is told with it as without it.
+        let then = self.then();
+        self.feed(&[]) == 0 && self.then() == then
     }
 
     fn next(&self) -> &'static str {

@@ -1,15 +1,19 @@
 //! Turns that store something in the bucket `pail`, or read it.
-use s3_bodies::{Body, PayloadBuilder, Sink};
+use s3_bodies::{Body, Payload, PayloadBuilder, Sink};
 use s3_calendar::Moment;
-use s3_machine::{Command, KeyCommand, Turn};
+use s3_conditions::Conditions;
+use s3_machine::{Command, KeyCommand, ObjectPut, ObjectRead, Turn};
 use s3_names::{BucketName, Key};
 use s3_versions::{ContentType, Metadata};
 use std::alloc::Global;
 
 // What stores these bytes as a plain text without metadata, or reads where there are none.
-fn asked(alloc: Global, bytes: Option<&[u8]>) -> Option<KeyCommand> {
+fn asked(alloc: Global, bytes: Option<&[u8]>) -> Option<KeyCommand<Payload>> {
     let Some(bytes) = bytes else {
-        return Some(KeyCommand::Get { version: None });
+        return Some(KeyCommand::Read(ObjectRead {
+            version: None,
+            conditions: Conditions::plain(),
+        }));
     };
     let mut builder = PayloadBuilder::new(alloc, bytes.len() as u64);
     builder.take(bytes).ok()?;
@@ -18,11 +22,11 @@ fn asked(alloc: Global, bytes: Option<&[u8]>) -> Option<KeyCommand> {
         return None;
     };
     match ContentType::read(alloc, b"text/plain") {
-        Ok(content_type) => Some(KeyCommand::Put {
+        Ok(content_type) => Some(KeyCommand::Put(ObjectPut {
             content_type,
             metadata,
             payload,
-        }),
+        })),
         Err(_) => None,
     }
 }

@@ -17,7 +17,7 @@ fn word_of(alloc: Global, outcome: &Outcome) -> Option<&'static str> {
         Outcome::Put { tag, shown: None } if tag.text().as_slice() == TAG_OF_HELLO => {
             Some("stored")
         }
-        Outcome::Got { found } if is_body(alloc, &found.stored.body, b"hello") => Some("hello"),
+        Outcome::Got { found, .. } if is_body(alloc, &found.stored.body, b"hello") => Some("hello"),
         Outcome::Refused {
             code,
             is_delete_marker: false,

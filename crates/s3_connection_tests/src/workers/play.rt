@@ -27,7 +27,7 @@ fn bytes_of(seat: u64, round: u64) -> [u8; 16] {
 fn is_outcome(alloc: Global, outcome: &Outcome, put: Option<&[u8]>, bytes: &[u8]) -> bool {
     match outcome {
         Outcome::Put { .. } => put.is_some(),
-        Outcome::Got { found } => put.is_none() && is_body(alloc, &found.stored.body, bytes),
+        Outcome::Got { found, .. } => put.is_none() && is_body(alloc, &found.stored.body, bytes),
         _ => false,
     }
 }

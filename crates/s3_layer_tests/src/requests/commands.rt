@@ -67,10 +67,10 @@ const ROWS: &str = "\
     PUT /pail/k|PutObject^\
     PUT /pail/k?versionId=null<hello|PutObject hello^\
     GET /pail/k<hello|GetObject^\
-    HEAD /pail/k<hello|HeadObject^\
+    HEAD /pail/k<hello|GetObject^\
     DELETE /pail/k<hello|DeleteObject^\
     GET /pail/k?versionId=null|GetObject of a version^\
-    HEAD /pail/k?versionId=null|HeadObject of a version^\
+    HEAD /pail/k?versionId=null|GetObject of a version^\
     DELETE /pail/k?versionId=null|DeleteObject of a version^\
     PUT /pail?versioning<{\"Status\":\"Enabled\"}|PutBucketVersioning Enabled^\
     PUT /pail?versioning< {\"Status\" : \"Suspended\"}\n|PutBucketVersioning Suspended^\

@@ -17,13 +17,13 @@ pub(crate) const UNVERSIONED: &str = "\
     PUT /pail/j<hello|stored - 5d41402abc4b2a76b9719d911017c592;\
     PUT /pail/k<two|stored - b8a9f715dbb64fd5c56e7783c6820a61;\
     GET /pail/k|got - 4 b8a9f715dbb64fd5c56e7783c6820a61 two;\
-    HEAD /pail/k|head - 4 b8a9f715dbb64fd5c56e7783c6820a61 3;\
+    HEAD /pail/k|got - 4 b8a9f715dbb64fd5c56e7783c6820a61 two;\
     GET /pail/k?versionId=null|got - 4 b8a9f715dbb64fd5c56e7783c6820a61 two;\
     GET /pail/k?versionId=v0000000000000001|NoSuchVersion;\
     GET /vat/k|got - 2 5d41402abc4b2a76b9719d911017c592 hello;\
     GET /pail/j|got - 3 5d41402abc4b2a76b9719d911017c592 hello;\
     DELETE /pail/k?versionId=v0000000000000004|deleted -;\
-    HEAD /pail/k?versionId=null|head - 4 b8a9f715dbb64fd5c56e7783c6820a61 3;\
+    HEAD /pail/k?versionId=null|got - 4 b8a9f715dbb64fd5c56e7783c6820a61 two;\
     DELETE /pail/k|deleted -;\
     GET /pail/k|NoSuchKey;\
     HEAD /pail/k?versionId=null|NoSuchVersion;\
@@ -47,9 +47,9 @@ pub(crate) const ENABLED: &str = "\
     DELETE /pail/k|deleted v000000000000000a marker;\
     GET /pail/k|NoSuchKey marker;\
     HEAD /pail/k?versionId=v000000000000000a|MethodNotAllowed marker;\
-    HEAD /pail/k?versionId=v0000000000000005|head v0000000000000005 5 b8a9f715dbb64fd5c56e7783c6820a61 3;\
+    HEAD /pail/k?versionId=v0000000000000005|got v0000000000000005 5 b8a9f715dbb64fd5c56e7783c6820a61 two;\
     DELETE /pail/k?versionId=v000000000000000a|deleted v000000000000000a marker;\
-    HEAD /pail/k|head v0000000000000006 6 5d41402abc4b2a76b9719d911017c592 5;\
+    HEAD /pail/k|got v0000000000000006 6 5d41402abc4b2a76b9719d911017c592 hello;\
     DELETE /pail/k?versionId=v0000000000000006|deleted v0000000000000006;\
     GET /pail/k|got v0000000000000005 5 b8a9f715dbb64fd5c56e7783c6820a61 two;\
     GET /pail/k?versionId=v0000000000000006|NoSuchVersion;\
@@ -74,7 +74,7 @@ pub(crate) const SUSPENDED: &str = "\
     PUT /pail/k<hello|stored null 5d41402abc4b2a76b9719d911017c592;\
     GET /pail/k?versionId=null|got null 10 5d41402abc4b2a76b9719d911017c592 hello;\
     DELETE /pail/k?versionId=null|deleted null;\
-    HEAD /pail/k|head v0000000000000001 1 f97c5d29941bfb1b2fdab0874906ab82 3;\
+    HEAD /pail/k|got v0000000000000001 1 f97c5d29941bfb1b2fdab0874906ab82 one;\
     DELETE /pail/k|deleted null marker;\
     PUT /pail/k<two|stored null b8a9f715dbb64fd5c56e7783c6820a61;\
     GET /pail?versioning|Suspended;\

@@ -56,7 +56,7 @@ pub(crate) fn length_text(alloc: Global, head: &Head) -> Told {
 
 // Whether the first line is cut into its parts.
 fn has_first_line(head: &Head) -> bool {
-    is_same(head.method(), b"HEAD")
+    is_same(head.method_name(), b"HEAD")
         && head.asks_head_only()
         && is_same(head.target(), b"/pail/k?a=b?c")
         && head.minor() == 1

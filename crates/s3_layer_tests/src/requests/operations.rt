@@ -2,9 +2,11 @@
 //! operation has its lines here and its rows in tables; no other test names it.
 use crate::requests::asked::{Told, is_same, number, word};
 use s3_bodies::{Body, Payload};
-use s3_machine::{Found, Outcome};
+use s3_calendar::Moment;
+use s3_conditions::{ByteRange, Conditions, Selection};
+use s3_machine::{Found, Outcome, Source};
 use s3_names::{Tag, VersionId};
-use s3_requests::{BucketCommand, BucketPlan, Command, KeyCommand, KeyPlan, Plan};
+use s3_requests::{BucketCommand, BucketPlan, Command, KeyCommand, Plan};
 use s3_terms::Code;
 use s3_versions::{Data, Versioning, VersioningStatus};
 use std::alloc::Global;
@@ -20,13 +22,13 @@ fn bucket_operation(asked: BucketPlan) -> &'static str {
     }
 }
 
-// The operation on a key, and the version that is asked for.
-fn key_operation(asked: &KeyPlan) -> (&'static str, Option<VersionId>) {
+// The operation on a key, and the version that is asked for. A HEAD is the same read as a GET.
+fn key_operation<B>(asked: &KeyCommand<B>) -> (&'static str, Option<VersionId>) {
     match asked {
-        KeyPlan::Put { .. } => ("PutObject", None),
-        KeyPlan::Get { version } => ("GetObject", *version),
-        KeyPlan::Head { version } => ("HeadObject", *version),
-        KeyPlan::Delete { version } => ("DeleteObject", *version),
+        KeyCommand::Put(_) => ("PutObject", None),
+        KeyCommand::Copy(_) => ("CopyObject", None),
+        KeyCommand::Read(asked) => ("GetObject", asked.version),
+        KeyCommand::Delete { version } => ("DeleteObject", *version),
     }
 }
 
@@ -58,7 +60,56 @@ fn with_version(mut text: Vec<u8>, version: Option<VersionId>) -> Told {
     Ok(text)
 }
 
-/// The operation of a plan, its bucket, its key, and the id of the version that is asked for.
+// The range that is asked for.
+fn range_word(range: Option<ByteRange>) -> &'static [u8] {
+    match range {
+        None => b"",
+        Some(ByteRange::FromTo { .. }) => b" from-to",
+        Some(ByteRange::From { .. }) => b" from",
+        Some(ByteRange::Last { .. }) => b" last",
+    }
+}
+
+// The word where that is there.
+fn word_if(is_there: bool, word: &'static [u8]) -> &'static [u8] {
+    if is_there { word } else { b"" }
+}
+
+// That text, and what a read asks of the version.
+fn with_conditions(alloc: Global, text: Vec<u8>, asked: &Conditions) -> Told {
+    let words = [
+        text.as_slice(),
+        word_if(asked.if_match.is_some(), b" match"),
+        word_if(asked.if_none_match.is_some(), b" none-match"),
+        word_if(asked.modified_since.is_some(), b" modified"),
+        word_if(asked.unmodified_since.is_some(), b" unmodified"),
+        range_word(asked.range),
+    ];
+    Ok(words.concat(alloc)?)
+}
+
+// That text, and what is copied.
+fn with_source(alloc: Global, text: Vec<u8>, source: &Source) -> Told {
+    let from = with_key(
+        alloc,
+        b" from",
+        source.bucket.as_bytes(),
+        source.key.as_bytes(),
+    )?;
+    let from = with_version(from, source.version)?;
+    Ok([text.as_slice(), &from].concat(alloc)?)
+}
+
+// That text, and what is asked beside the version.
+fn with_asked<B>(alloc: Global, text: Vec<u8>, asked: &KeyCommand<B>) -> Told {
+    match asked {
+        KeyCommand::Copy(asked) => with_source(alloc, text, &asked.source),
+        KeyCommand::Read(asked) => with_conditions(alloc, text, &asked.conditions),
+        _ => Ok(text),
+    }
+}
+
+/// The operation of a plan, its bucket, its key, the id of the version that is asked for, and what is asked of it.
 pub(crate) fn plan_text(alloc: Global, plan: &Plan) -> Told {
     match plan {
         Plan::ListBuckets => word(alloc, "ListBuckets"),
@@ -73,7 +124,7 @@ pub(crate) fn plan_text(alloc: Global, plan: &Plan) -> Told {
                 bucket.as_bytes(),
                 key.as_bytes(),
             )?;
-            with_version(text, version)
+            with_asked(alloc, with_version(text, version)?, asked)
         }
     }
 }
@@ -107,13 +158,12 @@ fn put_text(payload: &Payload) -> &'static str {
 }
 
 // What a command does to a key.
-fn key_text(asked: &KeyCommand) -> &'static str {
+fn key_text(asked: &KeyCommand<Payload>) -> &'static str {
     match asked {
-        KeyCommand::Put { payload, .. } => put_text(payload),
-        KeyCommand::Get { version: None } => "GetObject",
-        KeyCommand::Get { version: Some(_) } => "GetObject of a version",
-        KeyCommand::Head { version: None } => "HeadObject",
-        KeyCommand::Head { version: Some(_) } => "HeadObject of a version",
+        KeyCommand::Put(asked) => put_text(&asked.payload),
+        KeyCommand::Copy(_) => "CopyObject",
+        KeyCommand::Read(asked) if asked.version.is_some() => "GetObject of a version",
+        KeyCommand::Read(_) => "GetObject",
         KeyCommand::Delete { version: None } => "DeleteObject",
         KeyCommand::Delete { version: Some(_) } => "DeleteObject of a version",
     }
@@ -137,7 +187,7 @@ fn shown_text(alloc: Global, word: &[u8], shown: Option<VersionId>, behind: &[u8
 }
 
 // Whether it has the type and the metadata that every put here brings.
-fn is_described<B>(stored: &Data<B>) -> bool {
+fn is_described(stored: &Data<Body>) -> bool {
     let entries = stored.metadata.entries();
     is_same(stored.content_type.as_bytes(), b"text/plain")
         && entries.len() == 1
@@ -146,7 +196,7 @@ fn is_described<B>(stored: &Data<B>) -> bool {
 }
 
 // The word, the id, the seconds and the tag of a version that was read, and what stands behind them.
-fn found_text<B>(alloc: Global, word: &[u8], found: &Found<B>, behind: &[u8]) -> Told {
+fn found_text(alloc: Global, word: &[u8], found: &Found<Body>, behind: &[u8]) -> Told {
     if !is_described(&found.stored) {
         return Err(Code::InvalidRequest);
     }
@@ -156,22 +206,42 @@ fn found_text<B>(alloc: Global, word: &[u8], found: &Found<B>, behind: &[u8]) ->
     shown_text(alloc, word, found.shown, &behind)
 }
 
-fn got_text(alloc: Global, found: &Found<Body>) -> Told {
+// How a selection that isn't whole is spelled: `first-last`, or a word.
+fn selection_text(alloc: Global, selection: Selection) -> Told {
+    match selection {
+        Selection::Whole => word(alloc, "whole"),
+        Selection::Part { first, last } => {
+            Ok([
+                number(alloc, first)?.as_slice(),
+                b"-",
+                &number(alloc, last)?,
+            ]
+            .concat(alloc)?)
+        }
+        Selection::Unchanged => word(alloc, "unchanged"),
+    }
+}
+
+fn got_text(alloc: Global, found: &Found<Body>, selection: Selection) -> Told {
     if found.stored.size != found.stored.body.size() {
         return Err(Code::InvalidRequest);
     }
-    let bytes = found.stored.body.to_vec(alloc)?;
-    found_text(alloc, b"got ", found, &bytes)
-}
-
-fn head_text(alloc: Global, found: &Found<()>) -> Told {
-    let size = number(alloc, found.stored.size)?;
-    found_text(alloc, b"head ", found, &size)
+    let behind = match selection {
+        Selection::Whole => found.stored.body.to_vec(alloc)?,
+        _ => selection_text(alloc, selection)?,
+    };
+    found_text(alloc, b"got ", found, &behind)
 }
 
 fn stored_text(alloc: Global, tag: &Tag, shown: Option<VersionId>) -> Told {
     let behind = [b" ".as_slice(), &tag.text()].concat(alloc)?;
     shown_text(alloc, b"stored ", shown, &behind)
+}
+
+fn copied_text(alloc: Global, tag: &Tag, moment: Moment, shown: Option<VersionId>) -> Told {
+    let seconds = number(alloc, moment.seconds())?;
+    let behind = [b" ".as_slice(), &seconds, b" ", &tag.text()].concat(alloc)?;
+    shown_text(alloc, b"copied ", shown, &behind)
 }
 
 fn marker(is_delete_marker: bool) -> &'static [u8] {
@@ -196,8 +266,8 @@ pub(crate) fn outcome_text(alloc: Global, outcome: &Outcome) -> Told {
         Outcome::VersioningSet => word(alloc, "set"),
         Outcome::BucketVersioning { versioning } => word(alloc, name_of(*versioning)),
         Outcome::Put { tag, shown } => stored_text(alloc, tag, *shown),
-        Outcome::Got { found } => got_text(alloc, found),
-        Outcome::HeadGot { found } => head_text(alloc, found),
+        Outcome::Copied { tag, moment, shown } => copied_text(alloc, tag, *moment, *shown),
+        Outcome::Got { found, selection } => got_text(alloc, found, *selection),
         Outcome::Deleted {
             shown,
             is_delete_marker,

@@ -3,7 +3,7 @@ use crate::requests::asked::{Told, word};
 use crate::requests::operations::{operation, plan_text};
 use crate::requests::targets::push_line;
 use s3_http_heads::Head;
-use s3_requests::{KeyPlan, Plan, route};
+use s3_requests::{KeyCommand, Plan, route};
 use s3_terms::Code;
 use s3_versions::{ContentType, Metadata};
 use std::alloc::Global;
@@ -37,12 +37,9 @@ fn object_text(alloc: Global, content_type: &ContentType, metadata: &Metadata) -
 fn put_text(alloc: Global, plan: &Plan) -> Told {
     match plan {
         Plan::Key {
-            asked: KeyPlan::Put {
-                content_type,
-                metadata,
-            },
+            asked: KeyCommand::Put(asked),
             ..
-        } => object_text(alloc, content_type, metadata),
+        } => object_text(alloc, &asked.content_type, &asked.metadata),
         _ => Err(Code::InvalidRequest),
     }
 }

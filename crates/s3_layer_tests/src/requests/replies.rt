@@ -347,10 +347,8 @@ fn context_of(row: &Row) -> Option<Context> {
 // Gives the answer that number, and the version that it tells of, if it was read, the id of number 0.
 fn renumber(answer: &mut Answer, number: u64) {
     answer.number = number;
-    match &mut answer.outcome {
-        Outcome::Got { found } => found.shown = Some(VersionId::of(0)),
-        Outcome::HeadGot { found } => found.shown = Some(VersionId::of(0)),
-        _ => (),
+    if let Outcome::Got { found, .. } = &mut answer.outcome {
+        found.shown = Some(VersionId::of(0));
     }
 }
 

@@ -19,7 +19,7 @@ const METHODS: Table = Table {
         GET /pail/k|GetObject pail k^\
         HEAD /|MethodNotAllowed^\
         HEAD /pail|HeadBucket pail^\
-        HEAD /pail/k|HeadObject pail k^\
+        HEAD /pail/k|GetObject pail k^\
         PUT /|MethodNotAllowed^\
         PUT /pail|CreateBucket pail^\
         PUT /pail/k|PutObject pail k^\
@@ -54,7 +54,7 @@ const PARAMETERS: Table = Table {
         GET /pail/k?uploadId=u0000000000000000|NotImplemented^\
         GET /pail/k?partNumber=1|NotImplemented^\
         HEAD /pail/k?partNumber=1|NotImplemented^\
-        HEAD /pail/k?uploadId=u0000000000000000|HeadObject pail k^\
+        HEAD /pail/k?uploadId=u0000000000000000|GetObject pail k^\
         DELETE /pail/k?uploadId=u0000000000000000|NotImplemented^\
         POST /pail/k?uploads|NotImplemented^\
         POST /pail/k?uploadId=u0000000000000000|NotImplemented^\
@@ -72,7 +72,7 @@ const PARAMETERS: Table = Table {
         GET /pail/k?versionId=NULL&versionId=null|InvalidArgument^\
         GET /pail/k?versionId=null&versionId=NULL|GetObject pail k null^\
         GET /pail/k?%76ersionId=v00000000000000ff|GetObject pail k v00000000000000ff^\
-        HEAD /pail/k?versionId=vffffffffffffffff|HeadObject pail k vffffffffffffffff^\
+        HEAD /pail/k?versionId=vffffffffffffffff|GetObject pail k vffffffffffffffff^\
         DELETE /pail/k?versionId=null|DeleteObject pail k null^\
         HEAD /pail/k?versionId=|InvalidArgument^\
         DELETE /pail/k?versionId=u00000000000000ff|InvalidArgument^\
@@ -194,7 +194,9 @@ const LONG_LINES: Table = Table {
     rows: "\
         PUT /pail/k HTTP/1.1\r\ncontent-type: {t*255}|PutObject pail k^\
         PUT /pail/k HTTP/1.1\r\ncontent-type: {t*256}|InvalidArgument^\
-        PUT /pail/k HTTP/1.1\r\nx-amz-copy-source: /pail/j\r\ncontent-type: {t*256}|NotImplemented^\
+        PUT /pail/k HTTP/1.1\r\nx-amz-copy-source: /pail/j\r\ncontent-type: {t*256}|CopyObject pail k from pail j^\
+        PUT /pail/k HTTP/1.1\r\nx-amz-copy-source: /pail/{j*1024}%|InvalidArgument^\
+        PUT /pail/k HTTP/1.1\r\nx-amz-copy-source: /pail/{%6a*1025}|InvalidArgument^\
         GET /pail/k HTTP/1.1\r\ncontent-type: {t*256}|GetObject pail k^\
         PUT /pail/k HTTP/1.1\r\nx-amz-meta-a: {v*2047}|PutObject pail k^\
         PUT /pail/k HTTP/1.1\r\nx-amz-meta-a: {v*2048}|MetadataTooLarge^\
@@ -203,13 +205,35 @@ const LONG_LINES: Table = Table {
         PUT /pail/k HTTP/1.1\r\nx-amz-meta-a: 1\r\nX-Amz-Meta-A: {v*2046}|MetadataTooLarge^\
         GET /pail/k HTTP/1.1\r\nx-amz-meta-a: {v*2048}|GetObject pail k^\
         PUT /pail HTTP/1.1\r\ncontent-type: {t*256}|CreateBucket pail^\
-        HEAD /pail/k HTTP/1.1\r\nx-amz-meta-a: {v*2048}|HeadObject pail k^\
+        HEAD /pail/k HTTP/1.1\r\nx-amz-meta-a: {v*2048}|GetObject pail k^\
         PUT /pail/k HTTP/1.1\r\nContent-Type: tttttttttttttttttttttttttttttttttttttttttttttttttttttttttttttttttttttttttttttttttttttttttttttttttttttttttttttttttttttttttttttttttttttttttttttttttttttttttttttttttttttttttttttttttttttttttttttttttttttttttttttttttttttttttttttttttttttttttttttttttttttttttttttttt{\r\nx-amz-meta-a: 0123456789012345678901234567890123456789*52}|InvalidArgument^\
         PUT /pail/k HTTP/1.1\r\nContent-Type: t{\r\nx-amz-meta-a: 0123456789012345678901234567890123456789*52}|MetadataTooLarge",
     end: "\r\n\r\n",
 };
 
-static LIMITS: [Table; 3] = [LONG_KEY, LONG_KEYS, LONG_LINES];
+// What reads ask of a version: of each line the first one counts, and what doesn't read is ignored.
+const CONDITIONS: Table = Table {
+    question: Question::Route,
+    front: "",
+    rows: "\
+        GET /pail/k HTTP/1.1\r\nRange: bytes=0-9\r\nrange: bytes=5-|GetObject pail k from-to^\
+        HEAD /pail/k?versionId=null HTTP/1.1\r\nrange: bytes=5-|GetObject pail k null from^\
+        GET /pail/k HTTP/1.1\r\nrange: bytes=-5|GetObject pail k last^\
+        GET /pail/k HTTP/1.1\r\nrange: bytes=-5\r\nIf-Range: \"a\"|GetObject pail k^\
+        GET /pail/k HTTP/1.1\r\nrange: bytes=3-1|GetObject pail k^\
+        GET /pail/k HTTP/1.1\r\nrange: bytes=0-0,2-2|GetObject pail k^\
+        GET /pail/k HTTP/1.1\r\nIf-Match: \"a\"\r\nif-none-match: *|GetObject pail k match none-match^\
+        GET /pail/k HTTP/1.1\r\nif-match:|GetObject pail k match^\
+        HEAD /pail/k HTTP/1.1\r\nif-modified-since: Sun, 06 Nov 1994 08:49:37 GMT|GetObject pail k modified^\
+        GET /pail/k HTTP/1.1\r\nif-unmodified-since: Sunday, 06-Nov-94 08:49:37 GMT|GetObject pail k unmodified^\
+        GET /pail/k HTTP/1.1\r\nif-modified-since: Mon, 06 Nov 1994 08:49:37 GMT|GetObject pail k^\
+        GET /pail/k HTTP/1.1\r\nif-modified-since: now|GetObject pail k^\
+        PUT /pail/k HTTP/1.1\r\nif-match: a\r\nrange: bytes=0-9|PutObject pail k^\
+        DELETE /pail/k HTTP/1.1\r\nif-match: a|DeleteObject pail k",
+    end: "\r\n\r\n",
+};
+
+static LIMITS: [Table; 4] = [LONG_KEY, LONG_KEYS, LONG_LINES, CONDITIONS];
 
 #[test]
 fn limits(rt: HostRuntime) {
@@ -222,11 +246,54 @@ const COPIES: Table = Table {
     question: Question::Route,
     front: "",
     rows: "\
-        PUT /pail/k|NotImplemented^\
+        PUT /pail/k|CopyObject pail k from pail j^\
+        PUT /pail/k?versionId=v|CopyObject pail k from pail j^\
         PUT /pail/k?uploadId|NotImplemented^\
         PUT /pail|CreateBucket pail^\
         GET /pail/k|GetObject pail k",
     end: " HTTP/1.1\r\nX-Amz-Copy-Source: /pail/j\r\n\r\n",
+};
+
+// What is copied: the value is cut before it is decoded. What isn't implemented is told before what is wrong.
+const SOURCES: Table = Table {
+    question: Question::Route,
+    front: "PUT /vat/k HTTP/1.1\r\nX-Amz-Copy-Source:",
+    rows: "\
+        pail/j|CopyObject vat k from pail j^\
+        /pail/a/b|CopyObject vat k from pail a/b^\
+        /pail//a|CopyObject vat k from pail /a^\
+        /pail/a%2fb%3F%25+|CopyObject vat k from pail a/b?%+^\
+        %70ail/j|CopyObject vat k from pail j^\
+        /pail/j?versionId=null|CopyObject vat k from pail j null^\
+        /pail/j?versionId=v00000000000000ff|CopyObject vat k from pail j v00000000000000ff^\
+        /pail/j%3FversionId=null|CopyObject vat k from pail j?versionId=null^\
+        |InvalidArgument^\
+        /|InvalidArgument^\
+        pail|InvalidArgument^\
+        /pail/|InvalidArgument^\
+        //pail/j|InvalidArgument^\
+        %2Fpail/j|InvalidArgument^\
+        /pa%2Fj|InvalidArgument^\
+        /Pail/j|InvalidArgument^\
+        /pail/%ff|InvalidArgument^\
+        /pail/j%4|InvalidArgument^\
+        /pail/j?|InvalidArgument^\
+        /pail/j?versionId|InvalidArgument^\
+        /pail/j?versionId=|InvalidArgument^\
+        /pail/j?versionId=NULL|InvalidArgument^\
+        /pail/j?versionId=%6eull|InvalidArgument^\
+        /pail/j?versionid=null|InvalidArgument^\
+        /pail/j?versionId=null&a|InvalidArgument^\
+        /pail/j?versionId=null?|InvalidArgument^\
+        /pail/j\r\nx-amz-copy-source: vat|CopyObject vat k from pail j^\
+        /pail/j\r\nx-amz-metadata-directive: COPY|CopyObject vat k from pail j^\
+        pail\r\nx-amz-metadata-directive: copy|NotImplemented^\
+        pail\r\nx-amz-metadata-directive: REPLACE|NotImplemented^\
+        pail\r\nx-amz-metadata-directive:|NotImplemented^\
+        pail\r\nX-Amz-Copy-Source-If-Match: a|NotImplemented^\
+        pail\r\nx-amz-copy-source-if-: a|NotImplemented^\
+        /pail/j\r\nx-amz-copy-source-i: a\r\nx-amz-copy-source-range: a|CopyObject vat k from pail j",
+    end: "\r\n\r\n",
 };
 
 const NO_PUT: Table = Table {
@@ -250,7 +317,7 @@ const DESCRIPTIONS: Table = Table {
     end: "\r\n",
 };
 
-static SAID: [Table; 3] = [COPIES, NO_PUT, DESCRIPTIONS];
+static SAID: [Table; 4] = [COPIES, SOURCES, NO_PUT, DESCRIPTIONS];
 
 // Bytes beyond ASCII stay as they are, and names that only look like it are none.
 const BEYOND_ASCII: &[u8] =

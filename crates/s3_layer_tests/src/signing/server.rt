@@ -80,9 +80,9 @@ fn reader_of(
     head: &Head,
     limit: u64,
 ) -> Result<PayloadReader, Code> {
-    let _size = framing(head, limit)?;
+    let size = framing(head, limit)?;
     let verified = verdict_of(alloc, config, head, MOMENT)?;
-    PayloadReader::new(alloc, config, head, verified)
+    PayloadReader::new(alloc, config, head, size, verified)
 }
 
 // The reader of the body behind this head, of a server that takes bodies of at most so many bytes.

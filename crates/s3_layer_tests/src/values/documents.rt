@@ -2,8 +2,8 @@
 
 use crate::checks::check;
 use s3_calendar::Moment;
-use s3_documents::{Field, Leaf, Printer, buckets_document};
-use s3_names::BucketName;
+use s3_documents::{Field, Leaf, Printer, buckets_document, copied_document};
+use s3_names::{BucketName, Tag};
 use s3_records::ListedBucket;
 use s3_terms::NoMemory;
 use std::alloc::Global;
@@ -131,5 +131,32 @@ fn documents(rt: HostRuntime) {
     }
     for (told, text) in &TREES {
         check(&rt, is_printed_tree(rt.alloc(), told, *text), "trees");
+    }
+}
+
+/// Seconds, and the document of a copy of `hello` that was made at them.
+static COPIES: [(u64, &str); 2] = [
+    (
+        0,
+        "{\"ETag\":\"\\\"5d41402abc4b2a76b9719d911017c592\\\"\",\"LastModified\":\"1970-01-01T00:00:00.000Z\"}",
+    ),
+    (
+        1_369_439_999,
+        "{\"ETag\":\"\\\"5d41402abc4b2a76b9719d911017c592\\\"\",\"LastModified\":\"2013-05-24T23:59:59.000Z\"}",
+    ),
+];
+
+fn is_told(seconds: u64, text: &str) -> bool {
+    let tag = Tag::of_digest(*b"\x5d\x41\x40\x2a\xbc\x4b\x2a\x76\xb9\x71\x9d\x91\x10\x17\xc5\x92");
+    match Moment::new(seconds) {
+        Some(moment) => copied_document(&tag, moment).as_slice() == text.as_bytes(),
+        None => false,
+    }
+}
+
+#[test]
+fn copies(rt: HostRuntime) {
+    for (seconds, text) in &COPIES {
+        check(&rt, is_told(*seconds, text), "documents of copies");
     }
 }

@@ -1,20 +1,10 @@
-use Rattle.std.proofs.Common.{◌∙◌, ℕ, List, ap, drop, subst, sym}
-use Rattle.s3_buffered_session.specs.Buffered.{Took}
-use Rattle.s3_buffered_session.proofs.HoldsLemmas.{took_next}
+use Rattle.std.proofs.Common.{subst}
+use Rattle.s3_session.specs.Session.{NeedsNext, standing_of}
+use Rattle.s3_session.specs.declared.session.Next.{Next}
+use Rattle.s3_buffered_session.proofs.HoldsLemmas.{next_close, took_closed}
 use Rattle.s3_buffered_session.proofs.reading.take_kept.Goals as goal
 
-pub returns-then-has_turn-clause-took : goal.returns-then-has_turn-clause-took
-returns-then-has_turn-clause-took c list past entries sent h =
-    let f = c.feed_session-len in
-    subst (λ (offered : List ℕ). Took f.new.session f.new.moments c.skip.new.self f.result.1 c.args.config.now list past offered entries sent) c.as_slice.ensures
-    (took_next c.args.config.now list c.args.session.now f.new.session f.new.moments past entries sent c.as_slice.result.now c.skip.new.self f.result.0 f.result.1
-    (f.ensures.carries list past entries sent h) f.ensures.next (f.ensures.all list past entries sent h)
-    (λ _. c.skip.ensures ∙ ap (drop f.result.0) (sym c.as_slice.ensures)))
-
-pub returns-else-has_turn-clause-took : goal.returns-else-has_turn-clause-took
-returns-else-has_turn-clause-took c list past entries sent h =
-    let f = c.feed_session-len in
-    subst (λ (offered : List ℕ). Took f.new.session f.new.moments c.new.result f.result.1 c.args.config.now list past offered entries sent) c.as_slice.ensures
-    (took_next c.args.config.now list c.args.session.now f.new.session f.new.moments past entries sent c.as_slice.result.now c.new.result f.result.0 f.result.1
-    (f.ensures.carries list past entries sent h) f.ensures.next (f.ensures.all list past entries sent h)
-    (λ is. (let never = sym is ∙ sym c.has_turn.ensures ∙ c.if-has_turn.false in absurd (cc))))
+pub returns-in-Close-clause-took : goal.returns-in-Close-clause-took
+returns-in-Close-clause-took c list past entries sent h =
+    took_closed c.args.config.now list c.args.session.now c.args.moments.now past entries sent c.args.kept.now c.new.result h
+    (next_close _ (subst (λ (n : Next). NeedsNext n (standing_of c.args.session.now)) c.in-Close.is c.requires.needs))

@@ -8,7 +8,7 @@ returns-clause-value c =
     let fed = c.update.ensures _ (c.add_part-5.ensures _ (c.add_part-4.ensures _ (c.add_part-3.ensures _ (c.add_part-2.ensures _ (c.add_part.ensures _ c.new-hasher.ensures))))) in
     c.finalize.ensures _ fed
     ∙ rw (
-      c.method.ensures,
+      c.method_name.ensures,
       c.deref.ensures.value,
       c.deref-2.ensures.value,
       c.deref-3.ensures.value,

@@ -1,7 +1,7 @@
 use Rattle.std.proofs.Common.{subst}
 use mathlib.Core.List.{IsPrefix}
 use Rattle.s3_history.specs.Log.{Trace}
-use Rattle.s3_journal.specs.Book.{Recorded}
+use Rattle.s3_journal.specs.Recorded.{Recorded}
 use Rattle.s3_desk.proofs.PartLemmas.{among_later}
 use Rattle.s3_desk.proofs.closing.take_back.Goals as goal
 

@@ -3,7 +3,7 @@ use Rattle.s3_machine.specs.History.{Entry}
 use Rattle.s3_machine.specs.Kept.{EveryHistory}
 use Rattle.s3_machine.specs.Step.{State}
 use Rattle.s3_journal.specs.Laws.{EveryBook}
-use Rattle.s3_journal.specs.Book.{history_of}
+use Rattle.s3_journal.specs.Recorded.{history_of}
 use Rattle.s3_journal.proofs.laws.books_keep_promises.Goals as goal
 
 of_books : {Law : ℕ → State → List Entry → Type 0} → EveryHistory Law → EveryBook Law
@@ -16,10 +16,14 @@ returns c = record {
   told = of_books c.stored_is_kept.ensures.told;
   stands = of_books c.only_stored_is_given.ensures.stands;
   given = of_books c.only_stored_is_given.ensures.given;
+  put_once = of_books c.only_stored_is_given.ensures.put;
   or_fails = of_books c.only_stored_is_given.ensures.or_fails;
+  judged = of_books c.only_stored_is_given.ensures.judged;
   hidden = of_books c.delete_markers_hide.ensures.hidden;
   quiet = of_books c.entries_change_nothing.ensures.quiet;
   puts = of_books c.puts_are_kept.ensures.by_key;
   put_versions = of_books c.puts_are_kept.ensures.by_version;
+  copies = of_books c.copies_are_kept.ensures.by_key;
+  copy_versions = of_books c.copies_are_kept.ensures.by_version;
   tagged = of_books c.puts_are_kept.ensures.tagged;
 }

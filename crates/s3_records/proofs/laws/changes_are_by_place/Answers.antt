@@ -2,6 +2,4 @@ use Rattle.s3_records.proofs.PlaceLemmas.{changes_are_by_place}
 use Rattle.s3_records.proofs.laws.changes_are_by_place.Goals as goal
 
 pub returns : goal.returns
-returns g c = record {
-  places = changes_are_by_place c.one_id_changes.ensures.added c.one_id_changes.ensures.deleted c.one_version_goes.ensures.one;
-}
+returns g c = record { places = changes_are_by_place c.one_id_changes.ensures.changes }

@@ -1,4 +1,4 @@
-use Rattle.s3_world.specs.World.{nothing_sent}
+use Rattle.s3_world.specs.Shown.{nothing_sent}
 use Rattle.s3_replay.specs.Replaying.{all_at}
 use Rattle.s3_replay.proofs.TakenLemmas.{turn_came}
 use Rattle.s3_replay.proofs.replay.give_turns.Goals as goal

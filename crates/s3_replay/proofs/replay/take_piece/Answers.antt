@@ -1,5 +1,5 @@
 use Rattle.std.proofs.Common.{ℕ, List, ◌++◌, ◌∙◌, sym, ap}
-use Rattle.s3_world.specs.World.{nothing_sent}
+use Rattle.s3_world.specs.Shown.{nothing_sent}
 use Rattle.s3_replay.specs.Replaying.{all_at}
 use Rattle.s3_replay.proofs.TakenLemmas.{piece_came}
 use Rattle.s3_replay.proofs.replay.take_piece.Goals as goal

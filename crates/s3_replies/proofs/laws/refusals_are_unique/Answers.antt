@@ -3,4 +3,4 @@ use Rattle.s3_replies.proofs.ReplyLemmas.{Prints_unique}
 use Rattle.s3_replies.proofs.laws.refusals_are_unique.Goals as goal
 
 pub returns : goal.returns
-returns c = λ code moment head_only. Prints_unique c.documents_are_one.ensures.buckets (unnumbered code) (closing moment head_only)
+returns c = λ code moment head_only. Prints_unique (unnumbered code) (closing moment head_only)

@@ -7,8 +7,9 @@ returns c =
     let messages = c.sound_verdicts_are_exact.ensures.message in
     let shown = c.replies_show_what_came.ensures in
     let only = c.only_stored_is_given.ensures.given in
+    let once = c.only_stored_is_given.ensures.put in
     record {
-      back = puts_are_read_back plans messages shown.tags shown.success shown.objects only c.puts_are_kept.ensures.by_key;
-      versions = put_versions_are_read_back plans messages shown.tags shown.success shown.objects only c.puts_are_kept.ensures.by_version;
+      back = puts_are_read_back plans messages shown.tags shown.success shown.objects shown.parts only once c.puts_are_kept.ensures.by_key;
+      versions = put_versions_are_read_back plans messages shown.tags shown.success shown.objects shown.parts only once c.puts_are_kept.ensures.by_version;
       payloads = payloads_are_brought c.accepted_bodies_are_whole.ensures.payload;
     }

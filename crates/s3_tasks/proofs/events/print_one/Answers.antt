@@ -1,5 +1,5 @@
 use Rattle.std.proofs.Common.{◌∙◌, take}
-use Rattle.s3_world.specs.World.{unsent_of_all}
+use Rattle.s3_world.specs.Shown.{unsent_of_all}
 use Rattle.s3_tasks.proofs.EventsLemmas.{count_taken, printed_one}
 use Rattle.s3_tasks.proofs.events.print_one.Goals as goal
 

@@ -1,6 +1,6 @@
 use Rattle.std.proofs.Common.{◌≡◌, take}
 use Rattle.s3_events.specs.Printing.{outputs_text}
-use Rattle.s3_world.specs.World.{unsent_of_all}
+use Rattle.s3_world.specs.Shown.{unsent_of_all}
 use Rattle.s3_tasks.proofs.events.printed.Given as goal
 
 abbrev pub invariant-loop-connection : goal.invariant-loop-connection

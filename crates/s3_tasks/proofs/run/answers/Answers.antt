@@ -1,5 +1,5 @@
 use Rattle.std.proofs.Common.{ap, ◌∙◌}
-use Rattle.s3_world.specs.World.{each_moments}
+use Rattle.s3_world.specs.Run.{each_moments}
 use Rattle.s3_tasks.proofs.run.answers.Goals as goal
 
 pub returns-clause-value : goal.returns-clause-value

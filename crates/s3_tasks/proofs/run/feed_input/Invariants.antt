@@ -1,6 +1,6 @@
 use Rattle.std.proofs.Common.{ℕ, List}
 use Rattle.s3_settings.specs.Devices.{Gives}
-use Rattle.s3_tasks.specs.Run.{IsFed}
+use Rattle.s3_tasks.specs.Reading.{IsFed}
 use Rattle.s3_tasks.proofs.run.feed_input.Given as goal
 
 abbrev pub invariant-loop : goal.invariant-loop

@@ -1,7 +1,7 @@
 use Rattle.std.proofs.Common.{ℕ, List, []}
 use Rattle.std.specs.Global.{Vec}
 use Rattle.s3_session.specs.Replay.{Replays}
-use Rattle.s3_tasks.specs.Run.{IsFed}
+use Rattle.s3_tasks.specs.Reading.{IsFed}
 use Rattle.s3_tasks.proofs.ReadingLemmas.{gives_memory, gives_ok}
 use Rattle.s3_tasks.proofs.run.written_after.Goals as goal
 

@@ -1,14 +1,11 @@
-use Rattle.s3_versions.proofs.LawLemmas.{puts_leave_versions, deletes_leave_versions, drops_leave_versions, next_is_new}
+use Rattle.s3_versions.proofs.LawLemmas.{changes_leave_versions, numbers_stay_new, later_is_new}
 use Rattle.s3_versions.proofs.laws.stay_versions.Goals as goal
 
-pub returns-clause-put : goal.returns-clause-put
-returns-clause-put g c = puts_leave_versions
+pub returns-clause-leave : goal.returns-clause-leave
+returns-clause-leave g c = changes_leave_versions
 
-pub returns-clause-deleted : goal.returns-clause-deleted
-returns-clause-deleted g c = deletes_leave_versions
+pub returns-clause-new : goal.returns-clause-new
+returns-clause-new g c = numbers_stay_new
 
-pub returns-clause-version_gone : goal.returns-clause-version_gone
-returns-clause-version_gone g c = drops_leave_versions
-
-pub returns-clause-next : goal.returns-clause-next
-returns-clause-next g c = next_is_new
+pub returns-clause-later : goal.returns-clause-later
+returns-clause-later g c = later_is_new

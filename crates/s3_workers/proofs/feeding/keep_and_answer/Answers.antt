@@ -1,4 +1,4 @@
-use Rattle.std.proofs.Common.{◌++◌, ◌∙◌, ℕ, List, false, ap, refl, subst, sym}
+use Rattle.std.proofs.Common.{◌++◌, ◌∙◌, ℕ, List, false, ap, subst, sym}
 use Rattle.s3_workers.specs.Connection.{Leaves}
 use Rattle.s3_workers.specs.declared.stage.Stage.TheVariants as stages
 use Rattle.s3_workers.proofs.CarriesLemmas.{answered_ill}
@@ -7,8 +7,8 @@ use Rattle.s3_workers.proofs.feeding.keep_and_answer.Goals as goal
 pub returns-in-Err-clause-answered : goal.returns-in-Err-clause-answered
 returns-in-Err-clause-answered g c settings from past sent h =
     let entries = g.N.Counter.entries c.args.worker.now.counter in
-    answered_ill g.C.Clock.gives settings c.args.session.now c.answer.new.self from c.args.worker.now.clock entries past sent stages.Done entries c.args.turn c.in-Err.e h
-    (c.answer.ensures.stands settings past sent h.stands) c.answer.ensures.standing refl
+    answered_ill g.C.Clock.gives settings c.args.session.now c.answer.new.self from c.args.worker.now.clock entries past sent stages.Done c.args.turn c.in-Err.e h
+    (c.answer.ensures.stands settings past sent h.stands) c.answer.ensures.standing
 
 pub returns-in-Ok-clause-leaves : goal.returns-in-Ok-clause-leaves
 returns-in-Ok-clause-leaves g c =

@@ -4,8 +4,13 @@ use Rattle.s3_session.specs.Session.{fed, gave_between, turns_of}
 use Rattle.s3_session.specs.declared.session.Need.{Need}
 use Rattle.s3_workers.specs.Connection.{Carries, Leaves, Took}
 use Rattle.s3_workers.specs.declared.stage.Stage.TheVariants as stages
-use Rattle.s3_workers.proofs.CarriesLemmas.{leaves_done, took_answered, took_fed}
+use Rattle.s3_workers.proofs.CarriesLemmas.{leaves_done, took_answered, took_fed, took_none}
 use Rattle.s3_workers.proofs.feeding.take_kept.Goals as goal
+
+pub returns-then-is_empty-clause-took : goal.returns-then-is_empty-clause-took
+returns-then-is_empty-clause-took g c from past sent h =
+    took_none g.C.Clock.gives c.args.config.now c.args.session.now from c.args.worker.now.clock (g.N.Counter.entries c.args.worker.now.counter) past c.args.kept.now c.args.kept.now sent h
+    (c.is_empty.ensures.none c.if-is_empty.true)
 
 pub returns-in-More-clause-took : goal.returns-in-More-clause-took
 returns-in-More-clause-took g c from past sent h =

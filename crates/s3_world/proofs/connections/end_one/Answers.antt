@@ -1,5 +1,5 @@
 use Rattle.std.proofs.Common.{true}
-use Rattle.s3_world.specs.World.{IsFedWith}
+use Rattle.s3_world.specs.StandsAfter.{IsFedWith}
 use Rattle.s3_buffered_session.specs.Output.{Input}
 use Rattle.s3_world.proofs.ChangeLemmas.{changed_set, fed_with, waiting_set}
 use Rattle.s3_world.proofs.connections.end_one.Goals as goal

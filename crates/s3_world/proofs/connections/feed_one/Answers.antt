@@ -1,5 +1,5 @@
 use Rattle.s3_buffered_session.specs.Buffered as sessions
-use Rattle.s3_world.specs.World.{IsFedWith}
+use Rattle.s3_world.specs.StandsAfter.{IsFedWith}
 use Rattle.s3_world.proofs.ChangeLemmas.{changed_nowhere, fed_or_not, fed_set}
 use Rattle.s3_world.proofs.connections.feed_one.Goals as goal
 

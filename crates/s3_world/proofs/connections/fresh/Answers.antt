@@ -1,7 +1,8 @@
 use Rattle.std.proofs.Common.{◌+◌, List, subst, sym, ap, ◌∙◌, ℕ, arith}
 use Rattle.std.specs.Global.{Vec}
 use Rattle.s3_buffered_session.specs.Buffered.{Buffered}
-use Rattle.s3_world.specs.World.{AreFresh, IsFresh, each_moments}
+use Rattle.s3_world.specs.Run.{each_moments}
+use Rattle.s3_world.specs.StandsAfter.{AreFresh, IsFresh}
 use Rattle.s3_world.proofs.FreshLemmas.{IsSilent, fresh_more, fresh_none, moments_at, reads_all, silent_all, silent_more, silent_none}
 use Rattle.s3_world.proofs.connections.fresh.Goals as goal
 

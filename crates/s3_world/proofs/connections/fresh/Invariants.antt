@@ -1,4 +1,5 @@
-use Rattle.s3_world.specs.World.{AreFresh, each_moments}
+use Rattle.s3_world.specs.Run.{each_moments}
+use Rattle.s3_world.specs.StandsAfter.{AreFresh}
 use Rattle.s3_world.proofs.FreshLemmas.{IsSilent}
 use Rattle.s3_world.proofs.connections.fresh.Given as goal
 

@@ -1,7 +1,7 @@
 use Rattle.std.proofs.Common.{◌∙◌, subst}
 use Rattle.s3_config.specs.Settings.{Settings}
-use Rattle.s3_world.specs.Run.{Runs}
-use Rattle.s3_world.specs.World.{each_moments, nothing_sent, unsent_of_all}
+use Rattle.s3_world.specs.Run.{Runs, each_moments}
+use Rattle.s3_world.specs.Shown.{nothing_sent, unsent_of_all}
 use Rattle.s3_world.proofs.RunLemmas.{unsent_outputs}
 use Rattle.s3_world.proofs.running.run.Goals as goal
 

@@ -1,7 +1,8 @@
 use Rattle.std.proofs.Common.{[], ◌∷◌, ◌++◌, ◌∙◌, List, ap, arith, refl, subst, sym, take}
 use Rattle.std.proofs.lemmas.List.{take_all, take_more}
 use Rattle.s3_events.specs.declared.event.Event.{Event}
-use Rattle.s3_world.specs.World.{StandsAfter, nothing_sent}
+use Rattle.s3_world.specs.Shown.{nothing_sent}
+use Rattle.s3_world.specs.StandsAfter.{StandsAfter}
 use Rattle.s3_world.proofs.running.step_all.Goals as goal
 
 pub loop-number-init : goal.loop-number-init

@@ -1,5 +1,6 @@
 use Rattle.std.proofs.Common.{◌≡◌, [], List, ℕ, take}
-use Rattle.s3_world.specs.World.{StandsAfter, nothing_sent}
+use Rattle.s3_world.specs.Shown.{nothing_sent}
+use Rattle.s3_world.specs.StandsAfter.{StandsAfter}
 use Rattle.s3_world.proofs.running.step_all.Given as goal
 
 abbrev pub invariant-loop-number : goal.invariant-loop-number

@@ -1,5 +1,6 @@
 use Rattle.std.proofs.Common.{◌∙◌, subst, sym}
-use Rattle.s3_buffered_session.specs.Buffered.{Buffered, Holds}
+use Rattle.s3_buffered_session.specs.Buffered.{Buffered}
+use Rattle.s3_buffered_session.specs.Holds.{Holds}
 use Rattle.s3_buffered_session.proofs.HoldsLemmas.{holds_end}
 use Rattle.s3_buffered_session.proofs.buffered.BufferedSession.end.Goals as goal
 

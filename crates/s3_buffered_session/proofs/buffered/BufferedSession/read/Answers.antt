@@ -1,5 +1,6 @@
 use Rattle.std.proofs.Common.{◌∙◌, ap, subst, sym}
-use Rattle.s3_buffered_session.specs.Buffered.{Buffered, Holds}
+use Rattle.s3_buffered_session.specs.Buffered.{Buffered}
+use Rattle.s3_buffered_session.specs.Holds.{Holds}
 use Rattle.s3_buffered_session.proofs.HoldsLemmas.{carries_idle, fit_reading, holds_fed, took_next}
 use Rattle.s3_buffered_session.proofs.buffered.BufferedSession.read.Goals as goal
 

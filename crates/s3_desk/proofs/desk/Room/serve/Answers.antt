@@ -1,6 +1,6 @@
 use Rattle.std.proofs.Common.{List, subst}
 use mathlib.Core.List.{IsPrefix}
-use Rattle.s3_journal.specs.Book.{Recorded}
+use Rattle.s3_journal.specs.Recorded.{Recorded}
 use Rattle.s3_desk.proofs.desk.Room.serve.Goals as goal
 
 pub returns-in-Err-clause-memory : goal.returns-in-Err-clause-memory

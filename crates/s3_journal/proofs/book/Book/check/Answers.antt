@@ -1,7 +1,8 @@
 use Rattle.std.proofs.Common.{subst, map}
 use mathlib.Core.List.{IsPrefix}
 use Rattle.s3_history.specs.Log.{Trace}
-use Rattle.s3_journal.specs.Book.{Journal, Recorded}
+use Rattle.s3_journal.specs.Book.{Journal}
+use Rattle.s3_journal.specs.Recorded.{Recorded}
 use Rattle.s3_journal.specs.Entries.{recorded_of}
 use Rattle.s3_journal.proofs.PrefixLemmas.{recorded_prefix}
 use Rattle.s3_journal.proofs.book.Book.check.Goals as goal

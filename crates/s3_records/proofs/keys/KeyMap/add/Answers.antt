@@ -26,11 +26,8 @@ returns-in-Some-clause-ok c =
 
 pub returns-in-Some-clause-err : goal.returns-in-Some-clause-err
 returns-in-Some-clause-err c =
-    let s = c.args.self.now in
-    let old = c.in-Some.versions.now in
-    let there = get_by_tree c.self.inside.by_key.entries s c.args.key (Some old) c.self.view_is c.in-Some.ensures.value in
     then_err c.add.result
-    (left c.self.inside.by_key (c.get_mut.follows.lender c.add.new.self) s c.args.key old c.add.new.self c.self.view_is c.in-Some.ensures.value there (c.get_mut.follows.holds c.add.new.self))
+    (left c.self.inside.by_key (c.get_mut.follows.lender c.add.new.self) c.args.self.now c.args.key c.in-Some.versions.now c.add.new.self c.self.view_is c.in-Some.ensures.value (c.get_mut.follows.holds c.add.new.self))
     c.add.ensures.err
 
 pub returns-in-Some-clause-memory : goal.returns-in-Some-clause-memory

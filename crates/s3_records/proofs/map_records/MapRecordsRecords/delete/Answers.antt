@@ -1,6 +1,7 @@
-use Rattle.std.proofs.Common.{sym, ap, Some, None}
+use Rattle.std.proofs.Common.{sym, ap, Some}
+use Rattle.s3_versions.specs.Rules.{KeyDeleted}
 use Rattle.s3_records.specs.Catalogue.{versions_in}
-use Rattle.s3_records.specs.Changes.{delete_in}
+use Rattle.s3_records.specs.Changes.{KeyChanged}
 use Rattle.s3_records.proofs.CatalogueLemmas.{not_absent, bucket_written}
 use Rattle.s3_records.proofs.KeyLemmas.{then_ok, then_err, left}
 use Rattle.s3_text.proofs.MapLemmas.{get_by_tree}
@@ -8,46 +9,27 @@ use Rattle.s3_records.proofs.map_records.MapRecordsRecords.delete.Goals as goal
 
 -- the bucket is there
 pub unreachable-requires : goal.unreachable-requires
-unreachable-requires c =
-    let absent = get_by_tree c.self.inside.by_name.entries c.args.self.now c.args.bucket.now None c.self.view_is c.in-None.ensures.value in
-    not_absent c.args.self.now c.args.bucket.now absent c.requires.there
+unreachable-requires c = not_absent c.self.inside.by_name c.args.self.now c.args.bucket.now c.self.view_is c.in-None.ensures.value c.requires.there
 
 pub delete-requires : goal.delete-requires
 delete-requires c =
-    let s = c.args.self.now in
-    let name = c.args.bucket.now in
-    let old = c.in-Some.bucket.now in
-    let there = get_by_tree c.self.inside.by_name.entries s name (Some old) c.self.view_is c.in-Some.ensures.value in
+    let there = get_by_tree c.self.inside.by_name.entries c.args.self.now c.args.bucket.now (Some c.in-Some.bucket.now) c.self.view_is c.in-Some.ensures.value in
     rw (sym (ap (λ found. versions_in found c.args.key) there)) c.requires.newer
 
 pub returns-clause-ok : goal.returns-clause-ok
 returns-clause-ok c =
-    let s = c.args.self.now in
-    let name = c.args.bucket.now in
-    let old = c.in-Some.bucket.now in
-    let there = get_by_tree c.self.inside.by_name.entries s name (Some old) c.self.view_is c.in-Some.ensures.value in
-    then_ok c.delete.result (bucket_written c.self.inside.by_name (c.get_mut.follows.lender c.delete.new.self) s name old c.delete.new.self (delete_in c.args.key c.args.number c.args.moment) c.self.view_is c.in-Some.ensures.value there (c.get_mut.follows.holds c.delete.new.self)) c.delete.ensures.ok
+    then_ok c.delete.result (λ is. bucket_written c.self.inside.by_name (c.get_mut.follows.lender c.delete.new.self) c.args.self.now c.args.bucket.now c.in-Some.bucket.now c.delete.new.self (KeyChanged c.args.key (KeyDeleted c.args.number c.args.moment)) c.self.view_is c.in-Some.ensures.value (c.get_mut.follows.holds c.delete.new.self) (ap Some is)) c.delete.ensures.ok
 
 pub returns-clause-err : goal.returns-clause-err
 returns-clause-err c =
-    let s = c.args.self.now in
-    let name = c.args.bucket.now in
-    let old = c.in-Some.bucket.now in
-    let there = get_by_tree c.self.inside.by_name.entries s name (Some old) c.self.view_is c.in-Some.ensures.value in
-    then_err c.delete.result (left c.self.inside.by_name (c.get_mut.follows.lender c.delete.new.self) s name old c.delete.new.self c.self.view_is c.in-Some.ensures.value there (c.get_mut.follows.holds c.delete.new.self)) c.delete.ensures.err
+    then_err c.delete.result (left c.self.inside.by_name (c.get_mut.follows.lender c.delete.new.self) c.args.self.now c.args.bucket.now c.in-Some.bucket.now c.delete.new.self c.self.view_is c.in-Some.ensures.value (c.get_mut.follows.holds c.delete.new.self)) c.delete.ensures.err
 
 pub returns-clause-memory : goal.returns-clause-memory
 returns-clause-memory c =
-    let s = c.args.self.now in
-    let name = c.args.bucket.now in
-    let old = c.in-Some.bucket.now in
-    let there = get_by_tree c.self.inside.by_name.entries s name (Some old) c.self.view_is c.in-Some.ensures.value in
+    let there = get_by_tree c.self.inside.by_name.entries c.args.self.now c.args.bucket.now (Some c.in-Some.bucket.now) c.self.view_is c.in-Some.ensures.value in
     rw there (then_err c.delete.result (λ none in_memory. none) c.delete.ensures.memory)
 
 pub returns-clause-held : goal.returns-clause-held
 returns-clause-held c =
-    let s = c.args.self.now in
-    let name = c.args.bucket.now in
-    let old = c.in-Some.bucket.now in
-    let there = get_by_tree c.self.inside.by_name.entries s name (Some old) c.self.view_is c.in-Some.ensures.value in
+    let there = get_by_tree c.self.inside.by_name.entries c.args.self.now c.args.bucket.now (Some c.in-Some.bucket.now) c.self.view_is c.in-Some.ensures.value in
     rw there (then_err c.delete.result (λ marked in_memory. marked) c.delete.ensures.held)

@@ -1,19 +1,12 @@
-use Rattle.std.proofs.Common.{Some, None}
-use Rattle.s3_records.specs.Changes.{set_in}
+use Rattle.std.proofs.Common.{ap, Some}
+use Rattle.s3_records.specs.Changes.{VersioningSet}
 use Rattle.s3_records.proofs.CatalogueLemmas.{not_absent, bucket_written}
-use Rattle.s3_text.proofs.MapLemmas.{get_by_tree}
 use Rattle.s3_records.proofs.map_records.MapRecordsRecords.set_versioning.Goals as goal
 
 -- the bucket is there
 pub unreachable-requires : goal.unreachable-requires
-unreachable-requires c =
-    let absent = get_by_tree c.self.inside.by_name.entries c.args.self.now c.args.name.now None c.self.view_is c.in-None.ensures.value in
-    not_absent c.args.self.now c.args.name.now absent c.requires
+unreachable-requires c = not_absent c.self.inside.by_name c.args.self.now c.args.name.now c.self.view_is c.in-None.ensures.value c.requires
 
 pub returns-clause-ok : goal.returns-clause-ok
 returns-clause-ok c =
-    let s = c.args.self.now in
-    let name = c.args.name.now in
-    let old = c.in-Some.bucket.now in
-    let there = get_by_tree c.self.inside.by_name.entries s name (Some old) c.self.view_is c.in-Some.ensures.value in
-    bucket_written c.self.inside.by_name (c.get_mut.follows.lender c.set_versioning.new.self) s name old c.set_versioning.new.self (set_in c.args.status) c.self.view_is c.in-Some.ensures.value there (c.get_mut.follows.holds c.set_versioning.new.self) c.set_versioning.ensures
+    bucket_written c.self.inside.by_name (c.get_mut.follows.lender c.set_versioning.new.self) c.args.self.now c.args.name.now c.in-Some.bucket.now c.set_versioning.new.self (VersioningSet c.args.status) c.self.view_is c.in-Some.ensures.value (c.get_mut.follows.holds c.set_versioning.new.self) (ap Some c.set_versioning.ensures)

@@ -1,6 +1,7 @@
 use Rattle.std.proofs.Common.{[], ap, subst}
 use Rattle.s3_session.specs.Output.{is_waiting}
-use Rattle.s3_world.specs.World.{StandsAfter, nothing_sent}
+use Rattle.s3_world.specs.Shown.{nothing_sent}
+use Rattle.s3_world.specs.StandsAfter.{StandsAfter}
 use Rattle.s3_replay.proofs.TakenLemmas.{nothing_taken}
 use Rattle.s3_replay.proofs.replay.Replay.new.Goals as goal
 

@@ -1,5 +1,6 @@
 use Rattle.std.proofs.Common.{◌∙◌, subst, sym}
-use Rattle.s3_world.specs.World.{Serving, nothing_sent}
+use Rattle.s3_world.specs.World.{Serving}
+use Rattle.s3_world.specs.Shown.{nothing_sent}
 use Rattle.s3_replay.specs.Replaying.{HasTaken, all_at}
 use Rattle.s3_replay.proofs.TakenLemmas.{copied, end_replays, uncopied}
 use Rattle.s3_replay.proofs.replay.Replay.written.Goals as goal

@@ -14,7 +14,7 @@ returns-in-Ok-clause-read c settings rest h =
 pub returns-in-Err-clause-read : goal.returns-in-Err-clause-read
 returns-in-Err-clause-read c settings rest h =
     progress_err c.verdicts_stay.ensures.head c.verdicts_stay.ensures.pairs
-    settings c.args.self _ rest c.args.piece.now h refl refl
+    settings c.args.self (record c.args.self { admission = record c.args.self.admission { reader = c.feed.new.self } }) rest c.args.piece.now h refl refl
     c.payloads_are_judged.ensures.verdict c.payloads_are_judged.ensures.failed c.refusals_stand.ensures.place c.in-Err.code
     (c.in-Err.ensures.stands h.asked.announced h.behind h.stands) c.feed.ensures.counts.0 _ (rw (c.taken_since.ensures, c.taken-before.ensures) refl) c.refused.result c.refused.ensures
 

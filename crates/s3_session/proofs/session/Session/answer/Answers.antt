@@ -3,7 +3,8 @@ use Rattle.s3_terms.specs.declared.memory.NoMemory.{NoMemory}
 use Rattle.s3_machine.specs.declared.command.Answer.{Answer}
 use Rattle.s3_outbox.specs.Outbox.{Sending}
 use Rattle.s3_replies.specs.Replies.{Prints}
-use Rattle.s3_session.specs.Session.{Connection, IsLonger, Stands, added, answered, unsent_of}
+use Rattle.s3_session.specs.Session.{Connection, IsLonger, added, answered, unsent_of}
+use Rattle.s3_session.specs.Stands.{Stands}
 use Rattle.s3_session.proofs.StandsLemmas.{stands_replied, stands_died}
 use Rattle.s3_session.proofs.session.Session.answer.Goals as goal
 

@@ -2,7 +2,8 @@ use Rattle.std.proofs.Common.{◌∙◌, sym, ap, subst}
 use Rattle.s3_replies.specs.Replies.{PrintsRefusal}
 use Rattle.s3_session.specs.declared.incoming.Incoming.{Incoming}
 use Rattle.s3_session.specs.Incoming.{IsInBody}
-use Rattle.s3_session.specs.Session.{Connection, IsCutTo, added, unsent_of}
+use Rattle.s3_session.specs.Session.{Connection, added, unsent_of}
+use Rattle.s3_session.specs.Stands.{IsCutTo}
 use Rattle.s3_session.proofs.StandsLemmas.{same_body}
 use Rattle.s3_session.proofs.session.Session.cut.Goals as goal
 

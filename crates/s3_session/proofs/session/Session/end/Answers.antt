@@ -1,5 +1,6 @@
 use Rattle.std.proofs.Common.{◌≡◌, ◌∙◌, true, false, ap, refl, subst, sym}
-use Rattle.s3_session.specs.Session.{Connection, IsLonger, is_in_body, unsent_of}
+use Rattle.s3_session.specs.Session.{Connection, IsLonger, unsent_of}
+use Rattle.s3_session.specs.Stands.{is_in_body}
 use Rattle.s3_session.proofs.StandsLemmas.{body_in, cut_from, stands_cut, stands_end}
 use Rattle.s3_session.proofs.session.Session.end.Goals as goal
 

@@ -3,7 +3,9 @@ use Rattle.std.specs.Vec.{with_items}
 use Rattle.s3_session.specs.Output.{is_waiting}
 use Rattle.s3_buffered_session.specs.Buffered.{Buffered}
 use Rattle.s3_events.specs.declared.event.Event.TheVariants as events
-use Rattle.s3_world.specs.World.{IsChangedAt, IsFedWith, Serving, StandsAfter, standing_at}
+use Rattle.s3_world.specs.World.{Serving}
+use Rattle.s3_world.specs.Shown.{standing_at}
+use Rattle.s3_world.specs.StandsAfter.{IsChangedAt, IsFedWith, StandsAfter}
 use Rattle.std.proofs.Common.{[], ◌∷◌, ◌++◌}
 use Rattle.s3_world.proofs.ChangeLemmas.{written_back}
 use Rattle.s3_world.proofs.WorldLemmas.{end_stands}

@@ -2,7 +2,8 @@ use Rattle.std.proofs.Common.{[], ◌∷◌, ◌++◌, subst, sym, List}
 use Rattle.s3_buffered_session.specs.Buffered.{Buffered}
 use Rattle.s3_buffered_session.specs.Buffered as sessions
 use Rattle.s3_events.specs.declared.event.Event.TheVariants as events
-use Rattle.s3_world.specs.World.{IsChangedAt, IsFedWith, Serving, StandsAfter}
+use Rattle.s3_world.specs.World.{Serving}
+use Rattle.s3_world.specs.StandsAfter.{IsChangedAt, IsFedWith, StandsAfter}
 use Rattle.s3_world.proofs.ChangeLemmas.{written_back}
 use Rattle.s3_world.proofs.WorldLemmas.{on_ok, piece_stands}
 use Rattle.s3_world.proofs.world.World.piece.Goals as goal

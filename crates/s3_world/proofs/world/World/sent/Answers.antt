@@ -1,7 +1,9 @@
 use Rattle.std.proofs.Common.{subst, sym, take, List}
 use Rattle.std.specs.Vec.{with_items}
 use Rattle.s3_buffered_session.specs.Buffered.{Buffered}
-use Rattle.s3_world.specs.World.{IsChangedAt, IsSentOn, Serving, StandsAfter, sent_more, unsent_at}
+use Rattle.s3_world.specs.World.{Serving}
+use Rattle.s3_world.specs.Shown.{sent_more, unsent_at}
+use Rattle.s3_world.specs.StandsAfter.{IsChangedAt, IsSentOn, StandsAfter}
 use Rattle.s3_world.proofs.ChangeLemmas.{written_back}
 use Rattle.s3_world.proofs.RunLemmas.{sent_stands}
 use Rattle.s3_world.proofs.world.World.sent.Goals as goal

@@ -1,6 +1,6 @@
 use Rattle.std.proofs.Common.{[], ◌∷◌, ◌++◌, subst, sym}
 use Rattle.s3_events.specs.declared.event.Event.{Event}
-use Rattle.s3_world.specs.World.{StandsAfter}
+use Rattle.s3_world.specs.StandsAfter.{StandsAfter}
 use Rattle.s3_world.proofs.world.World.step.Goals as goal
 
 pub returns-in-End-clause-stands : goal.returns-in-End-clause-stands

@@ -1,7 +1,8 @@
 use Rattle.std.proofs.Common.{◌≡◌, [], ◌∷◌, ◌++◌, subst, sym, List}
 use Rattle.s3_buffered_session.specs.Buffered.{Buffered}
 use Rattle.s3_events.specs.declared.event.Event.TheVariants as events
-use Rattle.s3_world.specs.World.{HasTaken, IsChangedAt, Serving, StandsAfter}
+use Rattle.s3_world.specs.World.{Serving}
+use Rattle.s3_world.specs.StandsAfter.{HasTaken, IsChangedAt, StandsAfter}
 use Rattle.s3_world.proofs.ChangeLemmas.{written_back}
 use Rattle.s3_world.proofs.WorldLemmas.{turn_stands}
 use Rattle.s3_world.proofs.world.World.turn.Goals as goal

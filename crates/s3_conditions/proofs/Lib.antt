@@ -1,0 +1,2 @@
+pub mod ConditionLemmas
+pub mod RangeLemmas

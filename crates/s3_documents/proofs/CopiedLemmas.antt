@@ -1,0 +1,28 @@
+-- The document of a copy, as it is printed.
+use Rattle.std.proofs.Common.{◌≡◌, ap, ◌∙◌, true, ℕ, List, [], ◌∷◌, ◌++◌, append_assoc, codes}
+use Rattle.std.specs.List.{list_all}
+use Rattle.std.proofs.lemmas.List.Concat.{flat_map-append}
+use Rattle.json.specs.Print.{escape, escape_byte}
+use Rattle.s3_text.specs.Characters.{is_lower_hex}
+use Rattle.s3_documents.specs.Timestamp.{timestamp}
+use Rattle.s3_documents.specs.Tree.{tree_text}
+use Rattle.s3_documents.specs.Copied.{copied_text}
+use Rattle.s3_documents.proofs.PlainLemmas.{tag_plain}
+
+-- of a tag and the quote behind it the quote alone is escaped
+quote_escaped : (tag : List ℕ) → escape tag ≡ tag → escape (tag ++ 34 ∷ []) ≡ tag ++ 92 ∷ 34 ∷ []
+unfolding escape_byte
+quote_escaped tag plain = flat_map-append escape_byte tag (34 ∷ []) ∙ ap (λ t. t ++ 92 ∷ 34 ∷ []) plain
+
+-- what stands behind the first quote of the tag
+from_tag : (tag stamp x y : List ℕ) → x ≡ tag ++ 92 ∷ 34 ∷ [] → y ≡ stamp
+    → ((x ++ 34 ∷ []) ++ (44 ∷ 34 ∷ 76 ∷ 97 ∷ 115 ∷ 116 ∷ 77 ∷ 111 ∷ 100 ∷ 105 ∷ 102 ∷ 105 ∷ 101 ∷ 100 ∷ 34 ∷ 58 ∷ 34 ∷ (y ++ 34 ∷ []))) ++ 125 ∷ []
+    ≡ ((tag ++ 92 ∷ 34 ∷ 34 ∷ 44 ∷ 34 ∷ 76 ∷ 97 ∷ 115 ∷ 116 ∷ 77 ∷ 111 ∷ 100 ∷ 105 ∷ 102 ∷ 105 ∷ 101 ∷ 100 ∷ 34 ∷ 58 ∷ 34 ∷ []) ++ stamp) ++ 34 ∷ 125 ∷ []
+from_tag tag stamp x y a b = rw (a, b) (simp append_assoc)
+
+pub copied_spelled : (tag : List ℕ) (made : ℕ) → list_all is_lower_hex tag ≡ true → escape (timestamp made) ≡ timestamp made
+    → copied_text tag made ≡ (((([] ++ codes "{\"ETag\":\"\\\"") ++ tag) ++ codes "\\\"\",\"LastModified\":\"") ++ timestamp made) ++ codes "\"}"
+unfolding tree_text escape_byte
+copied_spelled tag made digits plain =
+    ap (λ t. codes "{\"ETag\":\"\\\"" ++ t)
+    (from_tag tag (timestamp made) (escape (tag ++ 34 ∷ [])) (escape (timestamp made)) (quote_escaped tag (tag_plain tag digits)) plain)

@@ -1,0 +1,128 @@
+-- Texts in which nothing is escaped: digits, and moments.
+use Rattle.std.proofs.Common.{◌≡◌, refl, ap₂, ◌∙◌, subst, ◌==◌, ◌+◌, ◌≤◌, Bool, true, false, nat_lt, ℕ, zero, suc, List, [], ◌∷◌, ◌++◌, take, drop, IsTrue, arith, codes}
+use Rattle.std.specs.Char.{is_ascii_digit}
+use Rattle.std.specs.List.{list_all}
+use Rattle.std.proofs.lemmas.Bool.{and_parts}
+use Rattle.std.proofs.lemmas.Bool.Decides.{nat_tests}
+use Rattle.std.proofs.lemmas.List.{drop-drop}
+use Rattle.std.proofs.lemmas.List.Concat.{flat_map-append}
+use Rattle.json.specs.Print.{escape, escape_byte}
+use Rattle.s3_text.specs.Characters.{is_lower_hex}
+use Rattle.s3_calendar.specs.Moment.{is_stamp}
+use Rattle.s3_documents.specs.Timestamp.{spelled_out}
+
+-- ---- bytes
+
+differs : (a b : ℕ) → ¬ (a ≡ b) → (a == b) ≡ false
+differs a b other = grind (arith, nat_tests)
+
+not_below : (a b : ℕ) → b ≤ a → nat_lt a b ≡ false
+not_below a b h = grind (arith, nat_tests)
+
+plain_byte : (b : ℕ) → 32 ≤ b → ¬ (b ≡ 34) → ¬ (b ≡ 92) → escape_byte b ≡ b ∷ []
+unfolding escape_byte
+plain_byte b above quote slash =
+    let a = differs b 34 quote in
+    let c = differs b 92 slash in
+    let d = differs b 8 (λ e. omega arith) in
+    let f = differs b 12 (λ e. omega arith) in
+    let g = differs b 10 (λ e. omega arith) in
+    let h = differs b 13 (λ e. omega arith) in
+    let i = differs b 9 (λ e. omega arith) in
+    let j = not_below b 32 above in
+    rw (a, c, d, f, g, h, i, j) refl
+
+digit_plain : (b : ℕ) → is_ascii_digit b ≡ true → escape_byte b ≡ b ∷ []
+digit_plain b h =
+    let low : 48 ≤ b = grind (arith, nat_tests) in
+    let high : b ≤ 57 = grind (arith, nat_tests) in
+    plain_byte b (omega arith) (λ e. omega arith) (λ e. omega arith)
+
+is_plain_hex : (b : ℕ) → is_lower_hex b ≡ true → (48 ≤ b) × ¬ (b ≡ 92)
+is_plain_hex b h = (grind (arith, nat_tests), λ e. grind (arith, nat_tests))
+
+hex_plain : (b : ℕ) → is_lower_hex b ≡ true → escape_byte b ≡ b ∷ []
+hex_plain b h =
+    let range = is_plain_hex b h in
+    plain_byte b (omega (arith, range.0)) (λ e. omega (arith, range.0)) range.1
+
+-- ---- texts
+
+-- a text of bytes that pass a test, where these are plain
+all_plain : (test : ℕ → Bool) → ((b : ℕ) → test b ≡ true → escape_byte b ≡ b ∷ []) → (bs : List ℕ) → list_all test bs ≡ true → escape bs ≡ bs
+all_plain test plain [] h = refl
+all_plain test plain (b ∷ bs) h =
+    let parts = and_parts (test b) (list_all test bs) h in
+    ap₂ (λ (front rest : List ℕ). front ++ rest) (plain b parts.0) (all_plain test plain bs parts.1)
+
+pub tag_plain : (tag : List ℕ) → list_all is_lower_hex tag ≡ true → escape tag ≡ tag
+tag_plain tag h = all_plain is_lower_hex hex_plain tag h
+
+digits_plain : (bs : List ℕ) → list_all is_ascii_digit bs ≡ true → escape bs ≡ bs
+digits_plain bs h = all_plain is_ascii_digit digit_plain bs h
+
+plain_joined : (xs ys : List ℕ) → escape xs ≡ xs → escape ys ≡ ys → escape (xs ++ ys) ≡ xs ++ ys
+plain_joined xs ys x y = flat_map-append escape_byte xs ys ∙ ap₂ (λ (a b : List ℕ). a ++ b) x y
+
+-- ---- parts of digits
+
+take_all : (test : ℕ → Bool) (n : ℕ) (bs : List ℕ) → list_all test bs ≡ true → list_all test (take n bs) ≡ true
+take_all test zero bs h = refl
+take_all test (suc n) [] h = refl
+take_all test (suc n) (b ∷ bs) h =
+    let parts = and_parts (test b) (list_all test bs) h in
+    rw (parts.0) (take_all test n bs parts.1)
+
+-- fewer of those that come first, from a place on
+part_all : (test : ℕ → Bool) (a k n : ℕ) (bs : List ℕ) → a + k ≤ n → list_all test (take n bs) ≡ true → list_all test (take k (drop a bs)) ≡ true
+part_all test zero zero n bs within h = refl
+part_all test zero (suc k) zero bs within h = absurd (omega arith)
+part_all test zero (suc k) (suc n) [] within h = refl
+part_all test zero (suc k) (suc n) (b ∷ bs) within h =
+    let parts = and_parts (test b) (list_all test (take n bs)) h in
+    rw (parts.0) (part_all test zero k n bs (omega arith) parts.1)
+part_all test (suc a) k zero bs within h = absurd (omega arith)
+part_all test (suc a) zero (suc n) [] within h = refl
+part_all test (suc a) (suc k) (suc n) [] within h = refl
+part_all test (suc a) k (suc n) (b ∷ bs) within h =
+    part_all test a k n bs (omega arith) (and_parts (test b) (list_all test (take n bs)) h).1
+
+part_plain : (bs : List ℕ) (n a k : ℕ) → a + k ≤ n → list_all is_ascii_digit (take n bs) ≡ true → escape (take k (drop a bs)) ≡ take k (drop a bs)
+part_plain bs n a k within h = digits_plain (take k (drop a bs)) (part_all is_ascii_digit a k n bs within h)
+
+-- a part of the time of day, which begins at the ninth byte
+time_plain : (t : List ℕ) (a k : ℕ) → a + k ≤ 6 → list_all is_ascii_digit (take 6 (drop 9 t)) ≡ true → escape (take k (drop (9 + a) t)) ≡ take k (drop (9 + a) t)
+time_plain t a k within h = subst (λ xs. escape (take k xs) ≡ take k xs) (drop-drop a 9 t) (part_plain (drop 9 t) 6 a k within h)
+
+-- ---- moments
+
+hyphen_plain : escape (codes "-") ≡ codes "-"
+unfolding escape_byte
+hyphen_plain = refl
+
+letter_plain : escape (codes "T") ≡ codes "T"
+unfolding escape_byte
+letter_plain = refl
+
+colon_plain : escape (codes ":") ≡ codes ":"
+unfolding escape_byte
+colon_plain = refl
+
+ending_plain : escape (codes ".000Z") ≡ codes ".000Z"
+unfolding escape_byte
+ending_plain = refl
+
+pub spelled_plain : (t : List ℕ) → IsTrue (is_stamp t) → escape (spelled_out t) ≡ spelled_out t
+unfolding is_stamp
+spelled_plain t valid =
+    let form = (and_parts _ _ (and_parts _ _ valid).0).0 in
+    let upto_time = (and_parts _ _ form).0 in
+    let time = (and_parts _ _ upto_time).1 in
+    let date = (and_parts _ _ (and_parts _ _ (and_parts _ _ upto_time).0).0).1 in
+    let year = part_plain t 8 0 4 (omega arith) date in
+    let to_month = plain_joined _ _ (plain_joined _ _ year hyphen_plain) (part_plain t 8 4 2 (omega arith) date) in
+    let to_day = plain_joined _ _ (plain_joined _ _ to_month hyphen_plain) (part_plain t 8 6 2 (omega arith) date) in
+    let to_hour = plain_joined _ _ (plain_joined _ _ to_day letter_plain) (part_plain (drop 9 t) 6 0 2 (omega arith) time) in
+    let to_minute = plain_joined _ _ (plain_joined _ _ to_hour colon_plain) (time_plain t 2 2 (omega arith) time) in
+    let to_second = plain_joined _ _ (plain_joined _ _ to_minute colon_plain) (time_plain t 4 2 (omega arith) time) in
+    plain_joined _ _ to_second ending_plain

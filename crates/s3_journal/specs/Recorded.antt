@@ -1,0 +1,16 @@
+-- What an entry of a book is, without the store that it is of.
+use Rattle.std.specs.Prelude.{◌==◌, ℕ, List, map, filter}
+use Rattle.s3_machine.specs.History.{Entry}
+
+-- an entry of a book: who asked for it, and the command with its moment and its answer
+pub record Recorded : Type 0 where
+  pub seat : ℕ
+  pub entry : Entry
+
+-- the entries of all, in their order
+abbrev pub history_of : List Recorded → List Entry
+history_of entries = map (λ (r : Recorded). r.entry) entries
+
+-- the entries of one seat, in their order
+abbrev pub entries_of_seat : ℕ → List Recorded → List Entry
+entries_of_seat seat entries = history_of (filter (λ (r : Recorded). r.seat == seat) entries)

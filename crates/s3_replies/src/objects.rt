@@ -1,0 +1,184 @@
+//! The replies that tell of an object: to a put, a copy, a read and a delete.
+
+ghost use Rattle.std.specs.Prelude.{◌≡◌, ◌+◌, ◌≤◌, [], ◌++◌, List, ℕ, Option, unwrap_or};
+ghost use Rattle.s3_documents.specs.Copied.{copied_text};
+ghost use Rattle.s3_machine.specs.declared.command.Found.{Found as FoundAs};
+ghost use Rattle.s3_replies.specs.declared.head.Opening.{Opening as Opens};
+ghost use Rattle.s3_replies.specs.Head.{print_head};
+ghost use Rattle.s3_replies.specs.Replies.{back, beside, front, reply_with, put_fields, got_fields, unchanged_fields, copied_fields, deleted_fields};
+
+use crate::body::{part_of, place_of, sent, write_body};
+use crate::date::DateText;
+use crate::head::{Head, Opening};
+use crate::room::Room;
+use crate::values::{RangeText, date_bytes, id_bytes, id_text, range_bytes};
+use s3_bodies::Body;
+use s3_calendar::Moment;
+use s3_conditions::Selection;
+use s3_documents::copied_document;
+use s3_machine::Found;
+use s3_names::{Tag, VersionId};
+use s3_terms::Status;
+
+/// Appends all of the reply to a put.
+pub(crate) fn put_reply<R: Room>(out: &mut R, opening: Opening, tag: &Tag, shown: Option<VersionId>)
+    requires { R.size out.old + 4096 ≤ R.capacity out.old }
+    ensures written { R.written out.new ≡ R.written out.old ++ print_head (put_fields opening tag.now shown) }
+    ensures capacity { R.capacity out.old ≤ R.capacity out.new }
+{
+    let id = id_text(shown);
+    let head = Head {
+        version_id: id_bytes(&id),
+        tag: Some(&tag.text()),
+        ..Head::bare(Status::Ok, &opening)
+    };
+    head.print(out);
+}
+
+/// Appends what is known of a version and of so many of its bytes, which stand behind it: all, or a range.
+fn object_head<R: Room>(
+    out: &mut R,
+    opening: Opening,
+    status: Status,
+    found: &Found<Body>,
+    modified: Option<DateText>,
+    range: Option<RangeText>,
+    size: u64,
+)
+    requires { R.size out.old + 4096 ≤ R.capacity out.old }
+    ensures written { R.written out.new ≡ R.written out.old
+        ++ print_head (record (got_fields opening found.now modified) {
+          status = status;
+          content_range = range;
+          size = size;
+        }) }
+    ensures capacity { R.capacity out.old ≤ R.capacity out.new }
+{
+    let id = id_text(found.shown);
+    let head = Head {
+        version_id: id_bytes(&id),
+        tag: Some(&found.stored.tag.text()),
+        modified: date_bytes(&modified),
+        accepts_ranges: true,
+        content_range: range_bytes(&range),
+        content_type: Some(found.stored.content_type.as_bytes()),
+        metadata: found.stored.metadata.entries(),
+        size,
+        ..Head::bare(status, &opening)
+    };
+    head.print(out);
+}
+
+/// Appends the whole reply that tells that a version is as the reader knows it.
+fn unchanged_reply<R: Room>(
+    out: &mut R,
+    opening: Opening,
+    found: &Found<Body>,
+    modified: Option<DateText>,
+)
+    requires { R.size out.old + 4096 ≤ R.capacity out.old }
+    ensures written { R.written out.new ≡ R.written out.old ++ print_head (unchanged_fields opening found.now modified) }
+    ensures capacity { R.capacity out.old ≤ R.capacity out.new }
+{
+    let id = id_text(found.shown);
+    let head = Head {
+        version_id: id_bytes(&id),
+        tag: Some(&found.stored.tag.text()),
+        modified: date_bytes(&modified),
+        ..Head::bare(Status::NotModified, &opening)
+    };
+    head.print(out);
+}
+
+/// Appends the reply that shows this of a version, without its bytes.
+pub(crate) fn got_reply<R: Room>(
+    out: &mut R,
+    opening: Opening,
+    found: &Found<Body>,
+    selection: Selection,
+    modified: Option<DateText>,
+    head_only: bool,
+)
+    requires { R.size out.old + 4096 ≤ R.capacity out.old }
+    ensures written { R.written out.new
+        ≡ R.written out.old ++ front head_only (reply_with opening modified found.now selection) }
+    ensures capacity { R.capacity out.old ≤ R.capacity out.new }
+{
+    let size = found.stored.body.size();
+    match selection {
+        Selection::Whole => object_head(out, opening, Status::Ok, found, modified, None, size),
+        Selection::Part { first, last } => {
+            let (_, count) = place_of(first, last, size);
+            let range = RangeText::of(first, last, size);
+            object_head(
+                out,
+                opening,
+                Status::PartialContent,
+                found,
+                modified,
+                Some(range),
+                count,
+            );
+        }
+        Selection::Unchanged => unchanged_reply(out, opening, found, modified),
+    }
+}
+
+/// Appends the whole reply to a copy, which made a version at this moment.
+pub(crate) fn copied_reply<R: Room>(
+    out: &mut R,
+    opening: Opening,
+    tag: &Tag,
+    moment: Moment,
+    shown: Option<VersionId>,
+    head_only: bool,
+)
+    requires { R.size out.old + 4096 ≤ R.capacity out.old }
+    ensures written { R.written out.new ≡ R.written out.old
+        ++ front head_only (beside (copied_fields opening shown) (copied_text tag.now moment)) }
+    ensures capacity { R.capacity out.old ≤ R.capacity out.new }
+{
+    let document = copied_document(tag, moment);
+    let id = id_text(shown);
+    let head = Head {
+        version_id: id_bytes(&id),
+        content_type: Some(b"application/json"),
+        size: document.len() as u64,
+        ..Head::bare(Status::Ok, &opening)
+    };
+    head.print(out);
+    write_body(out, head_only, document.as_slice());
+}
+
+/// Appends the whole reply to a delete.
+pub(crate) fn deleted_reply<R: Room>(
+    out: &mut R,
+    opening: Opening,
+    shown: Option<VersionId>,
+    is_delete_marker: bool,
+)
+    requires { R.size out.old + 4096 ≤ R.capacity out.old }
+    ensures written { R.written out.new
+        ≡ R.written out.old ++ print_head (deleted_fields opening shown is_delete_marker) }
+    ensures capacity { R.capacity out.old ≤ R.capacity out.new }
+{
+    let id = id_text(shown);
+    let head = Head {
+        version_id: id_bytes(&id),
+        is_delete_marker,
+        ..Head::bare(Status::NoContent, &opening)
+    };
+    head.print(out);
+}
+
+/// What of a version's bytes stands behind the reply.
+pub(crate) fn shown_body(head_only: bool, body: Body, selection: Selection) -> Option<Body>
+    ensures { (opening : Opens) (modified : Option (List ℕ)) (found : FoundAs (List ℕ)) → found.stored.body ≡ body
+        → unwrap_or result [] ≡ back head_only (reply_with opening modified found selection) }
+{
+    match selection {
+        Selection::Whole => sent(head_only, body),
+        Selection::Part { first, last } => sent(head_only, part_of(body, first, last)),
+        Selection::Unchanged => None,
+    }
+}

@@ -1,0 +1,84 @@
+-- What a CopyObject copies (Amazon S3 API Reference, CopyObject): the value of `x-amz-copy-source` is an optional slash,
+-- a bucket, a slash and a key, and then may name a version behind `?`. It is cut at its first `?`, and what stands before
+-- that at the first slash behind the optional one; then the bucket and the key are percent-decoded.
+use Rattle.std.specs.Prelude.{ℕ, Bool, false, not, ◌==◌, if◌then◌else◌, List, [], ◌∷◌, take, codes, Option, Some, None, option_map, ok_or, Result, Ok, Err}
+use Rattle.std.specs.List.{list_any, before_first, after_first}
+use Rattle.std.specs.Option.{option_map_or}
+use Rattle.std.specs.Str.{bytes_eq, str_to_ascii_lowercase}
+use Rattle.percent_encoding.specs.Percent.{percent_decode}
+use Rattle.s3_text.specs.Characters.{slash, equals_sign, question_mark}
+use Rattle.s3_terms.specs.Fault.{refuse, ◌>>◌, ◌>>=◌}
+use Rattle.s3_terms.specs.declared.code.Code.{Code}
+use Rattle.s3_terms.specs.declared.code.Code.TheVariants.{InvalidArgument, InternalError, NotImplemented}
+use Rattle.s3_names.specs.Ids.{version_id}
+use Rattle.s3_names.specs.Names.{bucket_name, object_key}
+use Rattle.s3_names.specs.declared.ids.VersionId.{VersionId}
+use Rattle.s3_http_heads.specs.Head.{HeadParts, first_value}
+use Rattle.s3_http_heads.specs.Target.{has_bad_escape}
+use Rattle.s3_machine.specs.declared.command.Source.{Source}
+
+-- whatever is wrong with the source, its argument is invalid
+abbrev pub as_argument : {A : Type 0} → Result A Code → Result A Code
+as_argument (Ok value) = Ok value
+as_argument (Err code) = Err InvalidArgument
+
+-- the same of a refusal, which may say that memory ran out
+abbrev pub argument_code : Code → Code
+argument_code InternalError = InternalError
+argument_code other = InvalidArgument
+
+-- a text without the slash that may come first
+abbrev pub without_slash : List ℕ → List ℕ
+without_slash [] = []
+without_slash (b ∷ rest) = if b == slash then rest else b ∷ rest
+
+-- the bucket and the key, with the slash between them, as they were sent
+abbrev pub path_in : List ℕ → List ℕ
+path_in value = without_slash (before_first (λ b. b == question_mark) value)
+
+-- what stands behind the first `?`: `versionId=` and an id, which isn't percent-encoded
+abbrev pub id_in : List ℕ → Result (Option VersionId) Code
+id_in behind = do
+  refuse (not (bytes_eq (before_first (λ b. b == equals_sign) behind) (codes "versionId"))) InvalidArgument
+  ok_or (option_map Some (version_id (after_first (λ b. b == equals_sign) behind))) InvalidArgument
+
+-- the version that is named, if one is
+unfoldable pub version_in : List ℕ → Result (Option VersionId) Code
+version_in value =
+    if list_any (λ b. b == question_mark) value then id_in (after_first (λ b. b == question_mark) value) else Ok None
+
+-- the bucket and the key as they are meant
+abbrev pub bucket_in : List ℕ → Result (List ℕ) Code
+bucket_in path = as_argument (bucket_name (percent_decode (before_first (λ b. b == slash) path)))
+
+abbrev pub key_in : List ℕ → Result (List ℕ) Code
+key_in path = as_argument (object_key (percent_decode (after_first (λ b. b == slash) path)))
+
+-- what a value names
+unfoldable pub source_in : List ℕ → Result Source Code
+source_in value = do
+  version ← version_in value
+  refuse (has_bad_escape (path_in value)) InvalidArgument
+  bucket ← bucket_in (path_in value)
+  key ← key_in (path_in value)
+  Ok (record { bucket = bucket; key = key; version = version })
+
+-- the copy is to have metadata of its own: what isn't the directive COPY, whose case counts
+abbrev pub has_own_metadata : HeadParts → Bool
+has_own_metadata head =
+    option_map_or (λ directive. not (bytes_eq directive (codes "COPY"))) (first_value (codes "x-amz-metadata-directive") head) false
+
+-- lines of this name set a condition for the source: it begins with these 21 bytes, in capitals or not
+abbrev pub is_condition : List ℕ → Bool
+is_condition name = bytes_eq (str_to_ascii_lowercase (take 21 name)) (codes "x-amz-copy-source-if-")
+
+abbrev pub has_source_condition : HeadParts → Bool
+has_source_condition head = list_any (λ (line : List ℕ × List ℕ). is_condition line.0) head.headers
+
+-- the source of a copy that this server makes
+unfoldable pub source_of : HeadParts → Result Source Code
+source_of head = do
+  refuse (has_own_metadata head) NotImplemented
+  refuse (has_source_condition head) NotImplemented
+  value ← ok_or (first_value (codes "x-amz-copy-source") head) InvalidArgument
+  source_in value
