@@ -17,21 +17,23 @@ def code(key, text):
     return hmac.new(key, text.encode(), hashlib.sha256).digest()
 
 
-def request(address, method, key, body=b"", moment=None, more=None):
-    """One signed request, as bytes, with more header lines where some are given."""
+def request(address, method, key, body=b"", moment=None, more=None, query=None):
+    """One signed request, as bytes, with more header lines and with parameters, where some are given; no key stands for the bucket."""
     stamp = time.strftime("%Y%m%dT%H%M%SZ", time.gmtime(moment))
     path = urllib.parse.quote(f"/{BUCKET}/{key}", safe="/~")
+    asked = "&".join(sorted(f"{name}={urllib.parse.quote(value, safe='~')}" for name, value in (query or {}).items()))
+    target = f"{path}?{asked}" if asked else path
     sha = hashlib.sha256(body).hexdigest()
     signed = {"host": address, "x-amz-content-sha256": sha, "x-amz-date": stamp, **(more or {})}
     signed = dict(sorted(signed.items()))
     names = ";".join(signed)
     lines = "".join(f"{name}:{value}\n" for name, value in signed.items())
-    canonical = hashlib.sha256(f"{method}\n{path}\n\n{lines}\n{names}\n{sha}".encode()).hexdigest()
+    canonical = hashlib.sha256(f"{method}\n{path}\n{asked}\n{lines}\n{names}\n{sha}".encode()).hexdigest()
     scope = f"{stamp[:8]}/{REGION}/s3/aws4_request"
     by_day = code(("AWS4" + SECRET).encode(), stamp[:8])
     by_scope = code(code(code(by_day, REGION), "s3"), "aws4_request")
     signature = code(by_scope, f"AWS4-HMAC-SHA256\n{stamp}\n{scope}\n{canonical}").hex()
-    head = [f"{method} {path} HTTP/1.1", *(f"{name}: {value}" for name, value in signed.items())]
+    head = [f"{method} {target} HTTP/1.1", *(f"{name}: {value}" for name, value in signed.items())]
     if method == "PUT":
         head.append(f"content-length: {len(body)}")
     head.append(
@@ -107,3 +109,16 @@ class Connection:
         """Sends a request, and gives the status and the body of its reply."""
         self.send(data)
         return self.reply()
+
+
+ROW = 64
+
+
+def put_rows(connection, address, keys, data):
+    """Puts an object under each of these keys, in rows, whose replies are read together."""
+    for first in range(0, len(keys), ROW):
+        row = keys[first : first + ROW]
+        connection.send(b"".join(request(address, "PUT", key, data) for key in row))
+        for _ in row:
+            if connection.reply()[0] != 200:
+                raise SystemExit("a put was refused")

@@ -1,6 +1,7 @@
 """The clients of S3 that are libraries, and curl: what `interop/run` asks of each client stands in `Client`."""
 
 import hashlib
+import json
 import os
 import shutil
 import subprocess
@@ -41,7 +42,7 @@ class Lacking(Exception):
 
 # What a status tells.
 TOLD = {304: Unchanged, 403: Refused, 404: Missing, 412: Unmet}
-XML = "the copy is made, and its answer can't be read: it is JSON where XML is expected"
+XML = "what was asked for is done, and the answer can't be read: it is JSON where XML is expected"
 
 
 class Client:
@@ -80,6 +81,11 @@ class Client:
         """Copies an object to another key."""
         raise Lacking()
 
+    def listed(self, prefix, delimiter, page=None):
+        """The objects whose keys begin so, with their sizes, and the common prefixes, with None, in their order; the server is asked for
+        so many at a time, or for as many as the client asks for."""
+        raise Lacking()
+
     def path(self, data=b""):
         """The path of a new file with these bytes."""
         handle, path = tempfile.mkstemp(dir=self.folder)
@@ -113,6 +119,17 @@ def told(status, said, missing=(), refused=(), unchanged=(), unmet=(), unread=()
     raise RuntimeError(f"status {status}: {said.strip()}")
 
 
+def in_order(objects, prefixes):
+    """Objects with their sizes, and common prefixes, in their order."""
+    return sorted([*objects, *((prefix, None) for prefix in prefixes)], key=lambda item: item[0].encode())
+
+
+def of_page(page):
+    """The same of the document of a list, where it is JSON, or was made of XML."""
+    objects = [(row["Key"], row["Size"]) for row in page.get("Contents", [])]
+    return in_order(objects, [row["Prefix"] for row in page.get("CommonPrefixes", [])])
+
+
 class Curl(Client):
     """`curl --aws-sigv4`, which signs a request and knows nothing else of S3."""
 
@@ -129,9 +146,9 @@ class Curl(Client):
     def version(cls):
         return " ".join(first_line(["curl", "--version"]).split()[:2])
 
-    def asked(self, method, key, data=b"", more=()):
+    def asked(self, method, key, data=b"", more=(), query=""):
         """The bytes that a request is answered."""
-        url = f"http://{self.address}/{BUCKET}/{urllib.parse.quote(key, safe='/~')}"
+        url = f"http://{self.address}/{BUCKET}/{urllib.parse.quote(key, safe='/~')}{query}"
         out = self.path()
         words = ["curl", "-sS", "--path-as-is", "-o", out, "-w", "%{http_code}", "--aws-sigv4", f"aws:amz:{REGION}:s3"]
         words += ["--user", f"{ID}:{self.secret}", "-H", f"x-amz-content-sha256: {hashlib.sha256(data).hexdigest()}"]
@@ -167,6 +184,13 @@ class Curl(Client):
 
     def copy(self, key, other):
         self.asked("PUT", other, more=["-H", f"x-amz-copy-source: /{BUCKET}/{key}"])
+
+    def listed(self, prefix, delimiter, page=None):
+        if page is not None:
+            raise Lacking()
+        # It signs a query as it stands, so its names have to rise, and its values to have their escapes.
+        query = urllib.parse.urlencode({"delimiter": delimiter, "list-type": "2", "prefix": prefix}, safe="")
+        return of_page(json.loads(self.asked("GET", "", query=f"?{query}")))
 
     def delete(self, key):
         self.asked("DELETE", key)
@@ -250,6 +274,17 @@ class Boto3(Client):
         except RuntimeError as error:
             # An answer to a copy that is no XML is told as one with the status 500.
             raise Unread(XML) if "(500)" in str(error) else error from error
+
+    def listed(self, prefix, delimiter, page=None):
+        from botocore.exceptions import ClientError
+
+        asked = {"Bucket": BUCKET, "Prefix": prefix, "Delimiter": delimiter, "PaginationConfig": {"PageSize": page}}
+        try:
+            pages = list(self.client().get_paginator("list_objects_v2").paginate(**asked))
+        except ClientError as error:
+            # So is an answer to a request for a list.
+            raise Unread(XML) if "(500)" in str(error) else error from error
+        return [item for page in pages for item in of_page(page)]
 
     def delete(self, key):
         self.call("delete_object", key)

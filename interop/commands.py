@@ -3,13 +3,15 @@
 import json
 import os
 import shutil
+import socket
 import subprocess
+import sys
 import time
 import urllib.parse
 from pathlib import Path
 
-from clients import Client, first_line, ran, told
-from server import BUCKET, ID, REGION, SECRET
+from clients import PATIENCE, TOLD, Client, Lacking, first_line, in_order, of_page, ran, told
+from server import BUCKET, ID, PROGRAM, REGION, SECRET, TOP
 
 AWS_CONFIG = f"""[default]
 region = {REGION}
@@ -19,6 +21,8 @@ s3 =
     addressing_style = path
     multipart_threshold = 1GB
 """
+# What the generations of AWS's command line say of an answer that they can't read.
+UNREAD = ["(500)", "Unable to parse response"]
 
 
 def environment(**more):
@@ -39,6 +43,67 @@ class Command(Client):
     @classmethod
     def version(cls):
         return first_line([cls.program, "--version"])
+
+
+class Signer(Command):
+    """`s3d sign`, each of whose requests goes over a connection of its own, and `examples/list.py`, which has it sign too."""
+
+    name = "s3d sign"
+    program = PROGRAM
+
+    def keys(self):
+        """The path of a keys file with the one credential."""
+        return self.path(f"{ID} {self.secret}\n".encode())
+
+    def asked(self, method, key, data=b"", lines=()):
+        """The head and the body that a request is answered."""
+        target = f"/{BUCKET}/{urllib.parse.quote(key, safe='/~')}"
+        words = [self.program, "sign", "--keys", self.keys(), "--id", ID, "--moment", str(int(time.time())), "--region", REGION]
+        words += ["--host", self.address, "--method", method, "--target", target, "--body", self.path(data)]
+        status, request, said = ran([*words, *lines])
+        told(status, said)
+        host, port = self.address.rsplit(":", 1)
+        with socket.create_connection((host, int(port)), PATIENCE) as stream:
+            stream.sendall(request)
+            stream.shutdown(socket.SHUT_WR)
+            head, _, body = b"".join(iter(lambda: stream.recv(262_144), b"")).partition(b"\r\n\r\n")
+        code = int(head.split(b" ", 2)[1])
+        if code // 100 != 2:
+            raise TOLD.get(code, RuntimeError)(f"{code}: {body[:300]}")
+        return head.decode(), body
+
+    def put(self, key, data):
+        self.asked("PUT", key, data)
+
+    def get(self, key, *lines):
+        return self.asked("GET", key, lines=lines)[1]
+
+    def part(self, key, first, count):
+        return self.get(key, f"range:bytes={first}-{first + count - 1}")
+
+    def get_unless(self, key, tag):
+        return self.get(key, f"if-none-match:{tag}")
+
+    def head(self, key, *lines):
+        head, _ = self.asked("HEAD", key, lines=lines)
+        return int(dict(line.split(": ", 1) for line in head.split("\r\n")[1:])["Content-Length"])
+
+    def head_if(self, key, tag):
+        return self.head(key, f"if-match:{tag}")
+
+    def copy(self, key, other):
+        self.asked("PUT", other, lines=[f"x-amz-copy-source:/{BUCKET}/{key}"])
+
+    def listed(self, prefix, delimiter, page=None):
+        words = [sys.executable, TOP / "examples/list.py", "--keys", self.keys(), "--program", self.program, "--region", REGION]
+        words += ["--prefix", prefix, "--delimiter", delimiter, *([] if page is None else ["--page", str(page)])]
+        status, wrote, said = ran([*words, self.address, BUCKET])
+        told(status, said)
+        lines = [(line[13:], line[:12].strip()) for line in wrote.decode().split("\n") if line]
+        return [(key, None if size == "-" else int(size)) for key, size in lines]
+
+    def delete(self, key):
+        self.asked("DELETE", key)
 
 
 class Aws(Command):
@@ -76,7 +141,7 @@ class Aws(Command):
             AWS_MAX_ATTEMPTS="1",
         )
         status, wrote, said = ran([self.found()[0], "--endpoint-url", f"http://{self.address}", *words], env)
-        told(status, said, ["(404)", "NoSuchKey"], ["(403)", "SignatureDoesNotMatch"], ["(304)"], ["(412)"], ["(500)"])
+        told(status, said, ["(404)", "NoSuchKey"], ["(403)", "SignatureDoesNotMatch"], ["(304)"], ["(412)"], UNREAD)
         return wrote
 
     def api(self, operation, key, *words):
@@ -111,6 +176,10 @@ class AwsApi(Aws):
     def copy(self, key, other):
         self.api("copy-object", other, "--copy-source", f"{BUCKET}/{key}")
 
+    def listed(self, prefix, delimiter, page=None):
+        words = ["--prefix", prefix, "--delimiter", delimiter, *([] if page is None else ["--page-size", str(page)])]
+        return of_page(json.loads(self.aws("s3api", "list-objects-v2", "--bucket", BUCKET, "--output", "json", *words) or "{}"))
+
     def delete(self, key):
         self.api("delete-object", key)
 
@@ -130,6 +199,12 @@ class AwsCopy(Aws):
 
     def copy(self, key, other):
         self.aws("s3", "cp", "--only-show-errors", f"s3://{BUCKET}/{key}", f"s3://{BUCKET}/{other}")
+
+    def listed(self, prefix, delimiter, page=None):
+        words = [*([] if delimiter else ["--recursive"]), *([] if page is None else ["--page-size", str(page)])]
+        rows = [line.split(maxsplit=3) for line in self.aws("s3", "ls", *words, f"s3://{BUCKET}/{prefix}").decode().splitlines()]
+        objects = [(row[3] if "--recursive" in words else prefix + row[3], int(row[2])) for row in rows if row[0] != "PRE"]
+        return in_order(objects, [prefix + row[1] for row in rows if row[0] == "PRE"])
 
     def delete(self, key):
         self.aws("s3", "rm", "--only-show-errors", f"s3://{BUCKET}/{key}")
@@ -181,6 +256,7 @@ class Rclone(Command):
     """`rclone`. It tells a get that was refused as one of an object that isn't there."""
 
     name = program = "rclone"
+    limits = {"list": "it takes an answer that is no XML for a list with nothing in it"}
 
     def rclone(self, *words):
         env = environment(
@@ -218,6 +294,14 @@ class Rclone(Command):
 
     def copy(self, key, other):
         self.rclone("copyto", "--ignore-times", f"pail:{BUCKET}/{key}", f"pail:{BUCKET}/{other}")
+
+    def listed(self, prefix, delimiter, page=None):
+        if page is not None:
+            raise Lacking()
+        words = ["lsjson", "--s3-list-version", "2", *([] if delimiter else ["--recursive"])]
+        rows = json.loads(self.rclone(*words, f"pail:{BUCKET}/{prefix}"))
+        objects = [(prefix + row["Path"], row["Size"]) for row in rows if not row["IsDir"]]
+        return in_order(objects, [f"{prefix}{row['Path']}/" for row in rows if row["IsDir"] and delimiter])
 
     def delete(self, key):
         self.rclone("deletefile", f"pail:{BUCKET}/{key}")

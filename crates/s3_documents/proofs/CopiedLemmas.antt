@@ -1,12 +1,16 @@
 -- The document of a copy, as it is printed.
-use Rattle.std.proofs.Common.{◌≡◌, ap, ◌∙◌, true, ℕ, List, [], ◌∷◌, ◌++◌, append_assoc, codes}
+use Rattle.std.proofs.Common.{◌≡◌, ap, ◌∙◌, ◌<◌, true, ℕ, zero, suc, List, [], ◌∷◌, ◌++◌, append_assoc, codes, IsAscii, arith, lit<}
 use Rattle.std.specs.List.{list_all}
+use Rattle.std.specs.Str.{IsUtf8}
+use Rattle.std.proofs.lemmas.Bool.{and_parts}
+use Rattle.std.proofs.lemmas.Bool.Decides.{nat_tests}
 use Rattle.std.proofs.lemmas.List.Concat.{flat_map-append}
+use Rattle.std.proofs.lemmas.Str.{IsAscii-append, IsUtf8-from_ascii}
 use Rattle.json.specs.Print.{escape, escape_byte}
 use Rattle.s3_text.specs.Characters.{is_lower_hex}
 use Rattle.s3_documents.specs.Timestamp.{timestamp}
 use Rattle.s3_documents.specs.Tree.{tree_text}
-use Rattle.s3_documents.specs.Copied.{copied_text}
+use Rattle.s3_documents.specs.Copied.{tag_told, copied_text}
 use Rattle.s3_documents.proofs.PlainLemmas.{tag_plain}
 
 -- of a tag and the quote behind it the quote alone is escaped
@@ -26,3 +30,21 @@ unfolding tree_text escape_byte
 copied_spelled tag made digits plain =
     ap (λ t. codes "{\"ETag\":\"\\\"" ++ t)
     (from_tag tag (timestamp made) (escape (tag ++ 34 ∷ [])) (escape (timestamp made)) (quote_escaped tag (tag_plain tag digits)) plain)
+
+-- ---- a tag is a text
+
+hex_ascii : (b : ℕ) → is_lower_hex b ≡ true → b < 128
+hex_ascii b h = grind (arith, nat_tests)
+
+pub hex_is_ascii : (tag : List ℕ) → list_all is_lower_hex tag ≡ true → IsAscii tag
+hex_is_ascii [] h zero = lit< tt
+hex_is_ascii [] h (suc i) = lit< tt
+hex_is_ascii (b ∷ bs) h zero = hex_ascii b (and_parts (is_lower_hex b) (list_all is_lower_hex bs) h).0
+hex_is_ascii (b ∷ bs) h (suc i) = hex_is_ascii bs (and_parts (is_lower_hex b) (list_all is_lower_hex bs) h).1 i
+
+quote_ascii : IsAscii (codes "\"")
+quote_ascii zero = lit< tt
+quote_ascii (suc i) = lit< tt
+
+pub tag_utf8 : (tag : List ℕ) → list_all is_lower_hex tag ≡ true → IsUtf8 (tag_told tag)
+tag_utf8 tag h = IsUtf8-from_ascii (tag_told tag) (IsAscii-append (codes "\"") (tag ++ codes "\"") quote_ascii (IsAscii-append tag (codes "\"") (hex_is_ascii tag h) quote_ascii))

@@ -6,3 +6,4 @@ pub mod PlainLemmas
 pub mod PrinterLemmas
 pub mod TextLemmas
 pub mod TokenLemmas
+pub mod VersionListLemmas

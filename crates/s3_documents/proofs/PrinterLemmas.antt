@@ -1,9 +1,9 @@
 -- What a printer holds after its calls.
-use Rattle.std.proofs.Common.{◌≡◌, refl, sym, ap, ◌∙◌, ℕ, List, [], ◌∷◌, ◌++◌, append_assoc, append-nil}
+use Rattle.std.proofs.Common.{◌≡◌, refl, sym, ap, ◌∙◌, ℕ, List, [], ◌∷◌, ◌++◌, append_assoc, append-nil, Result, Ok, Err, IfOk}
 use Rattle.std.proofs.lemmas.List.Concat.{flat_map-append}
 use Rattle.std.proofs.lemmas.Str.{IsUtf8-from_ascii}
 use Rattle.json.specs.Token.{Token, begin_object, end_object, begin_array, end_array, key}
-use Rattle.s3_documents.specs.Tree.{Fields, Tree, rows, leaves}
+use Rattle.s3_documents.specs.Tree.{Fields, Tree, rows, leaves, tree_text}
 use Rattle.s3_documents.specs.Printed.{members_tokens, value_tokens, branch_tokens, fields_tokens, row_tokens, all_tokens, begun}
 
 leaves_tokens : (fields : Fields) → members_tokens branch_tokens (leaves fields) ≡ fields_tokens fields
@@ -33,6 +33,12 @@ unfolding row_tokens
 row_behind old fields =
     sym (append_assoc (old ++ begin_object ∷ []) (fields_tokens fields) (end_object ∷ [])
     ∙ append_assoc old (begin_object ∷ []) (fields_tokens fields ++ end_object ∷ []))
+
+-- what is finished, where this tree was told
+pub finished : {A E : Type 0} (items : A → List ℕ) (old : List Token) (tree : Tree) (result : Result A E)
+    → IfOk result (λ text. (told : Tree) → old ≡ begun told → items text ≡ tree_text told) → old ≡ begun tree → IfOk result (λ text. items text ≡ tree_text tree)
+finished items old tree (Ok text) is told = is tree told
+finished items old tree (Err e) is told = is
 
 -- ---- for attributes to name
 

@@ -1,5 +1,5 @@
 -- The list of buckets (Amazon S3 API Reference, ListBuckets, whose document is XML there).
-use Rattle.std.specs.Prelude.{◌≡◌, ℕ, List, [], ◌∷◌, map, codes}
+use Rattle.std.specs.Prelude.{ℕ, List, [], ◌∷◌, map, codes}
 use Rattle.s3_records.specs.declared.records.ListedBucket.{ListedBucket}
 use Rattle.s3_documents.specs.Tree.{text, moment, Fields, rows, Tree, tree_text}
 
@@ -11,6 +11,6 @@ bucket_row bucket = (codes "CreationDate", moment bucket.made) ∷ (codes "Name"
 abbrev pub buckets_tree : List ListedBucket → Tree
 buckets_tree buckets = (codes "Buckets", rows (map bucket_row buckets)) ∷ []
 
--- the text is the document of these buckets
-abbrev pub IsBucketsText : List ListedBucket → List ℕ → Type 0
-IsBucketsText buckets document = document ≡ tree_text (buckets_tree buckets)
+-- the document of these buckets
+abbrev pub buckets_text : List ListedBucket → List ℕ
+buckets_text buckets = tree_text (buckets_tree buckets)

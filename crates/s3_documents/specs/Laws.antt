@@ -1,9 +1,7 @@
 -- What is known of all documents.
 use Rattle.std.specs.Prelude.{◌≡◌, IsTrue, ℕ, ◌≤◌, List}
 use Rattle.s3_calendar.specs.Moment.{is_stamp, last_moment, stamp_seconds}
-use Rattle.s3_records.specs.declared.records.ListedBucket.{ListedBucket}
 use Rattle.serde_json.specs.Written.{compact_text}
-use Rattle.s3_documents.specs.Buckets.{IsBucketsText}
 use Rattle.s3_documents.specs.Json.{tree_data}
 use Rattle.s3_documents.specs.Timestamp.{spelled_out, timestamp}
 use Rattle.s3_documents.specs.Tree.{Tree, tree_text}
@@ -16,8 +14,3 @@ TreesAreJson = (tree : Tree) → compact_text (tree_data tree) ≡ tree_text tre
 abbrev pub TimestampsSpellStamps : Type 0
 TimestampsSpellStamps =
     (stamp : List ℕ) → IsTrue (is_stamp stamp) → stamp_seconds stamp ≤ last_moment → timestamp (stamp_seconds stamp) ≡ spelled_out stamp
-
--- buckets have one document
-abbrev pub OneTextForBuckets : Type 0
-OneTextForBuckets =
-    (buckets : List ListedBucket) (first second : List ℕ) → IsBucketsText buckets first → IsBucketsText buckets second → first ≡ second

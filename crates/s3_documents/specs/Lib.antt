@@ -2,7 +2,9 @@ pub mod Buckets
 pub mod Copied
 pub mod Json
 pub mod Laws
+pub mod ObjectList
 pub mod Printed
 pub mod Timestamp
 pub mod Tree
+pub mod VersionList
 pub mod Versioning

@@ -1,5 +1,6 @@
 -- The tokens by which a `Printer` prints a tree, and what the values that it is given tell.
-use Rattle.std.specs.Prelude.{ℕ, Option, Some, None, List, [], ◌∷◌, ◌++◌, flat_map, decimal}
+use Rattle.std.specs.Prelude.{ℕ, Option, Some, None, List, [], ◌∷◌, ◌++◌, flat_map, decimal, String}
+use Rattle.std.specs.String.{string_bytes}
 use Rattle.json.specs.Token as json
 use Rattle.s3_documents.specs.Timestamp.{timestamp}
 use Rattle.s3_documents.specs.Tree.{Value, text, number, truth, moment, Fields, Branch, leaf, rows, Tree}
@@ -54,6 +55,10 @@ value_of (Number n) = Some (number n)
 value_of (Truth b) = Some (truth b)
 value_of (Moment m) = Some (moment m)
 value_of Absent = None
+
+-- a text that is kept, as a value
+abbrev pub text_kept : {Z : Type 0} → String Z → Value
+text_kept kept = text (string_bytes kept)
 
 -- the fields that are lent to it
 abbrev pub field_of : Field → Fields

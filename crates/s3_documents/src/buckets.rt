@@ -1,9 +1,10 @@
 //! The list of buckets, as a document.
 ghost use Rattle.std.specs.Prelude.{◌≡◌, IfOk};
-ghost use Rattle.s3_documents.specs.Buckets.{bucket_row, IsBucketsText};
+ghost use Rattle.s3_documents.specs.Buckets.{bucket_row, buckets_text};
 ghost use Rattle.s3_documents.specs.Printed.{fields_of};
 
-use crate::printer::{Field, Leaf, Printer, Row, text_of};
+use crate::printer::{Field, Leaf, Printer, Row};
+use crate::texts::name_told;
 use s3_records::ListedBucket;
 use s3_terms::NoMemory;
 use std::alloc::{AllocError, Global};
@@ -16,7 +17,7 @@ const FRAME_MAX: usize = 16;
 
 /// The document of a ListBuckets, as a text: the rows in their order.
 pub fn buckets_document(alloc: Global, rows: &[ListedBucket]) -> Result<Vec<u8>, NoMemory>
-    ensures { IfOk result (λ text. IsBucketsText rows.now text.items) }
+    ensures { IfOk result (λ text. text.items ≡ buckets_text rows.now) }
 {
     let room = rows.len().saturating_mul(ROW_MAX).saturating_add(FRAME_MAX);
     let mut printer = Printer::new(alloc, room)?;
@@ -43,14 +44,7 @@ fn row_of(bucket: &ListedBucket) -> [Field<'_>; 2]
         },
         Field {
             name: "Name",
-            value: Leaf::Text(name_of(bucket)),
+            value: Leaf::Text(name_told(&bucket.name)),
         },
     ]
-}
-
-#[tactic(auto, using(crate::proofs::PrinterLemmas::names))]
-fn name_of(bucket: &ListedBucket) -> &str
-    ensures { result.now ≡ bucket.now.name }
-{
-    text_of(bucket.name.as_bytes())
 }

@@ -1,14 +1,12 @@
 //! What is known of all documents: laws, with nothing to run.
-ghost use Rattle.s3_documents.specs.Laws.{TreesAreJson, TimestampsSpellStamps, OneTextForBuckets};
+ghost use Rattle.s3_documents.specs.Laws.{TreesAreJson, TimestampsSpellStamps};
 
 use s3_calendar::stamps_of_a_moment;
 
-/// A law: a document is what `serde_json` prints of its tree, a moment in it is the stamp that names it, spelled out,
-/// and buckets have one document.
+/// A law: a document is what `serde_json` prints of its tree, and a moment in it is the stamp that names it, spelled out.
 pub fn documents_are_one()
     ensures json { TreesAreJson }
     ensures timestamps { TimestampsSpellStamps }
-    ensures buckets { OneTextForBuckets }
 {
     stamps_of_a_moment();
 }

@@ -5,12 +5,17 @@
 mod buckets;
 mod copied;
 mod laws;
+mod object_list;
 mod printer;
+mod texts;
 mod timestamp;
+mod version_list;
 mod versioning;
 
 pub use buckets::buckets_document;
 pub use copied::copied_document;
 pub use laws::documents_are_one;
+pub use object_list::objects_document;
 pub use printer::{Field, Leaf, Printer, Row, text_of};
+pub use version_list::versions_document;
 pub use versioning::{read_versioning, versioning_document};

@@ -153,6 +153,10 @@ module _ (places : ChangesAreByPlace (List ℕ)) (rules : ChangesFollowRules (Li
       (λ there. same_versions s (changed s name (VersioningSet status)) n t _ refl refl refl (places s name (VersioningSet status) refl))
   bucket_does s n t name bucket_commands.GetVersioning =
       next_line s n t _ (not (has_bucket s name)) NoSuchBucket _ refl (λ there. unwritten s n t _ refl)
+  bucket_does s n t name (bucket_commands.ListObjects asked) =
+      next_line s n t _ (not (has_bucket s name)) NoSuchBucket _ refl (λ there. unwritten s n t _ refl)
+  bucket_does s n t name (bucket_commands.ListVersions asked) =
+      next_line s n t _ (not (has_bucket s name)) NoSuchBucket _ refl (λ there. unwritten s n t _ refl)
 
   -- a rule that only reads changes nothing
   showing : (s : State) (n t : ℕ) (command : Command) (selection : Result Selection Refusal) (out : Selection → Outcome) → writes command ≡ None → Does s n t command (stepped s (selection >>= (λ chosen. Ok (s, out chosen))))

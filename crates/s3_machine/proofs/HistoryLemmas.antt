@@ -8,6 +8,10 @@ module _ (least : ℕ) where
   after-push s [] e = refl
   after-push s (x ∷ es) e = after-push (after_entry least s x) es e
 
+  pub after-append : (s : State) (es fs : List Entry) → after least s (es ++ fs) ≡ after least (after least s es) fs
+  after-append s [] fs = refl
+  after-append s (x ∷ es) fs = after-append (after_entry least s x) es fs
+
   pub Legal-push : (s : State) (n : ℕ) (es : List Entry) (e : Entry) → Legal least s n es → IsAnswer least (after least s es) (n + length es) e → Legal least s n (es ++ e ∷ [])
   Legal-push s n [] e legal answer =
       let same : n + 0 ≡ n = omega arith in

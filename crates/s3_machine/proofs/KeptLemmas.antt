@@ -94,7 +94,7 @@ pub plain_shown : (facts : Facts) → shown_by plain facts ≡ Ok Whole
 unfolding judged_by unmet unchanged selected
 plain_shown facts = refl
 
-past_line : (s : State) (fault : Bool) (next : Result Stepped Refusal) → fault ≡ false → stepped s (refuse fault NoSuchBucket >> next) ≡ stepped s next
+pub past_line : (s : State) (fault : Bool) (next : Result Stepped Refusal) → fault ≡ false → stepped s (refuse fault NoSuchBucket >> next) ≡ stepped s next
 past_line s false next is = refl
 past_line s true next is = absurd (false≢true (sym is))
 
@@ -212,7 +212,7 @@ pub record Added (s now : State) (e : Entry) (object : Object) : Type 0 where
       ≡ Some (made versioning e.answer.number object.moment (Stored object.stored))
 
 module _ (places : ChangesAreByPlace (List ℕ)) (rules : ChangesFollowRules (List ℕ)) where
-  entry_stores : (least : ℕ) (s : State) (n : ℕ) (e : Entry) (object : Object) → IsAnswer least s n e → Stores s e object
+  pub entry_stores : (least : ℕ) (s : State) (n : ℕ) (e : Entry) (object : Object) → IsAnswer least s n e → Stores s e object
       → Added s (after_entry least s e) e object
   entry_stores least s n e object answer stores =
       let outcome = outcome_is least s n e answer in

@@ -210,7 +210,7 @@ under ids vs (Some id) v is =
     (λ w named. cc, subst (λ (i : VersionId). find (is_under i) vs ≡ Some v) (sym told) is)
 
 -- what is picked stands
-picked_stands : IdsAreTold (List ℕ) → (s : State) (a : Address) (asked : Option VersionId) (read : Version (List ℕ) × Data (List ℕ))
+pub picked_stands : IdsAreTold (List ℕ) → (s : State) (a : Address) (asked : Option VersionId) (read : Version (List ℕ) × Data (List ℕ))
     → pick asked (versions_at s a) ≡ Ok read
     → ((w : VersionId) → asked ≡ Some w → w ≡ id_of read.0)
     × Stands s (record { address = a; id = id_of read.0; moment = read.0.moment; stored = read.1 })

@@ -120,6 +120,8 @@ copies other = None
 abbrev pub only_reads_bucket : BucketCommand → Bool
 only_reads_bucket bucket_commands.Head = true
 only_reads_bucket bucket_commands.GetVersioning = true
+only_reads_bucket (bucket_commands.ListObjects asked) = true
+only_reads_bucket (bucket_commands.ListVersions asked) = true
 only_reads_bucket other = false
 
 abbrev pub only_reads_key : KeyCommand (List ℕ) → Bool
@@ -131,9 +133,11 @@ only_reads commands.ListBuckets = true
 only_reads (commands.Bucket name asked) = only_reads_bucket asked
 only_reads (commands.Key name key asked) = only_reads_key asked
 
--- the command may take memory: it makes a bucket, a version or a delete marker, or hands out what is kept
+-- the command may take memory: it makes a bucket, a version or a delete marker, hands out what is kept, or tells of it in a list
 abbrev pub takes_room_in_bucket : BucketCommand → Bool
 takes_room_in_bucket bucket_commands.Create = true
+takes_room_in_bucket (bucket_commands.ListObjects asked) = true
+takes_room_in_bucket (bucket_commands.ListVersions asked) = true
 takes_room_in_bucket other = false
 
 abbrev pub takes_room_at_key : Versioning → KeyCommand (List ℕ) → Bool

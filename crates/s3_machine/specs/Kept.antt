@@ -8,11 +8,20 @@ use Rattle.s3_bodies.specs.Payload.{tag_of}
 use Rattle.s3_conditions.specs.declared.conditions.Conditions.{Conditions}
 use Rattle.s3_conditions.specs.declared.conditions.Selection.{Selection}
 use Rattle.s3_conditions.specs.Conditions.{judged}
+use Rattle.s3_versions.specs.declared.picking.Facts.{Facts}
 use Rattle.s3_versions.specs.declared.version.Data.{Data}
 use Rattle.s3_versions.specs.declared.version.Version.{Version}
 use Rattle.s3_versions.specs.Rules.{stored}
 use Rattle.s3_records.specs.Catalogue.{opening}
 use Rattle.s3_records.specs.Places.{version_at}
+use Rattle.s3_records.specs.Rows.{key_rows}
+use Rattle.s3_listings.specs.declared.asked.ObjectsAsked.{ObjectsAsked}
+use Rattle.s3_listings.specs.declared.asked.VersionsAsked.{VersionsAsked}
+use Rattle.s3_listings.specs.Objects.{objects_told}
+use Rattle.s3_listings.specs.Versions.{versions_page}
+use Rattle.s3_documents.specs.ObjectList.{objects_text}
+use Rattle.s3_documents.specs.VersionList.{versions_text}
+use Rattle.s3_machine.specs.declared.command.BucketCommand.TheVariants as bucket_commands
 use Rattle.s3_machine.specs.declared.command.Command.{Command}
 use Rattle.s3_machine.specs.declared.command.Command.TheVariants as commands
 use Rattle.s3_machine.specs.declared.command.KeyCommand.TheVariants as key_commands
@@ -22,6 +31,7 @@ use Rattle.s3_machine.specs.declared.command.Outcome.TheVariants as outcomes
 use Rattle.s3_machine.specs.Step.{State, step}
 use Rattle.s3_machine.specs.Effects.{Address, Object, Read, writes, copies, brought, brings, object_of, stored_by, whole, reads, given, given_whole, found_object, acknowledged, touched, is_refused, succeeds, only_reads}
 use Rattle.s3_machine.specs.History.{Entry, Legal, after}
+use Rattle.s3_machine.specs.Laws.{IsListed}
 
 -- the entry, if it may change the versions of the address, doesn't succeed
 abbrev pub Leaves : Address → Entry → Type 0
@@ -53,6 +63,17 @@ pub record WasStored (least : ℕ) (s : State) (entries : List Entry) (object : 
   pub parts : entries ≡ before ++ write ∷ between
   pub stores : Stores (after least s before) write object
   pub spared : SparesVersion object.address object.id between
+
+-- what is known of an object beside what its put sent
+abbrev pub facts_stored : Object → Facts
+facts_stored object = record { moment = object.moment; tag = object.stored.tag; size = object.stored.size }
+
+-- an object of which these facts are known was stored so at the address
+pub record WasStoredWith (least : ℕ) (s : State) (entries : List Entry) (address : Address) (facts : Facts) : Type 0 where
+  pub object : Object
+  pub at : object.address ≡ address
+  pub known : facts_stored object ≡ facts
+  pub stored : WasStored least s entries object
 
 -- the entry tells what it stored: where it writes, the id of the version, and the tag
 pub record Tells (object : Object) (e : Entry) : Type 0 where
@@ -173,6 +194,15 @@ module _ (least : ℕ) (s : State) (entries : List Entry) where
       → Stores (after least s before) write object
       → Tells object write
 
+  -- By list: at the end a key is listed with what the last entry that changed its versions stored, if that stored something.
+  abbrev pub StoredIsListed : Type 0
+  StoredIsListed =
+      (before between : List Entry) (write : Entry) (object : Object)
+      → entries ≡ before ++ write ∷ between
+      → Stores (after least s before) write object
+      → LeavesKey object.address between
+      → IsListed (after least s entries) object.address (facts_stored object)
+
   -- And nothing else: where nothing stood at the beginning, each object that stands at the end was stored,
   abbrev pub OnlyStoredStands : Type 0
   OnlyStoredStands =
@@ -190,6 +220,32 @@ module _ (least : ℕ) (s : State) (entries : List Entry) where
       → reads read.command ≡ Some asked
       → given read.answer.outcome ≡ Some found
       → (id : VersionId) × IsFoundUnder id asked found × WasStored least s earlier (found_object asked.address id found)
+
+  -- Nor is anything else listed.
+  abbrev pub ListedIsStored : Type 0
+  ListedIsStored =
+      (names : List (List ℕ)) (address : Address) (facts : Facts)
+      → s ≡ opening names
+      → IsListed (after least s entries) address facts
+      → WasStoredWith least s entries address facts
+
+  -- A list of the objects of a bucket tells the page of those that the entries before it leave, or doesn't succeed,
+  abbrev pub ListsTellWhatIsThere : Type 0
+  ListsTellWhatIsThere =
+      (before later : List Entry) (list : Entry) (name : List ℕ) (asked : ObjectsAsked)
+      → entries ≡ before ++ list ∷ later
+      → list.command ≡ commands.Bucket name (bucket_commands.ListObjects asked)
+      → succeeds list.answer.outcome ≡ true
+      → list.answer.outcome ≡ outcomes.Told (objects_text name asked (objects_told asked (key_rows (after least s before) name)))
+
+  -- and one of its versions the page of these.
+  abbrev pub VersionListsTellWhatIsThere : Type 0
+  VersionListsTellWhatIsThere =
+      (before later : List Entry) (list : Entry) (name : List ℕ) (asked : VersionsAsked)
+      → entries ≡ before ++ list ∷ later
+      → list.command ≡ commands.Bucket name (bucket_commands.ListVersions asked)
+      → succeeds list.answer.outcome ≡ true
+      → list.answer.outcome ≡ outcomes.Told (versions_text name asked (versions_page asked (after least s before) name))
 
   -- However often data were copied since, a put brought them once.
   abbrev pub OnlyPutsAreStored : Type 0

@@ -1,13 +1,25 @@
 -- What holds of every step.
-use Rattle.std.specs.Prelude.{◌≡◌, ◌⊎◌, ℕ, ◌+◌, true, List, Option}
+use Rattle.std.specs.Prelude.{◌≡◌, ◌↔◌, ◌⊎◌, ℕ, ◌+◌, true, IsTrue, List, [], Option, Some, None, option_map}
+use Rattle.std.specs.List.{Contains}
 use Rattle.s3_names.specs.declared.ids.VersionId.{VersionId}
 use Rattle.s3_conditions.specs.declared.conditions.Conditions.{Conditions}
 use Rattle.s3_conditions.specs.Conditions.{plain}
+use Rattle.s3_versions.specs.declared.picking.Facts.{Facts}
+use Rattle.s3_records.specs.Catalogue.{has_bucket}
 use Rattle.s3_records.specs.Places.{AreBelow}
+use Rattle.s3_records.specs.Rows.{key_rows}
+use Rattle.s3_listings.specs.declared.asked.ObjectsAsked.{ObjectsAsked}
+use Rattle.s3_listings.specs.declared.asked.VersionsAsked.{VersionsAsked}
+use Rattle.s3_listings.specs.Objects.{Object, objects_asked, objects_told}
+use Rattle.s3_listings.specs.Versions.{versions_page}
+use Rattle.s3_documents.specs.ObjectList.{objects_text}
+use Rattle.s3_documents.specs.VersionList.{versions_text}
+use Rattle.s3_machine.specs.declared.command.BucketCommand.TheVariants as bucket_commands
 use Rattle.s3_machine.specs.declared.command.Command.{Command}
 use Rattle.s3_machine.specs.declared.command.Command.TheVariants as commands
 use Rattle.s3_machine.specs.declared.command.KeyCommand.TheVariants as key_commands
-use Rattle.s3_machine.specs.Effects.{is_refused, only_reads, by_conditions}
+use Rattle.s3_machine.specs.declared.command.Outcome.TheVariants as outcomes
+use Rattle.s3_machine.specs.Effects.{Address, is_refused, only_reads, given_whole, facts_found, by_conditions}
 use Rattle.s3_machine.specs.Step.{State, step}
 
 -- a refusal leaves the state as it was, and so does a command that only reads
@@ -31,3 +43,34 @@ ConditionsJudgeReads =
     (least : ℕ) (s : State) (n t : ℕ) (name key : List ℕ) (version : Option VersionId) (conditions : Conditions)
     → (step least s n t (reading name key version conditions)).1
     ≡ by_conditions conditions (step least s n t (reading name key version plain)).1
+
+-- a list of all objects of a bucket
+abbrev pub all_keys : ObjectsAsked
+all_keys = record { prefix = []; delimiter = []; start_after = None; token = None; max_keys = 1000 }
+
+-- the address is listed with these facts, among all objects of its bucket
+abbrev pub IsListed : State → Address → Facts → Type 0
+IsListed s address facts = Contains (objects_asked all_keys (key_rows s address.bucket)) (Object address.key facts)
+
+-- An address is listed with a moment, a tag and a size exactly where a plain read of its key is given a version with these.
+abbrev pub ListsShowWhatReadsGive : Type 0
+ListsShowWhatReadsGive =
+    (least : ℕ) (s : State) (n t : ℕ) (address : Address) (facts : Facts)
+    → IsListed s address facts
+    ↔ (option_map facts_found (given_whole (step least s n t (reading address.bucket address.key None plain)).1) ≡ Some facts)
+
+-- A list of the objects of a bucket that is there is told as the document of their page,
+abbrev pub ListsAreTold : Type 0
+ListsAreTold =
+    (least : ℕ) (s : State) (n t : ℕ) (name : List ℕ) (asked : ObjectsAsked)
+    → IsTrue (has_bucket s name)
+    → (step least s n t (commands.Bucket name (bucket_commands.ListObjects asked))).1
+    ≡ outcomes.Told (objects_text name asked (objects_told asked (key_rows s name)))
+
+-- and one of its versions as that of theirs.
+abbrev pub VersionListsAreTold : Type 0
+VersionListsAreTold =
+    (least : ℕ) (s : State) (n t : ℕ) (name : List ℕ) (asked : VersionsAsked)
+    → IsTrue (has_bucket s name)
+    → (step least s n t (commands.Bucket name (bucket_commands.ListVersions asked))).1
+    ≡ outcomes.Told (versions_text name asked (versions_page asked s name))

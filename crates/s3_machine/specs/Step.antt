@@ -17,7 +17,13 @@ use Rattle.s3_versions.specs.declared.version.Versioning.{Versioning}
 use Rattle.s3_versions.specs.declared.version.Versioning.TheVariants.{Unversioned, Enabled, Suspended}
 use Rattle.s3_versions.specs.Rules.{id_of, is_under, is_delete_marker, pick, facts_of, new_id, VersionPut, KeyDeleted, VersionDropped}
 use Rattle.s3_records.specs.Catalogue.{Catalogue, has_bucket, listed_buckets, is_empty_bucket, versions_of, versioning_of}
+use Rattle.s3_records.specs.Rows.{key_rows}
 use Rattle.s3_records.specs.Changes.{BucketAdded, BucketDropped, VersioningSet, KeyChanged, changed}
+use Rattle.s3_listings.specs.Objects.{objects_told}
+use Rattle.s3_listings.specs.Versions.{versions_page}
+use Rattle.s3_documents.specs.Buckets.{buckets_text}
+use Rattle.s3_documents.specs.ObjectList.{objects_text}
+use Rattle.s3_documents.specs.VersionList.{versions_text}
 use Rattle.s3_machine.specs.declared.command.BucketCommand.{BucketCommand}
 use Rattle.s3_machine.specs.declared.command.BucketCommand.TheVariants as bucket_commands
 use Rattle.s3_machine.specs.declared.command.Command.{Command}
@@ -110,6 +116,12 @@ bucket_done s t name (bucket_commands.PutVersioning status) = do
 bucket_done s t name bucket_commands.GetVersioning = do
   refuse (not (has_bucket s name)) NoSuchBucket
   Ok (s, outcomes.BucketVersioning (versioning_of s name))
+bucket_done s t name (bucket_commands.ListObjects asked) = do
+  refuse (not (has_bucket s name)) NoSuchBucket
+  Ok (s, outcomes.Told (objects_text name asked (objects_told asked (key_rows s name))))
+bucket_done s t name (bucket_commands.ListVersions asked) = do
+  refuse (not (has_bucket s name)) NoSuchBucket
+  Ok (s, outcomes.Told (versions_text name asked (versions_page asked s name)))
 
 -- what a command on a key does, as entry n at moment t, in a bucket that is there
 unfoldable pub key_done : State → ℕ → ℕ → List ℕ → List ℕ → KeyCommand (List ℕ) → Result Stepped Refusal
@@ -142,7 +154,7 @@ key_done s n t name key (key_commands.Delete (Some id)) =
 -- what a command does, as entry n at moment t: the first refusal, or the change and what came of it; least is the
 -- least size of a part that is not the last, which none of these operations looks at
 unfoldable pub done : ℕ → State → ℕ → ℕ → Command → Result Stepped Refusal
-done least s n t commands.ListBuckets = Ok (s, outcomes.Buckets (listed_buckets s))
+done least s n t commands.ListBuckets = Ok (s, outcomes.Told (buckets_text (listed_buckets s)))
 done least s n t (commands.Bucket name asked) = bucket_done s t name asked
 done least s n t (commands.Key name key asked) = do
   refuse (not (has_bucket s name)) NoSuchBucket

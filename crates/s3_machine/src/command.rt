@@ -1,9 +1,9 @@
 //! What takes a turn at the machine, and what it is answered.
 
-use crate::BucketList;
 use s3_bodies::{Body, Payload};
 use s3_calendar::Moment;
 use s3_conditions::{Conditions, Selection};
+use s3_listings::{ObjectsAsked, VersionsAsked};
 use s3_names::{BucketName, Key, Tag, VersionId};
 use s3_terms::Code;
 use s3_versions::{ContentType, Data, Metadata, Versioning, VersioningStatus};
@@ -27,7 +27,7 @@ pub enum Command {
 }
 
 /// What is asked of a bucket.
-#[derive(Clone, Copy)]
+#[derive(Drop)]
 pub enum BucketCommand {
     /// Makes it (CreateBucket).
     Create,
@@ -39,6 +39,10 @@ pub enum BucketCommand {
     PutVersioning { status: VersioningStatus },
     /// Asks for its versioning (GetBucketVersioning).
     GetVersioning,
+    /// Lists its objects (ListObjectsV2).
+    ListObjects(ObjectsAsked),
+    /// Lists its versions (ListObjectVersions).
+    ListVersions(VersionsAsked),
 }
 
 /// What is asked of a key. `B` is what came as a body: nothing before it is read, and the payload after.
@@ -94,9 +98,10 @@ pub struct Answer {
 /// What came of a command. A version's id is shown where the bucket's versioning was ever set.
 #[derive(Drop)]
 pub enum Outcome {
-    /// All buckets, by name in the order of bytes.
-    Buckets {
-        buckets: BucketList,
+    /// What was asked for, as the text of a document: a list of buckets, of objects or of versions. It is made in the step,
+    /// before a reply is printed, so that printing takes no memory.
+    Told {
+        document: Body,
     },
     /// The bucket of this name is made.
     BucketMade {

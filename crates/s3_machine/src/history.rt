@@ -2,10 +2,11 @@
 ghost use Rattle.std.specs.Prelude.{◌≡◌, ℕ, ◌+◌, List, [], ◌∷◌, ◌++◌, length};
 ghost use Rattle.s3_machine.specs.Step.{State};
 ghost use Rattle.s3_machine.specs.History.{Entry, IsAnswer, Legal, after, after_entry};
-ghost use Rattle.s3_machine.specs.Kept.{EveryHistory, StoredIsKept, VersionsAreKept, StoredIsTold, OnlyStoredStands, OnlyStoredIsGiven, OnlyPutsAreStored, ReadsGiveOrFail, ReadsAreJudged, PutsStoreTheirContents, StoredHasSource, PutsAreKept, PutVersionsAreKept, CopiesStoreTheirSource, CopiesAreKept, CopyVersionsAreKept, BodiesAreTagged, MarkersHide, QuietEntriesChangeNothing};
+ghost use Rattle.s3_machine.specs.Kept.{EveryHistory, StoredIsKept, VersionsAreKept, StoredIsTold, StoredIsListed, OnlyStoredStands, OnlyStoredIsGiven, ListedIsStored, ListsTellWhatIsThere, VersionListsTellWhatIsThere, OnlyPutsAreStored, ReadsGiveOrFail, ReadsAreJudged, PutsStoreTheirContents, StoredHasSource, PutsAreKept, PutVersionsAreKept, CopiesStoreTheirSource, CopiesAreKept, CopyVersionsAreKept, BodiesAreTagged, MarkersHide, QuietEntriesChangeNothing};
 
 use crate::laws::steps_keep;
 use s3_bodies::Body;
+use s3_listings::listed_keys_are_read;
 use s3_records::{changes_are_by_place, changes_follow_rules, versions_stay_in_order};
 use s3_versions::{ids_differ, puts_are_current};
 
@@ -48,6 +49,28 @@ pub fn only_stored_is_given()
     ids_differ::<Body>();
     versions_stay_in_order::<Body>();
 }
+
+/// A law, with nothing to run: what an entry stored is listed under its key, with its moment, its tag and its size, until an
+/// entry changes the key's versions. In a legal history from the opening state nothing else is listed: what is was stored by an
+/// entry, and no entry behind that one replaced or deleted it.
+pub fn stored_is_listed()
+    ensures listed { EveryHistory StoredIsListed }
+    ensures nothing_else { EveryHistory ListedIsStored }
+{
+    changes_are_by_place::<Body>();
+    changes_follow_rules::<Body>();
+    puts_are_current::<Body>();
+    ids_differ::<Body>();
+    versions_stay_in_order::<Body>();
+    listed_keys_are_read::<Body>();
+}
+
+/// A law, with nothing to run: in a legal history a list that succeeds tells what the entries before it leave, as the document
+/// of the page that is asked for.
+pub fn lists_tell_what_is_there()
+    ensures objects { EveryHistory ListsTellWhatIsThere }
+    ensures versions { EveryHistory VersionListsTellWhatIsThere }
+{}
 
 /// A law, with nothing to run: which data an entry stores, one clause an operation: a put stores what it brings, and a copy
 /// what a read of all of its source would be given. An entry that stores something is of one of these operations.

@@ -1,7 +1,8 @@
 //! Laws of every step, with nothing to run.
-ghost use Rattle.s3_machine.specs.Laws.{QuietStepsChangeNothing, StepsStayBelow, ConditionsJudgeReads};
+ghost use Rattle.s3_machine.specs.Laws.{QuietStepsChangeNothing, StepsStayBelow, ConditionsJudgeReads, ListsShowWhatReadsGive, ListsAreTold, VersionListsAreTold};
 
 use s3_bodies::Body;
+use s3_listings::listed_keys_are_read;
 use s3_records::{changes_are_by_place, changes_follow_rules, numbers_stay_below};
 
 /// A law, with nothing to run: a refusal leaves the state as it was, and so does a command that only reads. Where the
@@ -19,4 +20,18 @@ pub fn steps_keep()
 /// refused, it is refused so; else by the conditions, or it is shown that the version is as it knows it, a part, or all.
 pub fn conditions_judge_reads()
     ensures { ConditionsJudgeReads }
+{}
+
+/// A law, with nothing to run: lists and reads tell the same. A list of all objects of a bucket has a key, with a moment, a tag
+/// and a size, exactly where a plain read of the key is given a version with these.
+pub fn lists_show_what_reads_give()
+    ensures { ListsShowWhatReadsGive }
+{
+    listed_keys_are_read::<Body>();
+}
+
+/// A law, with nothing to run: a list of a bucket that is there is told as the document of the page that is asked for.
+pub fn lists_are_told()
+    ensures objects { ListsAreTold }
+    ensures versions { VersionListsAreTold }
 {}

@@ -1,14 +1,17 @@
 -- What the catalogue keeps, whatever is changed.
-use Rattle.std.specs.Prelude.{◌≡◌, ◌≢◌, ℕ, false, IsTrue, List, [], Some, IfSome}
-use Rattle.std.specs.List.{list_any}
+use Rattle.std.specs.Prelude.{◌≡◌, ◌≢◌, ◌↔◌, ℕ, false, IsTrue, List, [], map as each, Some, IfSome}
+use Rattle.std.specs.List.{list_any, Contains}
 use Rattle.std.specs.Str.{bytes_eq}
 use Rattle.std.specs.FinMap as map
+use Rattle.s3_text.specs.Order.{rises}
+use Rattle.s3_versions.specs.declared.version.Version.{Version}
 use Rattle.s3_versions.specs.declared.version.Versioning.TheVariants.{Unversioned}
 use Rattle.s3_versions.specs.declared.version.VersioningStatus.{VersioningStatus}
 use Rattle.s3_versions.specs.Rules.{versioning_set, KeyChange, after_change, are_versions, is_new_number}
 use Rattle.s3_versions.specs.Laws.{number_of}
 use Rattle.s3_records.specs.Catalogue.{Bucket, Catalogue, opening, has_bucket, facts_in, versions_of, versioning_of, is_empty_bucket}
 use Rattle.s3_records.specs.Changes.{Change, VersioningSet, KeyChanged, changed}
+use Rattle.s3_records.specs.Rows.{held_in, key_rows}
 
 -- every bucket but one is as it was
 abbrev pub SameElsewhere : {B : Type 0} → List ℕ → Catalogue B → Catalogue B → Type 0
@@ -87,3 +90,12 @@ abbrev pub OthersHaveSomething : Type 0 → Type 0
 OthersHaveSomething B =
     (c : Catalogue B) (name : List ℕ) → KeysHaveVersions c → is_empty_bucket c name ≡ false
     → (key : List ℕ) × (versions_of c name key ≢ [])
+
+-- the keys of a bucket rise
+abbrev pub KeysRise : Type 0 → Type 0
+KeysRise B = (c : Catalogue B) (name : List ℕ) → IsTrue (rises (each (λ row. row.key) (key_rows c name)))
+
+-- what is found under a key of a bucket is what the bucket holds there
+abbrev pub HeldIsGot : Type 0 → Type 0
+HeldIsGot B =
+    (b : Bucket B) (key : List ℕ) (vs : List (Version B)) → (map.get b.keys key ≡ Some vs) ↔ Contains (held_in (Some b)) (key, vs)

@@ -4,3 +4,4 @@ pub mod Codes
 pub mod Laws
 pub use Rattle.s3_versions.specs.Rules
 pub mod Places
+pub mod Rows

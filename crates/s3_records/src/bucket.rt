@@ -1,11 +1,13 @@
 //! One bucket, in memory.
-ghost use Rattle.std.specs.Prelude.{◌≡◌, ◌≢◌, None, OnOk, OnErr, IsTrue, find};
+ghost use Rattle.std.specs.Prelude.{◌≡◌, ◌≢◌, [], None, Some, IfOk, OnOk, OnErr, IsTrue, find, filter, take, map as each};
+ghost use Rattle.std.specs.List.{flat_map};
 ghost use Rattle.std.specs.Option.{option_copied};
 ghost use Rattle.std.specs.FinMap as map;
 ghost use Rattle.s3_versions.specs.Rules.{is_under, replaced, is_new_number, VersionPut, KeyDeleted, VersionDropped};
 
 use crate::keys::KeyMap;
 use crate::records::BucketFacts;
+use crate::rows::{KeyRow, Start, VersionRow, VersionStart};
 use s3_bodies::Body;
 use s3_calendar::Moment;
 use s3_names::{Key, VersionId};
@@ -38,6 +40,7 @@ impl Model for StoredBucket {
 impl StoredBucket {
     ghost use Rattle.s3_records.specs.Catalogue.{new_bucket, facts_of, has_no_keys, versions_at};
     ghost use Rattle.s3_records.specs.Changes.{set_in, change_in};
+    ghost use Rattle.s3_records.specs.Rows.{is_from, key_row, held_in, rows_at};
 
     /// A bucket made at this moment, unversioned and empty. It takes no memory yet.
     pub(crate) fn new(alloc: Global, made: Moment) -> StoredBucket
@@ -72,6 +75,34 @@ impl StoredBucket {
         ensures { option_copied result ≡ map.get self.now.keys key.now }
     {
         self.keys.get(key)
+    }
+
+    /// The rows of its keys from a place on, at most so many.
+    pub(crate) fn keys_from(
+        &self,
+        alloc: Global,
+        start: &Start,
+        most: usize,
+    ) -> Result<Vec<KeyRow>, NoMemory>
+        ensures value { IfOk result (λ rows. rows.items
+            ≡ take most (filter (λ row. is_from start.now row.key) (each key_row (held_in (Some self.now))))) }
+        ensures memory { OnErr result (
+            take most (filter (λ row. is_from start.now row.key) (each key_row (held_in (Some self.now)))) ≢ []) }
+    {
+        self.keys.keys_from(alloc, start, most)
+    }
+
+    /// The rows of its versions from a place on, at most so many.
+    pub(crate) fn versions_from(
+        &self,
+        alloc: Global,
+        start: &VersionStart,
+        most: usize,
+    ) -> Result<Vec<VersionRow>, NoMemory>
+        ensures value { IfOk result (λ rows. rows.items ≡ take most (flat_map (rows_at start.now) (held_in (Some self.now)))) }
+        ensures memory { OnErr result (take most (flat_map (rows_at start.now) (held_in (Some self.now))) ≢ []) }
+    {
+        self.keys.versions_from(alloc, start, most)
     }
 
     /// Sets its versioning.

@@ -1,9 +1,14 @@
 //! The keys of one bucket, with their versions, in memory.
-ghost use Rattle.std.specs.Prelude.{◌≡◌, [], None, IfOk, OnOk, OnErr, IsTrue, find};
+ghost use Rattle.std.specs.Prelude.{◌≡◌, ◌≢◌, [], None, IfOk, OnOk, OnErr, IsTrue, false, find, filter, take, ◌++◌, map as each};
+ghost use Rattle.std.specs.List.{flat_map};
+ghost use Rattle.std.specs.Ordering.{is_lt};
 ghost use Rattle.std.specs.Option.{option_copied};
 ghost use Rattle.std.specs.FinMap as map;
+ghost use Rattle.s3_text.specs.Order.{byte_order};
 ghost use Rattle.s3_versions.specs.Rules.{is_under, without, after_adding, replaced, is_new_number};
 
+use crate::listing::{add_keys, add_older, behind, first_key, key_rows_from};
+use crate::rows::{KeyRow, Start, VersionRow, VersionStart};
 use s3_bodies::Body;
 use s3_calendar::Moment;
 use s3_names::{Key, VersionId};
@@ -12,6 +17,7 @@ use s3_versions::{Content, Version, Versioning, Versions};
 use std::alloc::Global;
 use std::collections::BTreeMap;
 use std::marker::Model;
+use std::ops::Bound;
 
 /// The versions under each key of a bucket. Contracts see them as a finite map from the keys that have
 /// versions.
@@ -37,6 +43,8 @@ impl Model for KeyMap {
 impl KeyMap {
     ghost use Rattle.s3_records.specs.Catalogue.{versions_at, has_no_keys};
     ghost use Rattle.s3_records.specs.Changes.{with_versions};
+    ghost use Rattle.s3_records.specs.Rows.{is_from, key_row, version_row, behind_version, rows_of, rows_at};
+    ghost use Rattle.s3_records.specs.declared.rows.VersionStart.TheVariants.{At};
 
     /// No keys, which takes no memory yet.
     pub(crate) fn new(alloc: Global) -> KeyMap
@@ -59,6 +67,83 @@ impl KeyMap {
         ensures { option_copied result ≡ map.get self.now key.now }
     {
         self.by_key.get(key)
+    }
+
+    /// The rows of the keys from a place on, at most so many.
+    pub(crate) fn keys_from(
+        &self,
+        alloc: Global,
+        start: &Start,
+        most: usize,
+    ) -> Result<Vec<KeyRow>, NoMemory>
+        ensures value { IfOk result (λ rows. rows.items
+            ≡ take most (filter (λ row. is_from start.now row.key) (each key_row (map.entries self.now)))) }
+        ensures memory { OnErr result (
+            take most (filter (λ row. is_from start.now row.key) (each key_row (map.entries self.now))) ≢ []) }
+    {
+        key_rows_from(alloc, &self.by_key, first_key(start), most)
+    }
+
+    /// The rows of the versions from a place on, at most so many.
+    pub(crate) fn versions_from(
+        &self,
+        alloc: Global,
+        start: &VersionStart,
+        most: usize,
+    ) -> Result<Vec<VersionRow>, NoMemory>
+        ensures value { IfOk result (λ rows. rows.items ≡ take most (flat_map (rows_at start.now) (map.entries self.now))) }
+        ensures memory { OnErr result (take most (flat_map (rows_at start.now) (map.entries self.now)) ≢ []) }
+    {
+        match start {
+            VersionStart::At(start) => self.rows_at(alloc, start, most),
+            VersionStart::BehindVersion(key, id) => self.rows_behind(alloc, key, *id, most),
+        }
+    }
+
+    // The rows of the versions of the keys from a place on.
+    fn rows_at(
+        &self,
+        alloc: Global,
+        start: &Start,
+        most: usize,
+    ) -> Result<Vec<VersionRow>, NoMemory>
+        ensures value { IfOk result (λ rows. rows.items ≡ take most (flat_map (rows_at (At start.now)) (map.entries self.now))) }
+        ensures memory { OnErr result (take most (flat_map (rows_at (At start.now)) (map.entries self.now)) ≢ []) }
+    {
+        let mut rows = Vec::new(alloc);
+        add_keys(&mut rows, &self.by_key, first_key(start), most)?;
+        Ok(rows)
+    }
+
+    // The rows of the versions of a key behind the one of an id, and of the keys behind that.
+    fn rows_behind(
+        &self,
+        alloc: Global,
+        key: &Key,
+        id: VersionId,
+        most: usize,
+    ) -> Result<Vec<VersionRow>, NoMemory>
+        ensures value { IfOk result (λ rows. rows.items
+            ≡ take most (each (version_row key.now false) (behind_version id (versions_at self.now key.now))
+            ++ flat_map rows_of (filter (λ e. is_lt (byte_order key.now e.0)) (map.entries self.now)))) }
+        ensures memory { OnErr result (
+            take most (each (version_row key.now false) (behind_version id (versions_at self.now key.now))
+            ++ flat_map rows_of (filter (λ e. is_lt (byte_order key.now e.0)) (map.entries self.now))) ≢ []) }
+    {
+        let mut rows = Vec::new(alloc);
+        add_older(&mut rows, key, self.versions_behind(key, id), most)?;
+        add_keys(&mut rows, &self.by_key, Bound::Excluded(key), most)?;
+        Ok(rows)
+    }
+
+    // The versions under the key behind the one of an id.
+    fn versions_behind(&self, key: &Key, id: VersionId) -> &[Version<Body>]
+        ensures { result.now ≡ behind_version id (versions_at self.now key.now) }
+    {
+        match self.get(key) {
+            None => &[],
+            Some(versions) => behind(versions.as_slice(), id),
+        }
     }
 
     /// Adds what an entry makes to the versions under the key, by the rules of `Versions::add`. `NoMemory`

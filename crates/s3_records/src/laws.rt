@@ -1,5 +1,5 @@
 //! Laws of the catalogue: what every change keeps, with nothing to run.
-ghost use Rattle.s3_records.specs.Laws.{ChangesAreLocal, ChangesNameOneKey, ChangesFollowRules, SwitchesKeepKeys, VersionsStayInOrder, OpeningIsEmpty, EmptyHasNothing, KeysStayFilled, OthersHaveSomething};
+ghost use Rattle.s3_records.specs.Laws.{ChangesAreLocal, ChangesNameOneKey, ChangesFollowRules, SwitchesKeepKeys, VersionsStayInOrder, OpeningIsEmpty, EmptyHasNothing, KeysStayFilled, OthersHaveSomething, KeysRise, HeldIsGot};
 ghost use Rattle.s3_records.specs.Places.{ChangesAreByPlace, NumbersStayBelow, LaterIsBelow, OpeningIsBelow};
 
 use s3_versions::{one_id_changes, stay_versions};
@@ -53,3 +53,14 @@ pub fn numbers_stay_below<B>()
 {
     stay_versions::<B>();
 }
+
+/// A law, with nothing to run: the keys of a bucket rise in the order of bytes, so none stands twice in a list of them.
+pub fn keys_rise<B>()
+    ensures { KeysRise B }
+{}
+
+/// A law, with nothing to run: the versions that are found under a key are those that stand with it in the list of what its
+/// bucket holds, and the other way round.
+pub fn held_is_got<B>()
+    ensures { HeldIsGot B }
+{}

@@ -5,12 +5,15 @@
 mod bucket;
 mod keys;
 mod laws;
+mod listing;
 mod map_records;
 mod records;
+mod rows;
 
 pub use laws::{
-    changes_are_by_place, changes_are_local, changes_follow_rules, empty_has_nothing,
-    numbers_stay_below, versions_stay_in_order,
+    changes_are_by_place, changes_are_local, changes_follow_rules, empty_has_nothing, held_is_got,
+    keys_rise, numbers_stay_below, versions_stay_in_order,
 };
 pub use map_records::MapRecords;
 pub use records::{BucketFacts, ListedBucket, Records};
+pub use rows::{KeyRow, Start, VersionRow, VersionStart};

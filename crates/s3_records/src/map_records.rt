@@ -1,14 +1,14 @@
 //! Records in memory.
-ghost use Rattle.std.specs.Prelude.{◌≡◌, ◌≢◌, [], true, false, None, IfOk, OnOk, OnErr, IsTrue, find, map as each};
+ghost use Rattle.std.specs.Prelude.{◌≡◌, ◌≢◌, [], true, false, None, IfOk, OnOk, OnErr, IsTrue};
 ghost use Rattle.std.specs.FinMap as map;
-ghost use Rattle.std.specs.BTreeMap.{IsOrdered};
 ghost use Rattle.std.specs.Option.{option_copied};
-ghost use Rattle.s3_text.specs.Order.{byte_order};
 ghost use Rattle.s3_versions.specs.Rules.{asked_for};
-ghost use Rattle.s3_records.specs.Catalogue.{opening, new_bucket, found_versions, versions_of, listed_bucket, listed_buckets};
+ghost use Rattle.s3_records.specs.Catalogue.{opening, new_bucket, found_versions, versions_of, listed_buckets};
 
 use crate::bucket::StoredBucket;
+use crate::listing::bucket_rows;
 use crate::records::{BucketFacts, ListedBucket, Records};
+use crate::rows::{KeyRow, Start, VersionRow, VersionStart};
 use s3_bodies::Body;
 use s3_calendar::Moment;
 use s3_config::Config;
@@ -105,7 +105,7 @@ impl MapRecords {
         ensures value { IfOk result (λ rows. rows.items ≡ listed_buckets self.now) }
         ensures memory { OnErr result (listed_buckets self.now ≢ []) }
     {
-        rows_of(alloc, &self.by_name)
+        bucket_rows(alloc, &self.by_name)
     }
 
     // Puts in an empty bucket, in the place of the one that has this name.
@@ -178,6 +178,32 @@ impl Records for MapRecords {
         asked: Option<VersionId>,
     ) -> Result<Result<Facts, Refusal>, NoMemory> {
         Ok(read_facts(asked, self.asked_for(bucket, key, asked)))
+    }
+
+    fn keys_from(
+        &mut self,
+        alloc: Global,
+        bucket: &BucketName,
+        start: &Start,
+        most: usize,
+    ) -> Result<Vec<KeyRow>, NoMemory> {
+        match self.found_bucket(bucket) {
+            None => Ok(Vec::new(alloc)),
+            Some(bucket) => bucket.keys_from(alloc, start, most),
+        }
+    }
+
+    fn versions_from(
+        &mut self,
+        alloc: Global,
+        bucket: &BucketName,
+        start: &VersionStart,
+        most: usize,
+    ) -> Result<Vec<VersionRow>, NoMemory> {
+        match self.found_bucket(bucket) {
+            None => Ok(Vec::new(alloc)),
+            Some(bucket) => bucket.versions_from(alloc, start, most),
+        }
     }
 
     fn add_bucket(
@@ -270,31 +296,4 @@ fn asked_among(versions: &[Version<Body>], asked: Option<VersionId>) -> Option<&
         None => current(versions),
         Some(id) => version_under(versions, id),
     }
-}
-
-// What the list of all buckets tells of one.
-fn listed_bucket(name: &BucketName, bucket: &StoredBucket) -> Result<ListedBucket, NoMemory>
-    ensures { IfOk result (λ row. row ≡ listed_bucket (name.now, bucket.now)) }
-{
-    let name = name.copy()?;
-    Ok(ListedBucket {
-        name,
-        made: bucket.facts().made,
-    })
-}
-
-// The rows of a list of all buckets.
-fn rows_of(
-    alloc: Global,
-    buckets: &BTreeMap<BucketName, StoredBucket>,
-) -> Result<Vec<ListedBucket>, NoMemory>
-    ensures value { IfOk result (λ rows. rows.items ≡ each listed_bucket buckets.now.entries) }
-    ensures rising { IsOrdered byte_order buckets.now }
-    ensures memory { OnErr result (each listed_bucket buckets.now.entries ≢ []) }
-{
-    let mut rows = Vec::new(alloc);
-    for (name, bucket) in buckets {
-        rows.push(listed_bucket(name, bucket)?)?;
-    }
-    Ok(rows)
 }

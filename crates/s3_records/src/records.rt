@@ -1,9 +1,11 @@
 //! What every keeper of records promises.
-ghost use Rattle.std.specs.Prelude.{◌≡◌, ◌≢◌, ℕ, List, [], Bool, true, false, None, IfOk, OnOk, OnErr, IsTrue, find, is_some, option_and_then};
+ghost use Rattle.std.specs.Prelude.{◌≡◌, ◌≢◌, ℕ, List, [], Bool, true, false, None, IfOk, OnOk, OnErr, IsTrue, find, take, is_some, option_and_then};
 ghost use Rattle.s3_versions.specs.Rules.{is_under, asked_for, facts_read, pick, stored, replaced, is_new_number, VersionPut, KeyDeleted, VersionDropped};
 ghost use Rattle.s3_records.specs.Catalogue.{Catalogue, facts_in, listed_buckets, has_bucket, is_empty_bucket, versions_of, versioning_of};
 ghost use Rattle.s3_records.specs.Changes.{changed, BucketAdded, BucketDropped, VersioningSet, KeyChanged};
+ghost use Rattle.s3_records.specs.Rows.{keys_from, versions_from};
 
+use crate::rows::{KeyRow, Start, VersionRow, VersionStart};
 use s3_bodies::Body;
 use s3_calendar::Moment;
 use s3_names::{BucketName, Key, VersionId};
@@ -94,6 +96,35 @@ pub trait Records {
             ≡ facts_read (pick asked (versions_of (catalogue self.old) bucket.now key.now))) }
         ensures same { catalogue self.new ≡ catalogue self.old }
         ensures memory { OnErr result (is_in_memory ≡ false) };
+
+    /// The rows of the keys of a bucket from a place on, by key in the order of bytes, and at most so many; none where there
+    /// is no such bucket. Costs the rows that are told, and to find the first of them.
+    fn keys_from(
+        &mut self,
+        alloc: Global,
+        bucket: &BucketName,
+        start: &Start,
+        most: usize,
+    ) -> Result<Vec<KeyRow>, NoMemory>
+        ensures value { IfOk result (λ rows. rows.items ≡ take most (keys_from (catalogue self.old) bucket.now start.now)) }
+        ensures same { catalogue self.new ≡ catalogue self.old }
+        ensures memory { OnErr result (
+            is_in_memory ≡ true → take most (keys_from (catalogue self.old) bucket.now start.now) ≢ []) };
+
+    /// The rows of the versions of a bucket from a place on, by key in the order of bytes and of one key newest first, and at
+    /// most so many; none where there is no such bucket. Costs the rows that are told, to find the first key, and the length
+    /// of the list of its versions.
+    fn versions_from(
+        &mut self,
+        alloc: Global,
+        bucket: &BucketName,
+        start: &VersionStart,
+        most: usize,
+    ) -> Result<Vec<VersionRow>, NoMemory>
+        ensures value { IfOk result (λ rows. rows.items ≡ take most (versions_from (catalogue self.old) bucket.now start.now)) }
+        ensures same { catalogue self.new ≡ catalogue self.old }
+        ensures memory { OnErr result (
+            is_in_memory ≡ true → take most (versions_from (catalogue self.old) bucket.now start.now) ≢ []) };
 
     /// Makes a bucket at this moment, unversioned and empty. There is none of this name.
     fn add_bucket(

@@ -4,8 +4,6 @@ pub mod Head
 pub mod Document
 pub mod Replies
 pub mod Laws
-pub use Rattle.s3_machine.specs.Step
-pub use Rattle.s3_documents.specs.Buckets
 pub use Rattle.s3_documents.specs.Copied
 pub use Rattle.s3_documents.specs.Versioning
 pub use Rattle.s3_names.specs.Ids

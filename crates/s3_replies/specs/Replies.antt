@@ -9,9 +9,7 @@ use Rattle.s3_names.specs.Ids.{version_id_text}
 use Rattle.s3_names.specs.declared.ids.VersionId.{VersionId}
 use Rattle.s3_conditions.specs.declared.conditions.Selection.{Selection}
 use Rattle.s3_conditions.specs.declared.conditions.Selection.TheVariants.{Whole, Part, Unchanged}
-use Rattle.s3_documents.specs.Buckets.{buckets_tree}
 use Rattle.s3_documents.specs.Copied.{copied_text}
-use Rattle.s3_documents.specs.Tree.{tree_text}
 use Rattle.s3_documents.specs.Versioning.{versioning_text}
 use Rattle.s3_machine.specs.declared.command.Answer.{Answer}
 use Rattle.s3_machine.specs.declared.command.Found.{Found}
@@ -58,7 +56,7 @@ shown_text shown = option_map version_id_text shown
 abbrev pub made_fields : Opening → List ℕ → Fields
 made_fields opening name = let base = bare statuses.Ok opening in record base { location = Some (codes "/" ++ name) }
 
--- ListBuckets and GetBucketVersioning: a document
+-- ListBuckets, ListObjectsV2, ListObjectVersions and GetBucketVersioning: a document
 abbrev pub document_fields : Opening → Fields
 document_fields opening = let base = bare statuses.Ok opening in record base { content_type = Some (codes "application/json") }
 
@@ -129,7 +127,7 @@ reply_with opening modified found Unchanged = alone (unchanged_fields opening fo
 
 -- the reply to what came of a command; that moment is written as this date
 abbrev pub reply_to : Opening → Option (List ℕ) → Outcome → Reply
-reply_to opening modified (outcomes.Buckets buckets) = behind (document_fields opening) (tree_text (buckets_tree buckets))
+reply_to opening modified (outcomes.Told document) = behind (document_fields opening) document
 reply_to opening modified (outcomes.BucketMade name) = alone (made_fields opening name)
 reply_to opening modified outcomes.BucketFound = alone (bare statuses.Ok opening)
 reply_to opening modified outcomes.BucketDropped = alone (bare statuses.NoContent opening)

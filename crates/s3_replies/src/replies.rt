@@ -116,7 +116,7 @@ fn outcome_reply<R: Room>(
     ensures capacity { R.capacity out.old ≤ R.capacity out.new }
 {
     match outcome {
-        Outcome::Buckets { buckets } => document_head(out, opening, buckets.document().size()),
+        Outcome::Told { document } => document_head(out, opening, document.size()),
         Outcome::BucketMade { name } => made_reply(out, opening, name),
         Outcome::BucketFound | Outcome::VersioningSet => bare_reply(out, opening, Status::Ok),
         Outcome::BucketDropped => bare_reply(out, opening, Status::NoContent),
@@ -173,7 +173,7 @@ pub fn body_of(answer: Answer, context: &Context) -> Option<Body>
     ensures { IsBody answer context.now (unwrap_or result []) }
 {
     match answer.outcome {
-        Outcome::Buckets { buckets } => sent(context.head_only, buckets.into_document()),
+        Outcome::Told { document } => sent(context.head_only, document),
         Outcome::Got { found, selection } => shown_body(
             context.head_only,
             found.stored.body,

@@ -1,2 +1,3 @@
 pub mod DescriptionLemmas
+pub mod TokenLemmas
 pub mod UnbrokenLemmas

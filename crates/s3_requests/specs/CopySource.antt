@@ -1,7 +1,7 @@
 -- What a CopyObject copies (Amazon S3 API Reference, CopyObject): the value of `x-amz-copy-source` is an optional slash,
 -- a bucket, a slash and a key, and then may name a version behind `?`. It is cut at its first `?`, and what stands before
 -- that at the first slash behind the optional one; then the bucket and the key are percent-decoded.
-use Rattle.std.specs.Prelude.{ℕ, Bool, false, not, ◌==◌, if◌then◌else◌, List, [], ◌∷◌, take, codes, Option, Some, None, option_map, ok_or, Result, Ok, Err}
+use Rattle.std.specs.Prelude.{ℕ, Bool, false, not, ◌==◌, if◌then◌else◌, List, [], ◌∷◌, take, codes, Option, None, ok_or, Result, Ok}
 use Rattle.std.specs.List.{list_any, before_first, after_first}
 use Rattle.std.specs.Option.{option_map_or}
 use Rattle.std.specs.Str.{bytes_eq, str_to_ascii_lowercase}
@@ -10,19 +10,14 @@ use Rattle.s3_text.specs.Characters.{slash, equals_sign, question_mark}
 use Rattle.s3_terms.specs.Fault.{refuse, ◌>>◌, ◌>>=◌}
 use Rattle.s3_terms.specs.declared.code.Code.{Code}
 use Rattle.s3_terms.specs.declared.code.Code.TheVariants.{InvalidArgument, InternalError, NotImplemented}
-use Rattle.s3_names.specs.Ids.{version_id}
 use Rattle.s3_names.specs.Names.{bucket_name, object_key}
 use Rattle.s3_names.specs.declared.ids.VersionId.{VersionId}
 use Rattle.s3_http_heads.specs.Head.{HeadParts, first_value}
 use Rattle.s3_http_heads.specs.Target.{has_bad_escape}
 use Rattle.s3_machine.specs.declared.command.Source.{Source}
+use Rattle.s3_requests.specs.Arguments.{as_argument, id_read}
 
--- whatever is wrong with the source, its argument is invalid
-abbrev pub as_argument : {A : Type 0} → Result A Code → Result A Code
-as_argument (Ok value) = Ok value
-as_argument (Err code) = Err InvalidArgument
-
--- the same of a refusal, which may say that memory ran out
+-- whatever is wrong with the source, its argument is invalid; of a refusal, which may say that memory ran out
 abbrev pub argument_code : Code → Code
 argument_code InternalError = InternalError
 argument_code other = InvalidArgument
@@ -40,7 +35,7 @@ path_in value = without_slash (before_first (λ b. b == question_mark) value)
 abbrev pub id_in : List ℕ → Result (Option VersionId) Code
 id_in behind = do
   refuse (not (bytes_eq (before_first (λ b. b == equals_sign) behind) (codes "versionId"))) InvalidArgument
-  ok_or (option_map Some (version_id (after_first (λ b. b == equals_sign) behind))) InvalidArgument
+  id_read (after_first (λ b. b == equals_sign) behind)
 
 -- the version that is named, if one is
 unfoldable pub version_in : List ℕ → Result (Option VersionId) Code

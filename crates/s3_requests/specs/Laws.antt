@@ -1,11 +1,14 @@
--- What is known of all plans: what they store beside a body may stand in the lines of a reply.
-use Rattle.std.specs.Prelude.{◌≡◌, ℕ, Bool, true, ◌&&◌, List, Ok}
+-- What is known of all plans: what they store beside a body may stand in the lines of a reply, and what a list tells to go
+-- on by is read back.
+use Rattle.std.specs.Prelude.{◌≡◌, ℕ, Bool, true, ◌&&◌, List, Some, Ok, IsUtf8}
 use Rattle.std.specs.List.{list_all}
+use Rattle.hex.specs.Hex.{encode_lower}
 use Rattle.s3_http_heads.specs.Head.{HeadParts, Says, is_unbroken}
 use Rattle.s3_versions.specs.Metadata.{Entry}
 use Rattle.s3_requests.specs.declared.routing.Plan.{Plan}
 use Rattle.s3_requests.specs.declared.routing.Plan.TheVariants as plans
 use Rattle.s3_machine.specs.declared.command.KeyCommand.TheVariants as key_commands
+use Rattle.s3_requests.specs.ListArguments.{token_named}
 use Rattle.s3_requests.specs.Routing.{KeyPlan, route_of}
 
 -- no carriage return is in the name and the value
@@ -26,3 +29,7 @@ IsUnbrokenPlan other = Unit {0}
 abbrev pub PlansAreUnbroken : Type 0
 PlansAreUnbroken =
     (text : List ℕ) (head : HeadParts) (plan : Plan) → Says text head → route_of head ≡ Ok plan → IsUnbrokenPlan plan
+
+-- the digits of a text, as a list tells them, name the text again
+abbrev pub TokensAreReadBack : Type 0
+TokensAreReadBack = (text : List ℕ) → IsUtf8 text → token_named (Some (encode_lower text)) ≡ Ok (Some text)

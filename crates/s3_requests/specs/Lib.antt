@@ -2,6 +2,7 @@ pub mod Arguments
 pub mod CopySource
 pub mod Description
 pub mod Laws
+pub mod ListArguments
 pub mod Name
 pub mod Operations
 pub mod ReadConditions

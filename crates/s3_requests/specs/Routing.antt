@@ -27,6 +27,7 @@ use Rattle.s3_machine.specs.declared.command.KeyCommand.TheVariants as key_comma
 use Rattle.s3_machine.specs.declared.command.ObjectPut.{ObjectPut}
 use Rattle.s3_documents.specs.Versioning.{versioning_read}
 use Rattle.s3_requests.specs.Arguments.{version_argument}
+use Rattle.s3_requests.specs.ListArguments.{objects_asked_of, versions_asked_of}
 use Rattle.s3_requests.specs.CopySource.{source_of}
 use Rattle.s3_requests.specs.ReadConditions.{conditions_of}
 use Rattle.s3_requests.specs.Description.{content_type_of, metadata_of}
@@ -67,20 +68,34 @@ service_plan head = do
 abbrev pub bucket_named : TargetParts → Result (List ℕ) Code
 bucket_named target = bucket_name target.bucket
 
--- an operation on a bucket, if this server has it
-abbrev pub bucket_plan_for : Operation → Result BucketPlan Code
-bucket_plan_for operations.CreateBucket = Ok bucket_plans.Create
-bucket_plan_for operations.HeadBucket = Ok bucket_plans.Head
-bucket_plan_for operations.DeleteBucket = Ok bucket_plans.Delete
-bucket_plan_for operations.PutBucketVersioning = Ok bucket_plans.PutVersioning
-bucket_plan_for operations.GetBucketVersioning = Ok bucket_plans.GetVersioning
-bucket_plan_for other = Err NotImplemented
+-- ListObjectsV2, with what is asked of the list
+abbrev pub objects_plan : TargetParts → Result BucketPlan Code
+objects_plan target = do
+  asked ← objects_asked_of target
+  Ok (bucket_plans.ListObjects asked)
+
+-- ListObjectVersions, with what is asked of the list
+abbrev pub versions_plan : TargetParts → Result BucketPlan Code
+versions_plan target = do
+  asked ← versions_asked_of target
+  Ok (bucket_plans.ListVersions asked)
+
+-- an operation on a bucket with its arguments, if this server has it
+abbrev pub bucket_plan_for : Operation → TargetParts → Result BucketPlan Code
+bucket_plan_for operations.CreateBucket target = Ok bucket_plans.Create
+bucket_plan_for operations.HeadBucket target = Ok bucket_plans.Head
+bucket_plan_for operations.DeleteBucket target = Ok bucket_plans.Delete
+bucket_plan_for operations.PutBucketVersioning target = Ok bucket_plans.PutVersioning
+bucket_plan_for operations.GetBucketVersioning target = Ok bucket_plans.GetVersioning
+bucket_plan_for operations.ListObjectsV2 target = objects_plan target
+bucket_plan_for operations.ListObjectVersions target = versions_plan target
+bucket_plan_for other target = Err NotImplemented
 
 -- what is asked of a bucket
 unfoldable pub bucket_plan : HeadParts → TargetParts → Result BucketPlan Code
 bucket_plan head target = do
   operation ← ok_or (bucket_operation (method_of head.method) target) MethodNotAllowed
-  bucket_plan_for operation
+  bucket_plan_for operation target
 
 -- what is asked of a key before the body is read
 abbrev pub KeyPlan : Type 0
@@ -170,6 +185,8 @@ bucket_command_of bucket_plans.Head body = Ok bucket_commands.Head
 bucket_command_of bucket_plans.Delete body = Ok bucket_commands.Delete
 bucket_command_of bucket_plans.PutVersioning body = versioning_command_of body
 bucket_command_of bucket_plans.GetVersioning body = Ok bucket_commands.GetVersioning
+bucket_command_of (bucket_plans.ListObjects asked) body = Ok (bucket_commands.ListObjects asked)
+bucket_command_of (bucket_plans.ListVersions asked) body = Ok (bucket_commands.ListVersions asked)
 
 -- what is to be stored, with its body
 abbrev pub put_with : ObjectPut (Unit {0}) → List ℕ → ObjectPut (List ℕ)

@@ -1,6 +1,6 @@
 //! The arguments of operations.
 ghost use Rattle.std.specs.Prelude.{◌≡◌};
-ghost use Rattle.s3_requests.specs.Arguments.{version_argument};
+ghost use Rattle.s3_requests.specs.Arguments as rules;
 
 use s3_http_heads::Target;
 use s3_names::VersionId;
@@ -9,13 +9,20 @@ use s3_terms::Code;
 // The version that is asked for, if one is: `InvalidArgument` where what names it is no id.
 #[tactic(auto, unfolding(crate::specs::Arguments::version_argument))]
 pub(crate) fn version_argument(target: &Target) -> Result<Option<VersionId>, Code>
-    ensures { result ≡ version_argument target.now }
+    ensures { result ≡ rules.version_argument target.now }
 {
     match target.first(b"versionId") {
         None => Ok(None),
-        Some(text) => match VersionId::read(text) {
-            Some(id) => Ok(Some(id)),
-            None => Err(Code::InvalidArgument),
-        },
+        Some(text) => read_id(text),
+    }
+}
+
+// The version whose id a text is: `InvalidArgument` where it is no id.
+pub(crate) fn read_id(text: &[u8]) -> Result<Option<VersionId>, Code>
+    ensures { result ≡ rules.id_read text.now }
+{
+    match VersionId::read(text) {
+        Some(id) => Ok(Some(id)),
+        None => Err(Code::InvalidArgument),
     }
 }

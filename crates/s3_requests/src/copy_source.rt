@@ -6,6 +6,7 @@ ghost use Rattle.s3_text.specs.Characters.{question_mark};
 ghost use Rattle.s3_terms.specs.Fault.{Follows};
 ghost use Rattle.s3_requests.specs.CopySource as rules;
 
+use crate::arguments::read_id;
 use percent_encoding::percent_decode;
 use s3_http_heads::{Head, has_bad_escape, is_named};
 use s3_machine::Source;
@@ -133,10 +134,7 @@ fn id_in(behind: &[u8]) -> Result<Option<VersionId>, Code>
     if before_first(behind, b'=') != b"versionId".as_slice() {
         return Err(Code::InvalidArgument);
     }
-    match VersionId::read(after_first(behind, b'=')) {
-        Some(id) => Ok(Some(id)),
-        None => Err(Code::InvalidArgument),
-    }
+    read_id(after_first(behind, b'='))
 }
 
 // The bucket, decoded.

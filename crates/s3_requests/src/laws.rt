@@ -1,6 +1,6 @@
 //! What is known of all plans: laws, with nothing to run.
 
-ghost use Rattle.s3_requests.specs.Laws.{PlansAreUnbroken};
+ghost use Rattle.s3_requests.specs.Laws.{PlansAreUnbroken, TokensAreReadBack};
 
 use s3_http_heads::lines_are_whole;
 
@@ -11,3 +11,9 @@ pub fn plans_are_unbroken()
 {
     lines_are_whole();
 }
+
+/// A law: what a list of objects tells as its next token, the hexadecimal digits of a text, is read back as that text where
+/// a request sends it as its `continuation-token` (Amazon S3 API Reference, ListObjectsV2, `NextContinuationToken`).
+pub fn tokens_are_read_back()
+    ensures { TokensAreReadBack }
+{}

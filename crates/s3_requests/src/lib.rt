@@ -6,10 +6,11 @@ mod arguments;
 mod copy_source;
 mod description;
 mod laws;
+mod list_arguments;
 mod operations;
 mod read_conditions;
 mod routing;
 
-pub use laws::plans_are_unbroken;
+pub use laws::{plans_are_unbroken, tokens_are_read_back};
 pub use routing::{BucketPlan, Plan, command, route};
 pub use s3_machine::{BucketCommand, Command, KeyCommand, ObjectPut, ObjectRead};

@@ -10,11 +10,13 @@ ghost use Rattle.s3_requests.specs.Routing as rules;
 use crate::arguments::version_argument;
 use crate::copy_source::copy_source;
 use crate::description::{content_type_of, metadata_of};
+use crate::list_arguments::{objects_asked, versions_asked};
 use crate::operations::{Operation, bucket_operation, key_operation, service_operation};
 use crate::read_conditions::conditions_of;
 use s3_bodies::Payload;
 use s3_documents::read_versioning;
 use s3_http_heads::{Head, Target};
+use s3_listings::{ObjectsAsked, VersionsAsked};
 use s3_machine::{BucketCommand, Command, KeyCommand, ObjectCopy, ObjectPut, ObjectRead};
 use s3_names::{BucketName, Key};
 use s3_terms::{Code, NoMemory};
@@ -39,7 +41,7 @@ pub enum Plan {
 }
 
 /// What is asked of a bucket, before the body is read.
-#[derive(Clone, Copy)]
+#[derive(Drop)]
 pub enum BucketPlan {
     /// Make it (CreateBucket).
     Create,
@@ -51,6 +53,10 @@ pub enum BucketPlan {
     PutVersioning,
     /// Ask for its versioning (GetBucketVersioning).
     GetVersioning,
+    /// List its objects (ListObjectsV2).
+    ListObjects(ObjectsAsked),
+    /// List its versions (ListObjectVersions).
+    ListVersions(VersionsAsked),
 }
 
 /// The sub-resources of S3 that this server doesn't have, with a space between each two.
@@ -60,9 +66,9 @@ const LACKING: &[u8] =
 /// The operation that a verified head asks for, with its bucket, its key and its arguments (Amazon S3 User
 /// Guide, "Path-style requests"). A refusal is the first fault of routing in the order of
 /// `docs/PROTOCOL.md`; `InternalError` says that there was no memory for the names, for what a put says of
-/// its object and for the tags that a read names, of an address that may have them: without a sub-resource that this
-/// server lacks, and with the name of a bucket. The cost is linear in the names and the query, and in the header
-/// lines times the names of metadata.
+/// its object, for the tags that a read names and for the texts that a list is asked by, of an address that may have
+/// them: without a sub-resource that this server lacks, and with the name of a bucket. The cost is linear in the names
+/// and the query, and in the header lines times the names of metadata.
 #[tactic(auto, unfolding(crate::specs::Routing::route_of, crate::specs::Routing::bucket_at))]
 pub fn route(alloc: Global, head: &Head) -> Result<Plan, Code>
     ensures { FollowsPast (rules.bucket_at head.now) result (rules.route_of head.now) }
@@ -109,6 +115,8 @@ fn bucket_command(alloc: Global, asked: BucketPlan, payload: Payload) -> Result<
         BucketPlan::Delete => Ok(BucketCommand::Delete),
         BucketPlan::PutVersioning => versioning_command(alloc, payload),
         BucketPlan::GetVersioning => Ok(BucketCommand::GetVersioning),
+        BucketPlan::ListObjects(asked) => Ok(BucketCommand::ListObjects(asked)),
+        BucketPlan::ListVersions(asked) => Ok(BucketCommand::ListVersions(asked)),
     }
 }
 
@@ -211,7 +219,7 @@ fn named_plan(alloc: Global, head: &Head, target: &Target) -> Result<Plan, Code>
 {
     let name = BucketName::read(alloc, target.bucket())?;
     if target.key().is_empty() {
-        let asked = bucket_plan(head, target)?;
+        let asked = bucket_plan(alloc, head, target)?;
         return Ok(Plan::Bucket { name, asked });
     }
     let key = Key::read(alloc, target.key())?;
@@ -225,8 +233,8 @@ fn named_plan(alloc: Global, head: &Head, target: &Target) -> Result<Plan, Code>
 
 // What is asked of a bucket.
 #[tactic(auto, unfolding(crate::specs::Routing::bucket_plan))]
-fn bucket_plan(head: &Head, target: &Target) -> Result<BucketPlan, Code>
-    ensures { result ≡ rules.bucket_plan head.now target.now }
+fn bucket_plan(alloc: Global, head: &Head, target: &Target) -> Result<BucketPlan, Code>
+    ensures { Follows result (rules.bucket_plan head.now target.now) }
 {
     match bucket_operation(head.method(), target) {
         Some(Operation::CreateBucket) => Ok(BucketPlan::Create),
@@ -234,9 +242,27 @@ fn bucket_plan(head: &Head, target: &Target) -> Result<BucketPlan, Code>
         Some(Operation::DeleteBucket) => Ok(BucketPlan::Delete),
         Some(Operation::PutBucketVersioning) => Ok(BucketPlan::PutVersioning),
         Some(Operation::GetBucketVersioning) => Ok(BucketPlan::GetVersioning),
+        Some(Operation::ListObjectsV2) => objects_plan(alloc, target),
+        Some(Operation::ListObjectVersions) => versions_plan(alloc, target),
         Some(_) => Err(Code::NotImplemented),
         None => Err(Code::MethodNotAllowed),
     }
+}
+
+// ListObjectsV2, with what is asked of the list.
+fn objects_plan(alloc: Global, target: &Target) -> Result<BucketPlan, Code>
+    ensures { Follows result (rules.objects_plan target.now) }
+{
+    let asked = objects_asked(alloc, target)?;
+    Ok(BucketPlan::ListObjects(asked))
+}
+
+// ListObjectVersions, with what is asked of the list.
+fn versions_plan(alloc: Global, target: &Target) -> Result<BucketPlan, Code>
+    ensures { Follows result (rules.versions_plan target.now) }
+{
+    let asked = versions_asked(alloc, target)?;
+    Ok(BucketPlan::ListVersions(asked))
 }
 
 // What is asked of a key.

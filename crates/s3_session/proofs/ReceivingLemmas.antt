@@ -291,6 +291,18 @@ module _ (settings : Settings) (moment : ℕ) (rest piece : List ℕ) (old new :
         → Opens settings moment (option_copied text) (opening.Admitted incoming invited) → IsFed settings old new rest [] piece n need
     begins_admitted text is opens = text_admitted (admitted_text settings moment rest incoming invited (opens_said settings moment rest text (opening.Admitted incoming invited) is opens))
 
+-- ---- what a whole head makes of a connection for which memory runs out
+
+pub begins_dead : (settings : Settings) (moment : ℕ) (rest piece : List ℕ) (old new : Connection) → HasText rest
+    → new.stage ≡ stages.Closed (closings.Died moment) → unsent_of new ≡ unsent_of old ++ internal_error
+    → (need : Need) → need ≡ needs.Close → IsFed settings old new rest [] piece 0 need
+begins_dead settings moment rest piece old new whole stage written need closes =
+    record {
+      here = rw (append-nil rest) (dead_here settings new rest moment old need [] whole (inl refl) (closes, stage, written));
+      all = λ more. (let same = sym closes ∙ more in absurd (cc));
+      at_once = λ _. nothing_taken settings (moment_at new.stage) rest piece;
+    }
+
 -- ---- what a piece makes of a connection that has no whole head
 
 module _ (settings : Settings) (rest piece : List ℕ) (old new : Connection) (n : ℕ) (need : Need) where

@@ -1,11 +1,11 @@
 //! What the commands on buckets do.
 ghost use Rattle.std.specs.Prelude.{◌≡◌, ℕ, true, false, IfOk, OnErr, IsTrue};
 ghost use Rattle.s3_machine.specs.Effects.{is_refused, takes_room_in_bucket};
-ghost use Rattle.s3_machine.specs.Step.{step};
 ghost use Rattle.s3_store.specs.Steps.{bucket_step};
 
+use crate::list_steps::{tell_objects, tell_versions};
 use s3_calendar::Moment;
-use s3_machine::{BucketCommand, BucketList, Command, Outcome};
+use s3_machine::{BucketCommand, Outcome};
 use s3_names::BucketName;
 use s3_records::Records;
 use s3_terms::{Code, NoMemory};
@@ -22,39 +22,29 @@ pub(crate) fn refused(code: Code) -> Outcome
     }
 }
 
-/// ListBuckets.
-#[tactic(auto, unfolding(s3_machine::specs::Step::done))]
-pub(crate) fn list<R: Records>(records: &mut R, alloc: Global) -> Result<Outcome, NoMemory>
-    ensures ok { IfOk result (λ outcome. (least n t : ℕ)
-        → step least (R.catalogue records.old) n t Command.ListBuckets ≡ (R.catalogue records.new, outcome)) }
-    ensures same { R.catalogue records.new ≡ R.catalogue records.old }
-{
-    let rows = records.buckets(alloc)?;
-    let buckets = BucketList::new(alloc, rows)?;
-    Ok(Outcome::Buckets { buckets })
-}
-
 /// Takes the step of a command on a bucket. `NoMemory` leaves the records as they were.
 pub(crate) fn take_on_bucket<R: Records>(
     records: &mut R,
     alloc: Global,
-    name: BucketName,
-    asked: BucketCommand,
+    name: &BucketName,
+    asked: &BucketCommand,
     moment: Moment,
 ) -> Result<Outcome, NoMemory>
     ensures ok { IfOk result (λ outcome.
-        bucket_step (R.catalogue records.old) moment name asked ≡ (R.catalogue records.new, outcome)) }
+        bucket_step (R.catalogue records.old) moment name.now asked.now ≡ (R.catalogue records.new, outcome)) }
     ensures err { OnErr result (R.catalogue records.new ≡ R.catalogue records.old) }
     ensures memory { OnErr result (R.is_in_memory ≡ true
-        → is_refused (bucket_step (R.catalogue records.old) moment name asked).1 ≡ false) }
-    ensures room { OnErr result (R.is_in_memory ≡ true → IsTrue (takes_room_in_bucket asked)) }
+        → is_refused (bucket_step (R.catalogue records.old) moment name.now asked.now).1 ≡ false) }
+    ensures room { OnErr result (R.is_in_memory ≡ true → IsTrue (takes_room_in_bucket asked.now)) }
 {
     match asked {
         BucketCommand::Create => create(records, alloc, name, moment),
-        BucketCommand::Head => head(records, alloc, &name),
-        BucketCommand::Delete => delete(records, alloc, &name),
-        BucketCommand::PutVersioning { status } => put_versioning(records, alloc, &name, status),
-        BucketCommand::GetVersioning => get_versioning(records, alloc, &name),
+        BucketCommand::Head => head(records, alloc, name),
+        BucketCommand::Delete => delete(records, alloc, name),
+        BucketCommand::PutVersioning { status } => put_versioning(records, alloc, name, *status),
+        BucketCommand::GetVersioning => get_versioning(records, alloc, name),
+        BucketCommand::ListObjects(asked) => tell_objects(records, alloc, name, asked),
+        BucketCommand::ListVersions(asked) => tell_versions(records, alloc, name, asked),
     }
 }
 
@@ -63,20 +53,21 @@ pub(crate) fn take_on_bucket<R: Records>(
 fn create<R: Records>(
     records: &mut R,
     alloc: Global,
-    name: BucketName,
+    name: &BucketName,
     moment: Moment,
 ) -> Result<Outcome, NoMemory>
     ensures ok { IfOk result (λ outcome.
-        bucket_step (R.catalogue records.old) moment name BucketCommand.Create ≡ (R.catalogue records.new, outcome)) }
+        bucket_step (R.catalogue records.old) moment name.now BucketCommand.Create ≡ (R.catalogue records.new, outcome)) }
     ensures err { OnErr result (R.catalogue records.new ≡ R.catalogue records.old) }
     ensures memory { OnErr result (R.is_in_memory ≡ true
-        → is_refused (bucket_step (R.catalogue records.old) moment name BucketCommand.Create).1 ≡ false) }
+        → is_refused (bucket_step (R.catalogue records.old) moment name.now BucketCommand.Create).1 ≡ false) }
 {
-    match records.bucket(alloc, &name)? {
+    match records.bucket(alloc, name)? {
         Some(_) => Ok(refused(Code::BucketAlreadyOwnedByYou)),
         None => {
             let made = name.copy()?;
-            records.add_bucket(alloc, name, moment)?;
+            let kept = name.copy()?;
+            records.add_bucket(alloc, kept, moment)?;
             Ok(Outcome::BucketMade { name: made })
         }
     }

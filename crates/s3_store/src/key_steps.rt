@@ -52,18 +52,18 @@ pub(crate) fn take_on_key<R: Records>(
             moment,
         ),
         Ok(None) => {
-            let_go(key, asked);
+            let_go_at_key(key, asked);
             Ok(refused(Code::NoSuchBucket))
         }
         Err(no_memory) => {
-            let_go(key, asked);
+            let_go_at_key(key, asked);
             Err(no_memory)
         }
     }
 }
 
-// Drops what no step is taken of.
-fn let_go(_key: Key, _asked: KeyCommand<Payload>) {}
+/// Drops a command on a key that takes no step.
+pub(crate) fn let_go_at_key(_key: Key, _asked: KeyCommand<Payload>) {}
 
 // The same in a bucket that is there, and has this versioning.
 fn take_in_bucket<R: Records>(

@@ -5,6 +5,7 @@
 mod bucket_steps;
 mod copying;
 mod key_steps;
+mod list_steps;
 mod reading;
 mod store;
 mod take;

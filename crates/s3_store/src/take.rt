@@ -4,8 +4,9 @@ ghost use Rattle.s3_records.specs.Places.{AreBelow};
 ghost use Rattle.s3_machine.specs.Effects.{is_refused, takes_room};
 ghost use Rattle.s3_machine.specs.Step.{step};
 
-use crate::bucket_steps::{list, take_on_bucket};
-use crate::key_steps::take_on_key;
+use crate::bucket_steps::take_on_bucket;
+use crate::key_steps::{let_go_at_key, take_on_key};
+use crate::list_steps::tell_buckets;
 use s3_calendar::Moment;
 use s3_machine::{Command, Outcome};
 use s3_records::Records;
@@ -33,8 +34,8 @@ pub(crate) fn take<R: Records>(
 {
     let _least_part = least_part;
     match command {
-        Command::ListBuckets => list(records, alloc),
-        Command::Bucket { name, asked } => take_on_bucket(records, alloc, name, asked, moment),
+        Command::ListBuckets => tell_buckets(records, alloc),
+        Command::Bucket { name, asked } => take_on_bucket(records, alloc, &name, &asked, moment),
         Command::Key { bucket, key, asked } => {
             take_on_key(records, alloc, &bucket, key, asked, number, moment)
         }
@@ -42,4 +43,17 @@ pub(crate) fn take<R: Records>(
 }
 
 /// Drops a command that takes no step.
-pub(crate) fn let_go(_command: Command) {}
+pub(crate) fn let_go(command: Command) {
+    match command {
+        Command::ListBuckets => {}
+        Command::Bucket {
+            name: _name,
+            asked: _asked,
+        } => {}
+        Command::Key {
+            bucket: _bucket,
+            key,
+            asked,
+        } => let_go_at_key(key, asked),
+    }
+}

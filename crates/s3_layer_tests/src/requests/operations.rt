@@ -12,13 +12,15 @@ use s3_versions::{Data, Versioning, VersioningStatus};
 use std::alloc::Global;
 
 // The operation on a bucket.
-fn bucket_operation(asked: BucketPlan) -> &'static str {
+fn bucket_operation(asked: &BucketPlan) -> &'static str {
     match asked {
         BucketPlan::Create => "CreateBucket",
         BucketPlan::Head => "HeadBucket",
         BucketPlan::Delete => "DeleteBucket",
         BucketPlan::PutVersioning => "PutBucketVersioning",
         BucketPlan::GetVersioning => "GetBucketVersioning",
+        BucketPlan::ListObjects(_) => "ListObjectsV2",
+        BucketPlan::ListVersions(_) => "ListObjectVersions",
     }
 }
 
@@ -36,7 +38,7 @@ fn key_operation<B>(asked: &KeyCommand<B>) -> (&'static str, Option<VersionId>) 
 pub(crate) fn operation(plan: &Plan) -> &'static str {
     match plan {
         Plan::ListBuckets => "ListBuckets",
-        Plan::Bucket { asked, .. } => bucket_operation(*asked),
+        Plan::Bucket { asked, .. } => bucket_operation(asked),
         Plan::Key { asked, .. } => key_operation(asked).0,
     }
 }
@@ -114,7 +116,7 @@ pub(crate) fn plan_text(alloc: Global, plan: &Plan) -> Told {
     match plan {
         Plan::ListBuckets => word(alloc, "ListBuckets"),
         Plan::Bucket { name, asked } => {
-            with_bucket(alloc, bucket_operation(*asked).as_bytes(), name.as_bytes())
+            with_bucket(alloc, bucket_operation(asked).as_bytes(), name.as_bytes())
         }
         Plan::Key { bucket, key, asked } => {
             let (operation, version) = key_operation(asked);
@@ -130,7 +132,7 @@ pub(crate) fn plan_text(alloc: Global, plan: &Plan) -> Told {
 }
 
 // What a command does to a bucket.
-fn bucket_text(asked: BucketCommand) -> &'static str {
+fn bucket_text(asked: &BucketCommand) -> &'static str {
     match asked {
         BucketCommand::Create => "CreateBucket",
         BucketCommand::Head => "HeadBucket",
@@ -142,6 +144,8 @@ fn bucket_text(asked: BucketCommand) -> &'static str {
             status: VersioningStatus::Suspended,
         } => "PutBucketVersioning Suspended",
         BucketCommand::GetVersioning => "GetBucketVersioning",
+        BucketCommand::ListObjects(_) => "ListObjectsV2",
+        BucketCommand::ListVersions(_) => "ListObjectVersions",
     }
 }
 
@@ -173,7 +177,7 @@ fn key_text(asked: &KeyCommand<Payload>) -> &'static str {
 pub(crate) fn command_text(command: &Command) -> &'static str {
     match command {
         Command::ListBuckets => "ListBuckets",
-        Command::Bucket { asked, .. } => bucket_text(*asked),
+        Command::Bucket { asked, .. } => bucket_text(asked),
         Command::Key { asked, .. } => key_text(asked),
     }
 }
@@ -259,7 +263,7 @@ fn name_of(versioning: Versioning) -> &'static str {
 /// What came of a command.
 pub(crate) fn outcome_text(alloc: Global, outcome: &Outcome) -> Told {
     match outcome {
-        Outcome::Buckets { buckets } => Ok(buckets.document().to_vec(alloc)?),
+        Outcome::Told { document } => Ok(document.to_vec(alloc)?),
         Outcome::BucketMade { name } => Ok([b"made ".as_slice(), name.as_bytes()].concat(alloc)?),
         Outcome::BucketFound => word(alloc, "found"),
         Outcome::BucketDropped => word(alloc, "dropped"),

@@ -44,9 +44,16 @@ const PARAMETERS: Table = Table {
         PUT /pail?versioning|PutBucketVersioning pail^\
         GET /pail?versioning|GetBucketVersioning pail^\
         GET /pail?uploads|NotImplemented^\
-        GET /pail?versions|NotImplemented^\
-        GET /pail?list-type=2|NotImplemented^\
+        GET /pail?versions|ListObjectVersions pail^\
+        GET /pail?list-type=2|ListObjectsV2 pail^\
         GET /pail?list-type=1|NotImplemented^\
+        GET /pail?versions&list-type=2|ListObjectVersions pail^\
+        GET /pail/?list-type=2&max-keys=000000000&continuation-token=&delimiter=|ListObjectsV2 pail^\
+        GET /pail?list-type=2&max-keys=0000000000|InvalidArgument^\
+        GET /pail?list-type=2&continuation-token=6A|InvalidArgument^\
+        GET /pail?list-type=2&prefix=%ff|InvalidArgument^\
+        GET /pail?versions&key-marker=k&version-id-marker=null|ListObjectVersions pail^\
+        GET /pail?versions&version-id-marker=null|InvalidArgument^\
         OPTIONS /pail?versioning|MethodNotAllowed^\
         PUT /pail/k?partNumber=1&uploadId=u0000000000000000|NotImplemented^\
         PUT /pail/k?partNumber=1|NotImplemented^\
@@ -92,6 +99,8 @@ const PARAMETERS: Table = Table {
 // Where two things are wrong, the first one refuses.
 const FAULTS: Table = Table {
     rows: "\
+        GET /Pail?list-type=2&max-keys=|InvalidBucketName^\
+        GET /pail?versions&delimiter=/&max-keys=|NotImplemented^\
         GET pail/k?acl|InvalidURI^\
         PUT /?acl|NotImplemented^\
         GET /Pail/%ff?acl|NotImplemented^\

@@ -1,9 +1,9 @@
-use Rattle.std.proofs.Common.{◌≡◌, [], ◌++◌, refl, subst, sym}
+use Rattle.std.proofs.Common.{◌≡◌, [], ◌++◌, ap, refl, subst, sym, ◌∙◌}
 use Rattle.std.specs.Prelude.{if◌then◌else◌}
 use Rattle.s3_http_heads.specs.Search.{Holds}
-use Rattle.s3_replies.specs.Replies.{PrintsRefusal, continue_line}
+use Rattle.s3_replies.specs.Replies.{PrintsRefusal, continue_line, internal_error}
 use Rattle.s3_session.specs.Session.{Connection, added, unsent_of}
-use Rattle.s3_session.proofs.ReceivingLemmas.{begins_admitted, begins_refused}
+use Rattle.s3_session.proofs.ReceivingLemmas.{begins_admitted, begins_dead, begins_refused}
 use Rattle.s3_session.proofs.session.Session.begin.Goals as goal
 
 pub returns-in-Ok-clause-fed : goal.returns-in-Ok-clause-fed
@@ -20,3 +20,9 @@ returns-in-Refused-clause-fed c rest held whole =
     begins_refused c.args.config.now c.args.moment rest c.args.piece.now c.args.self.now _ held whole c.searches_find.ensures.head
     c.text.result (c.text.ensures.text rest (subst (λ (s : Connection). Holds s.search rest) (sym c.self.view_is) held)) c.in-Refused.code c.in-Refused.head_only c.in-Refused.ensures
     c.refuse.ensures.stage printed _ refl
+
+pub returns-in-Err-clause-fed : goal.returns-in-Err-clause-fed
+returns-in-Err-clause-fed c rest held whole =
+    let same = subst (λ (s : Connection). unsent_of c.invite.new.self ≡ unsent_of s) c.self.view_is c.in-Err.ensures.same in
+    begins_dead c.args.config.now c.args.moment rest c.args.piece.now c.args.self.now _ whole c.die.ensures.stage
+    (c.die.ensures.written ∙ ap (λ t. t ++ internal_error) same) _ refl

@@ -1,0 +1,65 @@
+-- The list of a bucket's versions (Amazon S3 API Reference, ListObjectVersions, whose document is XML there).
+use Rattle.std.specs.Prelude.{ℕ, List, [], ◌∷◌, ◌++◌, map, codes, Option, option_map, is_none}
+use Rattle.std.specs.Option.{option_map_or}
+use Rattle.s3_names.specs.Ids.{version_id_text}
+use Rattle.s3_names.specs.declared.ids.VersionId.{VersionId}
+use Rattle.s3_versions.specs.declared.picking.Facts.{Facts}
+use Rattle.s3_records.specs.declared.rows.VersionRow.{VersionRow}
+use Rattle.s3_listings.specs.declared.asked.VersionsAsked.{VersionsAsked}
+use Rattle.s3_listings.specs.Pages.{Page, next_of}
+use Rattle.s3_documents.specs.Copied.{tag_told}
+use Rattle.s3_documents.specs.Printed.{told}
+use Rattle.s3_documents.specs.Tree.{Value, text, number, truth, moment, Fields, leaves, rows, Tree, tree_text}
+
+-- a version's row; a delete marker has neither a tag nor a size
+abbrev pub tag_of_facts : Facts → Value
+tag_of_facts facts = text (tag_told facts.tag)
+
+abbrev pub size_of_facts : Facts → Value
+size_of_facts facts = number facts.size
+
+abbrev pub version_fields : VersionRow → Fields
+version_fields row =
+    (codes "DeleteMarker", truth (is_none row.facts))
+    ∷ told (codes "ETag") (option_map tag_of_facts row.facts)
+    ++ (codes "IsLatest", truth row.is_latest)
+    ∷ (codes "Key", text row.key)
+    ∷ (codes "LastModified", moment row.moment)
+    ∷ told (codes "Size") (option_map size_of_facts row.facts)
+    ++ (codes "VersionId", text (version_id_text row.id))
+    ∷ []
+
+-- the text of an id that was named; empty where none was
+abbrev pub marker_told : Option VersionId → List ℕ
+marker_told id = option_map_or version_id_text id []
+
+-- the key and the id of a row
+abbrev pub key_of_row : VersionRow → Value
+key_of_row row = text row.key
+
+abbrev pub id_of_row : VersionRow → Value
+id_of_row row = text (version_id_text row.id)
+
+-- what stands in front of the rows: what was asked, and behind which version the next page goes on
+abbrev pub versions_fields : List ℕ → VersionsAsked → Page VersionRow → Fields
+versions_fields name asked page =
+    (codes "IsTruncated", truth page.is_truncated)
+    ∷ (codes "KeyMarker", text asked.key_marker)
+    ∷ (codes "MaxKeys", number asked.max_keys)
+    ∷ (codes "Name", text name)
+    ∷ told (codes "NextKeyMarker") (option_map key_of_row (next_of page))
+    ++ told (codes "NextVersionIdMarker") (option_map id_of_row (next_of page))
+    ++ (codes "Prefix", text asked.prefix)
+    ∷ (codes "VersionIdMarker", text (marker_told asked.id_marker))
+    ∷ []
+
+-- the document of these rows, behind these fields
+abbrev pub rows_tree : Fields → List VersionRow → Tree
+rows_tree fields list = leaves fields ++ (codes "Versions", rows (map version_fields list)) ∷ []
+
+-- the document of a page of the versions of the bucket of this name
+abbrev pub versions_tree : List ℕ → VersionsAsked → Page VersionRow → Tree
+versions_tree name asked page = rows_tree (versions_fields name asked page) page.given
+
+abbrev pub versions_text : List ℕ → VersionsAsked → Page VersionRow → List ℕ
+versions_text name asked page = tree_text (versions_tree name asked page)

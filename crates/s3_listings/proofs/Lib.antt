@@ -1,0 +1,16 @@
+pub mod BehindLemmas
+pub mod FilterLemmas
+pub mod HeldLemmas
+pub mod ItemLemmas
+pub mod JoinLemmas
+pub mod MemberLemmas
+pub mod OrderLemmas
+pub mod PageLemmas
+pub mod DraftLemmas
+pub mod ObjectLemmas
+pub mod PlaceLemmas
+pub mod RowLemmas
+pub mod SeekLemmas
+pub mod TextLemmas
+pub mod VersionLemmas
+pub mod VersionPageLemmas

@@ -1,0 +1,8 @@
+use Rattle.s3_listings.specs.Objects.{CommonPrefix}
+use Rattle.s3_listings.specs.Drafts.{drafted}
+use Rattle.s3_listings.proofs.DraftLemmas.{item_taken}
+use Rattle.s3_listings.proofs.draft.Draft.take_prefix.Goals as goal
+
+pub returns-then-takes : goal.returns-then-takes
+returns-then-takes c =
+    item_taken c.push_prefix.result (drafted c.args.self.now) (drafted c.takes.new.self) (drafted c.push_prefix.new.self) (CommonPrefix c.args.prefix.now) c.if-takes.ensures c.push_prefix.ensures

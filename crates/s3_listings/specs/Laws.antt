@@ -1,0 +1,101 @@
+-- What users may rely on of the lists of a bucket's objects and versions.
+use Rattle.std.specs.Prelude.{◌≡◌, ◌<◌, ◌↔◌, ℕ, nat_eq, IsTrue, List, [], ◌∷◌, ◌++◌, map as each, Contains, filter, Some, None, Ok, MatchOption}
+use Rattle.std.specs.List.{starts_with, flat_map}
+use Rattle.s3_text.specs.Order.{rises}
+use Rattle.s3_versions.specs.Rules.{pick, facts_read}
+use Rattle.s3_versions.specs.declared.picking.Facts.{Facts}
+use Rattle.s3_records.specs.Catalogue.{Catalogue, versions_of}
+use Rattle.s3_records.specs.Laws.{AreCatalogued}
+use Rattle.s3_records.specs.Rows.{key_rows}
+use Rattle.s3_records.specs.declared.rows.KeyRow.{KeyRow}
+use Rattle.s3_records.specs.declared.rows.VersionRow.{VersionRow}
+use Rattle.s3_listings.specs.declared.asked.ObjectsAsked.{ObjectsAsked}
+use Rattle.s3_listings.specs.declared.asked.VersionsAsked.{VersionsAsked}
+use Rattle.s3_listings.specs.Pages.{Page, next_of}
+use Rattle.s3_listings.specs.Objects.{Item, Object, text_of, item_of, is_same, is_behind_token, objects_asked, objects_page}
+use Rattle.s3_listings.specs.Versions.{versions_asked, versions_page}
+
+-- the rows stand by key in the order of bytes, and none twice
+abbrev pub AreInOrder : List KeyRow → Type 0
+AreInOrder rows = IsTrue (rises (each (λ (row : KeyRow). row.key) rows))
+
+-- so do the items of the list, by their texts
+abbrev pub ItemsRise : Type 0
+ItemsRise = (asked : ObjectsAsked) (rows : List KeyRow) → AreInOrder rows → IsTrue (rises (each text_of (objects_asked asked rows)))
+
+-- a key is told as this item
+abbrev pub IsToldOf : ObjectsAsked → List KeyRow → Item → Type 0
+IsToldOf asked rows item = (row : KeyRow) × Contains rows row × (item_of asked row ≡ Some item)
+
+-- an item is in the list exactly where it is told of a key, and stands behind the token
+abbrev pub ItemsAreOfKeys : Type 0
+ItemsAreOfKeys =
+    (asked : ObjectsAsked) (rows : List KeyRow) (item : Item) → AreInOrder rows
+    → (Contains (objects_asked asked rows) item ↔ (IsToldOf asked rows item × IsTrue (is_behind_token asked item)))
+
+-- it is the only one there with its text, however many keys are told as it
+abbrev pub KeysAreToldOnce : Type 0
+KeysAreToldOnce =
+    (asked : ObjectsAsked) (rows : List KeyRow) (item : Item) → AreInOrder rows
+    → IsToldOf asked rows item → IsTrue (is_behind_token asked item)
+    → filter (is_same item) (objects_asked asked rows) ≡ item ∷ []
+
+-- all keys with a prefix are asked for, each by itself
+pub record AsksForKeys (asked : ObjectsAsked) : Type 0 where
+  pub delimiter : asked.delimiter ≡ []
+  pub start_after : asked.start_after ≡ None
+  pub token : asked.token ≡ None
+
+-- then an object is in the list exactly where a row tells of it, and its key begins with the prefix
+abbrev pub ListedAreKeys : Type 0
+ListedAreKeys =
+    (asked : ObjectsAsked) (rows : List KeyRow) (key : List ℕ) (facts : Facts) → AreInOrder rows → AsksForKeys asked
+    → (Contains (objects_asked asked rows) (Object key facts)
+    ↔ (Contains rows (record { key = key; facts = Some facts }) × IsTrue (starts_with nat_eq key asked.prefix)))
+
+-- in a bucket that is where an unconditional read of the key answers it, with these facts
+abbrev pub ListedAreRead : Type 0 → Type 0
+ListedAreRead B =
+    (asked : ObjectsAsked) (c : Catalogue B) (name key : List ℕ) (facts : Facts) → AsksForKeys asked
+    → (Contains (objects_asked asked (key_rows c name)) (Object key facts)
+    ↔ ((facts_read (pick None (versions_of c name key)) ≡ Ok facts) × IsTrue (starts_with nat_eq key asked.prefix)))
+
+-- the same request, behind an item
+abbrev pub behind : ObjectsAsked → Item → ObjectsAsked
+behind asked item = record asked { token = Some (text_of item) }
+
+-- A list of items is given page by page, where a request for the rest of it goes on behind the last item of its page.
+module _ {Q A : Type 0} (page : Q → Page A) (behind : Q → A → Q) (items : Q → List A) where
+  -- the page and what is asked for behind its last item are the list; the last page has it all
+  abbrev pub Joins : Q → Type 0
+  Joins asked =
+      MatchOption (next_of (page asked)) ((page asked).given ≡ items asked)
+      (λ last. (page asked).given ++ items (behind asked last) ≡ items asked)
+
+  -- all pages from a request on up to the last one
+  abbrev pub ArePages : Q → List (Page A) → Type 0
+  ArePages asked [] = ⊥
+  ArePages asked (first ∷ []) = (first ≡ page asked) × (next_of first ≡ None)
+  ArePages asked (first ∷ next ∷ pages) =
+      (first ≡ page asked) × ((last : A) × (next_of first ≡ Some last) × ArePages (behind asked last) (next ∷ pages))
+
+  -- joined they are the list
+  abbrev pub AllJoin : Q → Type 0
+  AllJoin asked =
+      Joins asked × ((pages : List (Page A)) → ArePages asked pages → flat_map (λ page. page.given) pages ≡ items asked)
+
+-- the pages of a list of objects join, by their tokens
+abbrev pub PagesJoin : Type 0
+PagesJoin =
+    (asked : ObjectsAsked) (rows : List KeyRow) → AreInOrder rows → 0 < asked.max_keys
+    → AllJoin (λ a. objects_page a rows) behind (λ a. objects_asked a rows) asked
+
+-- the same request, behind a version
+abbrev pub behind_row : VersionsAsked → VersionRow → VersionsAsked
+behind_row asked last = record asked { key_marker = last.key; id_marker = Some last.id }
+
+-- and the pages of a list of versions join by their markers, where no key has two versions of one id
+abbrev pub VersionPagesJoin : Type 0 → Type 0
+VersionPagesJoin B =
+    (asked : VersionsAsked) (c : Catalogue B) (name : List ℕ) → AreCatalogued c → 0 < asked.max_keys
+    → AllJoin (λ a. versions_page a c name) behind_row (λ a. versions_asked a c name) asked

@@ -1,0 +1,29 @@
+-- The list of a bucket's versions (Amazon S3 API Reference, ListObjectVersions).
+use Rattle.std.specs.Prelude.{ℕ, Bool, nat_eq, List, filter, Option, Some, None}
+use Rattle.std.specs.List.{starts_with}
+use Rattle.s3_names.specs.declared.ids.VersionId.{VersionId}
+use Rattle.s3_records.specs.Catalogue.{Catalogue}
+use Rattle.s3_records.specs.Rows.{versions_from}
+use Rattle.s3_records.specs.declared.rows.Start.TheVariants.{Behind}
+use Rattle.s3_records.specs.declared.rows.VersionRow.{VersionRow}
+use Rattle.s3_records.specs.declared.rows.VersionStart.{VersionStart}
+use Rattle.s3_records.specs.declared.rows.VersionStart.TheVariants.{At, BehindVersion}
+use Rattle.s3_listings.specs.declared.asked.VersionsAsked.{VersionsAsked}
+use Rattle.s3_listings.specs.Pages.{Page, page_of}
+
+-- where the list goes on: behind a key, or behind a version of it
+abbrev pub marked : List ℕ → Option VersionId → VersionStart
+marked key None = At (Behind key)
+marked key (Some id) = BehindVersion key id
+
+-- the key is asked for
+abbrev pub is_asked : VersionsAsked → VersionRow → Bool
+is_asked asked row = starts_with nat_eq row.key asked.prefix
+
+-- all versions that are asked for
+abbrev pub versions_asked : {B : Type 0} → VersionsAsked → Catalogue B → List ℕ → List VersionRow
+versions_asked asked c name = filter (is_asked asked) (versions_from c name (marked asked.key_marker asked.id_marker))
+
+-- the page of them
+unfoldable pub versions_page : {B : Type 0} → VersionsAsked → Catalogue B → List ℕ → Page VersionRow
+versions_page asked c name = page_of asked.max_keys (versions_asked asked c name)

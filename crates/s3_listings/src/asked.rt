@@ -1,0 +1,32 @@
+//! What is asked of a list.
+
+use crate::Text;
+use s3_names::VersionId;
+
+/// What is asked of a list of a bucket's objects (Amazon S3 API Reference, ListObjectsV2).
+#[derive(Drop)]
+pub struct ObjectsAsked {
+    /// Only keys that begin so are told.
+    pub prefix: Text,
+    /// Keys that are alike up to the first of it behind the prefix are told as one common prefix; none are where it is empty.
+    pub delimiter: Text,
+    /// Only keys behind this one are told, where there is no token.
+    pub start_after: Option<Text>,
+    /// Only items behind this one are told: the last one of the page before.
+    pub token: Option<Text>,
+    /// How many items a page has at most, from 0 to 1,000.
+    pub max_keys: u16,
+}
+
+/// What is asked of a list of a bucket's versions (Amazon S3 API Reference, ListObjectVersions).
+#[derive(Drop)]
+pub struct VersionsAsked {
+    /// Only keys that begin so are told.
+    pub prefix: Text,
+    /// Only what stands behind this key is told, unless a version of it is named.
+    pub key_marker: Text,
+    /// Only what stands behind the version of this id of that key is told; where there is none, what stands behind the key.
+    pub id_marker: Option<VersionId>,
+    /// How many versions a page has at most, from 0 to 1,000.
+    pub max_keys: u16,
+}

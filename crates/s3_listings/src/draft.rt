@@ -1,0 +1,185 @@
+//! A page of a list of objects while it is made.
+ghost use Rattle.std.specs.Prelude.{◌≡◌, ◌<◌, ◌∷◌, List, IsUtf8, IfOk, OnOk, IfSome, Some, None, if◌then◌else◌, ◌++◌};
+ghost use Rattle.std.specs.Option.{option_copied};
+ghost use Rattle.s3_records.specs.declared.rows.KeyRow.{KeyRow};
+ghost use Rattle.s3_listings.specs.Objects.{Item, Object, CommonPrefix, text_of};
+ghost use Rattle.s3_listings.specs.Drafts.{drafted, is_last, with_item, with_items, with_rows, no_items, page_of_draft, TakesItem};
+
+use crate::rolling::{Telling, is_last, told_as};
+use crate::{ListedObject, ObjectPage, ObjectsAsked, Text};
+use s3_names::Key;
+use s3_records::KeyRow;
+use s3_terms::NoMemory;
+use s3_versions::Facts;
+use std::alloc::Global;
+
+/// A page while it is made: it takes items until it is full and one more is known. Contracts see it as `drafted`.
+#[derive(Drop)]
+pub(crate) struct Draft {
+    contents: Vec<ListedObject>,
+    prefixes: Vec<Text>,
+    // Whether the last item is a common prefix.
+    ends_in_prefix: bool,
+    // How many more items it takes.
+    room: u16,
+    is_truncated: bool,
+}
+
+impl Draft {
+    /// A page that takes so many items, and has none yet.
+    pub(crate) fn new(alloc: Global, room: u16) -> Draft
+        ensures { drafted result ≡ no_items room }
+    {
+        Draft {
+            contents: Vec::new(alloc),
+            prefixes: Vec::new(alloc),
+            ends_in_prefix: false,
+            room,
+            is_truncated: false,
+        }
+    }
+
+    /// The text of its last item, where it has one.
+    pub(crate) fn last(&self) -> Option<&[u8]>
+        ensures value { option_copied result ≡ (drafted self.now).last }
+        ensures utf8 { IfSome result (λ text. IsUtf8 text.now) }
+    {
+        if self.ends_in_prefix {
+            let text = self.prefixes.last()?;
+            Some(text.as_bytes())
+        } else {
+            let object = self.contents.last()?;
+            Some(object.key.as_bytes())
+        }
+    }
+
+    /// Whether one more item is known that the page doesn't take.
+    pub(crate) fn is_truncated(&self) -> bool
+        ensures { result ≡ (drafted self.now).is_truncated }
+    {
+        self.is_truncated
+    }
+
+    /// Takes rows in their order, which are moved into the page or dropped.
+    pub(crate) fn take_rows(
+        &mut self,
+        alloc: Global,
+        asked: &ObjectsAsked,
+        rows: Vec<KeyRow>,
+    ) -> Result<(), NoMemory>
+        ensures { OnOk result ((rest : List KeyRow) → with_rows asked.now (drafted self.new) rest ≡ with_rows asked.now (drafted self.old) (rows.items ++ rest)) }
+    {
+        for row in rows {
+            self.take_row(alloc, asked, row)?;
+        }
+        Ok(())
+    }
+
+    // Takes one row.
+    fn take_row(&mut self, alloc: Global, asked: &ObjectsAsked, row: KeyRow) -> Result<(), NoMemory>
+        ensures { OnOk result ((rest : List KeyRow) → with_rows asked.now (drafted self.new) rest ≡ with_rows asked.now (drafted self.old) (row ∷ rest)) }
+    {
+        let KeyRow { key, facts } = row;
+        let Some(facts) = facts else {
+            return Ok(());
+        };
+        match told_as(asked, &key) {
+            Telling::Nothing => Ok(()),
+            Telling::Itself => self.take_object(key, facts),
+            Telling::Prefix(len) => self.take_prefix(alloc, &key.as_bytes()[..len]),
+        }
+    }
+
+    // Takes an object.
+    fn take_object(&mut self, key: Key, facts: Facts) -> Result<(), NoMemory>
+        ensures { OnOk result ((items : List Item) → with_items (drafted self.new) items ≡ with_items (drafted self.old) (Object key facts ∷ items)) }
+    {
+        if self.takes(key.as_bytes()) {
+            self.push_object(key, facts)
+        } else {
+            Ok(())
+        }
+    }
+
+    // Takes a common prefix, which is copied.
+    fn take_prefix(&mut self, alloc: Global, prefix: &[u8]) -> Result<(), NoMemory>
+        requires { IsUtf8 prefix.now }
+        ensures { OnOk result ((items : List Item) → with_items (drafted self.new) items ≡ with_items (drafted self.old) (CommonPrefix prefix.now ∷ items)) }
+    {
+        if self.takes(prefix) {
+            self.push_prefix(alloc, prefix)
+        } else {
+            Ok(())
+        }
+    }
+
+    // Whether the page takes an item of this text: it isn't the last one again, and there is room. Where there is none, the
+    // page is truncated.
+    fn takes(&mut self, text: &[u8]) -> bool
+        ensures { TakesItem result (drafted self.old) (drafted self.new) text.now }
+    {
+        if self.is_truncated || self.ends_with(text) {
+            return false;
+        }
+        if self.room == 0 {
+            self.is_truncated = true;
+            return false;
+        }
+        true
+    }
+
+    // Whether this is the text of the last item.
+    fn ends_with(&self, text: &[u8]) -> bool
+        ensures { result ≡ is_last (drafted self.now).last text.now }
+    {
+        is_last(self.last(), text)
+    }
+
+    // Puts an object behind the others.
+    fn push_object(&mut self, key: Key, facts: Facts) -> Result<(), NoMemory>
+        requires { 0 < (drafted self.old).room }
+        ensures { OnOk result (drafted self.new ≡ with_item (drafted self.old) (Object key facts)) }
+    {
+        self.contents.push(ListedObject { key, facts })?;
+        self.ends_in_prefix = false;
+        self.room -= 1;
+        Ok(())
+    }
+
+    // Puts a common prefix behind the others.
+    fn push_prefix(&mut self, alloc: Global, prefix: &[u8]) -> Result<(), NoMemory>
+        requires room { 0 < (drafted self.old).room }
+        requires utf8 { IsUtf8 prefix.now }
+        ensures { OnOk result (drafted self.new ≡ with_item (drafted self.old) (CommonPrefix prefix.now)) }
+    {
+        self.prefixes.push(Text::of(alloc, prefix)?)?;
+        self.ends_in_prefix = true;
+        self.room -= 1;
+        Ok(())
+    }
+
+    /// The page as it is. The text of its last item is copied where more are known.
+    pub(crate) fn finish(self, alloc: Global) -> Result<ObjectPage, NoMemory>
+        ensures { IfOk result (λ page. page ≡ page_of_draft (drafted self)) }
+    {
+        let next = self.next(alloc)?;
+        Ok(ObjectPage {
+            contents: self.contents,
+            prefixes: self.prefixes,
+            next,
+        })
+    }
+
+    // The text behind which the next page goes on, where there is one.
+    fn next(&self, alloc: Global) -> Result<Option<Text>, NoMemory>
+        ensures { IfOk result (λ next. next ≡ if (drafted self.now).is_truncated then (drafted self.now).last else None) }
+    {
+        if !self.is_truncated {
+            return Ok(None);
+        }
+        match self.last() {
+            Some(last) => Ok(Some(Text::of(alloc, last)?)),
+            None => Ok(None),
+        }
+    }
+}

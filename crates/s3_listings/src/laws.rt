@@ -1,0 +1,33 @@
+//! Laws of lists: what users may rely on, with nothing to run.
+ghost use Rattle.s3_listings.specs.Laws.{ItemsRise, ItemsAreOfKeys, KeysAreToldOnce, ListedAreKeys, ListedAreRead, PagesJoin, VersionPagesJoin};
+
+use s3_records::keys_rise;
+
+/// A law, with nothing to run: the items of a list are distinct and stand in the order of bytes, and they are those that keys
+/// are told as and that stand behind the token; each of them is there once, however many keys it is told of.
+pub fn items_are_distinct()
+    ensures order { ItemsRise }
+    ensures keys { ItemsAreOfKeys }
+    ensures once { KeysAreToldOnce }
+{}
+
+/// A law, with nothing to run: where neither a delimiter nor a place to start at is given, the list has exactly the keys with
+/// the prefix whose current version is an object; in a bucket these are the keys that an unconditional read finds, with the
+/// same facts.
+pub fn listed_keys_are_read<B>()
+    ensures rows { ListedAreKeys }
+    ensures read { ListedAreRead B }
+{
+    keys_rise::<B>();
+}
+
+/// A law, with nothing to run: where nothing changes between them, the pages of a list of objects joined by their tokens are
+/// the whole list, whatever they started after, if a page may have an item at all.
+pub fn pages_join()
+    ensures { PagesJoin }
+{}
+
+/// A law, with nothing to run: so are the pages of a list of versions, joined by their markers.
+pub fn version_pages_join<B>()
+    ensures { VersionPagesJoin B }
+{}

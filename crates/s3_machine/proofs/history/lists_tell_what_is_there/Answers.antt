@@ -1,0 +1,5 @@
+use Rattle.s3_machine.proofs.ListLemmas.{lists_tell_what_is_there, version_lists_tell_what_is_there}
+use Rattle.s3_machine.proofs.history.lists_tell_what_is_there.Goals as goal
+
+pub returns : goal.returns
+returns c = record { objects = lists_tell_what_is_there; versions = version_lists_tell_what_is_there }

@@ -1,0 +1,5 @@
+use Rattle.s3_machine.proofs.ListLemmas.{lists_are_told, version_lists_are_told}
+use Rattle.s3_machine.proofs.laws.lists_are_told.Goals as goal
+
+pub returns : goal.returns
+returns c = record { objects = lists_are_told; versions = version_lists_are_told }
