@@ -19,8 +19,9 @@ use std::alloc::Global;
 const BATCH: usize = 32;
 
 /// What is told of a bucket's objects (Amazon S3 API Reference, ListObjectsV2): the first so many items behind the token, which
-/// are objects and common prefixes. Costs to find a place among the keys and a batch of them for each common prefix, however many
-/// keys have it, and otherwise each key that is looked at: those that are told, and delete markers.
+/// are objects and common prefixes. Costs each key that is looked at: those that are told, delete markers among them, and a batch
+/// for each common prefix, however many keys have it, unless the delimiter ends in the byte 0x7F or 0xBF; and to find a place
+/// among the keys for each batch. `NoMemory` says that there was none for a batch or the page.
 pub fn list_objects<R: Records>(
     records: &mut R,
     alloc: Global,

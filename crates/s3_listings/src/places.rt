@@ -101,8 +101,8 @@ pub(crate) fn read_key(alloc: Global, bytes: &[u8]) -> Result<Option<Key>, NoMem
     }
 }
 
-/// Where a list goes on behind a key, if it does: not at a key of which nothing is told behind the last item. Keys with a common
-/// prefix of which nothing more is told are left out at once.
+/// Where a list goes on behind a key, if it does: all keys in front of that are told as nothing, or as the last item again. Those
+/// with a common prefix of which nothing more is told are left out at once.
 pub(crate) fn next_place(
     alloc: Global,
     asked: &ObjectsAsked,
