@@ -33,13 +33,6 @@ impl Block {
         }
     }
 
-    /// These bytes, which are moved and not copied.
-    pub(crate) fn of(bytes: Vec<u8>) -> Block
-        ensures { result ≡ bytes.items }
-    {
-        Block { bytes }
-    }
-
     /// These bytes, which are copied, with room for so many in all.
     pub(crate) fn with_room(alloc: Global, data: &[u8], room: usize) -> Result<Block, NoMemory>
         ensures { IfOk result (λ block. block ≡ «data».now) }

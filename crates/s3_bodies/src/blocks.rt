@@ -60,23 +60,6 @@ impl Blocks {
         Ok(Blocks { row, size })
     }
 
-    /// These bytes, which are moved where one block has them all, and else copied into blocks. `NoMemory` comes only where
-    /// there is more than a block of them.
-    pub(crate) fn of_vec(alloc: Global, bytes: Vec<u8>) -> Result<Blocks, NoMemory>
-        ensures value { IfOk result (λ blocks. blocks ≡ bytes.items) }
-        ensures memory { OnErr result (65536 < length bytes.items) }
-    {
-        let size = bytes.len() as u64;
-        if bytes.len() > BLOCK_SIZE {
-            return Blocks::of(alloc, bytes.as_slice(), size);
-        }
-        let row = Row {
-            full: Vec::new(alloc),
-            last: Block::of(bytes),
-        };
-        Ok(Blocks { row, size })
-    }
-
     /// Puts a copy of these bytes behind the others, in the last block and in blocks of their own: none is moved that is
     /// there, where no more bytes come than so many in all. `NoMemory`, which comes only where there are bytes, leaves
     /// all as it was.

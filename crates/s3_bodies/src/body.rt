@@ -6,6 +6,7 @@ ghost use Rattle.std.specs.List.{flat_map};
 ghost use Rattle.s3_bodies.specs.Pieces.{IsPieceAt};
 
 use crate::blocks::Blocks;
+use crate::own::Own;
 use crate::runs::Runs;
 use crate::shared::{InPieces, Shared};
 use crate::{BodyBuilder, Sink};
@@ -15,7 +16,7 @@ use std::marker::Model;
 
 /// The bytes of an object or of a part, in shared blocks of 1 to 65,536 bytes, which don't change. Contracts see a body
 /// as the list of its bytes. To copy it, to cut a range out of it and to join it with others moves no byte; its memory is
-/// given back with the last body that has some of it.
+/// given back with the last body that has some of it. The bytes of a document may be one body's alone.
 #[derive(Drop)]
 pub struct Body {
     content: Content,
@@ -26,6 +27,8 @@ pub struct Body {
 enum Content {
     /// There are none.
     Nothing,
+    /// In one piece that isn't shared.
+    Alone(Own),
     /// In the blocks of one body as it arrived.
     One(Shared<Blocks>),
     /// In those of several.
@@ -39,6 +42,15 @@ impl Model for Body {
     ghost Value = { List ℕ };
 
     ghost view = { λ body. bytes_of body.content };
+}
+
+// Bytes that are copied into blocks, so that they can be shared.
+fn shared(alloc: Global, bytes: &[u8]) -> Result<Shared<Blocks>, NoMemory>
+    ensures { IfOk result (λ part. part ≡ bytes.now) }
+{
+    let mut blocks = Blocks::empty(alloc);
+    blocks.append(alloc, bytes, bytes.len() as u64)?;
+    Ok(Shared::new(alloc, blocks)?)
 }
 
 impl Body {
@@ -61,13 +73,13 @@ impl Body {
         builder.finish()
     }
 
-    /// The body of these bytes, which are moved where one block has them all, and else copied. `NoMemory` comes only where
-    /// there are any.
-    pub fn of_vec(alloc: Global, bytes: Vec<u8>) -> Result<Body, NoMemory>
-        ensures value { IfOk result (λ body. body ≡ bytes.items) }
-        ensures memory { OnErr result (0 < length bytes.items) }
+    /// The body of these bytes, which are moved and not copied: in one piece, which a copy doesn't share. It takes no memory.
+    pub fn alone(bytes: Vec<u8>) -> Body
+        ensures { result ≡ bytes.items }
     {
-        Body::of_blocks(alloc, Blocks::of_vec(alloc, bytes)?)
+        Body {
+            content: Content::Alone(Own::of(bytes)),
+        }
     }
 
     /// The body of these blocks, which are moved. `NoMemory` comes only where there are bytes.
@@ -89,17 +101,20 @@ impl Body {
     {
         match &self.content {
             Content::Nothing => 0,
+            Content::Alone(part) => part.size(),
             Content::One(part) => part.size(),
             Content::Many(part) => part.size(),
         }
     }
 
-    /// The same bytes, which are shared. It takes no memory: `NoMemory` says that there are 2^63 such bodies.
+    /// The same bytes, which are shared. It takes no memory: `NoMemory` says that there are 2^63 such bodies. Those of
+    /// `alone` are copied, for which memory may lack.
     pub fn copy(&self) -> Result<Body, NoMemory>
         ensures { IfOk result (λ copy. copy ≡ self.now) }
     {
         let content = match &self.content {
             Content::Nothing => Content::Nothing,
+            Content::Alone(part) => Content::Alone(part.copy()?),
             Content::One(part) => Content::One(part.copy()?),
             Content::Many(part) => Content::Many(part.copy()?),
         };
@@ -115,6 +130,7 @@ impl Body {
         let Body { content } = self;
         let content = match content {
             Content::Nothing => Content::Nothing,
+            Content::Alone(part) => Content::Alone(part.slice(from, size)),
             Content::One(part) => Content::One(part.slice(from, size)),
             Content::Many(part) => Content::Many(part.slice(from, size)),
         };
@@ -131,6 +147,7 @@ impl Body {
     {
         match &self.content {
             Content::Nothing => unreachable!(),
+            Content::Alone(part) => part.piece(at),
             Content::One(part) => part.piece(at),
             Content::Many(part) => part.piece(at),
         }
@@ -142,7 +159,7 @@ impl Body {
     {
         let mut runs = Runs::new(alloc);
         for body in bodies {
-            body.add_to(&mut runs)?;
+            body.add_to(alloc, &mut runs)?;
         }
         Ok(Body {
             content: Content::Many(Shared::new(alloc, runs)?),
@@ -150,11 +167,12 @@ impl Body {
     }
 
     // Puts runs with the same bytes behind others.
-    fn add_to(&self, runs: &mut Runs) -> Result<(), NoMemory>
+    fn add_to(&self, alloc: Global, runs: &mut Runs) -> Result<(), NoMemory>
         ensures { OnOk result (runs.new ≡ runs.old ++ self.now) }
     {
         match &self.content {
             Content::Nothing => Ok(()),
+            Content::Alone(part) => runs.push(shared(alloc, part.as_bytes())?),
             Content::One(part) => runs.push(part.copy()?),
             Content::Many(part) => part.add_to(runs),
         }

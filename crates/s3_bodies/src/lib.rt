@@ -6,6 +6,7 @@ mod block;
 mod blocks;
 mod body;
 mod body_builder;
+mod own;
 mod part_of_runs;
 mod payload;
 mod payload_builder;

@@ -1,5 +1,5 @@
 //! The entity tags of a condition.
-ghost use Rattle.std.specs.Prelude.{◌≡◌, reverse, IfOk};
+ghost use Rattle.std.specs.Prelude.{◌≡◌, ◌<◌, length, reverse, IfOk, OnErr};
 ghost use Rattle.s3_conditions.specs.Tags.{skip_quotes, unquoted, without_weakness, tag_in, is_match, matches};
 
 use s3_http_heads::trimmed;
@@ -23,11 +23,14 @@ impl Model for TagList {
 }
 
 impl TagList {
-    /// The items of a line's value, whose bytes it copies: any text is a list of them. `NoMemory` where there was none for the copy.
+    /// The items of a line's value, whose bytes it copies: any text is a list of them. `NoMemory` comes only where there are
+    /// bytes to copy.
     pub fn read(alloc: Global, value: &[u8]) -> Result<TagList, NoMemory>
-        ensures { IfOk result (λ tags. tags ≡ value.now) }
+        ensures value { IfOk result (λ tags. tags ≡ value.now) }
+        ensures memory { OnErr result (0 < length value.now) }
     {
-        let text = Vec::from_slice(alloc, value)?;
+        let mut text = Vec::new(alloc);
+        text.extend_from_slice(value)?;
         Ok(TagList { text })
     }
 
@@ -35,7 +38,7 @@ impl TagList {
     pub fn matches(&self, tag: &Tag) -> bool
         ensures { result ≡ matches self.now tag.now }
     {
-        has_match(self.text.as_slice(), &tag.text())
+        has_match(self.text.as_slice(), tag.text().as_bytes())
     }
 }
 

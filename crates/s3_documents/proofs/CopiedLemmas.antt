@@ -7,14 +7,14 @@ use Rattle.std.proofs.lemmas.Bool.Decides.{nat_tests}
 use Rattle.std.proofs.lemmas.List.Concat.{flat_map-append}
 use Rattle.std.proofs.lemmas.Str.{IsAscii-append, IsUtf8-from_ascii}
 use Rattle.json.specs.Print.{escape, escape_byte}
-use Rattle.s3_text.specs.Characters.{is_lower_hex}
+use Rattle.s3_names.specs.Tags.{is_tag_character}
 use Rattle.s3_documents.specs.Timestamp.{timestamp}
 use Rattle.s3_documents.specs.Tree.{tree_text}
 use Rattle.s3_documents.specs.Copied.{tag_told, copied_text}
 use Rattle.s3_documents.proofs.PlainLemmas.{tag_plain}
 
 -- of a tag and the quote behind it the quote alone is escaped
-quote_escaped : (tag : List ℕ) → escape tag ≡ tag → escape (tag ++ 34 ∷ []) ≡ tag ++ 92 ∷ 34 ∷ []
+pub quote_escaped : (tag : List ℕ) → escape tag ≡ tag → escape (tag ++ 34 ∷ []) ≡ tag ++ 92 ∷ 34 ∷ []
 unfolding escape_byte
 quote_escaped tag plain = flat_map-append escape_byte tag (34 ∷ []) ∙ ap (λ t. t ++ 92 ∷ 34 ∷ []) plain
 
@@ -24,7 +24,7 @@ from_tag : (tag stamp x y : List ℕ) → x ≡ tag ++ 92 ∷ 34 ∷ [] → y �
     ≡ ((tag ++ 92 ∷ 34 ∷ 34 ∷ 44 ∷ 34 ∷ 76 ∷ 97 ∷ 115 ∷ 116 ∷ 77 ∷ 111 ∷ 100 ∷ 105 ∷ 102 ∷ 105 ∷ 101 ∷ 100 ∷ 34 ∷ 58 ∷ 34 ∷ []) ++ stamp) ++ 34 ∷ 125 ∷ []
 from_tag tag stamp x y a b = rw (a, b) (simp append_assoc)
 
-pub copied_spelled : (tag : List ℕ) (made : ℕ) → list_all is_lower_hex tag ≡ true → escape (timestamp made) ≡ timestamp made
+pub copied_spelled : (tag : List ℕ) (made : ℕ) → list_all is_tag_character tag ≡ true → escape (timestamp made) ≡ timestamp made
     → copied_text tag made ≡ (((([] ++ codes "{\"ETag\":\"\\\"") ++ tag) ++ codes "\\\"\",\"LastModified\":\"") ++ timestamp made) ++ codes "\"}"
 unfolding tree_text escape_byte
 copied_spelled tag made digits plain =
@@ -33,18 +33,18 @@ copied_spelled tag made digits plain =
 
 -- ---- a tag is a text
 
-hex_ascii : (b : ℕ) → is_lower_hex b ≡ true → b < 128
-hex_ascii b h = grind (arith, nat_tests)
+character_ascii : (b : ℕ) → is_tag_character b ≡ true → b < 128
+character_ascii b h = grind (arith, nat_tests)
 
-pub hex_is_ascii : (tag : List ℕ) → list_all is_lower_hex tag ≡ true → IsAscii tag
-hex_is_ascii [] h zero = lit< tt
-hex_is_ascii [] h (suc i) = lit< tt
-hex_is_ascii (b ∷ bs) h zero = hex_ascii b (and_parts (is_lower_hex b) (list_all is_lower_hex bs) h).0
-hex_is_ascii (b ∷ bs) h (suc i) = hex_is_ascii bs (and_parts (is_lower_hex b) (list_all is_lower_hex bs) h).1 i
+pub tag_is_ascii : (tag : List ℕ) → list_all is_tag_character tag ≡ true → IsAscii tag
+tag_is_ascii [] h zero = lit< tt
+tag_is_ascii [] h (suc i) = lit< tt
+tag_is_ascii (b ∷ bs) h zero = character_ascii b (and_parts (is_tag_character b) (list_all is_tag_character bs) h).0
+tag_is_ascii (b ∷ bs) h (suc i) = tag_is_ascii bs (and_parts (is_tag_character b) (list_all is_tag_character bs) h).1 i
 
 quote_ascii : IsAscii (codes "\"")
 quote_ascii zero = lit< tt
 quote_ascii (suc i) = lit< tt
 
-pub tag_utf8 : (tag : List ℕ) → list_all is_lower_hex tag ≡ true → IsUtf8 (tag_told tag)
-tag_utf8 tag h = IsUtf8-from_ascii (tag_told tag) (IsAscii-append (codes "\"") (tag ++ codes "\"") quote_ascii (IsAscii-append tag (codes "\"") (hex_is_ascii tag h) quote_ascii))
+pub tag_utf8 : (tag : List ℕ) → list_all is_tag_character tag ≡ true → IsUtf8 (tag_told tag)
+tag_utf8 tag h = IsUtf8-from_ascii (tag_told tag) (IsAscii-append (codes "\"") (tag ++ codes "\"") quote_ascii (IsAscii-append tag (codes "\"") (tag_is_ascii tag h) quote_ascii))

@@ -4,6 +4,8 @@ pub mod DateLemmas
 pub mod LawLemmas
 pub mod PlainLemmas
 pub mod PrinterLemmas
+pub mod RoomLemmas
+pub mod RowLemmas
 pub mod TextLemmas
 pub mod TokenLemmas
 pub mod VersionListLemmas

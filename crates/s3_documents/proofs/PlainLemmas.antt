@@ -7,7 +7,7 @@ use Rattle.std.proofs.lemmas.Bool.Decides.{nat_tests}
 use Rattle.std.proofs.lemmas.List.{drop-drop}
 use Rattle.std.proofs.lemmas.List.Concat.{flat_map-append}
 use Rattle.json.specs.Print.{escape, escape_byte}
-use Rattle.s3_text.specs.Characters.{is_lower_hex}
+use Rattle.s3_names.specs.Tags.{is_tag_character}
 use Rattle.s3_calendar.specs.Moment.{is_stamp}
 use Rattle.s3_documents.specs.Timestamp.{spelled_out}
 
@@ -38,12 +38,12 @@ digit_plain b h =
     let high : b ≤ 57 = grind (arith, nat_tests) in
     plain_byte b (omega arith) (λ e. omega arith) (λ e. omega arith)
 
-is_plain_hex : (b : ℕ) → is_lower_hex b ≡ true → (48 ≤ b) × ¬ (b ≡ 92)
-is_plain_hex b h = (grind (arith, nat_tests), λ e. grind (arith, nat_tests))
+tag_character_bounds : (b : ℕ) → is_tag_character b ≡ true → (45 ≤ b) × ¬ (b ≡ 92)
+tag_character_bounds b h = (grind (arith, nat_tests), λ e. grind (arith, nat_tests))
 
-hex_plain : (b : ℕ) → is_lower_hex b ≡ true → escape_byte b ≡ b ∷ []
-hex_plain b h =
-    let range = is_plain_hex b h in
+tag_character_plain : (b : ℕ) → is_tag_character b ≡ true → escape_byte b ≡ b ∷ []
+tag_character_plain b h =
+    let range = tag_character_bounds b h in
     plain_byte b (omega (arith, range.0)) (λ e. omega (arith, range.0)) range.1
 
 -- ---- texts
@@ -55,8 +55,8 @@ all_plain test plain (b ∷ bs) h =
     let parts = and_parts (test b) (list_all test bs) h in
     ap₂ (λ (front rest : List ℕ). front ++ rest) (plain b parts.0) (all_plain test plain bs parts.1)
 
-pub tag_plain : (tag : List ℕ) → list_all is_lower_hex tag ≡ true → escape tag ≡ tag
-tag_plain tag h = all_plain is_lower_hex hex_plain tag h
+pub tag_plain : (tag : List ℕ) → list_all is_tag_character tag ≡ true → escape tag ≡ tag
+tag_plain tag h = all_plain is_tag_character tag_character_plain tag h
 
 digits_plain : (bs : List ℕ) → list_all is_ascii_digit bs ≡ true → escape bs ≡ bs
 digits_plain bs h = all_plain is_ascii_digit digit_plain bs h

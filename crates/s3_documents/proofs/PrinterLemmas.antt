@@ -6,7 +6,7 @@ use Rattle.json.specs.Token.{Token, begin_object, end_object, begin_array, end_a
 use Rattle.s3_documents.specs.Tree.{Fields, Tree, rows, leaves, tree_text}
 use Rattle.s3_documents.specs.Printed.{members_tokens, value_tokens, branch_tokens, fields_tokens, row_tokens, all_tokens, begun}
 
-leaves_tokens : (fields : Fields) → members_tokens branch_tokens (leaves fields) ≡ fields_tokens fields
+pub leaves_tokens : (fields : Fields) → members_tokens branch_tokens (leaves fields) ≡ fields_tokens fields
 leaves_tokens [] = refl
 leaves_tokens (f ∷ fs) = ap (λ ts. (key f.0 ∷ value_tokens f.1) ++ ts) (leaves_tokens fs)
 

@@ -10,7 +10,7 @@ use Rattle.s3_text.specs.Digits.{number_digits}
 use Rattle.s3_names.specs.Ids.{numbered_id, version_id_text}
 use Rattle.s3_names.specs.declared.ids.VersionId.{VersionId}
 use Rattle.s3_names.specs.declared.ids.VersionId.TheVariants.{Null, Numbered}
-use Rattle.s3_documents.proofs.CopiedLemmas.{hex_is_ascii}
+use Rattle.s3_documents.proofs.CopiedLemmas.{tag_is_ascii}
 
 -- ---- the last of some rows
 
@@ -39,7 +39,7 @@ id_ascii : (id : VersionId) → IsAscii (version_id_text id)
 unfolding numbered_id number_digits
 id_ascii Null = null_ascii
 id_ascii (Numbered number) =
-    IsAscii-append (codes "v") (number_digits number) letter_ascii (IsAscii-encode_with lower_digits (to_be_bytes w64 number) (hex_is_ascii lower_digits refl))
+    IsAscii-append (codes "v") (number_digits number) letter_ascii (IsAscii-encode_with lower_digits (to_be_bytes w64 number) (tag_is_ascii lower_digits refl))
 
 pub id_utf8 : (id : VersionId) → IsUtf8 (version_id_text id)
 id_utf8 id = IsUtf8-from_ascii (version_id_text id) (id_ascii id)

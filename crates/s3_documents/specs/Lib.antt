@@ -2,6 +2,7 @@ pub mod Buckets
 pub mod Copied
 pub mod Json
 pub mod Laws
+pub mod Listed
 pub mod ObjectList
 pub mod Printed
 pub mod Timestamp

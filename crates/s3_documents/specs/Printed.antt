@@ -1,7 +1,8 @@
 -- The tokens by which a `Printer` prints a tree, and what the values that it is given tell.
-use Rattle.std.specs.Prelude.{ℕ, Option, Some, None, List, [], ◌∷◌, ◌++◌, flat_map, decimal, String}
+use Rattle.std.specs.Prelude.{ℕ, ◌+◌, ◌<◌, ◌≤◌, min, Option, Some, None, List, [], ◌∷◌, ◌++◌, length, flat_map, decimal, String, Result, MatchResult}
 use Rattle.std.specs.String.{string_bytes}
 use Rattle.json.specs.Token as json
+use Rattle.json.specs.Print.{token_text}
 use Rattle.s3_documents.specs.Timestamp.{timestamp}
 use Rattle.s3_documents.specs.Tree.{Value, text, number, truth, moment, Fields, Branch, leaf, rows, Tree}
 use Rattle.s3_documents.specs.declared.printer.Field.{Field}
@@ -39,9 +40,22 @@ abbrev pub branch_tokens : Branch → List json.Token
 branch_tokens (leaf value) = value_tokens value
 branch_tokens (rows list) = json.begin_array ∷ (all_tokens list ++ json.end_array ∷ [])
 
+-- branches under their names, without the braces round them
+abbrev pub branches_tokens : Tree → List json.Token
+branches_tokens tree = members_tokens branch_tokens tree
+
 -- a document, of which all is printed but its last brace
 unfoldable pub begun : Tree → List json.Token
-begun tree = json.begin_object ∷ members_tokens branch_tokens tree
+begun tree = json.begin_object ∷ branches_tokens tree
+
+-- the room that tokens take at most: the text of each, and a comma
+abbrev pub room_of : List json.Token → ℕ
+room_of [] = 0
+room_of (t ∷ ts) = length (token_text t) + 1 + room_of ts
+
+-- printing these tokens takes no more room than theirs, and fails only where some of it was missing
+abbrev pub TakesRoom : {E : Type 0} → Result (Unit {0}) E → ℕ → ℕ → List json.Token → Type 0
+TakesRoom r old new tokens = MatchResult r (λ _. old ≤ new + room_of tokens) (λ _. old < room_of tokens)
 
 -- a field that tells a value, or nothing
 abbrev pub told : List ℕ → Option Value → Fields
@@ -66,3 +80,7 @@ field_of field = told field.name.now (value_of field.value)
 
 abbrev pub fields_of : List Field → Fields
 fields_of fields = flat_map field_of fields
+
+-- so much room suffices for so many bytes; it does for any number where it is the greatest that there is
+abbrev pub IsRoomFor : (room needed : ℕ) → Type 0
+IsRoomFor room needed = min needed 18_446_744_073_709_551_615 ≤ room

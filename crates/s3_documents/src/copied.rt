@@ -1,8 +1,8 @@
 //! What is told of a copy, as a document.
-ghost use Rattle.std.specs.Prelude.{◌≡◌, ◌≤◌, ◌+◌, ◌++◌, length};
-ghost use Rattle.arrayvec.specs.ArrayVec.{array_vec_len};
+ghost use Rattle.std.specs.Prelude.{◌≡◌};
 ghost use Rattle.s3_documents.specs.Copied.{copied_text};
 
+use crate::texts::put;
 use crate::timestamp::timestamp;
 use arrayvec::ArrayVec;
 use s3_calendar::Moment;
@@ -18,18 +18,9 @@ pub fn copied_document(tag: &Tag, moment: Moment) -> ArrayVec<u8, DOCUMENT_MAX>
 {
     let mut document = ArrayVec::new();
     put(&mut document, b"{\"ETag\":\"\\\"");
-    put(&mut document, &tag.text());
+    put(&mut document, tag.text().as_bytes());
     put(&mut document, b"\\\"\",\"LastModified\":\"");
     put(&mut document, &timestamp(moment));
     put(&mut document, b"\"}");
     document
-}
-
-// Puts a text behind the document.
-fn put(document: &mut ArrayVec<u8, DOCUMENT_MAX>, text: &[u8])
-    requires { array_vec_len document.old + length text.now ≤ 128 }
-    ensures items { document.new.items ≡ document.old.items ++ text.now }
-    ensures len { array_vec_len document.new ≡ array_vec_len document.old + length text.now }
-{
-    let _fits = document.try_extend_from_slice(text);
 }

@@ -1,70 +1,102 @@
 //! The list of a bucket's objects, as a document.
-ghost use Rattle.std.specs.Prelude.{◌≡◌, IfOk, option_map};
+ghost use Rattle.std.specs.Prelude.{◌≡◌, ◌+◌, ◌*◌, [], IfOk, OnOk, option_map};
 ghost use Rattle.std.specs.Option.{option_copied};
 ghost use Rattle.s3_documents.specs.Copied.{tag_told};
-ghost use Rattle.s3_documents.specs.ObjectList.{object_row, prefix_row, key_count, token_told, delimiter_told, objects_fields, page_tree, objects_text};
-ghost use Rattle.s3_documents.specs.Printed.{fields_of, text_kept, value_of};
-ghost use Rattle.s3_documents.specs.Tree.{text as text_value, tree_text};
+ghost use Rattle.s3_documents.specs.ObjectList.{object_row, prefix_row, key_count, token_told, delimiter_told, objects_fields, page_tree, objects_tree};
+ghost use Rattle.s3_documents.specs.Printed.{branches_tokens, begun, fields_of, text_kept, value_of, room_of, TakesRoom, IsRoomFor};
+ghost use Rattle.s3_documents.specs.Tree.{text as text_value};
 
 use crate::printer::{Field, Leaf, Printer, Row, text_of};
+use crate::reserved::Told;
+use crate::room::{Bounded, known_of, room_of_fields, room_of_rows, room_of_text};
 use crate::texts::{key_told, name_told, quoted, text_told};
 use s3_listings::{ListedObject, ObjectPage, ObjectsAsked, Text};
 use s3_names::BucketName;
 use s3_terms::NoMemory;
 use std::alloc::{AllocError, Global};
 
-/// No row of an object is longer, with its comma and without its key, and none of a common prefix without that.
-const ROW_MAX: usize = 160;
+/// No row of an object takes more room, beside that for its key.
+const ROW_MAX: usize = 255;
 
-/// What stands round the rows is seldom longer.
-const FRAME: usize = 1024;
+/// Nor does one of a common prefix, beside that.
+const PREFIX_ROW_MAX: usize = 13;
 
-/// The document of a ListObjectsV2, as a text: what was asked, and the page that is told, of the bucket of this name. A
-/// token stands in it in hexadecimal digits. It takes time and memory for each row.
-pub fn objects_document(
-    alloc: Global,
-    name: &BucketName,
-    asked: &ObjectsAsked,
-    page: &ObjectPage,
-) -> Result<Vec<u8>, NoMemory>
-    ensures { IfOk result (λ text. text.items ≡ objects_text name.now asked.now page.now) }
-{
-    let token = hexadecimal(alloc, asked.token.as_ref())?;
-    let next = hexadecimal(alloc, page.next())?;
-    Ok(with_tokens(alloc, name, asked, page, &token, &next)?)
+/// The document of a ListObjectsV2, for later: what was asked, and the page that is told, of the bucket of this name. A
+/// token stands in it in hexadecimal digits.
+#[derive(Drop)]
+pub(crate) struct ObjectsList {
+    name: BucketName,
+    asked: ObjectsAsked,
+    page: ObjectPage,
+    token: Option<String>,
+    next: Option<String>,
+    ghost digits: { option_map text_kept token ≡ option_map token_told asked.token },
+    ghost next_digits: { option_map text_kept next ≡ option_map token_told page.next },
 }
 
-// The document, where the tokens are in hexadecimal digits.
-fn with_tokens(
-    alloc: Global,
-    name: &BucketName,
-    asked: &ObjectsAsked,
-    page: &ObjectPage,
-    token: &Option<String>,
-    next: &Option<String>,
-) -> Result<Vec<u8>, AllocError>
-    requires token { option_map text_kept token.now ≡ option_map token_told asked.now.token }
-    requires next { option_map text_kept next.now ≡ option_map token_told page.now.next }
-    ensures { IfOk result (λ text. text.items ≡ objects_text name.now asked.now page.now) }
-{
-    let fields = fields_told(name, asked, page, token, next);
-    printed(alloc, page.prefixes(), page.contents(), &fields)
+impl ObjectsList {
+    /// It takes memory for the tokens.
+    pub fn of(
+        alloc: Global,
+        name: BucketName,
+        asked: ObjectsAsked,
+        page: ObjectPage,
+    ) -> Result<ObjectsList, NoMemory>
+        ensures { IfOk result (λ list. objects_tree list.name list.asked list.page ≡ objects_tree name asked page) }
+    {
+        let (token, next) = digits_of(alloc, &asked, &page)?;
+        Ok(ObjectsList {
+            name,
+            asked,
+            page,
+            token,
+            next,
+        })
+    }
 }
 
-// The document of these common prefixes and objects, with these fields beside them.
+impl Told for ObjectsList {
+    ghost tree = { λ list. objects_tree list.name list.asked list.page };
+
+    fn print(&self, printer: &mut Printer) -> Result<(), AllocError> {
+        let fields = fields_told(&self.name, &self.asked, &self.page, &self.token, &self.next);
+        printed(printer, self.page.prefixes(), self.page.contents(), &fields)
+    }
+
+    fn room(&self) -> usize {
+        let fields = fields_told(&self.name, &self.asked, &self.page, &self.token, &self.next);
+        room_for(self.page.prefixes(), self.page.contents(), &fields)
+    }
+}
+
+// Prints these common prefixes and objects, with these fields beside them.
+#[tactic(auto, using(crate::proofs::RowLemmas::page_room))]
 fn printed(
-    alloc: Global,
+    printer: &mut Printer,
     prefixes: &[Text],
     contents: &[ListedObject],
     fields: &[Field<'_>],
-) -> Result<Vec<u8>, AllocError>
-    ensures { IfOk result (λ text. text.items ≡ tree_text (page_tree prefixes.now contents.now (fields_of fields.now))) }
+) -> Result<(), AllocError>
+    ensures tokens { OnOk result (printer.old.tokens ≡ begun []
+        → printer.new.tokens ≡ begun (page_tree prefixes.now contents.now (fields_of fields.now))) }
+    ensures room { TakesRoom result printer.old.spare printer.new.spare
+        (branches_tokens (page_tree prefixes.now contents.now (fields_of fields.now))) }
 {
-    let mut printer = Printer::new(alloc, room_for(prefixes, contents))?;
     printer.rows("CommonPrefixes", prefixes)?;
     printer.rows("Contents", contents)?;
     printer.fields(fields)?;
-    printer.finish()
+    Ok(())
+}
+
+// The room for that.
+#[tactic(auto, using(crate::proofs::RowLemmas::page_room, crate::proofs::RoomLemmas::leaves_room))]
+fn room_for(prefixes: &[Text], contents: &[ListedObject], fields: &[Field<'_>]) -> usize
+    ensures { IsRoomFor result
+        (room_of (branches_tokens (page_tree prefixes.now contents.now (fields_of fields.now)))) }
+{
+    room_of_rows("CommonPrefixes", prefixes)
+        .saturating_add(room_of_rows("Contents", contents))
+        .saturating_add(room_of_fields(fields))
 }
 
 // What stands beside the rows.
@@ -124,8 +156,16 @@ impl Row for ListedObject {
 
     fn print(&self, printer: &mut Printer) -> Result<(), AllocError> {
         let tag = quoted(&self.facts.tag);
-        printer.row(&object_fields(self, text_of(&tag)))?;
+        printer.row(&object_fields(self, text_of(tag.as_slice())))?;
         Ok(())
+    }
+}
+
+impl Bounded for ListedObject {
+    #[tactic(auto, using(crate::proofs::RowLemmas::object_row_room))]
+    fn room(&self) -> usize {
+        known_of(&self.facts.tag, self.facts.size);
+        room_of_object(self.key.as_bytes().len())
     }
 }
 
@@ -136,6 +176,27 @@ impl Row for Text {
         printer.row(&prefix_fields(self))?;
         Ok(())
     }
+}
+
+impl Bounded for Text {
+    #[tactic(auto, using(crate::proofs::RowLemmas::prefix_row_room))]
+    fn room(&self) -> usize {
+        room_of_prefix(self.as_bytes().len())
+    }
+}
+
+// The room for the row of an object with a key of so many bytes.
+fn room_of_object(key_len: usize) -> usize
+    ensures { IsRoomFor result (6 * key_len + 259) }
+{
+    room_of_text(key_len).saturating_add(ROW_MAX)
+}
+
+// The same of a common prefix.
+fn room_of_prefix(len: usize) -> usize
+    ensures { IsRoomFor result (6 * len + 17) }
+{
+    room_of_text(len).saturating_add(PREFIX_ROW_MAX)
 }
 
 fn object_fields<'a>(object: &'a ListedObject, tag: &'a str) -> [Field<'a>; 4]
@@ -169,6 +230,20 @@ fn prefix_fields(prefix: &Text) -> [Field<'_>; 1]
         name: "Prefix",
         value: Leaf::Text(text_told(prefix)),
     }]
+}
+
+// The token that was asked for and that of the next page, in hexadecimal digits.
+fn digits_of(
+    alloc: Global,
+    asked: &ObjectsAsked,
+    page: &ObjectPage,
+) -> Result<(Option<String>, Option<String>), AllocError>
+    ensures token { IfOk result (λ told. option_map text_kept told.0 ≡ option_map token_told asked.now.token) }
+    ensures next { IfOk result (λ told. option_map text_kept told.1 ≡ option_map token_told page.now.next) }
+{
+    let token = hexadecimal(alloc, asked.token.as_ref())?;
+    let next = hexadecimal(alloc, page.next())?;
+    Ok((token, next))
 }
 
 // The bytes of a text in hexadecimal digits, if there is one.
@@ -214,29 +289,4 @@ fn count_of(page: &ObjectPage) -> u64
     ensures { result ≡ key_count page.now }
 {
     page.contents().len() as u64 + page.prefixes().len() as u64
-}
-
-// How many bytes the document has, or nearly so.
-fn room_for(prefixes: &[Text], contents: &[ListedObject]) -> usize {
-    let rows = prefixes.len().saturating_add(contents.len());
-    let texts = room_for_prefixes(prefixes).saturating_add(room_for_keys(contents));
-    rows.saturating_mul(ROW_MAX)
-        .saturating_add(texts)
-        .saturating_add(FRAME)
-}
-
-fn room_for_keys(objects: &[ListedObject]) -> usize {
-    let mut room = 0usize;
-    for object in objects {
-        room = room.saturating_add(object.key.as_bytes().len());
-    }
-    room
-}
-
-fn room_for_prefixes(prefixes: &[Text]) -> usize {
-    let mut room = 0usize;
-    for prefix in prefixes {
-        room = room.saturating_add(prefix.as_bytes().len());
-    }
-    room
 }

@@ -1,9 +1,9 @@
 //! Documents as they are printed: token by token, without a tree of values.
-ghost use Rattle.std.specs.Prelude.{◌≡◌, IsAscii, IsUtf8, ℕ, List, [], ◌∷◌, ◌++◌, map, decimal, IfOk, OnOk};
+ghost use Rattle.std.specs.Prelude.{◌≡◌, ◌≤◌, ◌<◌, ◌+◌, IsAscii, IsUtf8, ℕ, List, [], ◌∷◌, ◌++◌, map, decimal, vec_capacity, IfOk, OnOk, OnErr, MatchResult};
 ghost use Rattle.json.specs.Token as json;
 ghost use Rattle.s3_documents.specs.Timestamp.{timestamp};
 ghost use Rattle.s3_documents.specs.Tree.{Fields, Tree, leaves, rows, tree_text};
-ghost use Rattle.s3_documents.specs.Printed.{fields_tokens, row_tokens, all_tokens, begun, field_of, fields_of};
+ghost use Rattle.s3_documents.specs.Printed.{fields_tokens, row_tokens, all_tokens, branches_tokens, begun, field_of, fields_of, TakesRoom};
 
 use crate::timestamp::timestamp;
 use json::Writer;
@@ -36,25 +36,27 @@ pub trait Row {
 
     /// Prints the row: a call of `Printer::row` with its fields.
     fn print(&self, printer: &mut Printer) -> Result<(), AllocError>
-        ensures { OnOk result (printer.new ≡ printer.old ++ row_tokens (told self.now)) };
+        ensures tokens { OnOk result (printer.new.tokens ≡ printer.old.tokens ++ row_tokens (told self.now)) }
+        ensures room { TakesRoom result printer.old.spare printer.new.spare (row_tokens (told self.now)) };
 }
 
-/// A document that is printed: an object, of which all but the last brace stands there. A contract sees it as the
-/// tokens so far. After an error nothing is known of them, and the document is given up.
+/// A document that is printed: an object, of which all but the last brace stands there. A contract sees the tokens so
+/// far, and the room that is left for more without taking memory. After an error nothing is known of the tokens, and
+/// the document is given up.
 #[derive(Drop)]
 pub struct Printer {
     writer: Writer,
 }
 
 impl Model for Printer {
-    ghost use Rattle.std.specs.Prelude.{◌≡◌, List, []};
-    ghost use Rattle.json.specs.Token.{Token, tokens_code};
+    ghost use Rattle.std.specs.Prelude.{◌≡◌, []};
+    ghost use Rattle.json.specs.Written.{Written, written_code};
 
-    ghost Value = { List Token };
+    ghost Value = { Written };
 
-    ghost coded = { tokens_code };
+    ghost coded = { written_code };
 
-    ghost view = { λ p. p.writer.tokens };
+    ghost view = { λ p. p.writer };
 
     ghost invariant = { λ p. p.writer.before ≡ [] };
 }
@@ -63,26 +65,39 @@ impl Printer {
     /// A document that tells nothing yet, with room for that many bytes.
     #[tactic(auto, unfolding(crate::specs::Printed::begun))]
     pub fn new(alloc: Global, room: usize) -> Result<Printer, AllocError>
-        ensures { IfOk result (λ printer. printer ≡ begun []) }
+        ensures { IfOk result (λ printer. printer.tokens ≡ begun []) }
     {
-        let mut writer = Writer::new(Vec::with_capacity(alloc, room)?);
+        let room = Vec::with_capacity(alloc, room)?;
+        Ok(Printer::within(room)?)
+    }
+
+    // The same, in room that was taken before.
+    #[tactic(auto, unfolding(crate::specs::Printed::begun))]
+    pub(crate) fn within(room: Vec<u8>) -> Result<Printer, AllocError>
+        requires { room.items ≡ [] }
+        ensures tokens { IfOk result (λ printer. printer.tokens ≡ begun []) }
+        ensures room { MatchResult result (λ printer. vec_capacity room ≤ printer.spare + 2) (λ _. vec_capacity room < 2) }
+    {
+        let mut writer = Writer::new(room);
         writer.begin_object()?;
         Ok(Printer { writer })
     }
 
     /// Prints fields, those that tell nothing left out.
-    #[tactic(auto, using(crate::proofs::PrinterLemmas::fields_behind))]
+    #[tactic(auto, using(crate::proofs::PrinterLemmas::fields_behind, crate::proofs::RoomLemmas::leaves_room))]
     pub fn fields(&mut self, fields: &[Field<'_>]) -> Result<(), AllocError>
-        ensures { OnOk result ((tree : Tree) → self.old ≡ begun tree → self.new ≡ begun (tree ++ leaves (fields_of fields.now))) }
+        ensures tokens { OnOk result ((tree : Tree) → self.old.tokens ≡ begun tree → self.new.tokens ≡ begun (tree ++ leaves (fields_of fields.now))) }
+        ensures room { TakesRoom result self.old.spare self.new.spare (branches_tokens (leaves (fields_of fields.now))) }
     {
         self.put(fields)?;
         Ok(())
     }
 
     /// Prints rows under a name.
-    #[tactic(auto, using(crate::proofs::PrinterLemmas::rows_behind))]
+    #[tactic(auto, using(crate::proofs::PrinterLemmas::rows_behind, crate::proofs::RoomLemmas::rows_room))]
     pub fn rows<R: Row>(&mut self, name: &str, list: &[R]) -> Result<(), AllocError>
-        ensures { OnOk result ((tree : Tree) → self.old ≡ begun tree → self.new ≡ begun (tree ++ (name.now, rows (map R.told list.now)) ∷ [])) }
+        ensures tokens { OnOk result ((tree : Tree) → self.old.tokens ≡ begun tree → self.new.tokens ≡ begun (tree ++ (name.now, rows (map R.told list.now)) ∷ [])) }
+        ensures room { TakesRoom result self.old.spare self.new.spare (branches_tokens ((name.now, rows (map R.told list.now)) ∷ [])) }
     {
         self.writer.key(name)?;
         self.writer.begin_array()?;
@@ -92,9 +107,10 @@ impl Printer {
     }
 
     /// Prints a row of these fields.
-    #[tactic(auto, using(crate::proofs::PrinterLemmas::row_behind))]
+    #[tactic(auto, using(crate::proofs::PrinterLemmas::row_behind, crate::proofs::RoomLemmas::row_room))]
     pub fn row(&mut self, fields: &[Field<'_>]) -> Result<(), AllocError>
-        ensures { OnOk result (self.new ≡ self.old ++ row_tokens (fields_of fields.now)) }
+        ensures tokens { OnOk result (self.new.tokens ≡ self.old.tokens ++ row_tokens (fields_of fields.now)) }
+        ensures room { TakesRoom result self.old.spare self.new.spare (row_tokens (fields_of fields.now)) }
     {
         self.writer.begin_object()?;
         self.put(fields)?;
@@ -105,7 +121,8 @@ impl Printer {
     /// The text of the document, which tells what was printed.
     #[tactic(auto, using(crate::proofs::TokenLemmas::tree_prints))]
     pub fn finish(self) -> Result<Vec<u8>, AllocError>
-        ensures { IfOk result (λ text. (tree : Tree) → self ≡ begun tree → text.items ≡ tree_text tree) }
+        ensures text { IfOk result (λ text. (tree : Tree) → self.tokens ≡ begun tree → text.items ≡ tree_text tree) }
+        ensures room { OnErr result (self.spare < 2) }
     {
         let Printer { mut writer } = self;
         writer.end_object()?;
@@ -114,7 +131,8 @@ impl Printer {
 
     // The fields, without braces round them.
     fn put(&mut self, fields: &[Field<'_>]) -> Result<(), AllocError>
-        ensures { OnOk result (self.new ≡ self.old ++ fields_tokens (fields_of fields.now)) }
+        ensures tokens { OnOk result (self.new.tokens ≡ self.old.tokens ++ fields_tokens (fields_of fields.now)) }
+        ensures room { TakesRoom result self.old.spare self.new.spare (fields_tokens (fields_of fields.now)) }
     {
         for field in fields {
             self.field(field)?;
@@ -123,8 +141,10 @@ impl Printer {
     }
 
     // The rows, without brackets round them.
+    #[tactic(auto, using(crate::proofs::RoomLemmas::rows_from))]
     fn all<R: Row>(&mut self, list: &[R]) -> Result<(), AllocError>
-        ensures { OnOk result (self.new ≡ self.old ++ all_tokens (map R.told list.now)) }
+        ensures tokens { OnOk result (self.new.tokens ≡ self.old.tokens ++ all_tokens (map R.told list.now)) }
+        ensures room { TakesRoom result self.old.spare self.new.spare (all_tokens (map R.told list.now)) }
     {
         for row in list {
             row.print(self)?;
@@ -133,7 +153,8 @@ impl Printer {
     }
 
     fn field(&mut self, field: &Field<'_>) -> Result<(), AllocError>
-        ensures { OnOk result (self.new ≡ self.old ++ fields_tokens (field_of field.now)) }
+        ensures tokens { OnOk result (self.new.tokens ≡ self.old.tokens ++ fields_tokens (field_of field.now)) }
+        ensures room { TakesRoom result self.old.spare self.new.spare (fields_tokens (field_of field.now)) }
     {
         let name = field.name;
         match field.value {
@@ -146,28 +167,32 @@ impl Printer {
     }
 
     fn text(&mut self, name: &str, text: &str) -> Result<(), AllocError>
-        ensures { OnOk result (self.new ≡ self.old ++ json.key name.now ∷ json.string text.now ∷ []) }
+        ensures tokens { OnOk result (self.new.tokens ≡ self.old.tokens ++ json.key name.now ∷ json.string text.now ∷ []) }
+        ensures room { TakesRoom result self.old.spare self.new.spare (json.key name.now ∷ json.string text.now ∷ []) }
     {
         self.writer.key(name)?;
         self.writer.string(text)
     }
 
     fn number(&mut self, name: &str, number: u64) -> Result<(), AllocError>
-        ensures { OnOk result (self.new ≡ self.old ++ json.key name.now ∷ json.number (decimal number) ∷ []) }
+        ensures tokens { OnOk result (self.new.tokens ≡ self.old.tokens ++ json.key name.now ∷ json.number (decimal number) ∷ []) }
+        ensures room { TakesRoom result self.old.spare self.new.spare (json.key name.now ∷ json.number (decimal number) ∷ []) }
     {
         self.writer.key(name)?;
         self.writer.u64(number)
     }
 
     fn truth(&mut self, name: &str, truth: bool) -> Result<(), AllocError>
-        ensures { OnOk result (self.new ≡ self.old ++ json.key name.now ∷ json.boolean truth ∷ []) }
+        ensures tokens { OnOk result (self.new.tokens ≡ self.old.tokens ++ json.key name.now ∷ json.boolean truth ∷ []) }
+        ensures room { TakesRoom result self.old.spare self.new.spare (json.key name.now ∷ json.boolean truth ∷ []) }
     {
         self.writer.key(name)?;
         self.writer.boolean(truth)
     }
 
     fn moment(&mut self, name: &str, moment: Moment) -> Result<(), AllocError>
-        ensures { OnOk result (self.new ≡ self.old ++ json.key name.now ∷ json.string (timestamp moment) ∷ []) }
+        ensures tokens { OnOk result (self.new.tokens ≡ self.old.tokens ++ json.key name.now ∷ json.string (timestamp moment) ∷ []) }
+        ensures room { TakesRoom result self.old.spare self.new.spare (json.key name.now ∷ json.string (timestamp moment) ∷ []) }
     {
         let date = timestamp(moment);
         self.text(name, text_of(&date))

@@ -1,5 +1,6 @@
 //! Names, keys, tags and ids, as documents tell them.
-ghost use Rattle.std.specs.Prelude.{◌≡◌, IsUtf8};
+ghost use Rattle.std.specs.Prelude.{◌≡◌, ◌≤◌, ◌+◌, ◌++◌, length, IsUtf8};
+ghost use Rattle.arrayvec.specs.ArrayVec.{array_vec_len};
 ghost use Rattle.s3_names.specs.Ids.{version_id_text};
 ghost use Rattle.s3_documents.specs.Copied.{tag_told};
 ghost use Rattle.s3_documents.specs.VersionList.{marker_told};
@@ -9,8 +10,8 @@ use arrayvec::ArrayVec;
 use s3_listings::Text;
 use s3_names::{BucketName, Key, Tag, VersionId};
 
-/// A tag has so many bytes, with its double quotes.
-const TAG_LEN: usize = 34;
+/// No tag is longer, with its double quotes.
+const TAG_MAX: usize = 40;
 
 /// No id is longer.
 pub(crate) const ID_MAX: usize = 17;
@@ -39,13 +40,24 @@ pub(crate) fn text_told(text: &Text) -> &str
 
 /// A tag, in double quotes.
 #[tactic(auto, using(crate::proofs::CopiedLemmas::tag_utf8))]
-pub(crate) fn quoted(tag: &Tag) -> [u8; TAG_LEN]
-    ensures value { result ≡ tag_told tag.now }
-    ensures utf8 { IsUtf8 result }
+pub(crate) fn quoted(tag: &Tag) -> ArrayVec<u8, TAG_MAX>
+    ensures value { result.items ≡ tag_told tag.now }
+    ensures utf8 { IsUtf8 result.items }
 {
-    let mut told = [b'"'; TAG_LEN];
-    told[1..TAG_LEN - 1].copy_from_slice(&tag.text());
+    let mut told = ArrayVec::new();
+    put(&mut told, b"\"");
+    put(&mut told, tag.text().as_bytes());
+    put(&mut told, b"\"");
     told
+}
+
+/// Puts a text behind others, for which there is room.
+pub(crate) fn put<const MOST: usize>(told: &mut ArrayVec<u8, MOST>, text: &[u8])
+    requires { array_vec_len told.old + length text.now ≤ MOST }
+    ensures items { told.new.items ≡ told.old.items ++ text.now }
+    ensures len { array_vec_len told.new ≡ array_vec_len told.old + length text.now }
+{
+    let _fits = told.try_extend_from_slice(text);
 }
 
 /// The id of a version; an empty text where there is none.

@@ -1,61 +1,92 @@
 //! The list of a bucket's versions, as a document.
-ghost use Rattle.std.specs.Prelude.{◌≡◌, IfOk, IfSome, IsUtf8, option_map};
+ghost use Rattle.std.specs.Prelude.{◌≡◌, ◌+◌, ◌*◌, [], OnOk, IfSome, IsUtf8, option_map};
 ghost use Rattle.std.specs.Option.{option_copied};
 ghost use Rattle.s3_listings.specs.Pages.{next_of};
 ghost use Rattle.s3_names.specs.Ids.{version_id_text};
 ghost use Rattle.s3_documents.specs.Copied.{tag_told};
-ghost use Rattle.s3_documents.specs.Printed.{fields_of, value_of};
-ghost use Rattle.s3_documents.specs.Tree.{tree_text};
-ghost use Rattle.s3_documents.specs.VersionList.{tag_of_facts, size_of_facts, version_fields, key_of_row, id_of_row, marker_told, versions_fields, rows_tree, versions_text};
+ghost use Rattle.s3_documents.specs.Printed.{branches_tokens, begun, fields_of, value_of, room_of, TakesRoom, IsRoomFor};
+ghost use Rattle.s3_documents.specs.VersionList.{tag_of_facts, size_of_facts, version_fields, key_of_row, id_of_row, marker_told, versions_fields, rows_tree, versions_tree};
 
 use crate::printer::{Field, Leaf, Printer, Row, text_of};
+use crate::reserved::Told;
+use crate::room::{Bounded, known_of, room_of_fields, room_of_rows, room_of_text};
 use crate::texts::{ID_MAX, id_told, key_told, name_told, quoted, text_told};
 use arrayvec::ArrayVec;
 use s3_listings::{VersionPage, VersionsAsked};
 use s3_names::BucketName;
 use s3_records::VersionRow;
-use s3_terms::NoMemory;
 use s3_versions::Facts;
-use std::alloc::{AllocError, Global};
+use std::alloc::AllocError;
 
-/// No row is longer, with its comma and without its key.
-const ROW_MAX: usize = 208;
+/// No row takes more room, beside that for its key.
+const ROW_MAX: usize = 413;
 
-/// What stands in front of the rows is seldom longer.
-const FRAME: usize = 1024;
-
-/// The document of a ListObjectVersions, as a text: what was asked, and the page that is told, of the bucket of this name.
-/// It takes time and memory for each row.
-pub fn versions_document(
-    alloc: Global,
-    name: &BucketName,
-    asked: &VersionsAsked,
-    page: &VersionPage,
-) -> Result<Vec<u8>, NoMemory>
-    ensures { IfOk result (λ text. text.items ≡ versions_text name.now asked.now page.now) }
-{
-    let next = next_row(page);
-    let behind = id_told(asked.id_marker);
-    let next_behind = row_id(next);
-    let fields = fields_told(
-        name,
-        asked,
-        page,
-        next,
-        text_of(&behind),
-        text_of(&next_behind),
-    );
-    Ok(printed(alloc, page.rows(), &fields)?)
+/// The document of a ListObjectVersions, for later: what was asked, and the page that is told, of the bucket of this
+/// name.
+#[derive(Drop)]
+pub(crate) struct VersionsList {
+    pub name: BucketName,
+    pub asked: VersionsAsked,
+    pub page: VersionPage,
 }
 
-// The document of these rows, behind these fields.
-fn printed(alloc: Global, list: &[VersionRow], fields: &[Field<'_>]) -> Result<Vec<u8>, AllocError>
-    ensures { IfOk result (λ text. text.items ≡ tree_text (rows_tree (fields_of fields.now) list.now)) }
+impl Told for VersionsList {
+    ghost tree = { λ list. versions_tree list.name list.asked list.page };
+
+    fn print(&self, printer: &mut Printer) -> Result<(), AllocError> {
+        let next = next_row(&self.page);
+        let behind = id_told(self.asked.id_marker);
+        let next_behind = row_id(next);
+        let fields = fields_told(
+            &self.name,
+            &self.asked,
+            &self.page,
+            next,
+            text_of(&behind),
+            text_of(&next_behind),
+        );
+        printed(printer, &fields, self.page.rows())
+    }
+
+    fn room(&self) -> usize {
+        let next = next_row(&self.page);
+        let behind = id_told(self.asked.id_marker);
+        let next_behind = row_id(next);
+        let fields = fields_told(
+            &self.name,
+            &self.asked,
+            &self.page,
+            next,
+            text_of(&behind),
+            text_of(&next_behind),
+        );
+        room_for(&fields, self.page.rows())
+    }
+}
+
+// Prints these fields, and these rows behind them.
+#[tactic(auto, using(crate::proofs::RowLemmas::rows_tree_room))]
+fn printed(
+    printer: &mut Printer,
+    fields: &[Field<'_>],
+    list: &[VersionRow],
+) -> Result<(), AllocError>
+    ensures tokens { OnOk result (printer.old.tokens ≡ begun []
+        → printer.new.tokens ≡ begun (rows_tree (fields_of fields.now) list.now)) }
+    ensures room { TakesRoom result printer.old.spare printer.new.spare
+        (branches_tokens (rows_tree (fields_of fields.now) list.now)) }
 {
-    let mut printer = Printer::new(alloc, room_for(list))?;
     printer.fields(fields)?;
     printer.rows("Versions", list)?;
-    printer.finish()
+    Ok(())
+}
+
+// The room for that.
+#[tactic(auto, using(crate::proofs::RowLemmas::rows_tree_room, crate::proofs::RoomLemmas::leaves_room))]
+fn room_for(fields: &[Field<'_>], list: &[VersionRow]) -> usize
+    ensures { IsRoomFor result (room_of (branches_tokens (rows_tree (fields_of fields.now) list.now))) }
+{
+    room_of_fields(fields).saturating_add(room_of_rows("Versions", list))
 }
 
 // What stands in front of the rows: `next` is the row behind which the next page goes on, and these are the texts of the
@@ -117,11 +148,28 @@ impl Row for VersionRow {
         match &self.facts {
             Some(facts) => {
                 let tag = quoted(&facts.tag);
-                printer.row(&row_fields(self, text_of(&tag), text_of(&id)))
+                printer.row(&row_fields(self, text_of(tag.as_slice()), text_of(&id)))
             }
             None => printer.row(&row_fields(self, "", text_of(&id))),
         }
     }
+}
+
+impl Bounded for VersionRow {
+    #[tactic(auto, using(crate::proofs::RowLemmas::version_row_room, crate::proofs::RowLemmas::marker_row_room))]
+    fn room(&self) -> usize {
+        if let Some(facts) = &self.facts {
+            known_of(&facts.tag, facts.size);
+        }
+        room_of_version(self.key.as_bytes().len())
+    }
+}
+
+// The room for the row of a version whose key has so many bytes.
+fn room_of_version(key_len: usize) -> usize
+    ensures { IsRoomFor result (6 * key_len + 417) }
+{
+    room_of_text(key_len).saturating_add(ROW_MAX)
 }
 
 fn row_fields<'a>(row: &'a VersionRow, tag: &'a str, id: &'a str) -> [Field<'a>; 7]
@@ -222,13 +270,4 @@ fn id_leaf<'a>(row: Option<&'a VersionRow>, text: &'a str) -> Leaf<'a>
         Some(_) => Leaf::Text(text),
         None => Leaf::Absent,
     }
-}
-
-// How many bytes the document has, or nearly so.
-fn room_for(list: &[VersionRow]) -> usize {
-    let mut room = FRAME;
-    for row in list {
-        room = room.saturating_add(ROW_MAX + row.key.as_bytes().len());
-    }
-    room
 }

@@ -1,5 +1,5 @@
 -- Filters of lists, and of lists that are joined.
-use Rattle.std.proofs.Common.{◌≡◌, ◌⊎◌, inl, inr, refl, sym, ap, subst, ◌∙◌, Bool, true, false, cond, ℕ, zero, suc, ◌+◌, ◌<◌, ◌≤◌, List, [], ◌∷◌, ◌++◌, filter, take, length, arith}
+use Rattle.std.proofs.Common.{◌≡◌, ◌⊎◌, inl, inr, refl, sym, ap, subst, ◌∙◌, Bool, true, false, cond, ℕ, zero, suc, ◌<◌, ◌≤◌, List, [], ◌∷◌, ◌++◌, filter, take, length, arith}
 use Rattle.std.specs.List.{flat_map, take_while}
 use Rattle.std.proofs.lemmas.Bool.{false≢true, cases_Bool, false_from_ne_true}
 use Rattle.std.proofs.lemmas.List.Elements.{filter-append}

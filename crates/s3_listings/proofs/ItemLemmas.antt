@@ -1,5 +1,5 @@
 -- As which items the keys of a list are told, and in which order these stand.
-use Rattle.std.proofs.Common.{◌≡◌, ◌⊎◌, inl, inr, refl, sym, ap, subst, ◌∙◌, true, false, cond, ℕ, ◌+◌, ◌≤◌, List, [], ◌∷◌, ◌++◌, drop, length, Some, None, option_map, ◌==◌, nat_eq, append_assoc, append-nil, arith}
+use Rattle.std.proofs.Common.{◌≡◌, ◌⊎◌, inl, inr, refl, sym, ap, subst, ◌∙◌, true, false, cond, ℕ, ◌≤◌, List, [], ◌∷◌, ◌++◌, drop, length, Some, None, option_map, ◌==◌, nat_eq, append_assoc, append-nil, arith}
 use Rattle.std.specs.List.{starts_with}
 use Rattle.std.specs.Cmp.{unsigned_Decides}
 use Rattle.std.specs.Ordering.{is_lt, ordering_then}

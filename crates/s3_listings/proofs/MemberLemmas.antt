@@ -1,5 +1,5 @@
 -- The members of lists, and lists that rise.
-use Rattle.std.proofs.Common.{◌≡◌, ◌≢◌, ◌⊎◌, inl, inr, refl, sym, ap, subst, ◌∙◌, Bool, true, false, cond, ℕ, zero, suc, ◌+◌, ◌<◌, List, [], ◌∷◌, ◌++◌, map, filter, take, not, ◌==◌, nat_lt, ◌≤◌, Option, Some, None, ◌&&◌, arith, Contains}
+use Rattle.std.proofs.Common.{◌≡◌, ◌≢◌, ◌⊎◌, inl, inr, refl, sym, ap, subst, ◌∙◌, Bool, true, false, cond, ℕ, zero, suc, ◌<◌, List, [], ◌∷◌, ◌++◌, map, filter, take, not, ◌==◌, nat_lt, ◌≤◌, Option, Some, None, ◌&&◌, arith, Contains}
 use Rattle.std.specs.List.{AllByRecursion, filter_map, cons_option, dedup, dedup_from}
 use Rattle.std.specs.Str.{bytes_eq}
 use Rattle.std.specs.Cmp.Lexicographic.{bytes_decides}

@@ -18,7 +18,8 @@ use Rattle.s3_records.specs.declared.rows.KeyRow.{KeyRow}
 use Rattle.s3_listings.specs.declared.asked.ObjectsAsked.{ObjectsAsked}
 use Rattle.s3_listings.specs.Objects.{Item, text_of, is_before, up_to_first, rolled_up, common_prefix, is_asked, rolled, item_of, is_same}
 use Rattle.s3_listings.specs.Drafts.{first_rolled, is_last, distinct}
-use Rattle.s3_listings.proofs.SeekLemmas.{before_trans, up_to_before, not_both, not_before_front, between, not_itself}
+use Rattle.s3_listings.proofs.OrderLemmas.{before_trans, up_to_before, not_back}
+use Rattle.s3_listings.proofs.SeekLemmas.{not_before_front, between, not_itself}
 
 -- ---- items
 
@@ -187,13 +188,13 @@ text_not_behind prefix delimiter key begun = text_up_to prefix delimiter key (ro
 -- and isn't before that of a key before
 text_rising : (prefix delimiter k l : List ℕ) (o : Option (List ℕ)) → starts_with nat_eq k prefix ≡ true → starts_with nat_eq l prefix ≡ true → is_before k l ≡ true → rolled_up prefix delimiter l ≡ o → is_before (unwrap_or o l) (text_for prefix delimiter k) ≡ false
 text_rising prefix delimiter k l None kb lb below is =
-    not_both (text_for prefix delimiter k) l (up_to_before (text_for prefix delimiter k) k l (text_not_behind prefix delimiter k kb) below)
+    not_back (text_for prefix delimiter k) l (up_to_before (text_for prefix delimiter k) k l (text_not_behind prefix delimiter k kb) below)
 text_rising prefix delimiter k l (Some p) kb lb below is = ⊎_elim
-    (λ before. not_both (text_for prefix delimiter k) p (up_to_before (text_for prefix delimiter k) k p (text_not_behind prefix delimiter k kb) before))
+    (λ before. not_back (text_for prefix delimiter k) p (up_to_before (text_for prefix delimiter k) k p (text_not_behind prefix delimiter k kb) before))
     (λ from.
     let t = drop (length p) l in
     let l_is = common_begins prefix delimiter l p lb is in
-    let k_is = between p [] t k (ap (is_before k) (append-nil p) ∙ from) (ap (λ r. is_before r k) (sym l_is) ∙ not_both k l below) in
+    let k_is = between p [] t k (ap (is_before k) (append-nil p) ∙ from) (ap (λ r. is_before r k) (sym l_is) ∙ not_back k l below) in
     let same : rolled_up prefix delimiter k ≡ Some p = ap (rolled_up prefix delimiter) k_is ∙ common_again prefix delimiter l p (drop (length p) k) is in
     ap (λ o. is_before p (unwrap_or o k)) same ∙ not_itself p)
     (cases_Bool (is_before k p))

@@ -1,5 +1,5 @@
 -- The laws of lists of objects.
-use Rattle.std.proofs.Common.{◌≡◌, ◌⊎◌, inl, inr, refl, sym, ap, subst, ◌∙◌, Bool, true, ℕ, ◌<◌, List, [], ◌++◌, filter, take, drop, Option, Some, None, is_some, nat_eq, if◌then◌else◌}
+use Rattle.std.proofs.Common.{◌≡◌, ◌⊎◌, inl, inr, refl, sym, ap, subst, ◌∙◌, Bool, true, ℕ, ◌<◌, List, ◌++◌, filter, take, drop, Option, Some, None, is_some, nat_eq, if◌then◌else◌}
 use Rattle.std.specs.List.{starts_with, filter_map, dedup}
 use Rattle.std.specs.Option.{option_map_or}
 use Rattle.std.proofs.lemmas.Bool.{and_parts, and_from}

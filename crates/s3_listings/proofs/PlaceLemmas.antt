@@ -13,7 +13,8 @@ use Rattle.s3_records.specs.declared.rows.Start.TheVariants.{From, Behind}
 use Rattle.s3_listings.specs.declared.asked.ObjectsAsked.{ObjectsAsked}
 use Rattle.s3_listings.specs.Objects.{Item, CommonPrefix, text_of, is_before, common_prefix, is_asked, is_behind_start, rolled, item_of}
 use Rattle.s3_listings.specs.Drafts.{behind_token, is_last, AddsNothing, GoesBehind, IsDone, IsRaised, limit}
-use Rattle.s3_listings.proofs.SeekLemmas.{up_to, up_to_before, before_up_to, not_both, not_before_front, not_true, between, raised_behind, below_raised}
+use Rattle.s3_listings.proofs.OrderLemmas.{up_to_order, up_to_before, before_up_to, not_back}
+use Rattle.s3_listings.proofs.SeekLemmas.{not_before_front, not_true, between, raised_behind, below_raised}
 use Rattle.s3_listings.proofs.ObjectLemmas.{begins, begins_with, common_begins, common_again, text_not_behind, told_by}
 
 -- what follows where a call answered, and where it found something
@@ -90,7 +91,7 @@ not_false false h = absurd (cc)
 pub from_front : (text key : List ℕ) (other : List ℕ) → starts_with nat_eq text key ≡ true → is_from (From key) other ≡ false → is_before other text ≡ true
 from_front text key other begun before =
     let above : is_before text key ≡ false = ap (λ t. is_before t key) (begins text key begun) ∙ not_before_front key (drop (length key) text) in
-    before_up_to other key text (not_false (is_before other key) (sym (up_to key other) ∙ before)) above
+    before_up_to other key text (not_false (is_before other key) (sym (up_to_order key other) ∙ before)) above
 
 pub behind_front : (text key : List ℕ) (other : List ℕ) → starts_with nat_eq text key ≡ true → is_from (Behind key) other ≡ false → is_before text other ≡ false
 behind_front text key other begun up_to_it = ⊎_elim
@@ -119,8 +120,8 @@ goes_nowhere asked key last past = record {
   passed = λ row behind before. ⊎_elim
       (λ begun.
       let p = both _ _ past in
-      let key_is = between asked.prefix [] (drop (length asked.prefix) row.key) key (ap (is_before key) (append-nil asked.prefix) ∙ not_both asked.prefix key p.0)
-      (ap (λ k. is_before k key) (sym (begins row.key asked.prefix begun)) ∙ not_both key row.key behind) in
+      let key_is = between asked.prefix [] (drop (length asked.prefix) row.key) key (ap (is_before key) (append-nil asked.prefix) ∙ not_back asked.prefix key p.0)
+      (ap (λ k. is_before k key) (sym (begins row.key asked.prefix begun)) ∙ not_back key row.key behind) in
       absurd (false≢true (sym (not_true (starts_with nat_eq key asked.prefix) p.1) ∙ begins_with key asked.prefix (drop (length asked.prefix) key) key_is)))
       (λ apart. untold_apart asked row last apart)
       (cases_Bool (starts_with nat_eq row.key asked.prefix));
@@ -171,10 +172,10 @@ goes_over asked key prefix first last is raised =
     common_begins asked.prefix asked.delimiter key prefix is.begun is.common ∙ ap (λ p. p ++ rest) raised.2 ∙ append_assoc front (byte ∷ []) rest in
     let below : is_before key first ≡ true = ap (λ k. is_before k first) key_is ∙ ap (is_before (front ++ byte ∷ rest)) raised.3 ∙ raised_behind front rest byte in
     record {
-      behind = λ other up_to_it. up_to first other ∙ ap not (up_to_before other key first up_to_it below);
+      behind = λ other up_to_it. up_to_order first other ∙ ap not (up_to_before other key first up_to_it below);
       passed = λ row behind before.
-          let low : is_before row.key (front ++ byte ∷ rest) ≡ false = ap (is_before row.key) (sym key_is) ∙ not_both key row.key behind in
-          let high : is_before row.key (front ++ (byte + 1) ∷ []) ≡ true = ap (is_before row.key) (sym raised.3) ∙ not_false (is_before row.key first) (sym (up_to first row.key) ∙ before) in
+          let low : is_before row.key (front ++ byte ∷ rest) ≡ false = ap (is_before row.key) (sym key_is) ∙ not_back key row.key behind in
+          let high : is_before row.key (front ++ (byte + 1) ∷ []) ≡ true = ap (is_before row.key) (sym raised.3) ∙ not_false (is_before row.key first) (sym (up_to_order first row.key) ∙ before) in
           let row_is = below_raised front rest row.key byte low high in
           let more = drop (length (front ++ byte ∷ [])) row.key in
           let common : common_prefix asked row.key ≡ Some prefix =

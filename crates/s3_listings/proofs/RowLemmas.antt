@@ -17,8 +17,9 @@ use Rattle.s3_records.specs.declared.rows.Start.TheVariants.{First, From, Behind
 use Rattle.s3_listings.specs.declared.asked.ObjectsAsked.{ObjectsAsked}
 use Rattle.s3_listings.specs.Pages.{page_of}
 use Rattle.s3_listings.specs.Objects.{Item, text_of, object_in, prefix_in, is_before, item_of, is_behind_token, objects_asked, objects_told, told_of}
-use Rattle.s3_listings.specs.Drafts.{behind_token, told, is_last, distinct, Drafted, page_of_draft, with_distinct, with_items, with_rows, no_items, last_in, goes_on_at, left_from, AddsNothing, GoesBehind, batch, steps_left, TakesBatch, Begins}
-use Rattle.s3_listings.proofs.SeekLemmas.{before_trans, up_to, up_to_before, before_up_to, not_both, not_true, not_itself}
+use Rattle.s3_listings.specs.Drafts.{behind_token, told, is_last, distinct, Drafted, page_of_draft, with_distinct, with_items, with_rows, no_items, last_in, goes_on_at, left_from, AddsNothing, GoesBehind, steps_left, TakesBatch, Begins}
+use Rattle.s3_listings.proofs.OrderLemmas.{before_trans, up_to_order, up_to_before, before_up_to, not_back}
+use Rattle.s3_listings.proofs.SeekLemmas.{not_true, not_itself}
 use Rattle.s3_listings.proofs.ObjectLemmas.{dedup-is, filter-distinct, StaysPassed, AllPass, told_by, text_rises, last_again, AllBehind, Rising, rising}
 use Rattle.s3_listings.proofs.DraftLemmas.{no_more, full}
 
@@ -116,7 +117,7 @@ nothing_asked asked rows none = sym (ap (λ most. told_of (page_of most (objects
 -- ---- where a list goes on
 
 is_le-lt : (a b c : List ℕ) → is_le (byte_order a b) ≡ true → is_before b c ≡ true → is_le (byte_order a c) ≡ true
-is_le-lt a b c ab bc = up_to a c ∙ ap not (not_both a c (up_to_before a b c (not_true (is_before b a) (sym (up_to a b) ∙ ab)) bc))
+is_le-lt a b c ab bc = up_to_order a c ∙ ap not (not_back a c (up_to_before a b c (not_true (is_before b a) (sym (up_to_order a b) ∙ ab)) bc))
 
 -- what is behind a key from a place on is from there on too
 pub from_up : (start : Start) (a b : List ℕ) → is_from start a ≡ true → is_before a b ≡ true → is_from start b ≡ true
@@ -159,7 +160,7 @@ AllUpTo key rows = AllByRecursion (λ (row : KeyRow). is_before key row.key ≡ 
 -- the rows in front of one in a rising list, and those behind it
 all_front : (front : List KeyRow) (row : KeyRow) (rest : List KeyRow) → Rising (front ++ row ∷ rest) → AllUpTo row.key front
 all_front [] row rest rises = tt
-all_front (next ∷ front) row rest rises = (not_both next.key row.key (middle front row rest next.key rises.0), all_front front row rest rises.1)
+all_front (next ∷ front) row rest rises = (not_back next.key row.key (middle front row rest next.key rises.0), all_front front row rest rises.1)
   where
     middle : (front : List KeyRow) (row : KeyRow) (rest : List KeyRow) (key : List ℕ) → AllBehind key (front ++ row ∷ rest) → is_before key row.key ≡ true
     middle [] row rest key all = all.0
@@ -335,16 +336,16 @@ some_mapped : {A B : Type 0} (f : A → B) (o : Option A) (y : B) → option_map
 some_mapped f None y is = absurd (cc)
 some_mapped f (Some x) y is = (x, refl, cc)
 
-pub took_batch : (asked : ObjectsAsked) (before after : Drafted) (rows all : List KeyRow) (key : List ℕ) (start : Start) (next : Option Start)
-    → ((rest : List KeyRow) → with_rows asked after rest ≡ with_rows asked before (rows ++ rest)) → rows ≡ take batch (left_from (Some start) all)
+pub took_batch : (asked : ObjectsAsked) (before after : Drafted) (most : ℕ) (rows all : List KeyRow) (key : List ℕ) (start : Start) (next : Option Start)
+    → ((rest : List KeyRow) → with_rows asked after rest ≡ with_rows asked before (rows ++ rest)) → rows ≡ take most (left_from (Some start) all)
     → rises (map (λ (row : KeyRow). row.key) all) ≡ true → option_map (λ (row : KeyRow). row.key) (last_in rows) ≡ Some key → GoesBehind asked key after.last next
     → TakesBatch asked before after (Some start) next all
-took_batch asked before after rows all key start next took is rise at goes =
+took_batch asked before after most rows all key start next took is rise at goes =
     let last = some_mapped (λ (row : KeyRow). row.key) (last_in rows) key at in
     let goes_row : GoesBehind asked last.0.key after.last next = subst (λ k. GoesBehind asked k after.last next) (sym last.2) goes in
     record {
-      page = took_more asked before after batch rows all last.0 (Some start) next took is (rising all rise) last.1 goes_row;
-      fewer = fewer_steps next (fewer_left asked after.last batch rows all last.0 (Some start) next is (rising all rise) last.1 goes_row);
+      page = took_more asked before after most rows all last.0 (Some start) next took is (rising all rise) last.1 goes_row;
+      fewer = fewer_steps next (fewer_left asked after.last most rows all last.0 (Some start) next is (rising all rise) last.1 goes_row);
     }
   where
     fewer_steps : (next : Option Start) → length (left_from next all) < length (left_from (Some start) all) → steps_left next all < steps_left (Some start) all
@@ -356,15 +357,15 @@ pub took_last : (asked : ObjectsAsked) (before after : Drafted) (all : List KeyR
 took_last asked before after all start page = record { page = page; fewer = omega arith }
 
 -- where there is no key for more, all were taken
-pub took_few : (asked : ObjectsAsked) (before after : Drafted) (rows all : List KeyRow) (start : Start)
-    → ((rest : List KeyRow) → with_rows asked after rest ≡ with_rows asked before (rows ++ rest)) → rows ≡ take batch (left_from (Some start) all) → length rows < batch
+pub took_few : (asked : ObjectsAsked) (before after : Drafted) (most : ℕ) (rows all : List KeyRow) (start : Start)
+    → ((rest : List KeyRow) → with_rows asked after rest ≡ with_rows asked before (rows ++ rest)) → rows ≡ take most (left_from (Some start) all) → length rows < most
     → TakesBatch asked before after (Some start) None all
-took_few asked before after rows all start took is few = took_last asked before after all start (took_all asked before after batch rows all (Some start) took is few)
+took_few asked before after most rows all start took is few = took_last asked before after all start (took_all asked before after most rows all (Some start) took is few)
 
-pub took_full : (asked : ObjectsAsked) (before after : Drafted) (rows all : List KeyRow) (start : Start)
-    → ((rest : List KeyRow) → with_rows asked after rest ≡ with_rows asked before (rows ++ rest)) → rows ≡ take batch (left_from (Some start) all) → after.is_truncated ≡ true
+pub took_full : (asked : ObjectsAsked) (before after : Drafted) (most : ℕ) (rows all : List KeyRow) (start : Start)
+    → ((rest : List KeyRow) → with_rows asked after rest ≡ with_rows asked before (rows ++ rest)) → rows ≡ take most (left_from (Some start) all) → after.is_truncated ≡ true
     → TakesBatch asked before after (Some start) None all
-took_full asked before after rows all start took is is_full = took_last asked before after all start (took_enough asked before after batch rows all (Some start) took is is_full)
+took_full asked before after most rows all start took is is_full = took_last asked before after all start (took_enough asked before after most rows all (Some start) took is is_full)
 
 -- after the last batch nothing is left
 pub took_last_batch : (asked : ObjectsAsked) (first before after : Drafted) (begin start : Start) (next : Option Start) (all rows : List KeyRow)

@@ -1,59 +1,16 @@
 -- Texts that begin alike stand together in the order of texts.
-use Rattle.std.proofs.Common.{◌≡◌, ℕ, ◌+◌, ◌<◌, Bool, true, false, not, List, [], ◌∷◌, ◌++◌, length, drop, refl, sym, ap, ◌∙◌, arith, subst, ⊎_elim}
+use Rattle.std.proofs.Common.{◌≡◌, ℕ, ◌+◌, ◌<◌, Bool, true, false, not, List, [], ◌∷◌, ◌++◌, length, drop, refl, sym, ap, ◌∙◌, arith, ⊎_elim}
 use Rattle.std.specs.declared.cmp.Ordering.{Ordering}
 use Rattle.std.specs.declared.cmp.Ordering.TheVariants.{Less, Equal, Greater}
-use Rattle.std.specs.Ordering.{ordering_reverse, ordering_then, is_lt, is_le, nat_cmp}
+use Rattle.std.specs.Ordering.{ordering_then, is_lt, nat_cmp}
 use Rattle.std.proofs.lemmas.Cmp.{nat_list_cmp_total, tied_itself, nat_cmp_total}
 use Rattle.std.proofs.lemmas.Bool.{cases_order, false≢true}
-use Rattle.std.proofs.lemmas.Map.Lookups.{exact_bytes}
 use Rattle.s3_text.specs.Order.{byte_order}
 use Rattle.s3_listings.specs.Objects.{is_before}
-
--- what an order says backwards
-is_lt-less : (o : Ordering) → is_lt o ≡ true → o ≡ Less
-is_lt-less Less h = refl
-is_lt-less Equal h = absurd (cc)
-is_lt-less Greater h = absurd (cc)
-
-is_le-reverse : (o : Ordering) → is_le (ordering_reverse o) ≡ not (is_lt o)
-is_le-reverse Less = refl
-is_le-reverse Equal = refl
-is_le-reverse Greater = refl
-
--- up to a text is what isn't behind it
-pub up_to : (a b : List ℕ) → is_le (byte_order a b) ≡ not (is_before b a)
-up_to a b = ap is_le (nat_list_cmp_total.antisymm a b) ∙ is_le-reverse (byte_order b a)
 
 pub not_true : (b : Bool) → not b ≡ true → b ≡ false
 not_true true h = absurd (cc)
 not_true false h = refl
-
-pub before_trans : (a b c : List ℕ) → is_before a b ≡ true → is_before b c ≡ true → is_before a c ≡ true
-before_trans a b c ab bc =
-    ap is_lt (nat_list_cmp_total.trans a b c (is_lt-less (byte_order a b) ab) (is_lt-less (byte_order b c) bc))
-
--- a text isn't before another: it is the other, or behind it
-split_behind : {G : Type 0} (a b : List ℕ) (o : Ordering) → byte_order a b ≡ o → is_lt o ≡ false → (a ≡ b → G) → (is_before b a ≡ true → G) → G
-split_behind a b Less is h same behind = absurd (cc)
-split_behind a b Equal is h same behind = same (exact_bytes a b is)
-split_behind a b Greater is h same behind = behind (ap is_lt (nat_list_cmp_total.antisymm b a ∙ ap ordering_reverse is))
-
-pub by_behind : {G : Type 0} (a b : List ℕ) → is_before a b ≡ false → (a ≡ b → G) → (is_before b a ≡ true → G) → G
-by_behind a b h same behind = split_behind a b (byte_order a b) refl h same behind
-
-pub up_to_before : (a b c : List ℕ) → is_before b a ≡ false → is_before b c ≡ true → is_before a c ≡ true
-up_to_before a b c ab bc = by_behind b a ab (λ same. subst (λ t. is_before t c ≡ true) same bc) (λ before. before_trans a b c before bc)
-
-pub before_up_to : (a b c : List ℕ) → is_before a b ≡ true → is_before c b ≡ false → is_before a c ≡ true
-before_up_to a b c ab bc = by_behind c b bc (λ same. subst (λ t. is_before a t ≡ true) (sym same) ab) (λ before. before_trans a b c ab before)
-
-flip : (o : Ordering) → is_lt o ≡ true → is_lt (ordering_reverse o) ≡ false
-flip Less h = refl
-flip Equal h = absurd (cc)
-flip Greater h = absurd (cc)
-
-pub not_both : (a b : List ℕ) → is_before a b ≡ true → is_before b a ≡ false
-not_both a b ab = ap is_lt (nat_list_cmp_total.antisymm b a) ∙ flip (byte_order a b) ab
 
 pub not_itself : (a : List ℕ) → is_before a a ≡ false
 not_itself a = ap is_lt (tied_itself nat_list_cmp_total a)

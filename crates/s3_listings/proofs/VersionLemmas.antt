@@ -1,14 +1,12 @@
 -- The rows of the versions of a bucket, from a place on.
-use Rattle.std.proofs.Common.{◌≡◌, ◌≢◌, inl, inr, refl, sym, ap, subst, ◌∙◌, Bool, true, false, not, cond, ℕ, zero, suc, ◌+◌, ◌<◌, List, [], ◌∷◌, ◌++◌, filter, take, drop, length, get_or, All, Option, Some, None, Result, Ok, Err, IfOk, IfSome, nat_eq, if◌then◌else◌, slice_get, arith, append-nil}
+use Rattle.std.proofs.Common.{◌≡◌, ◌≢◌, inl, inr, refl, sym, ap, subst, ◌∙◌, Bool, true, false, not, cond, ℕ, zero, suc, ◌<◌, List, [], ◌∷◌, ◌++◌, filter, take, drop, length, get_or, All, Option, Some, None, Result, Ok, Err, IfOk, IfSome, nat_eq, if◌then◌else◌, slice_get, arith, append-nil}
 use Rattle.std.specs.List.{AllWithin, flat_map, take_while, starts_with}
 use Rattle.std.specs.Ordering.{is_lt}
 use Rattle.std.specs.Str.{bytes_eq}
 use Rattle.std.specs.Cmp.Lexicographic.{bytes_decides}
 use Rattle.std.specs.Cmp.{both_ways}
 use Rattle.std.specs.FinMap.{get}
-use Rattle.std.proofs.lemmas.List.{take-append-drop}
 use Rattle.std.proofs.lemmas.List.Sums.{take_while-cons}
-use Rattle.std.proofs.lemmas.Option.{none-some, same_Some}
 use Rattle.std.proofs.lemmas.Bool.{false≢true, cases_Bool, false_from_ne_true, true_from_ne_false, not-true}
 use Rattle.s3_text.specs.Order.{byte_order}
 use Rattle.s3_names.specs.declared.ids.VersionId.{VersionId}

@@ -1,5 +1,6 @@
--- The law of lists of versions.
-use Rattle.std.proofs.Common.{◌≡◌, sym, ap, ◌∙◌, ℕ, ◌<◌, List, [], ◌∷◌, ◌++◌, filter, take, drop, Some, append_assoc}
+-- The last row of a page, and the law of lists of versions.
+use Rattle.std.proofs.Common.{◌≡◌, refl, sym, ap, ◌∙◌, ℕ, ◌<◌, ◌-◌, List, [], ◌∷◌, ◌++◌, length, filter, take, drop, Some, None, append_assoc, arith}
+use Rattle.std.specs.List.{last_or, slice_get}
 use Rattle.std.proofs.lemmas.List.{take-append-drop}
 use Rattle.s3_records.specs.Catalogue.{Catalogue}
 use Rattle.s3_records.specs.Laws.{AreCatalogued}
@@ -11,6 +12,15 @@ use Rattle.s3_listings.specs.Versions.{marked, is_asked, versions_asked, version
 use Rattle.s3_listings.specs.Laws.{Joins, behind_row, VersionPagesJoin}
 use Rattle.s3_listings.proofs.BehindLemmas.{FilterCut, filter_cut, last_cut, versions_follow}
 use Rattle.s3_listings.proofs.JoinLemmas.{page_joins, all_join}
+
+-- the last of some rows, by its place
+last_behind : {A : Type 0} (x : A) (xs : List A) → slice_get (x ∷ xs) (length xs) ≡ last_or (Some x) xs
+last_behind x [] = refl
+last_behind x (y ∷ ys) = last_behind y ys
+
+pub last_is : {A : Type 0} (xs : List A) → slice_get xs (length xs - 1) ≡ last_or None xs
+last_is [] = refl
+last_is (x ∷ xs) = ap (slice_get (x ∷ xs)) (omega arith) ∙ last_behind x xs
 
 -- what is asked for behind the last row of a page is what the page leaves
 version_rest : {B : Type 0} (asked : VersionsAsked) (c : Catalogue B) (name : List ℕ) (last : VersionRow) → AreCatalogued c → last_of (take asked.max_keys (versions_asked asked c name)) ≡ Some last

@@ -170,11 +170,7 @@ pub record TakesBatch (asked : ObjectsAsked) (before after : Drafted) (start nex
   pub page : with_rows asked after (left_from next all) ≡ with_rows asked before (left_from start all)
   pub fewer : steps_left next all < steps_left start all
 
--- so many rows are a batch
-abbrev pub batch : ℕ
-batch = 32
-
--- the last key of a batch, where more may follow it
-abbrev pub IsLastKey : List KeyRow → Option (List ℕ) → Type 0
-IsLastKey rows None = length rows < batch
-IsLastKey rows (Some key) = option_map (λ row. row.key) (last_in rows) ≡ Some key
+-- the last key of a batch for which so many rows were asked, where more may follow it
+abbrev pub IsLastKey : ℕ → List KeyRow → Option (List ℕ) → Type 0
+IsLastKey most rows None = length rows < most
+IsLastKey most rows (Some key) = option_map (λ row. row.key) (last_in rows) ≡ Some key

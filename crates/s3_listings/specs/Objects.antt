@@ -1,6 +1,6 @@
 -- The list of a bucket's objects (Amazon S3 API Reference, ListObjectsV2; Amazon S3 User Guide, "Organizing objects using
 -- prefixes").
-use Rattle.std.specs.Prelude.{ℕ, Bool, true, nat_eq, ◌&&◌, ◌==◌, if◌then◌else◌, List, [], ◌∷◌, ◌++◌, take, drop, filter, length, Option, Some, None, option_map, is_some}
+use Rattle.std.specs.Prelude.{ℕ, Bool, true, nat_eq, ◌&&◌, ◌==◌, if◌then◌else◌, List, [], ◌∷◌, ◌++◌, drop, filter, length, Option, Some, None, option_map, is_some}
 use Rattle.std.specs.List.{dedup, filter_map, starts_with}
 use Rattle.std.specs.Option.{option_map_or}
 use Rattle.std.specs.Ordering.{is_lt}

@@ -1,5 +1,5 @@
 //! A page of a list of objects while it is made.
-ghost use Rattle.std.specs.Prelude.{◌≡◌, ◌<◌, ◌∷◌, List, IsUtf8, IfOk, OnOk, IfSome, Some, None, if◌then◌else◌, ◌++◌};
+ghost use Rattle.std.specs.Prelude.{◌≡◌, ◌<◌, ◌∷◌, List, IsUtf8, IfOk, OnOk, OnErr, IfSome, Some, None, true, if◌then◌else◌, ◌++◌};
 ghost use Rattle.std.specs.Option.{option_copied};
 ghost use Rattle.s3_records.specs.declared.rows.KeyRow.{KeyRow};
 ghost use Rattle.s3_listings.specs.Objects.{Item, Object, CommonPrefix, text_of};
@@ -60,8 +60,36 @@ impl Draft {
         self.is_truncated
     }
 
-    /// Takes rows in their order, which are moved into the page or dropped.
+    /// How many more items it takes.
+    pub(crate) fn room(&self) -> u16
+        ensures { result ≡ (drafted self.now).room }
+    {
+        self.room
+    }
+
+    /// Takes rows in their order, which are moved into the page or dropped. Room for as many objects is taken at once.
     pub(crate) fn take_rows(
+        &mut self,
+        alloc: Global,
+        asked: &ObjectsAsked,
+        rows: Vec<KeyRow>,
+    ) -> Result<(), NoMemory>
+        ensures { OnOk result ((rest : List KeyRow) → with_rows asked.now (drafted self.new) rest ≡ with_rows asked.now (drafted self.old) (rows.items ++ rest)) }
+    {
+        self.make_room(rows.len())?;
+        self.take_each(alloc, asked, rows)
+    }
+
+    // Takes room for so many objects more.
+    fn make_room(&mut self, more: usize) -> Result<(), NoMemory>
+        ensures { drafted self.new ≡ drafted self.old }
+    {
+        self.contents.reserve(more)?;
+        Ok(())
+    }
+
+    // Takes rows in their order.
+    fn take_each(
         &mut self,
         alloc: Global,
         asked: &ObjectsAsked,
@@ -158,9 +186,10 @@ impl Draft {
         Ok(())
     }
 
-    /// The page as it is. The text of its last item is copied where more are known.
+    /// The page as it is. The text of its last item is copied where more are known, and only then `NoMemory` may come.
     pub(crate) fn finish(self, alloc: Global) -> Result<ObjectPage, NoMemory>
-        ensures { IfOk result (λ page. page ≡ page_of_draft (drafted self)) }
+        ensures value { IfOk result (λ page. page ≡ page_of_draft (drafted self)) }
+        ensures memory { OnErr result ((drafted self).is_truncated ≡ true) }
     {
         let next = self.next(alloc)?;
         Ok(ObjectPage {
@@ -172,7 +201,8 @@ impl Draft {
 
     // The text behind which the next page goes on, where there is one.
     fn next(&self, alloc: Global) -> Result<Option<Text>, NoMemory>
-        ensures { IfOk result (λ next. next ≡ if (drafted self.now).is_truncated then (drafted self.now).last else None) }
+        ensures value { IfOk result (λ next. next ≡ if (drafted self.now).is_truncated then (drafted self.now).last else None) }
+        ensures memory { OnErr result ((drafted self.now).is_truncated ≡ true) }
     {
         if !self.is_truncated {
             return Ok(None);

@@ -1,11 +1,11 @@
 //! The list of a bucket's objects.
-ghost use Rattle.std.specs.Prelude.{◌≡◌, ◌<◌, List, IfOk, OnOk, IsTrue, map as each, take, Some, []};
+ghost use Rattle.std.specs.Prelude.{◌≡◌, ◌<◌, List, IfOk, OnOk, OnErr, IsTrue, map as each, take, Some, []};
 ghost use Rattle.s3_text.specs.Order.{rises};
 ghost use Rattle.s3_records.specs.Rows.{key_rows, keys_from};
 ghost use Rattle.s3_records.specs.declared.rows.KeyRow.{KeyRow};
 ghost use Rattle.s3_records.specs.declared.rows.Start.{Start};
 ghost use Rattle.s3_listings.specs.Objects.{objects_told};
-ghost use Rattle.s3_listings.specs.Drafts.{drafted, left_from, with_rows, batch, TakesBatch, IsLastKey};
+ghost use Rattle.s3_listings.specs.Drafts.{drafted, left_from, with_rows, TakesBatch, IsLastKey};
 
 use crate::draft::Draft;
 use crate::places::{first_place, next_place};
@@ -15,13 +15,14 @@ use s3_records::{KeyRow, Records, Start, keys_rise};
 use s3_terms::NoMemory;
 use std::alloc::Global;
 
-/// How many rows are asked for at once.
+/// How many rows are asked for at once where the next ones may be of no use.
 const BATCH: usize = 32;
 
 /// What is told of a bucket's objects (Amazon S3 API Reference, ListObjectsV2): the first so many items behind the token, which
-/// are objects and common prefixes. Costs each key that is looked at: those that are told, delete markers among them, and a batch
-/// for each common prefix, however many keys have it, unless the delimiter ends in the byte 0x7F or 0xBF; and to find a place
-/// among the keys for each batch. `NoMemory` says that there was none for a batch or the page.
+/// are objects and common prefixes. Costs each key that is looked at: those that are told, delete markers among them, a batch
+/// for each common prefix, however many keys have it, unless the delimiter ends in the byte 0x7F or 0xBF, and behind the last
+/// key that begins with the prefix a batch or as many as are told; and to find a place among the keys for each batch. `NoMemory` says that there was none for a batch or the page, and comes only where the page may
+/// have an item.
 pub fn list_objects<R: Records>(
     records: &mut R,
     alloc: Global,
@@ -30,6 +31,7 @@ pub fn list_objects<R: Records>(
 ) -> Result<ObjectPage, NoMemory>
     ensures value { IfOk result (λ page. page ≡ objects_told asked.now (key_rows (R.catalogue records.old) bucket.now)) }
     ensures same { R.catalogue records.new ≡ R.catalogue records.old }
+    ensures memory { OnErr result (0 < asked.now.max_keys) }
 {
     // Contracts see the bytes of an object as they see a key, as a list.
     keys_rise::<Key>();
@@ -78,22 +80,42 @@ fn step<R: Records>(
         (key_rows (R.catalogue records.old) bucket.now)) }
     ensures same { R.catalogue records.new ≡ R.catalogue records.old }
 {
-    let rows = records.keys_from(alloc, bucket, &start, BATCH)?;
-    take_batch(alloc, asked, draft, rows)
+    let most = rows_at_once(asked, draft.room());
+    let rows = records.keys_from(alloc, bucket, &start, most)?;
+    take_batch(alloc, asked, draft, rows, most)
 }
 
-// Takes one batch of rows, and says where to go on.
+// How many rows to ask for, for a page that takes so many items more: enough to fill it and to know of one more. With a
+// delimiter most of them may be of one common prefix, so that it is few; with a prefix they may stand behind the last key that
+// begins with it, so that it is no more than the page has already.
+fn rows_at_once(asked: &ObjectsAsked, room: u16) -> usize
+    ensures { 0 < result }
+{
+    if !asked.delimiter.as_bytes().is_empty() {
+        return BATCH;
+    }
+    let enough = room as usize + 1;
+    if asked.prefix.as_bytes().is_empty() {
+        return enough;
+    }
+    let told = asked.max_keys.saturating_sub(room) as usize;
+    enough.min(BATCH.max(told))
+}
+
+// Takes one batch of rows, of which so many were asked for, and says where to go on.
 fn take_batch(
     alloc: Global,
     asked: &ObjectsAsked,
     draft: &mut Draft,
     rows: Vec<KeyRow>,
+    most: usize,
 ) -> Result<Option<Start>, NoMemory>
+    requires { 0 < most }
     ensures { IfOk result (λ next. (all : List KeyRow) (start : Start)
-        → IsTrue (rises (each (λ row. row.key) all)) → rows.items ≡ take batch (left_from (Some start) all)
+        → IsTrue (rises (each (λ row. row.key) all)) → rows.items ≡ take most (left_from (Some start) all)
         → TakesBatch asked.now (drafted draft.old) (drafted draft.new) (Some start) next all) }
 {
-    let last = last_key(rows.as_slice())?;
+    let last = last_key(rows.as_slice(), most)?;
     draft.take_rows(alloc, asked, rows)?;
     let Some(key) = last else {
         return Ok(None);
@@ -104,11 +126,12 @@ fn take_batch(
     next_place(alloc, asked, key, draft.last())
 }
 
-// The last key of a batch, which is copied, where more may follow it.
-fn last_key(rows: &[KeyRow]) -> Result<Option<Key>, NoMemory>
-    ensures { IfOk result (λ key. IsLastKey rows.now key) }
+// The last key of a batch, which is copied, where there are as many rows as were asked for, so that more may follow it.
+fn last_key(rows: &[KeyRow], most: usize) -> Result<Option<Key>, NoMemory>
+    requires { 0 < most }
+    ensures { IfOk result (λ key. IsLastKey most rows.now key) }
 {
-    if rows.len() < BATCH {
+    if rows.len() < most {
         return Ok(None);
     }
     match rows.last() {

@@ -1,5 +1,5 @@
 //! Texts that lists are asked by, and that they tell.
-ghost use Rattle.std.specs.Prelude.{◌≡◌, IsUtf8, IfOk, OnOk};
+ghost use Rattle.std.specs.Prelude.{◌≡◌, ◌<◌, length, IsUtf8, IfOk, OnOk, OnErr};
 ghost use Rattle.s3_terms.specs.Fault.{FollowsToEnd};
 ghost use Rattle.s3_listings.specs.Text.{text_read};
 
@@ -40,13 +40,15 @@ impl Text {
         Ok(text)
     }
 
-    // The text of these bytes, which it copies.
+    // The text of these bytes, which it copies. `NoMemory` comes only where there are bytes to copy.
     pub(crate) fn of(alloc: Global, bytes: &[u8]) -> Result<Text, NoMemory>
         requires { IsUtf8 bytes.now }
-        ensures { IfOk result (λ text. text ≡ bytes.now) }
+        ensures value { IfOk result (λ text. text ≡ bytes.now) }
+        ensures memory { OnErr result (0 < length bytes.now) }
     {
-        let bytes = Vec::from_slice(alloc, bytes)?;
-        Ok(Text { bytes })
+        let mut copied = Vec::new(alloc);
+        copied.extend_from_slice(bytes)?;
+        Ok(Text { bytes: copied })
     }
 
     /// Its bytes.
@@ -57,11 +59,11 @@ impl Text {
         self.bytes.as_slice()
     }
 
-    /// A copy of the text.
+    /// A copy of the text. `NoMemory` comes only where there are bytes to copy.
     pub fn copy(&self) -> Result<Text, NoMemory>
-        ensures { IfOk result (λ copied. copied ≡ self.now) }
+        ensures value { IfOk result (λ copied. copied ≡ self.now) }
+        ensures memory { OnErr result (0 < length self.now) }
     {
-        let bytes = self.bytes.clone()?;
-        Ok(Text { bytes })
+        Text::of(*self.bytes.allocator(), self.as_bytes())
     }
 }

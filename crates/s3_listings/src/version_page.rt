@@ -1,5 +1,7 @@
 //! A page of a list of versions.
 ghost use Rattle.std.specs.Prelude.{◌≡◌};
+ghost use Rattle.std.specs.Option.{option_copied};
+ghost use Rattle.s3_listings.specs.Pages.{next_of};
 
 use s3_records::VersionRow;
 use std::marker::Model;
@@ -33,5 +35,17 @@ impl VersionPage {
         ensures { result ≡ self.now.is_truncated }
     {
         self.is_truncated
+    }
+
+    /// The version behind which the next page goes on, where more are left.
+    #[tactic(auto, using(crate::proofs::VersionPageLemmas::last_is))]
+    pub fn next(&self) -> Option<&VersionRow>
+        ensures { option_copied result ≡ next_of self.now }
+    {
+        if self.is_truncated {
+            self.rows.last()
+        } else {
+            None
+        }
     }
 }

@@ -1,5 +1,5 @@
 //! The list of a bucket's versions, page by page.
-ghost use Rattle.std.specs.Prelude.{◌≡◌, ◌≢◌, ◌<◌, ◌≤◌, ◌+◌, ℕ, List, nat_eq, true, false, take, take_while, length, slice_get, slice_index_or, Option, Some, None, IfOk, IfSome, All};
+ghost use Rattle.std.specs.Prelude.{◌≡◌, ◌≢◌, ◌<◌, ◌≤◌, ◌+◌, ℕ, List, nat_eq, true, false, take, take_while, length, slice_get, slice_index_or, Option, Some, None, IfOk, OnErr, IfSome, All};
 ghost use Rattle.std.specs.List.{AllWithin, starts_with};
 ghost use Rattle.s3_names.specs.Names.{is_key};
 ghost use Rattle.s3_records.specs.Rows.{versions_from};
@@ -186,8 +186,8 @@ fn page_of(mut rows: Vec<VersionRow>, most: usize) -> VersionPage
     VersionPage { rows, is_truncated }
 }
 
-/// The page of a bucket's versions that is asked for, whose bucket is there or not. Costs what the page tells and, to find
-/// its first row, the logarithm of how many keys the bucket has.
+/// The page of a bucket's versions that is asked for, whose bucket is there or not. Costs as many versions as the page may
+/// have, also where fewer begin with the prefix, and, to find the first, the logarithm of how many keys the bucket has. `NoMemory` comes only where the page may have a version.
 #[tactic(auto, unfolding(crate::specs::Versions::versions_page))]
 pub fn list_versions<R: Records>(
     records: &mut R,
@@ -197,6 +197,7 @@ pub fn list_versions<R: Records>(
 ) -> Result<VersionPage, NoMemory>
     ensures value { IfOk result (λ page. page ≡ versions_page asked.now (R.catalogue records.old) bucket.now) }
     ensures same { R.catalogue records.new ≡ R.catalogue records.old }
+    ensures memory { OnErr result (0 < asked.now.max_keys) }
 {
     let most = asked.max_keys as usize;
     if most == 0 {

@@ -3,6 +3,7 @@
 use s3_bodies::{Body, Payload};
 use s3_calendar::Moment;
 use s3_conditions::{Conditions, Selection};
+use s3_documents::Document;
 use s3_listings::{ObjectsAsked, VersionsAsked};
 use s3_names::{BucketName, Key, Tag, VersionId};
 use s3_terms::Code;
@@ -98,10 +99,10 @@ pub struct Answer {
 /// What came of a command. A version's id is shown where the bucket's versioning was ever set.
 #[derive(Drop)]
 pub enum Outcome {
-    /// What was asked for, as the text of a document: a list of buckets, of objects or of versions. It is made in the step,
-    /// before a reply is printed, so that printing takes no memory.
+    /// What was asked for, as the text of a document: a list of buckets, of objects or of versions. Its room is taken in the
+    /// step, so that printing it takes no memory.
     Told {
-        document: Body,
+        document: Document,
     },
     /// The bucket of this name is made.
     BucketMade {

@@ -9,4 +9,4 @@ mod text;
 
 pub use ids::{IdText, PartNumber, UploadId, VersionId};
 pub use names::{BucketName, Key};
-pub use tag::Tag;
+pub use tag::{Tag, TagText};

@@ -28,8 +28,9 @@ impl Text {
     pub(crate) fn of(alloc: Global, bytes: &[u8]) -> Result<Text, NoMemory>
         ensures { IfOk result (λ text. text ≡ bytes.now) }
     {
-        let bytes = Vec::from_slice(alloc, bytes)?;
-        Ok(Text { bytes })
+        let mut copied = Vec::new(alloc);
+        copied.extend_from_slice(bytes)?;
+        Ok(Text { bytes: copied })
     }
 
     /// Its bytes.
@@ -43,8 +44,7 @@ impl Text {
     pub(crate) fn copy(&self) -> Result<Text, NoMemory>
         ensures { IfOk result (λ copied. copied ≡ self.now) }
     {
-        let bytes = self.bytes.clone()?;
-        Ok(Text { bytes })
+        Text::of(*self.bytes.allocator(), self.as_bytes())
     }
 }
 

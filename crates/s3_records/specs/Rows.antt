@@ -11,7 +11,7 @@ use Rattle.s3_names.specs.declared.ids.VersionId.{VersionId}
 use Rattle.s3_versions.specs.declared.version.Data.{Data}
 use Rattle.s3_versions.specs.declared.version.Version.{Version}
 use Rattle.s3_versions.specs.Rules.{id_of, is_under, stored, pick, facts_of, facts_read}
-use Rattle.s3_records.specs.Catalogue.{Keys, Bucket, Catalogue}
+use Rattle.s3_records.specs.Catalogue.{Bucket, Catalogue}
 use Rattle.s3_records.specs.declared.rows.KeyRow.{KeyRow}
 use Rattle.s3_records.specs.declared.rows.Start.{Start}
 use Rattle.s3_records.specs.declared.rows.Start.TheVariants.{First, From, Behind}

@@ -1,5 +1,5 @@
 //! The rows of lists, from what is in memory: of all buckets, and of the keys and the versions of one.
-ghost use Rattle.std.specs.Prelude.{◌≡◌, ◌≢◌, ◌≤◌, ◌<◌, false, ℕ, List, [], ◌++◌, length, take, IfSome, IfOk, OnOk, OnErr, position, map as each, option_map};
+ghost use Rattle.std.specs.Prelude.{◌≡◌, ◌≢◌, ◌≤◌, ◌<◌, false, ℕ, List, [], ◌∷◌, ◌++◌, length, take, IfSome, IfOk, OnOk, OnErr, position, map as each, option_map};
 ghost use Rattle.std.specs.List.{flat_map};
 ghost use Rattle.std.specs.BTreeMap.{IsOrdered};
 ghost use Rattle.std.specs.BTreeMap.Range.{is_from_start, entries_between};
@@ -60,7 +60,7 @@ pub(crate) fn first_key(start: &Start) -> Bound<&Key>
     }
 }
 
-/// The rows of the keys from a place on, at most so many.
+/// The rows of the keys from a place on, at most so many. Room for them is taken at once, before the first.
 pub(crate) fn key_rows_from(
     alloc: Global,
     keys: &BTreeMap<Key, Versions<Body>>,
@@ -74,13 +74,29 @@ pub(crate) fn key_rows_from(
         take most (each key_row (entries_between byte_order (bound_map (λ x. x.now) first.entry) Unbounded keys.now.entries)) ≢ []) }
 {
     let mut rows = Vec::new(alloc);
+    let mut room = most.min(keys.len());
     for (key, versions) in keys.range((first, Bound::Unbounded)) {
         if rows.len() >= most {
             return Ok(rows);
         }
-        rows.push(key_row(key, versions.as_slice())?)?;
+        add_row(&mut rows, key, versions.as_slice(), room)?;
+        room = 0;
     }
     Ok(rows)
+}
+
+// Adds the row of a key. Room for so many is taken before it.
+fn add_row(
+    rows: &mut Vec<KeyRow>,
+    key: &Key,
+    versions: &[Version<Body>],
+    room: usize,
+) -> Result<(), NoMemory>
+    ensures { OnOk result (rows.new.items ≡ rows.old.items ++ key_row (key.now, versions.now) ∷ []) }
+{
+    rows.reserve(room)?;
+    rows.push(key_row(key, versions)?)?;
+    Ok(())
 }
 
 // The row of a key.
@@ -92,7 +108,8 @@ fn key_row(key: &Key, versions: &[Version<Body>]) -> Result<KeyRow, NoMemory>
     Ok(KeyRow { key, facts })
 }
 
-/// Adds the rows of the versions of the keys from a place on, until there are so many.
+/// Adds the rows of the versions of the keys from a place on, until there are so many. Room for one of each key is taken at
+/// once, before the first.
 pub(crate) fn add_keys(
     rows: &mut Vec<VersionRow>,
     keys: &BTreeMap<Key, Versions<Body>>,
@@ -106,21 +123,24 @@ pub(crate) fn add_keys(
     ensures memory { OnErr result (
         take most (rows.old.items ++ flat_map rows_of (entries_between byte_order (bound_map (λ x. x.now) first.entry) Unbounded keys.now.entries)) ≢ []) }
 {
+    let mut room = most.min(keys.len());
     for (key, versions) in keys.range((first, Bound::Unbounded)) {
         if rows.len() >= most {
             return Ok(());
         }
-        add_key(rows, key, versions.as_slice(), most)?;
+        add_key(rows, key, versions.as_slice(), most, room)?;
+        room = 0;
     }
     Ok(())
 }
 
-// Adds the rows of all versions of a key, newest first, until there are so many.
+// Adds the rows of all versions of a key, newest first, until there are so many. With the first it takes room for more.
 fn add_key(
     rows: &mut Vec<VersionRow>,
     key: &Key,
     versions: &[Version<Body>],
     most: usize,
+    room: usize,
 ) -> Result<(), NoMemory>
     requires { length rows.old.items < most }
     ensures ok { OnOk result (rows.new.items ≡ take most (rows.old.items ++ rows_under key.now versions.now)) }
@@ -129,6 +149,7 @@ fn add_key(
     match versions.split_first() {
         None => Ok(()),
         Some((newest, older)) => {
+            rows.reserve(room)?;
             rows.push(version_row(key, true, newest)?)?;
             add_older(rows, key, older, most)
         }

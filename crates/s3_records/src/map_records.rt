@@ -45,9 +45,10 @@ impl Model for MapRecords {
 
 impl MapRecords {
     /// The records that a server with these settings opens with: its first buckets, unversioned and empty,
-    /// made at moment 0. Their names are copied.
+    /// made at moment 0. Their names are copied; without one no memory is taken.
     pub fn open(alloc: Global, config: &Config) -> Result<MapRecords, NoMemory>
-        ensures { IfOk result (λ records. records ≡ opening config.now.buckets) }
+        ensures value { IfOk result (λ records. records ≡ opening config.now.buckets) }
+        ensures memory { OnErr result (config.now.buckets ≢ []) }
     {
         MapRecords::of_buckets(alloc, config.buckets())
     }

@@ -25,7 +25,7 @@ use Rattle.s3_replies.specs.declared.head.Opening.{Opening}
 use Rattle.s3_replies.specs.Lines.{Line, status_line, print_line, print_lines, flag, optional, metadata_line, quoted}
 use Rattle.s3_replies.specs.Date.{IsHttpDate, IsDateShown}
 use Rattle.s3_replies.specs.Head.{bare, opening_lines, version_lines, print_head}
-use Rattle.s3_replies.specs.Replies.{Reply, alone, beside, behind, front, back, reply_to, shown_at, opening_of, Prints, IsHead, content_range, got_fields, part, part_fields, sent_body, sized, shown_text}
+use Rattle.s3_replies.specs.Replies.{Reply, alone, beside, behind, front, back, reply_to, shown_at, opening_of, Prints, content_range, got_fields, part, part_fields, sent_body, sized, shown_text}
 use Rattle.s3_replies.specs.Laws.{Carries, CarriesPart, IsUnbroken, is_unbroken, is_whole_line, tells_success, SuccessIsShown, ObjectsAreCarried, PartsAreCarried, HeadsTellOfReplies}
 use Rattle.s3_replies.proofs.UnbrokenLemmas.{joined, lines_joined, number_unbroken, id_unbroken, date_unbroken, range_unbroken}
 use Rattle.httpdate.specs.Text.{imf_fixdate}
@@ -54,14 +54,6 @@ Prints_unique answer context t u h k =
     h.printed
     ∙ ap₂ (text_of answer context) (IsHttpDate_unique context.moment h.date k.date h.dated k.dated) (IsDateShown_unique (shown_at answer.outcome) h.modified k.modified h.shown k.shown)
     ∙ sym k.printed
-
--- what is written of a reply is its head
-pub is_head : (answer : Answer) (context : Context) (date : List ℕ) (modified : Option (List ℕ)) → IsHttpDate context.moment date → IsDateShown (shown_at answer.outcome) modified
-    → IsHead answer context (front context.head_only (reply_to (opening_of answer.number context date) modified answer.outcome))
-is_head answer context date modified dated shown = λ bytes body.
-    let opening = opening_of answer.number context date in
-    let written = front context.head_only (reply_to opening modified answer.outcome) in
-    record { date = date; modified = modified; dated = dated; shown = shown; printed = ap (λ b. written ++ b) (body opening modified) }
 
 -- ---- what a client sees of it
 

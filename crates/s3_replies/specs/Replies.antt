@@ -165,15 +165,6 @@ unnumbered code = record { number = 0; outcome = outcomes.Refused code false }
 abbrev pub PrintsRefusal : Code → ℕ → Bool → List ℕ → Type 0
 PrintsRefusal code moment head_only text = Prints (unnumbered code) (closing moment head_only) text
 
--- the bytes are what stands behind the reply, whatever its head says
-abbrev pub IsBody : Answer → Context → List ℕ → Type 0
-IsBody answer context bytes =
-    (opening : Opening) (modified : Option (List ℕ)) → bytes ≡ back context.head_only (reply_to opening modified answer.outcome)
-
--- the bytes are all else of the reply: with what stands behind it, they are the reply
-abbrev pub IsHead : Answer → Context → List ℕ → Type 0
-IsHead answer context head = (bytes : List ℕ) → IsBody answer context bytes → Prints answer context (head ++ bytes)
-
 -- what is written where memory runs out: it names no moment and no entry
 abbrev pub internal_error : List ℕ
 internal_error =

@@ -17,6 +17,6 @@ mod values;
 pub use context::Context;
 pub use laws::{refusals_are_unique, replies_are_unique, replies_show_what_came};
 pub use replies::{
-    CONTINUE, INTERNAL_ERROR, body_of, continue_reply, head_of, internal_error_reply, refusal,
+    CONTINUE, INTERNAL_ERROR, continue_reply, internal_error_reply, print_reply, refusal,
 };
 pub use room::Room;

@@ -27,9 +27,10 @@ pub(crate) fn put_reply<R: Room>(out: &mut R, opening: Opening, tag: &Tag, shown
     ensures capacity { R.capacity out.old ≤ R.capacity out.new }
 {
     let id = id_text(shown);
+    let text = tag.text();
     let head = Head {
         version_id: id_bytes(&id),
-        tag: Some(&tag.text()),
+        tag: Some(text.as_bytes()),
         ..Head::bare(Status::Ok, &opening)
     };
     head.print(out);
@@ -55,9 +56,10 @@ fn object_head<R: Room>(
     ensures capacity { R.capacity out.old ≤ R.capacity out.new }
 {
     let id = id_text(found.shown);
+    let tag = found.stored.tag.text();
     let head = Head {
         version_id: id_bytes(&id),
-        tag: Some(&found.stored.tag.text()),
+        tag: Some(tag.as_bytes()),
         modified: date_bytes(&modified),
         accepts_ranges: true,
         content_range: range_bytes(&range),
@@ -81,9 +83,10 @@ fn unchanged_reply<R: Room>(
     ensures capacity { R.capacity out.old ≤ R.capacity out.new }
 {
     let id = id_text(found.shown);
+    let tag = found.stored.tag.text();
     let head = Head {
         version_id: id_bytes(&id),
-        tag: Some(&found.stored.tag.text()),
+        tag: Some(tag.as_bytes()),
         modified: date_bytes(&modified),
         ..Head::bare(Status::NotModified, &opening)
     };

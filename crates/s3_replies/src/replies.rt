@@ -5,7 +5,7 @@ ghost use Rattle.s3_documents.specs.Versioning.{versioning_text};
 ghost use Rattle.s3_replies.specs.Date.{IsDateShown};
 ghost use Rattle.s3_replies.specs.Document.{error_document};
 ghost use Rattle.s3_replies.specs.Head.{bare, print_head};
-ghost use Rattle.s3_replies.specs.Replies.{PrintsRefusal, IsBody, IsHead, beside, front, reply_to, shown_at, made_fields, document_fields, error_fields, internal_error, continue_line};
+ghost use Rattle.s3_replies.specs.Replies.{Prints, PrintsRefusal, back, behind, beside, front, reply_to, shown_at, made_fields, document_fields, error_fields, internal_error, continue_line};
 
 use crate::Context;
 use crate::body::{sent, write_body};
@@ -18,6 +18,7 @@ use crate::values::location_of;
 use arrayvec::ArrayVec;
 use s3_bodies::Body;
 use s3_calendar::Moment;
+use s3_documents::Document;
 use s3_machine::{Answer, Outcome};
 use s3_names::BucketName;
 use s3_terms::{Code, Status};
@@ -63,6 +64,24 @@ fn document_head<R: Room>(out: &mut R, opening: Opening, size: u64)
     head.print(out);
 }
 
+/// Appends the reply that is a document, which is printed here, without it, and gives it, unless the reply is to a HEAD.
+fn told_reply<R: Room>(
+    out: &mut R,
+    opening: Opening,
+    document: Document,
+    head_only: bool,
+) -> Option<Body>
+    requires { R.size out.old + 4096 ≤ R.capacity out.old }
+    ensures written { R.written out.new
+        ≡ R.written out.old ++ front head_only (behind (document_fields opening) document) }
+    ensures body { unwrap_or result [] ≡ back head_only (behind (document_fields opening) document) }
+    ensures capacity { R.capacity out.old ≤ R.capacity out.new }
+{
+    let body = document.into_body();
+    document_head(out, opening, body.size());
+    sent(head_only, body)
+}
+
 /// Appends the whole reply that tells of a bucket's versioning.
 fn versioning_reply<R: Room>(out: &mut R, opening: Opening, versioning: Versioning, head_only: bool)
     requires { R.size out.old + 4096 ≤ R.capacity out.old }
@@ -101,44 +120,47 @@ fn error_reply<R: Room>(
     write_body(out, head_only, document.as_slice());
 }
 
-/// Appends the reply to what came of a command, without what `body_of` gives. The version that it shows was made at
-/// the date `modified`.
+/// Appends the reply to what came of a command, without its body, and gives that, which is moved and not copied. The
+/// version that it shows was made at the date `modified`.
 fn outcome_reply<R: Room>(
     out: &mut R,
     opening: Opening,
-    outcome: &Outcome,
+    outcome: Outcome,
     modified: Option<DateText>,
     head_only: bool,
-)
+) -> Option<Body>
     requires { R.size out.old + 4096 ≤ R.capacity out.old }
     ensures written { R.written out.new
-        ≡ R.written out.old ++ front head_only (reply_to opening modified outcome.now) }
+        ≡ R.written out.old ++ front head_only (reply_to opening modified outcome) }
+    ensures body { unwrap_or result [] ≡ back head_only (reply_to opening modified outcome) }
     ensures capacity { R.capacity out.old ≤ R.capacity out.new }
 {
     match outcome {
-        Outcome::Told { document } => document_head(out, opening, document.size()),
-        Outcome::BucketMade { name } => made_reply(out, opening, name),
+        Outcome::Told { document } => return told_reply(out, opening, document, head_only),
+        Outcome::Got { found, selection } => {
+            got_reply(out, opening, &found, selection, modified, head_only);
+            return shown_body(head_only, found.stored.body, selection);
+        }
+        Outcome::BucketMade { name } => made_reply(out, opening, &name),
         Outcome::BucketFound | Outcome::VersioningSet => bare_reply(out, opening, Status::Ok),
         Outcome::BucketDropped => bare_reply(out, opening, Status::NoContent),
         Outcome::BucketVersioning { versioning } => {
-            versioning_reply(out, opening, *versioning, head_only);
+            versioning_reply(out, opening, versioning, head_only);
         }
-        Outcome::Put { tag, shown } => put_reply(out, opening, tag, *shown),
-        Outcome::Got { found, selection } => {
-            got_reply(out, opening, found, *selection, modified, head_only);
-        }
+        Outcome::Put { tag, shown } => put_reply(out, opening, &tag, shown),
         Outcome::Copied { tag, moment, shown } => {
-            copied_reply(out, opening, tag, *moment, *shown, head_only);
+            copied_reply(out, opening, &tag, moment, shown, head_only);
         }
         Outcome::Deleted {
             shown,
             is_delete_marker,
-        } => deleted_reply(out, opening, *shown, *is_delete_marker),
+        } => deleted_reply(out, opening, shown, is_delete_marker),
         Outcome::Refused {
             code,
             is_delete_marker,
-        } => error_reply(out, opening, *code, *is_delete_marker, head_only),
+        } => error_reply(out, opening, code, is_delete_marker, head_only),
     }
+    None
 }
 
 /// The date at which the version was made that the reply shows, if it shows one.
@@ -151,12 +173,12 @@ fn modified_in(outcome: &Outcome) -> Option<DateText>
     }
 }
 
-/// Appends the reply to an answer of the machine, 4,096 bytes at most, without what `body_of` gives: the caller
-/// writes that behind it.
-pub fn head_of<R: Room>(answer: &Answer, context: &Context, out: &mut R)
+/// Appends the reply to an answer of the machine, 4,096 bytes at most, without its body, and gives that: the caller writes it
+/// behind the reply. A document is printed here; the bytes of an object are moved and not copied. It takes no memory.
+pub fn print_reply<R: Room>(answer: Answer, context: &Context, out: &mut R) -> Option<Body>
     requires room { R.size out.old + 4096 ≤ R.capacity out.old }
     ensures printed { (head : List ℕ) × (R.written out.new ≡ R.written out.old ++ head)
-        × IsHead answer.now context.now head }
+        × Prints answer context.now (head ++ unwrap_or result []) }
     ensures capacity { R.capacity out.old ≤ R.capacity out.new }
 {
     let opening = Opening {
@@ -165,22 +187,7 @@ pub fn head_of<R: Room>(answer: &Answer, context: &Context, out: &mut R)
         date: DateText::of(context.moment),
     };
     let modified = modified_in(&answer.outcome);
-    outcome_reply(out, opening, &answer.outcome, modified, context.head_only);
-}
-
-/// What stands behind the bytes of `head_of` in the reply to the answer, which it moves and does not copy.
-pub fn body_of(answer: Answer, context: &Context) -> Option<Body>
-    ensures { IsBody answer context.now (unwrap_or result []) }
-{
-    match answer.outcome {
-        Outcome::Told { document } => sent(context.head_only, document),
-        Outcome::Got { found, selection } => shown_body(
-            context.head_only,
-            found.stored.body,
-            selection,
-        ),
-        _ => None,
-    }
+    outcome_reply(out, opening, answer.outcome, modified, context.head_only)
 }
 
 /// The reply to a message of this moment that is refused before it comes to the machine; `head_only` says

@@ -5,7 +5,7 @@ ghost use Rattle.s3_replies.specs.Replies.{Prints};
 use s3_bodies::Body;
 use s3_machine::Answer;
 use s3_outbox::PrintedReply;
-use s3_replies::{Context, body_of, head_of};
+use s3_replies::{Context, print_reply};
 
 /// An answer of the machine, and what its reply takes from the message that it answers.
 #[derive(Drop)]
@@ -18,7 +18,6 @@ impl PrintedReply for AnswerTo {
     ghost is_printed = { λ reply text. Prints reply.answer reply.context text };
 
     fn print(self, out: &mut Vec<u8>) -> Option<Body> {
-        head_of(&self.answer, &self.context, out);
-        body_of(self.answer, &self.context)
+        print_reply(self.answer, &self.context, out)
     }
 }

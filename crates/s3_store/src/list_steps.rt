@@ -11,7 +11,7 @@ ghost use Rattle.s3_store.specs.Steps.{bucket_step};
 
 use crate::bucket_steps::refused;
 use s3_bodies::Body;
-use s3_documents::{buckets_document, objects_document, versions_document};
+use s3_documents::{Document, buckets_document};
 use s3_listings::{ObjectsAsked, VersionsAsked, list_objects, list_versions};
 use s3_machine::{BucketCommand, Command, Outcome};
 use s3_names::BucketName;
@@ -28,7 +28,7 @@ pub(crate) fn tell_buckets<R: Records>(records: &mut R, alloc: Global) -> Result
 {
     let rows = records.buckets(alloc)?;
     let text = buckets_document(alloc, rows.as_slice())?;
-    let document = Body::of_vec(alloc, text)?;
+    let document = Document::of(Body::alone(text));
     Ok(Outcome::Told { document })
 }
 
@@ -37,17 +37,17 @@ pub(crate) fn tell_buckets<R: Records>(records: &mut R, alloc: Global) -> Result
 pub(crate) fn tell_objects<R: Records>(
     records: &mut R,
     alloc: Global,
-    name: &BucketName,
-    asked: &ObjectsAsked,
+    name: BucketName,
+    asked: ObjectsAsked,
 ) -> Result<Outcome, NoMemory>
     ensures ok { IfOk result (λ outcome. (t : ℕ)
-        → bucket_step (R.catalogue records.old) t name.now (BucketCommand.ListObjects asked.now)
+        → bucket_step (R.catalogue records.old) t name (BucketCommand.ListObjects asked)
         ≡ (R.catalogue records.new, outcome)) }
     ensures same { R.catalogue records.new ≡ R.catalogue records.old }
     ensures memory { OnErr result (R.is_in_memory ≡ true → (t : ℕ)
-        → is_refused (bucket_step (R.catalogue records.old) t name.now (BucketCommand.ListObjects asked.now)).1 ≡ false) }
+        → is_refused (bucket_step (R.catalogue records.old) t name (BucketCommand.ListObjects asked)).1 ≡ false) }
 {
-    match records.bucket(alloc, name)? {
+    match records.bucket(alloc, &name)? {
         None => Ok(refused(Code::NoSuchBucket)),
         Some(_) => {
             let document = objects_told_of(records, alloc, name, asked)?;
@@ -60,16 +60,15 @@ pub(crate) fn tell_objects<R: Records>(
 fn objects_told_of<R: Records>(
     records: &mut R,
     alloc: Global,
-    name: &BucketName,
-    asked: &ObjectsAsked,
-) -> Result<Body, NoMemory>
+    name: BucketName,
+    asked: ObjectsAsked,
+) -> Result<Document, NoMemory>
     ensures value { IfOk result (λ document. document
-        ≡ objects_text name.now asked.now (objects_told asked.now (key_rows (R.catalogue records.old) name.now))) }
+        ≡ objects_text name asked (objects_told asked (key_rows (R.catalogue records.old) name))) }
     ensures same { R.catalogue records.new ≡ R.catalogue records.old }
 {
-    let page = list_objects(records, alloc, name, asked)?;
-    let text = objects_document(alloc, name, asked, &page)?;
-    Body::of_vec(alloc, text)
+    let page = list_objects(records, alloc, &name, &asked)?;
+    Document::of_objects(alloc, name, asked, page)
 }
 
 /// ListObjectVersions.
@@ -77,17 +76,17 @@ fn objects_told_of<R: Records>(
 pub(crate) fn tell_versions<R: Records>(
     records: &mut R,
     alloc: Global,
-    name: &BucketName,
-    asked: &VersionsAsked,
+    name: BucketName,
+    asked: VersionsAsked,
 ) -> Result<Outcome, NoMemory>
     ensures ok { IfOk result (λ outcome. (t : ℕ)
-        → bucket_step (R.catalogue records.old) t name.now (BucketCommand.ListVersions asked.now)
+        → bucket_step (R.catalogue records.old) t name (BucketCommand.ListVersions asked)
         ≡ (R.catalogue records.new, outcome)) }
     ensures same { R.catalogue records.new ≡ R.catalogue records.old }
     ensures memory { OnErr result (R.is_in_memory ≡ true → (t : ℕ)
-        → is_refused (bucket_step (R.catalogue records.old) t name.now (BucketCommand.ListVersions asked.now)).1 ≡ false) }
+        → is_refused (bucket_step (R.catalogue records.old) t name (BucketCommand.ListVersions asked)).1 ≡ false) }
 {
-    match records.bucket(alloc, name)? {
+    match records.bucket(alloc, &name)? {
         None => Ok(refused(Code::NoSuchBucket)),
         Some(_) => {
             let document = versions_told_of(records, alloc, name, asked)?;
@@ -100,14 +99,13 @@ pub(crate) fn tell_versions<R: Records>(
 fn versions_told_of<R: Records>(
     records: &mut R,
     alloc: Global,
-    name: &BucketName,
-    asked: &VersionsAsked,
-) -> Result<Body, NoMemory>
+    name: BucketName,
+    asked: VersionsAsked,
+) -> Result<Document, NoMemory>
     ensures value { IfOk result (λ document. document
-        ≡ versions_text name.now asked.now (versions_page asked.now (R.catalogue records.old) name.now)) }
+        ≡ versions_text name asked (versions_page asked (R.catalogue records.old) name)) }
     ensures same { R.catalogue records.new ≡ R.catalogue records.old }
 {
-    let page = list_versions(records, alloc, name, asked)?;
-    let text = versions_document(alloc, name, asked, &page)?;
-    Body::of_vec(alloc, text)
+    let page = list_versions(records, alloc, &name, &asked)?;
+    Document::of_versions(alloc, name, asked, page)
 }

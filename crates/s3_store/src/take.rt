@@ -35,7 +35,7 @@ pub(crate) fn take<R: Records>(
     let _least_part = least_part;
     match command {
         Command::ListBuckets => tell_buckets(records, alloc),
-        Command::Bucket { name, asked } => take_on_bucket(records, alloc, &name, &asked, moment),
+        Command::Bucket { name, asked } => take_on_bucket(records, alloc, name, asked, moment),
         Command::Key { bucket, key, asked } => {
             take_on_key(records, alloc, &bucket, key, asked, number, moment)
         }

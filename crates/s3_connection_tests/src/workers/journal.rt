@@ -14,7 +14,7 @@ const TAG_OF_HELLO: &[u8] = b"5d41402abc4b2a76b9719d911017c592";
 // What came of a command, in a word; none where it isn't what `hello` gives.
 fn word_of(alloc: Global, outcome: &Outcome) -> Option<&'static str> {
     match outcome {
-        Outcome::Put { tag, shown: None } if tag.text().as_slice() == TAG_OF_HELLO => {
+        Outcome::Put { tag, shown: None } if tag.text().as_bytes() == TAG_OF_HELLO => {
             Some("stored")
         }
         Outcome::Got { found, .. } if is_body(alloc, &found.stored.body, b"hello") => Some("hello"),

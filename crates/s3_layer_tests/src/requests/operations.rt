@@ -154,7 +154,7 @@ const HELLO_TAG: &[u8] = b"5d41402abc4b2a76b9719d911017c592";
 
 // What is put.
 fn put_text(payload: &Payload) -> &'static str {
-    if is_same(&payload.tag().text(), HELLO_TAG) {
+    if is_same(payload.tag().text().as_bytes(), HELLO_TAG) {
         "PutObject hello"
     } else {
         "PutObject"
@@ -206,7 +206,15 @@ fn found_text(alloc: Global, word: &[u8], found: &Found<Body>, behind: &[u8]) ->
     }
     let seconds = number(alloc, found.moment.seconds())?;
     let tag = found.stored.tag.text();
-    let behind = [b" ".as_slice(), &seconds, b" ", &tag, b" ", behind].concat(alloc)?;
+    let behind = [
+        b" ".as_slice(),
+        &seconds,
+        b" ",
+        tag.as_bytes(),
+        b" ",
+        behind,
+    ]
+    .concat(alloc)?;
     shown_text(alloc, word, found.shown, &behind)
 }
 
@@ -238,13 +246,13 @@ fn got_text(alloc: Global, found: &Found<Body>, selection: Selection) -> Told {
 }
 
 fn stored_text(alloc: Global, tag: &Tag, shown: Option<VersionId>) -> Told {
-    let behind = [b" ".as_slice(), &tag.text()].concat(alloc)?;
+    let behind = [b" ".as_slice(), tag.text().as_bytes()].concat(alloc)?;
     shown_text(alloc, b"stored ", shown, &behind)
 }
 
 fn copied_text(alloc: Global, tag: &Tag, moment: Moment, shown: Option<VersionId>) -> Told {
     let seconds = number(alloc, moment.seconds())?;
-    let behind = [b" ".as_slice(), &seconds, b" ", &tag.text()].concat(alloc)?;
+    let behind = [b" ".as_slice(), &seconds, b" ", tag.text().as_bytes()].concat(alloc)?;
     shown_text(alloc, b"copied ", shown, &behind)
 }
 
@@ -261,24 +269,24 @@ fn name_of(versioning: Versioning) -> &'static str {
 }
 
 /// What came of a command.
-pub(crate) fn outcome_text(alloc: Global, outcome: &Outcome) -> Told {
+pub(crate) fn outcome_text(alloc: Global, outcome: Outcome) -> Told {
     match outcome {
-        Outcome::Told { document } => Ok(document.to_vec(alloc)?),
+        Outcome::Told { document } => Ok(document.into_body().to_vec(alloc)?),
         Outcome::BucketMade { name } => Ok([b"made ".as_slice(), name.as_bytes()].concat(alloc)?),
         Outcome::BucketFound => word(alloc, "found"),
         Outcome::BucketDropped => word(alloc, "dropped"),
         Outcome::VersioningSet => word(alloc, "set"),
-        Outcome::BucketVersioning { versioning } => word(alloc, name_of(*versioning)),
-        Outcome::Put { tag, shown } => stored_text(alloc, tag, *shown),
-        Outcome::Copied { tag, moment, shown } => copied_text(alloc, tag, *moment, *shown),
-        Outcome::Got { found, selection } => got_text(alloc, found, *selection),
+        Outcome::BucketVersioning { versioning } => word(alloc, name_of(versioning)),
+        Outcome::Put { tag, shown } => stored_text(alloc, &tag, shown),
+        Outcome::Copied { tag, moment, shown } => copied_text(alloc, &tag, moment, shown),
+        Outcome::Got { found, selection } => got_text(alloc, &found, selection),
         Outcome::Deleted {
             shown,
             is_delete_marker,
-        } => shown_text(alloc, b"deleted ", *shown, marker(*is_delete_marker)),
+        } => shown_text(alloc, b"deleted ", shown, marker(is_delete_marker)),
         Outcome::Refused {
             code,
             is_delete_marker,
-        } => Ok([code.name().as_bytes(), marker(*is_delete_marker)].concat(alloc)?),
+        } => Ok([code.name().as_bytes(), marker(is_delete_marker)].concat(alloc)?),
     }
 }

@@ -6,7 +6,7 @@ use s3_calendar::Moment;
 use s3_machine::{Answer, Outcome};
 use s3_names::VersionId;
 use s3_replies::{
-    Context, INTERNAL_ERROR, body_of, head_of, internal_error_reply, refusal, refusals_are_unique,
+    Context, INTERNAL_ERROR, internal_error_reply, print_reply, refusal, refusals_are_unique,
     replies_are_unique, replies_show_what_came,
 };
 use s3_terms::Code;
@@ -314,22 +314,14 @@ fn has_bytes(alloc: Global, body: Option<Body>, bytes: &[u8]) -> bool {
     }
 }
 
-// What stands behind the head of an answer in these bytes, where it stands in front.
-fn behind_head<'a>(
-    alloc: Global,
-    answer: &Answer,
-    context: &Context,
-    bytes: &'a [u8],
-) -> Option<&'a [u8]> {
-    let mut head = Vec::with_capacity(alloc, 4096).ok()?;
-    head_of(answer, context, &mut head);
-    bytes.strip_prefix(head.as_slice())
-}
-
-// Whether an answer is sent as these bytes: its head, and behind it what stands there.
+// Whether an answer is sent as these bytes: its head, and behind it what is given.
 fn is_sent(alloc: Global, answer: Answer, context: &Context, bytes: &[u8]) -> bool {
-    match behind_head(alloc, &answer, context, bytes) {
-        Some(rest) => has_bytes(alloc, body_of(answer, context), rest),
+    let Ok(mut head) = Vec::with_capacity(alloc, 4096) else {
+        return false;
+    };
+    let body = print_reply(answer, context, &mut head);
+    match bytes.strip_prefix(head.as_slice()) {
+        Some(rest) => has_bytes(alloc, body, rest),
         None => false,
     }
 }

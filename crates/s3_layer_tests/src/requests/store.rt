@@ -32,19 +32,15 @@ pub(crate) fn answer_to(
 }
 
 // Whether the answer has this number and tells this.
-fn is_answer(alloc: Global, answer: &Answer, number: u64, told: &str) -> bool {
-    answer.number == number && is_told(&outcome_text(alloc, &answer.outcome), told.as_bytes())
+fn is_answer(alloc: Global, answer: Answer, number: u64, told: &str) -> bool {
+    answer.number == number && is_told(&outcome_text(alloc, answer.outcome), told.as_bytes())
 }
 
 // Whether a row holds, as the entry of this number; `None` says that it has no bar.
 fn holds(alloc: Global, store: &mut Stored, number: u64, row: &str) -> Option<bool> {
     let (asked, told) = row.split_once('|')?;
     match answer_to(alloc, store, asked, number) {
-        Ok(answer) => {
-            let holds = is_answer(alloc, &answer, number, told);
-            drop(answer);
-            Some(holds)
-        }
+        Ok(answer) => Some(is_answer(alloc, answer, number, told)),
         Err(_) => Some(false),
     }
 }

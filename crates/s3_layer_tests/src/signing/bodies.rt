@@ -38,7 +38,7 @@ fn is_refusal(code: Code, taken: u64, wanted: &str) -> bool {
 fn is_finished(reader: PayloadReader, taken: u64, wanted: &str) -> bool {
     match reader.finish() {
         Ok(payload) => match wanted.strip_prefix("payload ") {
-            Some(tag) => is_outcome(&payload.tag().text(), taken, tag),
+            Some(tag) => is_outcome(payload.tag().text().as_bytes(), taken, tag),
             None => false,
         },
         Err(code) => is_refusal(code, taken, wanted),

@@ -70,10 +70,12 @@ fn names(text: &[u8], named: Named) -> bool {
     }
 }
 
-// A tag is its digits.
-fn is_tag(digits: [u8; 32]) -> bool {
-    let tag = Tag::of_digest(*b"\x5d\x41\x40\x2a\xbc\x4b\x2a\x76\xb9\x71\x9d\x91\x10\x17\xc5\x92");
-    tag.copy().text() == digits
+/// The MD5 of `hello`.
+const MD5: [u8; 16] = *b"\x5d\x41\x40\x2a\xbc\x4b\x2a\x76\xb9\x71\x9d\x91\x10\x17\xc5\x92";
+
+// Whether a tag has this text, and its copy too.
+fn is_tag(tag: &Tag, text: &[u8]) -> bool {
+    tag.text().as_bytes() == text && tag.copy().text().as_bytes() == text
 }
 
 #[test]
@@ -81,5 +83,11 @@ fn ids_and_a_tag(rt: HostRuntime) {
     for (text, named) in &TEXTS {
         check(&rt, names(*text, *named), "ids");
     }
-    check(&rt, is_tag(*b"5d41402abc4b2a76b9719d911017c592"), "tags");
+    let whole = is_tag(&Tag::of_digest(MD5), b"5d41402abc4b2a76b9719d911017c592");
+    check(&rt, whole, "tags");
+    let joined = is_tag(
+        &Tag::joined(MD5, 10_000),
+        b"5d41402abc4b2a76b9719d911017c592-10000",
+    );
+    check(&rt, joined, "joined tags");
 }

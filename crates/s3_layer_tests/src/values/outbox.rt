@@ -290,7 +290,9 @@ fn filled(alloc: Global, byte: u8, size: usize) -> Vec<u8> {
 // Puts a reply with a head and a body of these sizes in; one without a head is none.
 fn put_sizes(alloc: Global, sizes: (usize, usize), outbox: &mut Outbox) {
     if sizes.0 > 0 {
-        let body = Body::of_vec(alloc, filled(alloc, b'b', sizes.1)).ok();
+        let bytes = filled(alloc, b'b', sizes.1);
+        let body = Body::of(alloc, &bytes).ok();
+        drop(bytes);
         let head = filled(alloc, b'h', sizes.0);
         put(outbox, &head, body);
         drop(head);

@@ -12,7 +12,7 @@ fn is_kept(alloc: Global, bytes: &[u8], size: u64, tag: &[u8; 32]) -> Result<boo
     builder.take(front)?;
     builder.take(back)?;
     let payload = builder.finish();
-    let is_tagged = payload.tag().text() == *tag;
+    let is_tagged = payload.tag().text().as_bytes() == tag.as_slice();
     let body = payload.into_body()?.to_vec(alloc)?;
     Ok(is_tagged && body.as_slice() == bytes && body.len() as u64 == size)
 }

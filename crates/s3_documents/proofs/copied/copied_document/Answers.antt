@@ -10,8 +10,9 @@ returns c =
       c.timestamp.ensures.value,
       c.put-3.ensures.items,
       c.put-2.ensures.items,
+      c.as_bytes.ensures.value,
       c.text.ensures.value,
       c.put.ensures.items,
       c.new-document.ensures,
     )
-    (sym (copied_spelled c.args.tag.now c.args.moment c.text.ensures.digits c.timestamp.ensures.plain))
+    (sym (copied_spelled c.args.tag.now c.args.moment c.text.ensures.characters c.timestamp.ensures.plain))

@@ -17,4 +17,4 @@ returns-clause-value g c =
           (c.keys_rise.ensures (g.R.Records.catalogue c.args.records.now) c.args.bucket.now) (grind (arith, w.if-asked-ne0.true)) w.in_ok-start.ensures c.new-draft.ensures (rw w.draft-is w.in_ok-fill.ensures.page)
       | else-asked-ne0 w ↦ ap (λ d. page_of_draft (drafted d)) w.draft-is ∙ ap page_of_draft c.new-draft.ensures ∙ nothing_asked asked rows w.if-asked-ne0.false
     ] in
-    if_ok c.finish.result (λ told is. is ∙ page) c.finish.ensures
+    if_ok c.finish.result (λ told is. is ∙ page) c.finish.ensures.value

@@ -16,5 +16,5 @@ pub returns-in_err-add_key-clause-memory : goal.returns-in_err-add_key-clause-me
 returns-in_err-add_key-clause-memory c =
     on_err c.from_residual.result
     (next_some rows_of c.args.most c.loop-key.rows.items _ (c.in-Some.key.now, c.in-Some.versions.now) c.loop-key.key-iterator c.next.new.self c.loop-key.invariant.rows c.in-Some.ensures.steps
-    (subst (λ k. k < c.args.most) (c.len.ensures ∙ c.loop-key.rows.ok.0) c.if-len-most.false)
+    (subst (λ k. k < c.args.most) (c.len-in-loop-key.ensures ∙ c.loop-key.rows.ok.0) c.if-len-most.false)
     (λ none. c.in_err-add_key.ensures.memory (ap (rows_under c.in-Some.key.now) c.as_slice.ensures.value ∙ none)))

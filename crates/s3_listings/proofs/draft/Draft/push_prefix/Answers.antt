@@ -7,4 +7,4 @@ pub returns : goal.returns
 returns c =
     let draft = c.args.self.now in
     prefix_added draft.contents.items draft.prefixes.items c.push.new.self.items (last_text draft.ends_in_prefix draft.contents.items draft.prefixes.items) draft.room draft.is_truncated c.args.prefix.now
-    (◌∙◌ {A = List (List ℕ)} c.in_ok-push.ensures.items (ap (λ x. draft.prefixes.items ++ x ∷ []) c.in_ok-of.ensures))
+    (◌∙◌ {A = List (List ℕ)} c.in_ok-push.ensures.items (ap (λ x. draft.prefixes.items ++ x ∷ []) c.in_ok-of.ensures.value))

@@ -1,7 +1,7 @@
 use Rattle.std.proofs.Common.{◌≡◌, List, ◌++◌}
 use Rattle.s3_records.specs.declared.rows.KeyRow.{KeyRow}
 use Rattle.s3_listings.specs.Drafts.{drafted, with_rows}
-use Rattle.s3_listings.proofs.draft.Draft.take_rows.Given as goal
+use Rattle.s3_listings.proofs.draft.Draft.take_each.Given as goal
 
 -- with the rows that are left, the page becomes what it becomes with all
 abbrev pub invariant-loop-row : goal.invariant-loop-row

@@ -1,0 +1,8 @@
+use Rattle.std.proofs.Common.{◌+◌, drop}
+use Rattle.s3_documents.specs.Printed.{fields_tokens, fields_of, room_of, IsRoomFor}
+use Rattle.s3_documents.proofs.room.room_of_fields.Given as goal
+
+-- it suffices, with that for the fields that are left
+abbrev pub invariant-loop-field : goal.invariant-loop-field
+invariant-loop-field l =
+    IsRoomFor (l.room + room_of (fields_tokens (fields_of (drop l.field-index l.fields)))) (room_of (fields_tokens (fields_of l.fields)))
