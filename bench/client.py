@@ -2,6 +2,8 @@
 
 import hashlib
 import hmac
+import itertools
+import json
 import socket
 import sys
 import time
@@ -34,7 +36,7 @@ def request(address, method, key, body=b"", moment=None, more=None, query=None):
     by_scope = code(code(code(by_day, REGION), "s3"), "aws4_request")
     signature = code(by_scope, f"AWS4-HMAC-SHA256\n{stamp}\n{scope}\n{canonical}").hex()
     head = [f"{method} {target} HTTP/1.1", *(f"{name}: {value}" for name, value in signed.items())]
-    if method == "PUT":
+    if method in ("PUT", "POST"):
         head.append(f"content-length: {len(body)}")
     head.append(
         f"authorization: AWS4-HMAC-SHA256 Credential={ID}/{scope}, SignedHeaders={names}, Signature={signature}"
@@ -114,11 +116,40 @@ class Connection:
 ROW = 64
 
 
-def put_rows(connection, address, keys, data):
-    """Puts an object under each of these keys, in rows, whose replies are read together."""
-    for first in range(0, len(keys), ROW):
-        row = keys[first : first + ROW]
-        connection.send(b"".join(request(address, "PUT", key, data) for key in row))
+def ask_rows(connection, requests):
+    """Sends requests in rows, whose replies are read together. Each has to be answered with success."""
+    requests = iter(requests)
+    while row := list(itertools.islice(requests, ROW)):
+        connection.send(b"".join(row))
         for _ in row:
-            if connection.reply()[0] != 200:
-                raise SystemExit("a put was refused")
+            if connection.reply()[0] // 100 != 2:
+                raise SystemExit("a request was refused")
+
+
+def put_rows(connection, address, keys, data):
+    """Puts an object under each of these keys, in rows."""
+    ask_rows(connection, (request(address, "PUT", key, data) for key in keys))
+
+
+def begin(connection, address, key):
+    """The id of an upload that begins."""
+    status, body = connection.ask(request(address, "POST", key, query={"uploads": ""}))
+    if status != 200:
+        raise SystemExit("an upload was refused")
+    return json.loads(body)["UploadId"]
+
+
+def part(address, key, upload, number, data):
+    """The request that sends a part of an upload."""
+    return request(address, "PUT", key, data, query={"partNumber": str(number), "uploadId": upload})
+
+
+def completion(address, key, upload, tags):
+    """The request that completes an upload, by the parts of these numbers with their tags."""
+    listed = {"Parts": [{"ETag": tag, "PartNumber": number} for number, tag in sorted(tags.items())]}
+    return request(address, "POST", key, json.dumps(listed).encode(), query={"uploadId": upload})
+
+
+def abort(address, key, upload):
+    """The request that aborts an upload."""
+    return request(address, "DELETE", key, query={"uploadId": upload})

@@ -3,6 +3,7 @@
 import hashlib
 import json
 import os
+import re
 import shutil
 import subprocess
 import tempfile
@@ -40,6 +41,8 @@ class Lacking(Exception):
     """The client has no such operation."""
 
 
+# The size of the parts that are sent here, where a client doesn't choose it.
+PART = 8 * MIB
 # What a status tells.
 TOLD = {304: Unchanged, 403: Refused, 404: Missing, 412: Unmet}
 XML = "what was asked for is done, and the answer can't be read: it is JSON where XML is expected"
@@ -52,6 +55,8 @@ class Client:
     name = ""
     # What the client can't do here: the names of checks, and why. They are tried, and count only where they pass.
     limits = {}
+    # How many bytes are put in parts.
+    large = 200 * MIB
 
     def __init__(self, address, folder, secret=SECRET):
         self.address, self.folder, self.secret = address, folder, secret
@@ -84,6 +89,18 @@ class Client:
     def listed(self, prefix, delimiter, page=None):
         """The objects whose keys begin so, with their sizes, and the common prefixes, with None, in their order; the server is asked for
         so many at a time, or for as many as the client asks for."""
+        raise Lacking()
+
+    def put_parts(self, key, data):
+        """Puts an object in parts."""
+        raise Lacking()
+
+    def send_part(self, key, upload, data):
+        """Sends the first part of an upload that was begun, and gives its tag."""
+        raise Lacking()
+
+    def abort(self, key, upload):
+        """Aborts an upload that was begun."""
         raise Lacking()
 
     def path(self, data=b""):
@@ -119,6 +136,11 @@ def told(status, said, missing=(), refused=(), unchanged=(), unmet=(), unread=()
     raise RuntimeError(f"status {status}: {said.strip()}")
 
 
+def listed_parts(tags):
+    """The document of a completion, by parts from the first one on with these tags."""
+    return json.dumps({"Parts": [{"ETag": tag, "PartNumber": number} for number, tag in enumerate(tags, 1)]}).encode()
+
+
 def in_order(objects, prefixes):
     """Objects with their sizes, and common prefixes, in their order."""
     return sorted([*objects, *((prefix, None) for prefix in prefixes)], key=lambda item: item[0].encode())
@@ -147,7 +169,8 @@ class Curl(Client):
         return " ".join(first_line(["curl", "--version"]).split()[:2])
 
     def asked(self, method, key, data=b"", more=(), query=""):
-        """The bytes that a request is answered."""
+        """The bytes that a request is answered. (It signs a query as it stands, so its names have to rise, each with its `=`, and its values to have
+        their escapes.)"""
         url = f"http://{self.address}/{BUCKET}/{urllib.parse.quote(key, safe='/~')}{query}"
         out = self.path()
         words = ["curl", "-sS", "--path-as-is", "-o", out, "-w", "%{http_code}", "--aws-sigv4", f"aws:amz:{REGION}:s3"]
@@ -188,9 +211,23 @@ class Curl(Client):
     def listed(self, prefix, delimiter, page=None):
         if page is not None:
             raise Lacking()
-        # It signs a query as it stands, so its names have to rise, and its values to have their escapes.
         query = urllib.parse.urlencode({"delimiter": delimiter, "list-type": "2", "prefix": prefix}, safe="")
         return of_page(json.loads(self.asked("GET", "", query=f"?{query}")))
+
+    def put_parts(self, key, data):
+        upload = json.loads(self.asked("POST", key, query="?uploads="))["UploadId"]
+        parts = [data[first : first + PART] for first in range(0, len(data), PART)]
+        tags = [self.send_part(key, upload, part, number) for number, part in enumerate(parts, 1)]
+        listed = listed_parts(tags)
+        self.asked("POST", key, listed, ["-T", self.path(listed)], f"?uploadId={upload}")
+
+    def send_part(self, key, upload, data, number=1):
+        lines = self.path()
+        self.asked("PUT", key, data, ["-T", self.path(data), "-D", lines], f"?partNumber={number}&uploadId={upload}")
+        return re.search('\nETag: "([0-9a-f]{32})"', Path(lines).read_text())[1]
+
+    def abort(self, key, upload):
+        self.asked("DELETE", key, query=f"?uploadId={upload}")
 
     def delete(self, key):
         self.asked("DELETE", key)
@@ -268,12 +305,24 @@ class Boto3(Client):
     def head_if(self, key, tag):
         return self.head(key, IfMatch=tag)
 
-    def copy(self, key, other):
+    def read(self, operation, key, **more):
+        """Calls what is answered with a document: one that is no XML is told as an answer with the status 500."""
         try:
-            self.call("copy_object", other, CopySource={"Bucket": BUCKET, "Key": key})
+            return self.call(operation, key, **more)
         except RuntimeError as error:
-            # An answer to a copy that is no XML is told as one with the status 500.
             raise Unread(XML) if "(500)" in str(error) else error from error
+
+    def copy(self, key, other):
+        self.read("copy_object", other, CopySource={"Bucket": BUCKET, "Key": key})
+
+    def put_parts(self, key, data):
+        self.read("create_multipart_upload", key)
+
+    def send_part(self, key, upload, data):
+        return self.call("upload_part", key, UploadId=upload, PartNumber=1, Body=data)["ETag"]
+
+    def abort(self, key, upload):
+        self.call("abort_multipart_upload", key, UploadId=upload)
 
     def listed(self, prefix, delimiter, page=None):
         from botocore.exceptions import ClientError
@@ -295,12 +344,12 @@ class Boto3Files(Boto3):
 
     name = "boto3 files"
 
-    def transfer(self, operation, *words):
+    def transfer(self, operation, *words, threshold=1024 * MIB):
         from boto3.s3.transfer import TransferConfig
         from botocore.exceptions import ClientError
 
         try:
-            getattr(self.client(), operation)(*words, Config=TransferConfig(multipart_threshold=1024 * MIB))
+            getattr(self.client(), operation)(*words, Config=TransferConfig(multipart_threshold=threshold))
         except ClientError as error:
             raise_told(error)
         except Exception as error:
@@ -310,6 +359,12 @@ class Boto3Files(Boto3):
 
     def put(self, key, data):
         self.transfer("upload_file", self.path(data), BUCKET, key)
+
+    def put_parts(self, key, data):
+        try:
+            self.transfer("upload_file", self.path(data), BUCKET, key, threshold=PART)
+        except Exception as error:
+            raise Unread(XML) if "(500)" in str(error) else error from error
 
     def get(self, key):
         path = self.path()

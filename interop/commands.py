@@ -10,17 +10,18 @@ import time
 import urllib.parse
 from pathlib import Path
 
-from clients import PATIENCE, TOLD, Client, Lacking, first_line, in_order, of_page, ran, told
+from clients import MIB, PART, PATIENCE, TOLD, Client, Lacking, first_line, in_order, listed_parts, of_page, ran, told
 from server import BUCKET, ID, PROGRAM, REGION, SECRET, TOP
 
+# Files that are larger are sent in parts.
+THRESHOLD = "1GB"
 AWS_CONFIG = f"""[default]
 region = {REGION}
 request_checksum_calculation = when_required
 response_checksum_validation = when_required
 s3 =
     addressing_style = path
-    multipart_threshold = 1GB
-"""
+    multipart_threshold = """
 # What the generations of AWS's command line say of an answer that they can't read.
 UNREAD = ["(500)", "Unable to parse response"]
 
@@ -55,9 +56,9 @@ class Signer(Command):
         """The path of a keys file with the one credential."""
         return self.path(f"{ID} {self.secret}\n".encode())
 
-    def asked(self, method, key, data=b"", lines=()):
+    def asked(self, method, key, data=b"", lines=(), query=""):
         """The head and the body that a request is answered."""
-        target = f"/{BUCKET}/{urllib.parse.quote(key, safe='/~')}"
+        target = f"/{BUCKET}/{urllib.parse.quote(key, safe='/~')}{query}"
         words = [self.program, "sign", "--keys", self.keys(), "--id", ID, "--moment", str(int(time.time())), "--region", REGION]
         words += ["--host", self.address, "--method", method, "--target", target, "--body", self.path(data)]
         status, request, said = ran([*words, *lines])
@@ -72,6 +73,10 @@ class Signer(Command):
             raise TOLD.get(code, RuntimeError)(f"{code}: {body[:300]}")
         return head.decode(), body
 
+    def line(self, name, answer):
+        """The value of a header line of an answer."""
+        return dict(line.split(": ", 1) for line in answer[0].split("\r\n")[1:])[name]
+
     def put(self, key, data):
         self.asked("PUT", key, data)
 
@@ -85,8 +90,7 @@ class Signer(Command):
         return self.get(key, f"if-none-match:{tag}")
 
     def head(self, key, *lines):
-        head, _ = self.asked("HEAD", key, lines=lines)
-        return int(dict(line.split(": ", 1) for line in head.split("\r\n")[1:])["Content-Length"])
+        return int(self.line("Content-Length", self.asked("HEAD", key, lines=lines)))
 
     def head_if(self, key, tag):
         return self.head(key, f"if-match:{tag}")
@@ -101,6 +105,25 @@ class Signer(Command):
         told(status, said)
         lines = [(line[13:], line[:12].strip()) for line in wrote.decode().split("\n") if line]
         return [(key, None if size == "-" else int(size)) for key, size in lines]
+
+    def put_parts(self, key, data):
+        words = [sys.executable, TOP / "examples/upload.py", "--keys", self.keys(), "--program", self.program, "--region", REGION]
+        status, _, said = ran([*words, self.address, BUCKET, key, self.path(data)])
+        told(status, said)
+
+    def begin(self, key):
+        """The id of an upload that begins."""
+        return json.loads(self.asked("POST", key, query="?uploads")[1])["UploadId"]
+
+    def send_part(self, key, upload, data):
+        return self.line("ETag", self.asked("PUT", key, data, query=f"?partNumber=1&uploadId={upload}"))
+
+    def complete(self, key, upload, tags):
+        """Completes an upload by its parts with these tags."""
+        self.asked("POST", key, listed_parts(tags), query=f"?uploadId={upload}")
+
+    def abort(self, key, upload):
+        self.asked("DELETE", key, query=f"?uploadId={upload}")
 
     def delete(self, key):
         self.asked("DELETE", key)
@@ -130,8 +153,8 @@ class Aws(Command):
     def version(cls):
         return cls.found()[1]
 
-    def aws(self, *words):
-        config = self.path(AWS_CONFIG.encode())
+    def aws(self, *words, threshold=THRESHOLD):
+        config = self.path(f"{AWS_CONFIG}{threshold}\n".encode())
         env = environment(
             AWS_ACCESS_KEY_ID=ID,
             AWS_SECRET_ACCESS_KEY=self.secret,
@@ -176,6 +199,16 @@ class AwsApi(Aws):
     def copy(self, key, other):
         self.api("copy-object", other, "--copy-source", f"{BUCKET}/{key}")
 
+    def put_parts(self, key, data):
+        self.api("create-multipart-upload", key)
+
+    def send_part(self, key, upload, data):
+        words = ["--upload-id", upload, "--part-number", "1", "--body", self.path(data)]
+        return json.loads(self.api("upload-part", key, *words, "--output", "json"))["ETag"]
+
+    def abort(self, key, upload):
+        self.api("abort-multipart-upload", key, "--upload-id", upload)
+
     def listed(self, prefix, delimiter, page=None):
         words = ["--prefix", prefix, "--delimiter", delimiter, *([] if page is None else ["--page-size", str(page)])]
         return of_page(json.loads(self.aws("s3api", "list-objects-v2", "--bucket", BUCKET, "--output", "json", *words) or "{}"))
@@ -189,8 +222,11 @@ class AwsCopy(Aws):
 
     name = "aws1 s3 cp"
 
-    def put(self, key, data):
-        self.aws("s3", "cp", "--only-show-errors", self.path(data), f"s3://{BUCKET}/{key}")
+    def put(self, key, data, threshold=THRESHOLD):
+        self.aws("s3", "cp", "--only-show-errors", self.path(data), f"s3://{BUCKET}/{key}", threshold=threshold)
+
+    def put_parts(self, key, data):
+        self.put(key, data, f"{PART}")
 
     def get(self, key):
         path = self.path()
@@ -223,10 +259,10 @@ class S3cmd(Command):
 
     name = program = "s3cmd"
 
-    def s3cmd(self, *words):
+    def s3cmd(self, *words, in_parts=False):
         config = [f"access_key = {ID}", f"secret_key = {self.secret}", f"host_base = {self.address}"]
-        config += [f"host_bucket = {self.address}", f"bucket_location = {REGION}", "use_https = False"]
-        config += ["enable_multipart = False", "signature_v2 = False", "max_retries = 1"]
+        config += [f"multipart_chunk_size_mb = {PART // MIB}", f"host_bucket = {self.address}", f"bucket_location = {REGION}", "use_https = False"]
+        config += [f"enable_multipart = {in_parts}", "signature_v2 = False", "max_retries = 1"]
         path = self.path(("[default]\n" + "\n".join(config) + "\n").encode())
         status, wrote, said = ran(["s3cmd", "-c", path, "--no-progress", *words], environment())
         missing, refused = ["404", "NoSuchKey", "does not exist"], ["403", "SignatureDoesNotMatch"]
@@ -235,6 +271,9 @@ class S3cmd(Command):
 
     def put(self, key, data):
         self.s3cmd("put", self.path(data), f"s3://{BUCKET}/{key}")
+
+    def put_parts(self, key, data):
+        self.s3cmd("put", self.path(data), f"s3://{BUCKET}/{key}", in_parts=True)
 
     def get(self, key):
         path = self.path()
@@ -258,7 +297,7 @@ class Rclone(Command):
     name = program = "rclone"
     limits = {"list": "it takes an answer that is no XML for a list with nothing in it"}
 
-    def rclone(self, *words):
+    def rclone(self, *words, cutoff="1Gi"):
         env = environment(
             RCLONE_CONFIG=self.path(),
             RCLONE_CONFIG_PAIL_TYPE="s3",
@@ -269,17 +308,20 @@ class Rclone(Command):
             RCLONE_CONFIG_PAIL_ENDPOINT=f"http://{self.address}",
             RCLONE_S3_FORCE_PATH_STYLE="true",
             RCLONE_S3_NO_CHECK_BUCKET="true",
-            RCLONE_S3_UPLOAD_CUTOFF="1Gi",
+            RCLONE_S3_UPLOAD_CUTOFF=cutoff,
             RCLONE_RETRIES="1",
             RCLONE_LOW_LEVEL_RETRIES="1",
         )
         status, wrote, said = ran(["rclone", *words], env)
         missing, refused = ["404", "not found", "doesn't exist"], ["403", "Forbidden", "SignatureDoesNotMatch"]
-        told(status, said, missing, refused, unread=["SerializationError"])
+        told(status, said, missing, refused, unread=["SerializationError", "UploadPartInput.UploadId"])
         return wrote
 
     def put(self, key, data):
         self.rclone("copyto", "--ignore-times", self.path(data), f"pail:{BUCKET}/{key}")
+
+    def put_parts(self, key, data):
+        self.rclone("copyto", "--ignore-times", self.path(data), f"pail:{BUCKET}/{key}", cutoff=f"{PART // MIB}Mi")
 
     def get(self, key):
         path = self.path()

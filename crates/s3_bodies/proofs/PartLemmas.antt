@@ -1,8 +1,14 @@
 -- Parts of bytes.
 use Rattle.std.proofs.Common.{◌≡◌, sym, ap, ◌∙◌, ℕ, min, ◌+◌, ◌-◌, ◌<◌, ◌≤◌, ◌^◌, List, length, take, drop, arith, length-drop, length-take}
 use Rattle.std.proofs.lemmas.List.{drop-drop, take-take, take_min, drop-take}
+use Rattle.std.specs.Prelude.{OnErr, Result, Ok, Err}
 use Rattle.s3_bodies.specs.Pieces.{IsPieceAt, IsWithin}
 use Rattle.s3_bodies.proofs.PieceLemmas.{clipped_piece}
+
+-- what holds anyway holds where a call fails
+pub on_err : {T E P : Type 0} (r : Result T E) → P → OnErr r P
+on_err (Ok x) p = tt
+on_err (Err e) p = p
 
 less : (from size : ℕ) → from ≤ size → size ≡ from + (size - from)
 less from size inside = omega arith

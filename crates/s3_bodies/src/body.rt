@@ -108,10 +108,14 @@ impl Body {
     }
 
     /// The same bytes, which are shared. It takes no memory: `NoMemory` says that there are 2^63 such bodies. Those of
-    /// `alone` are copied, for which memory may lack.
+    /// `alone` are copied, for which memory may lack. It comes only where there are any bytes.
     pub fn copy(&self) -> Result<Body, NoMemory>
-        ensures { IfOk result (λ copy. copy ≡ self.now) }
+        ensures value { IfOk result (λ copy. copy ≡ self.now) }
+        ensures memory { OnErr result (0 < length self.now) }
     {
+        if self.size() == 0 {
+            return Ok(Body::empty());
+        }
         let content = match &self.content {
             Content::Nothing => Content::Nothing,
             Content::Alone(part) => Content::Alone(part.copy()?),
@@ -153,23 +157,32 @@ impl Body {
         }
     }
 
-    /// These bodies one behind another, whose blocks are shared. It takes some 32 bytes for each run of blocks.
+    /// These bodies one behind another, whose blocks are shared. It takes some 32 bytes for each run of blocks. `NoMemory`
+    /// comes only where there are any bytes.
     pub fn join(alloc: Global, bodies: &[&Body]) -> Result<Body, NoMemory>
-        ensures { IfOk result (λ joined. joined ≡ flat_map (λ body. body.now) bodies.now) }
+        ensures value { IfOk result (λ joined. joined ≡ flat_map (λ body. body.now) bodies.now) }
+        ensures memory { OnErr result (0 < length (flat_map (λ body. body.now) bodies.now)) }
     {
         let mut runs = Runs::new(alloc);
         for body in bodies {
             body.add_to(alloc, &mut runs)?;
+        }
+        if runs.size() == 0 {
+            return Ok(Body::empty());
         }
         Ok(Body {
             content: Content::Many(Shared::new(alloc, runs)?),
         })
     }
 
-    // Puts runs with the same bytes behind others.
+    // Puts runs with the same bytes behind others. `NoMemory` comes only where there are any.
     fn add_to(&self, alloc: Global, runs: &mut Runs) -> Result<(), NoMemory>
-        ensures { OnOk result (runs.new ≡ runs.old ++ self.now) }
+        ensures value { OnOk result (runs.new ≡ runs.old ++ self.now) }
+        ensures memory { OnErr result (0 < length self.now) }
     {
+        if self.size() == 0 {
+            return Ok(());
+        }
         match &self.content {
             Content::Nothing => Ok(()),
             Content::Alone(part) => runs.push(shared(alloc, part.as_bytes())?),

@@ -46,6 +46,13 @@ impl Payload {
         Tag::of_digest(self.digest)
     }
 
+    /// The MD5 of the bytes.
+    pub fn digest(&self) -> [u8; 16]
+        ensures { result ≡ md5 self.now }
+    {
+        self.digest
+    }
+
     /// The bytes, which are moved and not copied. `NoMemory` comes only where there are any.
     pub fn into_body(self) -> Result<Body, NoMemory>
         ensures value { IfOk result (λ body. body ≡ self) }

@@ -1,6 +1,8 @@
 pub mod CalendarLemmas
+pub mod CompletionLemmas
 pub mod CopiedLemmas
 pub mod DateLemmas
+pub mod IdLemmas
 pub mod LawLemmas
 pub mod PlainLemmas
 pub mod PrinterLemmas
@@ -8,4 +10,3 @@ pub mod RoomLemmas
 pub mod RowLemmas
 pub mod TextLemmas
 pub mod TokenLemmas
-pub mod VersionListLemmas

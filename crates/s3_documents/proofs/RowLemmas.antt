@@ -8,16 +8,21 @@ use Rattle.json.specs.Token.{string}
 use Rattle.json.specs.Print.{token_text, escape, escape_byte}
 use Rattle.s3_text.specs.Digits.{number_digits}
 use Rattle.s3_names.specs.Tags.{is_tag_character}
-use Rattle.s3_names.specs.Ids.{numbered_id, version_id_text}
+use Rattle.s3_names.specs.Ids.{numbered_id, upload_id_text, version_id_text}
 use Rattle.s3_names.specs.declared.ids.VersionId.{VersionId}
 use Rattle.s3_names.specs.declared.ids.VersionId.TheVariants.{Null, Numbered}
 use Rattle.s3_versions.specs.declared.picking.Facts.{Facts}
+use Rattle.s3_records.specs.declared.rows.UploadRow.{UploadRow}
 use Rattle.s3_records.specs.declared.rows.VersionRow.{VersionRow}
+use Rattle.s3_uploads.specs.declared.part.PartRow.{PartRow}
 use Rattle.s3_listings.specs.declared.object_page.ListedObject.{ListedObject}
 use Rattle.s3_documents.specs.Tree.{Fields, Tree, rows, leaves}
 use Rattle.s3_documents.specs.Copied.{tag_told}
+use Rattle.s3_documents.specs.Listed.{rows_between}
 use Rattle.s3_documents.specs.ObjectList.{object_row, prefix_row, page_tree}
-use Rattle.s3_documents.specs.VersionList.{version_fields, rows_tree}
+use Rattle.s3_documents.specs.PartList.{part_fields}
+use Rattle.s3_documents.specs.UploadList.{upload_fields}
+use Rattle.s3_documents.specs.VersionList.{version_fields}
 use Rattle.s3_documents.specs.Printed.{branches_tokens, row_tokens, room_of}
 use Rattle.s3_documents.proofs.PlainLemmas.{tag_plain}
 use Rattle.s3_documents.proofs.CopiedLemmas.{quote_escaped}
@@ -34,6 +39,10 @@ id_length : (id : VersionId) → length (version_id_text id) ≤ 17
 unfolding numbered_id number_digits
 id_length Null = omega arith
 id_length (Numbered number) = omega (arith, length-encode_with lower_digits (to_be_bytes w64 number))
+
+upload_id_length : (id : ℕ) → length (upload_id_text id) ≤ 17
+unfolding numbered_id number_digits
+upload_id_length id = omega (arith, length-encode_with lower_digits (to_be_bytes w64 id))
 
 -- ---- rows of lists of objects
 
@@ -114,8 +123,40 @@ version_row_room row facts some is digits small =
 pub marker_row_room : (row : VersionRow) → row.facts ≡ None → room_of (row_tokens (version_fields row)) ≤ 6 * length row.key + 417
 marker_row_room row none = subst (IsWithin row) (sym none) (marker_room row.key row.id row.is_latest row.moment)
 
--- a page
-pub rows_tree_room : (fields : Fields) (list : List VersionRow)
-    → room_of (branches_tokens (rows_tree fields list))
-    ≡ room_of (branches_tokens (leaves fields)) + room_of (branches_tokens ((codes "Versions", rows (map version_fields list)) ∷ []))
-rows_tree_room fields list = branches_room (leaves fields) ((codes "Versions", rows (map version_fields list)) ∷ [])
+-- ---- rows of lists of uploads
+
+pub upload_row_room : (row : UploadRow) → room_of (row_tokens (upload_fields row)) ≤ 6 * length row.key + 291
+unfolding escape_byte
+upload_row_room row =
+    omega (
+      arith,
+      row_room (upload_fields row),
+      string_room row.key,
+      moment_room row.moment,
+      string_room (upload_id_text row.id),
+      upload_id_length row.id,
+    )
+
+-- ---- rows of lists of parts
+
+pub part_row_room : (row : PartRow) → length row.tag ≤ 38 → list_all is_tag_character row.tag ≡ true → row.size < 2 ^ 64 → row.number < 2 ^ 64
+    → room_of (row_tokens (part_fields row)) ≤ 284
+unfolding escape_byte
+part_row_room row is digits small few =
+    omega (
+      arith,
+      row_room (part_fields row),
+      tag_room row.tag is digits,
+      moment_room row.moment,
+      number_room row.number few,
+      number_room row.size small,
+    )
+
+-- ---- rows with fields beside them
+
+pub rows_between_room : (before : Fields) (name : List ℕ) (list : List Fields) (behind : Fields)
+    → room_of (branches_tokens (rows_between before name list behind))
+    ≡ room_of (branches_tokens (leaves before)) + (room_of (branches_tokens ((name, rows list) ∷ [])) + room_of (branches_tokens (leaves behind)))
+rows_between_room before name list behind =
+    let here : Tree = (name, rows list) ∷ [] in
+    branches_room (leaves before) (here ++ leaves behind) ∙ ap (λ n. room_of (branches_tokens (leaves before)) + n) (branches_room here (leaves behind))

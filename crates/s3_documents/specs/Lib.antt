@@ -1,11 +1,15 @@
 pub mod Buckets
+pub mod Completion
 pub mod Copied
 pub mod Json
 pub mod Laws
 pub mod Listed
 pub mod ObjectList
+pub mod PartList
 pub mod Printed
 pub mod Timestamp
 pub mod Tree
+pub mod Upload
+pub mod UploadList
 pub mod VersionList
 pub mod Versioning

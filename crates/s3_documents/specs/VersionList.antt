@@ -8,8 +8,9 @@ use Rattle.s3_records.specs.declared.rows.VersionRow.{VersionRow}
 use Rattle.s3_listings.specs.declared.asked.VersionsAsked.{VersionsAsked}
 use Rattle.s3_listings.specs.Pages.{Page, next_of}
 use Rattle.s3_documents.specs.Copied.{tag_told}
+use Rattle.s3_documents.specs.Listed.{rows_between}
 use Rattle.s3_documents.specs.Printed.{told}
-use Rattle.s3_documents.specs.Tree.{Value, text, number, truth, moment, Fields, leaves, rows, Tree, tree_text}
+use Rattle.s3_documents.specs.Tree.{Value, text, number, truth, moment, Fields, Tree, tree_text}
 
 -- a version's row; a delete marker has neither a tag nor a size
 abbrev pub tag_of_facts : Facts → Value
@@ -53,13 +54,9 @@ versions_fields name asked page =
     ∷ (codes "VersionIdMarker", text (marker_told asked.id_marker))
     ∷ []
 
--- the document of these rows, behind these fields
-abbrev pub rows_tree : Fields → List VersionRow → Tree
-rows_tree fields list = leaves fields ++ (codes "Versions", rows (map version_fields list)) ∷ []
-
 -- the document of a page of the versions of the bucket of this name
 abbrev pub versions_tree : List ℕ → VersionsAsked → Page VersionRow → Tree
-versions_tree name asked page = rows_tree (versions_fields name asked page) page.given
+versions_tree name asked page = rows_between (versions_fields name asked page) (codes "Versions") (map version_fields page.given) []
 
 abbrev pub versions_text : List ℕ → VersionsAsked → Page VersionRow → List ℕ
 versions_text name asked page = tree_text (versions_tree name asked page)

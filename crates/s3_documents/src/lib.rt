@@ -2,20 +2,27 @@
 //! reply tells, a tree, with its one text, which is printed without a tree of values.
 #![tactic(auto)]
 
+mod body;
 mod buckets;
+mod completion;
 mod copied;
 mod laws;
+mod list;
 mod listed;
 mod object_list;
+mod part_list;
 mod printer;
 mod reserved;
 mod room;
 mod texts;
 mod timestamp;
+mod upload;
+mod upload_list;
 mod version_list;
 mod versioning;
 
 pub use buckets::buckets_document;
+pub use completion::read_completion;
 pub use copied::copied_document;
 pub use laws::documents_are_one;
 pub use listed::Document;

@@ -1,15 +1,24 @@
-//! The documents of lists, whose text is printed when it is wanted.
+//! The documents of replies. The text of a list is printed when it is wanted.
 ghost use Rattle.std.specs.Prelude.{◌≡◌, IfOk};
 ghost use Rattle.s3_documents.specs.Listed.{reserved_text};
 ghost use Rattle.s3_documents.specs.ObjectList.{objects_text};
+ghost use Rattle.s3_documents.specs.PartList.{parts_text};
+ghost use Rattle.s3_documents.specs.Upload.{upload_text, completed_text};
+ghost use Rattle.s3_documents.specs.UploadList.{uploads_text};
 ghost use Rattle.s3_documents.specs.VersionList.{versions_text};
 
 use crate::object_list::ObjectsList;
+use crate::part_list::PartsList;
 use crate::reserved::Reserved;
+use crate::upload::{completed_document, upload_document};
+use crate::upload_list::UploadsList;
 use crate::version_list::VersionsList;
 use s3_bodies::Body;
-use s3_listings::{ObjectPage, ObjectsAsked, VersionPage, VersionsAsked};
-use s3_names::BucketName;
+use s3_listings::{
+    ObjectPage, ObjectsAsked, PartPage, PartsAsked, UploadPage, UploadsAsked, VersionPage,
+    VersionsAsked,
+};
+use s3_names::{BucketName, Key, Tag, UploadId};
 use s3_terms::NoMemory;
 use std::alloc::Global;
 use std::marker::Model;
@@ -32,6 +41,8 @@ enum Content {
 enum Reservation {
     Objects(Reserved<ObjectsList>),
     Versions(Reserved<VersionsList>),
+    Uploads(Reserved<UploadsList>),
+    Parts(Reserved<PartsList>),
 }
 
 impl Model for Document {
@@ -80,6 +91,67 @@ impl Document {
         pending(alloc, Reservation::Versions(reserved))
     }
 
+    /// The document of a CreateMultipartUpload, which began the upload of this id.
+    pub fn of_upload(
+        alloc: Global,
+        bucket: &BucketName,
+        key: &Key,
+        id: UploadId,
+    ) -> Result<Document, NoMemory>
+        ensures { IfOk result (λ document. document ≡ upload_text bucket.now key.now id) }
+    {
+        let text = upload_document(alloc, bucket, key, id)?;
+        Ok(Document::of(Body::alone(text)))
+    }
+
+    /// The document of a CompleteMultipartUpload, which made a version with this tag.
+    pub fn of_completed(
+        alloc: Global,
+        bucket: &BucketName,
+        key: &Key,
+        tag: &Tag,
+    ) -> Result<Document, NoMemory>
+        ensures { IfOk result (λ document. document ≡ completed_text bucket.now key.now tag.now) }
+    {
+        let text = completed_document(alloc, bucket, key, tag)?;
+        Ok(Document::of(Body::alone(text)))
+    }
+
+    /// The document of a ListMultipartUploads.
+    pub fn of_uploads(
+        alloc: Global,
+        name: BucketName,
+        asked: UploadsAsked,
+        page: UploadPage,
+    ) -> Result<Document, NoMemory>
+        ensures { IfOk result (λ document. document ≡ uploads_text name asked page) }
+    {
+        let reserved = Reserved::of(alloc, UploadsList { name, asked, page })?;
+        pending(alloc, Reservation::Uploads(reserved))
+    }
+
+    /// The document of a ListParts, of the upload of this id.
+    pub fn of_parts(
+        alloc: Global,
+        name: BucketName,
+        key: Key,
+        id: UploadId,
+        asked: PartsAsked,
+        page: PartPage,
+    ) -> Result<Document, NoMemory>
+        ensures { IfOk result (λ document. document ≡ parts_text name key id asked page) }
+    {
+        let list = PartsList {
+            name,
+            key,
+            id,
+            asked,
+            page,
+        };
+        let reserved = Reserved::of(alloc, list)?;
+        pending(alloc, Reservation::Parts(reserved))
+    }
+
     /// The text, as a body. It takes no memory.
     pub fn into_body(self) -> Body
         ensures { result ≡ self }
@@ -107,6 +179,8 @@ fn printed(reservation: Reservation) -> Body
     let text = match reservation {
         Reservation::Objects(reserved) => reserved.text(),
         Reservation::Versions(reserved) => reserved.text(),
+        Reservation::Uploads(reserved) => reserved.text(),
+        Reservation::Parts(reserved) => reserved.text(),
     };
     Body::alone(text)
 }

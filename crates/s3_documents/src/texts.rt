@@ -1,14 +1,15 @@
 //! Names, keys, tags and ids, as documents tell them.
 ghost use Rattle.std.specs.Prelude.{◌≡◌, ◌≤◌, ◌+◌, ◌++◌, length, IsUtf8};
 ghost use Rattle.arrayvec.specs.ArrayVec.{array_vec_len};
-ghost use Rattle.s3_names.specs.Ids.{version_id_text};
+ghost use Rattle.s3_names.specs.Ids.{upload_id_text, version_id_text};
 ghost use Rattle.s3_documents.specs.Copied.{tag_told};
+ghost use Rattle.s3_documents.specs.UploadList.{upload_marker_told};
 ghost use Rattle.s3_documents.specs.VersionList.{marker_told};
 
 use crate::printer::text_of;
 use arrayvec::ArrayVec;
 use s3_listings::Text;
-use s3_names::{BucketName, Key, Tag, VersionId};
+use s3_names::{BucketName, Key, Tag, UploadId, VersionId};
 
 /// No tag is longer, with its double quotes.
 const TAG_MAX: usize = 40;
@@ -73,6 +74,26 @@ pub(crate) fn id_told(id: Option<VersionId>) -> ArrayVec<u8, ID_MAX>
 
 fn id_spelled(id: VersionId) -> ArrayVec<u8, ID_MAX>
     ensures { result.items ≡ version_id_text id }
+{
+    let text = id.text();
+    let mut told = ArrayVec::new();
+    let _fits = told.try_extend_from_slice(text.as_bytes());
+    told
+}
+
+/// The id of an upload; an empty text where there is none.
+pub(crate) fn upload_id_told(id: Option<UploadId>) -> ArrayVec<u8, ID_MAX>
+    ensures value { result.items ≡ upload_marker_told id }
+    ensures utf8 { IsUtf8 result.items }
+{
+    match id {
+        Some(id) => upload_id_spelled(id),
+        None => ArrayVec::new(),
+    }
+}
+
+fn upload_id_spelled(id: UploadId) -> ArrayVec<u8, ID_MAX>
+    ensures { result.items ≡ upload_id_text id }
 {
     let text = id.text();
     let mut told = ArrayVec::new();

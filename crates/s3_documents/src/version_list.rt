@@ -1,15 +1,16 @@
 //! The list of a bucket's versions, as a document.
-ghost use Rattle.std.specs.Prelude.{◌≡◌, ◌+◌, ◌*◌, [], OnOk, IfSome, IsUtf8, option_map};
+ghost use Rattle.std.specs.Prelude.{◌≡◌, ◌+◌, ◌*◌, IfSome, IsUtf8, option_map};
 ghost use Rattle.std.specs.Option.{option_copied};
 ghost use Rattle.s3_listings.specs.Pages.{next_of};
 ghost use Rattle.s3_names.specs.Ids.{version_id_text};
 ghost use Rattle.s3_documents.specs.Copied.{tag_told};
-ghost use Rattle.s3_documents.specs.Printed.{branches_tokens, begun, fields_of, value_of, room_of, TakesRoom, IsRoomFor};
-ghost use Rattle.s3_documents.specs.VersionList.{tag_of_facts, size_of_facts, version_fields, key_of_row, id_of_row, marker_told, versions_fields, rows_tree, versions_tree};
+ghost use Rattle.s3_documents.specs.Printed.{fields_of, value_of, IsRoomFor};
+ghost use Rattle.s3_documents.specs.VersionList.{tag_of_facts, size_of_facts, version_fields, key_of_row, id_of_row, marker_told, versions_fields, versions_tree};
 
+use crate::list::{print_list, room_of_list};
 use crate::printer::{Field, Leaf, Printer, Row, text_of};
 use crate::reserved::Told;
-use crate::room::{Bounded, known_of, room_of_fields, room_of_rows, room_of_text};
+use crate::room::{Bounded, known_of, room_of_text};
 use crate::texts::{ID_MAX, id_told, key_told, name_told, quoted, text_told};
 use arrayvec::ArrayVec;
 use s3_listings::{VersionPage, VersionsAsked};
@@ -34,92 +35,51 @@ impl Told for VersionsList {
     ghost tree = { λ list. versions_tree list.name list.asked list.page };
 
     fn print(&self, printer: &mut Printer) -> Result<(), AllocError> {
-        let next = next_row(&self.page);
+        let next = self.page.next();
         let behind = id_told(self.asked.id_marker);
         let next_behind = row_id(next);
-        let fields = fields_told(
-            &self.name,
-            &self.asked,
-            &self.page,
-            next,
-            text_of(&behind),
-            text_of(&next_behind),
-        );
-        printed(printer, &fields, self.page.rows())
+        let fields = fields_told(self, next, text_of(&behind), text_of(&next_behind));
+        print_list(printer, &fields, "Versions", self.page.rows(), &[])
     }
 
     fn room(&self) -> usize {
-        let next = next_row(&self.page);
+        let next = self.page.next();
         let behind = id_told(self.asked.id_marker);
         let next_behind = row_id(next);
-        let fields = fields_told(
-            &self.name,
-            &self.asked,
-            &self.page,
-            next,
-            text_of(&behind),
-            text_of(&next_behind),
-        );
-        room_for(&fields, self.page.rows())
+        let fields = fields_told(self, next, text_of(&behind), text_of(&next_behind));
+        room_of_list(&fields, "Versions", self.page.rows(), &[])
     }
-}
-
-// Prints these fields, and these rows behind them.
-#[tactic(auto, using(crate::proofs::RowLemmas::rows_tree_room))]
-fn printed(
-    printer: &mut Printer,
-    fields: &[Field<'_>],
-    list: &[VersionRow],
-) -> Result<(), AllocError>
-    ensures tokens { OnOk result (printer.old.tokens ≡ begun []
-        → printer.new.tokens ≡ begun (rows_tree (fields_of fields.now) list.now)) }
-    ensures room { TakesRoom result printer.old.spare printer.new.spare
-        (branches_tokens (rows_tree (fields_of fields.now) list.now)) }
-{
-    printer.fields(fields)?;
-    printer.rows("Versions", list)?;
-    Ok(())
-}
-
-// The room for that.
-#[tactic(auto, using(crate::proofs::RowLemmas::rows_tree_room, crate::proofs::RoomLemmas::leaves_room))]
-fn room_for(fields: &[Field<'_>], list: &[VersionRow]) -> usize
-    ensures { IsRoomFor result (room_of (branches_tokens (rows_tree (fields_of fields.now) list.now))) }
-{
-    room_of_fields(fields).saturating_add(room_of_rows("Versions", list))
 }
 
 // What stands in front of the rows: `next` is the row behind which the next page goes on, and these are the texts of the
 // id behind which this one does, and of that row's id.
 fn fields_told<'a>(
-    name: &'a BucketName,
-    asked: &'a VersionsAsked,
-    page: &'a VersionPage,
+    list: &'a VersionsList,
     next: Option<&'a VersionRow>,
     behind: &'a str,
     next_behind: &'a str,
 ) -> [Field<'a>; 8]
-    requires next { option_copied next ≡ next_of page.now }
-    requires behind { behind.now ≡ marker_told asked.now.id_marker }
+    requires next { option_copied next ≡ next_of list.now.page }
+    requires behind { behind.now ≡ marker_told list.now.asked.id_marker }
     requires next_behind { IfSome (option_copied next) (λ row. next_behind.now ≡ version_id_text row.id) }
-    ensures { fields_of result ≡ versions_fields name.now asked.now page.now }
+    ensures { fields_of result ≡ versions_fields list.now.name list.now.asked list.now.page }
 {
     [
         Field {
             name: "IsTruncated",
-            value: Leaf::Truth(page.is_truncated()),
+            value: Leaf::Truth(list.page.is_truncated()),
         },
         Field {
             name: "KeyMarker",
-            value: Leaf::Text(text_told(&asked.key_marker)),
+            value: Leaf::Text(text_told(&list.asked.key_marker)),
         },
         Field {
             name: "MaxKeys",
-            value: Leaf::Number(asked.max_keys as u64),
+            value: Leaf::Number(list.asked.max_keys as u64),
         },
         Field {
             name: "Name",
-            value: Leaf::Text(name_told(name)),
+            value: Leaf::Text(name_told(&list.name)),
         },
         Field {
             name: "NextKeyMarker",
@@ -131,7 +91,7 @@ fn fields_told<'a>(
         },
         Field {
             name: "Prefix",
-            value: Leaf::Text(text_told(&asked.prefix)),
+            value: Leaf::Text(text_told(&list.asked.prefix)),
         },
         Field {
             name: "VersionIdMarker",
@@ -226,18 +186,6 @@ fn size_leaf(facts: &Option<Facts>) -> Leaf<'_>
     match facts {
         Some(facts) => Leaf::Number(facts.size),
         None => Leaf::Absent,
-    }
-}
-
-// The row behind which the next page goes on, if there is one.
-#[tactic(auto, using(crate::proofs::VersionListLemmas::last_is))]
-fn next_row(page: &VersionPage) -> Option<&VersionRow>
-    ensures { option_copied result ≡ next_of page.now }
-{
-    if page.is_truncated() {
-        page.rows().last()
-    } else {
-        None
     }
 }
 

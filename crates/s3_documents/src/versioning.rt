@@ -1,17 +1,17 @@
 //! The versioning of a bucket, as documents tell it.
-ghost use Rattle.std.specs.Prelude.{◌≡◌, ◌<◌, ◌⊎◌, length, Some, None, IfOk, IfErr};
+ghost use Rattle.std.specs.Prelude.{◌≡◌, ◌<◌, length, IfOk, IfErr};
 ghost use Rattle.serde_json.specs.View.{view};
 ghost use Rattle.s3_terms.specs.Fault.{Follows};
 ghost use Rattle.s3_documents.specs.Printed.{fields_of};
 ghost use Rattle.s3_documents.specs.Tree.{leaves};
-ghost use Rattle.s3_documents.specs.Versioning.{json_of, status_in, status_named, versioning_read, versioning_tree, versioning_text};
+ghost use Rattle.s3_documents.specs.Versioning.{status_in, status_named, versioning_read, versioning_tree, versioning_text};
 
+use crate::body::parsed;
 use crate::printer::{Field, Leaf, Printer};
 use s3_terms::{Code, NoMemory};
 use s3_versions::{Versioning, VersioningStatus};
 use serde_json::Value;
 use std::alloc::Global;
-use std::str;
 
 /// No document that tells of a versioning is longer.
 const DOCUMENT_MAX: usize = 32;
@@ -57,27 +57,6 @@ fn told(versioning: Versioning) -> [Field<'static>; 1]
             name,
             value: Leaf::Text("Suspended"),
         }],
-    }
-}
-
-// The JSON that a body is.
-fn parsed(alloc: Global, body: &[u8]) -> Result<Value, Code>
-    ensures value { IfOk result (λ value. json_of body.now ≡ Some (view value)) }
-    ensures refused { IfErr result (λ code. (code ≡ Code.InternalError) ⊎ ((code ≡ Code.MalformedBody) × (json_of body.now ≡ None))) }
-    ensures memory { IfErr result (λ code. code ≡ Code.InternalError → 0 < length body.now) }
-{
-    let Ok(text) = str::from_utf8(body) else {
-        return Err(Code::MalformedBody);
-    };
-    match Value::from_str(alloc, text) {
-        Ok(value) => Ok(value),
-        Err(e) => {
-            if e.is_memory() {
-                Err(Code::InternalError)
-            } else {
-                Err(Code::MalformedBody)
-            }
-        }
     }
 }
 

@@ -27,9 +27,11 @@ pub(crate) fn add_body(bytes: &mut Vec<u8>, text: &str) -> Option<()> {
     add_repeated(bytes, text.as_bytes(), size as usize).ok()
 }
 
-/// The bytes of a body, as `add_body` adds them.
+/// The bytes of a body that is sent: those of its lines, each as `add_body` adds them, where each but the last ends with a bar.
 pub(crate) fn body(alloc: Global, text: &str) -> Option<Vec<u8>> {
     let mut bytes = Vec::new(alloc);
-    add_body(&mut bytes, text)?;
+    for line in text.split("|\n") {
+        add_body(&mut bytes, line)?;
+    }
     Some(bytes)
 }

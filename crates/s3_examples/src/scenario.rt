@@ -4,8 +4,8 @@
 //! In a file, a line `==` stands between two connections, and a line `=>` between the requests of one and what it is
 //! answered. A line `--` stands between two requests. A request is a line with its method and its target, its header lines,
 //! and behind an empty line its body; it is signed before it is sent. Each line of the answers ends with CRLF, but for one
-//! that ends with a bar: that is the end of a body, and the bar stands for nothing. A body `TEXT*N`, sent or answered, has N
-//! bytes, the text over and over.
+//! that ends with a bar: that is a body, or a piece of one, and the bar stands for nothing. So are the lines of a body that is
+//! sent, but that its last one has no bar. A line `TEXT*N` of a body has N bytes, the text over and over.
 
 use crate::body::add_body;
 use crate::request::signed;

@@ -1,2 +1,3 @@
+pub mod BookLemmas
 pub mod PrefixLemmas
 pub mod RunLemmas

@@ -38,7 +38,7 @@ nothing_cut : {X : Type 0} (xs : List X) (x : X) (ys : List X) → [] ≡ xs ++ 
 nothing_cut [] x ys is = absurd (cc)
 nothing_cut (y ∷ xs) x ys is = absurd (cc)
 
-member_cut : {X : Type 0} (xs : List X) (x : X) (ys : List X) → Member x (xs ++ x ∷ ys)
+pub member_cut : {X : Type 0} (xs : List X) (x : X) (ys : List X) → Member x (xs ++ x ∷ ys)
 member_cut xs x ys = member_behind xs (x ∷ ys) x (inl refl)
 
 -- a cut of two lists that are joined is in the first or in the second
@@ -77,10 +77,16 @@ filter_cut p (y ∷ xs) front x rest is =
     ] is
 
 -- a list up to its last member
-pub last_cut : {X : Type 0} (xs : List X) (x : X) → last_of xs ≡ Some x → (front : List X) × (xs ≡ front ++ x ∷ [])
+last_cut : {X : Type 0} (xs : List X) (x : X) → last_of xs ≡ Some x → (front : List X) × (xs ≡ front ++ x ∷ [])
 last_cut [] x is = absurd (none-some x is)
 last_cut (y ∷ []) x is = ([], ap (λ z. z ∷ []) (same_Some y x is))
 last_cut (y ∷ z ∷ xs) x is = let known = last_cut (z ∷ xs) x is in (y ∷ known.0, ap (λ l. y ∷ l) known.1)
+
+-- a list is cut at the last one of those in front
+pub cut_at_last : {X : Type 0} (most : ℕ) (xs : List X) (x : X) → last_of (take most xs) ≡ Some x → (front : List X) × (xs ≡ front ++ x ∷ drop most xs)
+cut_at_last most xs x is =
+    let front = last_cut (take most xs) x is in
+    (front.0, sym (take-append-drop most xs) ∙ ap (λ l. l ++ drop most xs) front.1 ∙ append_assoc front.0 (x ∷ []) (drop most xs))
 
 -- behind the first that passes
 after_yes : {X : Type 0} (p : X → Bool) (x : X) (xs : List X) → p x ≡ true → after_first p (x ∷ xs) ≡ xs

@@ -4,7 +4,8 @@ use Rattle.std.specs.List.{flat_map, take_while}
 use Rattle.std.proofs.lemmas.Bool.{false≢true, cases_Bool, false_from_ne_true}
 use Rattle.std.proofs.lemmas.List.Elements.{filter-append}
 use Rattle.std.proofs.lemmas.List.Sums.{take_while-cons}
-use Rattle.s3_listings.proofs.MemberLemmas.{Member, Paired, each_at, each_from, member_in_front}
+use Rattle.s3_listings.specs.Sought.{Paired}
+use Rattle.s3_listings.proofs.MemberLemmas.{Member, each_at, each_from, member_in_front}
 
 pub filter_none : {X : Type 0} (p : X → Bool) (xs : List X) → ((x : X) → Member x xs → p x ≡ false) → filter p xs ≡ []
 filter_none p [] none = refl

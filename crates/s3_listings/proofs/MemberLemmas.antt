@@ -8,17 +8,13 @@ use Rattle.std.proofs.lemmas.Option.{none-some, same_Some}
 use Rattle.s3_text.specs.Order.{rises}
 use Rattle.s3_listings.specs.Objects.{is_before}
 use Rattle.s3_listings.specs.Pages.{last_of}
+use Rattle.s3_listings.specs.Sought.{Paired}
 use Rattle.s3_listings.proofs.OrderLemmas.{before_trans, not_before_itself, one_way}
 
 -- x is a member of the list
 abbrev pub Member : {X : Type 0} → X → List X → Type 0
 Member x [] = ⊥
 Member x (y ∷ ys) = (x ≡ y) ⊎ Member x ys
-
--- R holds of each member and each later one
-abbrev pub Paired : {X : Type 0} → (X → X → Type 0) → List X → Type 0
-Paired R [] = Unit {0}
-Paired R (x ∷ xs) = AllByRecursion (R x) xs × Paired R xs
 
 -- the texts of the members rise
 abbrev pub Before : {X : Type 0} → (X → List ℕ) → X → X → Type 0

@@ -12,10 +12,11 @@ use Rattle.s3_listings.specs.declared.asked.ObjectsAsked.{ObjectsAsked}
 use Rattle.s3_listings.specs.Pages.{last_of}
 use Rattle.s3_listings.specs.Objects.{Item, Object, CommonPrefix, text_of, is_before, is_same, rolled, rolled_up, common_prefix, is_behind_start, is_asked, item_of, is_behind_token, objects_asked, objects_page}
 use Rattle.s3_listings.specs.Laws.{AreInOrder, ItemsRise, IsToldOf, ItemsAreOfKeys, KeysAreToldOnce, AsksForKeys, ListedAreKeys, ListedAreRead, behind, PagesJoin}
+use Rattle.s3_listings.specs.Sought.{Paired}
 use Rattle.s3_listings.proofs.HeldLemmas.{row_of, read_of_row, row_of_read}
 use Rattle.s3_listings.proofs.ItemLemmas.{ToldBy, told_by, told_from, items_in_order}
 use Rattle.s3_listings.proofs.JoinLemmas.{page_joins, all_join}
-use Rattle.s3_listings.proofs.MemberLemmas.{Member, Paired, Before, Rising, SameOrBefore, member_from_contains, contains_from_member, member-filter, member_of_filter, paired-filter, member-filter_map, member_of_filter_map, paired-filter_map, rising_from_rises, rises_from_rising, member-dedup, member_of_dedup, rising-dedup, same_members, only_member, member_in_front, last_member, behind_last}
+use Rattle.s3_listings.proofs.MemberLemmas.{Member, Before, Rising, SameOrBefore, member_from_contains, contains_from_member, member-filter, member_of_filter, paired-filter, member-filter_map, member_of_filter_map, paired-filter_map, rising_from_rises, rises_from_rising, member-dedup, member_of_dedup, rising-dedup, same_members, only_member, member_in_front, last_member, behind_last}
 use Rattle.s3_listings.proofs.OrderLemmas.{before_trans, not_before_itself, one_way, order_of}
 
 -- the key of a row

@@ -1,7 +1,5 @@
--- The last row of a page, and the law of lists of versions.
-use Rattle.std.proofs.Common.{◌≡◌, refl, sym, ap, ◌∙◌, ℕ, ◌<◌, ◌-◌, List, [], ◌∷◌, ◌++◌, length, filter, take, drop, Some, None, append_assoc, arith}
-use Rattle.std.specs.List.{last_or, slice_get}
-use Rattle.std.proofs.lemmas.List.{take-append-drop}
+-- The pages of lists of versions.
+use Rattle.std.proofs.Common.{◌≡◌, ap, ◌∙◌, ℕ, ◌<◌, List, filter, take, drop, Some}
 use Rattle.s3_records.specs.Catalogue.{Catalogue}
 use Rattle.s3_records.specs.Laws.{AreCatalogued}
 use Rattle.s3_records.specs.Rows.{versions_from}
@@ -10,17 +8,8 @@ use Rattle.s3_listings.specs.declared.asked.VersionsAsked.{VersionsAsked}
 use Rattle.s3_listings.specs.Pages.{last_of}
 use Rattle.s3_listings.specs.Versions.{marked, is_asked, versions_asked, versions_page}
 use Rattle.s3_listings.specs.Laws.{Joins, behind_row, VersionPagesJoin}
-use Rattle.s3_listings.proofs.BehindLemmas.{FilterCut, filter_cut, last_cut, versions_follow}
+use Rattle.s3_listings.proofs.BehindLemmas.{FilterCut, filter_cut, cut_at_last, versions_follow}
 use Rattle.s3_listings.proofs.JoinLemmas.{page_joins, all_join}
-
--- the last of some rows, by its place
-last_behind : {A : Type 0} (x : A) (xs : List A) → slice_get (x ∷ xs) (length xs) ≡ last_or (Some x) xs
-last_behind x [] = refl
-last_behind x (y ∷ ys) = last_behind y ys
-
-pub last_is : {A : Type 0} (xs : List A) → slice_get xs (length xs - 1) ≡ last_or None xs
-last_is [] = refl
-last_is (x ∷ xs) = ap (slice_get (x ∷ xs)) (omega arith) ∙ last_behind x xs
 
 -- what is asked for behind the last row of a page is what the page leaves
 version_rest : {B : Type 0} (asked : VersionsAsked) (c : Catalogue B) (name : List ℕ) (last : VersionRow) → AreCatalogued c → last_of (take asked.max_keys (versions_asked asked c name)) ≡ Some last
@@ -28,11 +17,9 @@ version_rest : {B : Type 0} (asked : VersionsAsked) (c : Catalogue B) (name : Li
 version_rest asked c name last valid is =
     let items : List VersionRow = versions_asked asked c name in
     let most : ℕ = asked.max_keys in
-    let front = last_cut (take most items) last is in
-    let whole : items ≡ front.0 ++ last ∷ drop most items =
-    sym (take-append-drop most items) ∙ ap (λ l. l ++ drop most items) front.1 ∙ append_assoc front.0 (last ∷ []) (drop most items) in
+    let whole = cut_at_last most items last is in
     let cut : FilterCut (is_asked asked) (versions_from c name (marked asked.key_marker asked.id_marker)) last (drop most items) =
-    filter_cut (is_asked asked) (versions_from c name (marked asked.key_marker asked.id_marker)) front.0 last (drop most items) whole in
+    filter_cut (is_asked asked) (versions_from c name (marked asked.key_marker asked.id_marker)) whole.0 last (drop most items) whole.1 in
     ap (filter (is_asked asked)) (versions_follow c name asked.key_marker asked.id_marker cut.front last cut.back valid cut.cut) ∙ cut.left
 
 version_page_joins : {B : Type 0} (asked : VersionsAsked) (c : Catalogue B) (name : List ℕ) → AreCatalogued c → 0 < asked.max_keys

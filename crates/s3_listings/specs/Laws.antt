@@ -1,4 +1,4 @@
--- What users may rely on of the lists of a bucket's objects and versions.
+-- What users may rely on of the lists of a bucket's objects, versions and uploads, and of an upload's parts.
 use Rattle.std.specs.Prelude.{◌≡◌, ◌<◌, ◌↔◌, ℕ, nat_eq, IsTrue, List, [], ◌∷◌, ◌++◌, map as each, Contains, filter, Some, None, Ok, MatchOption}
 use Rattle.std.specs.List.{starts_with, flat_map}
 use Rattle.s3_text.specs.Order.{rises}
@@ -8,11 +8,19 @@ use Rattle.s3_records.specs.Catalogue.{Catalogue, versions_of}
 use Rattle.s3_records.specs.Laws.{AreCatalogued}
 use Rattle.s3_records.specs.Rows.{key_rows}
 use Rattle.s3_records.specs.declared.rows.KeyRow.{KeyRow}
+use Rattle.s3_records.specs.declared.rows.UploadRow.{UploadRow}
 use Rattle.s3_records.specs.declared.rows.VersionRow.{VersionRow}
+use Rattle.s3_uploads.specs.Parts.{PartList, numbers_of}
+use Rattle.s3_uploads.specs.Parts.{rises as rising}
+use Rattle.s3_uploads.specs.declared.part.PartRow.{PartRow}
 use Rattle.s3_listings.specs.declared.asked.ObjectsAsked.{ObjectsAsked}
+use Rattle.s3_listings.specs.declared.asked.PartsAsked.{PartsAsked}
+use Rattle.s3_listings.specs.declared.asked.UploadsAsked.{UploadsAsked}
 use Rattle.s3_listings.specs.declared.asked.VersionsAsked.{VersionsAsked}
 use Rattle.s3_listings.specs.Pages.{Page, next_of}
 use Rattle.s3_listings.specs.Objects.{Item, Object, text_of, item_of, is_same, is_behind_token, objects_asked, objects_page}
+use Rattle.s3_listings.specs.Parts.{parts_asked, parts_page}
+use Rattle.s3_listings.specs.Uploads.{uploads_asked, uploads_page}
 use Rattle.s3_listings.specs.Versions.{versions_asked, versions_page}
 
 -- the rows stand by key in the order of bytes, and none twice
@@ -99,3 +107,23 @@ abbrev pub VersionPagesJoin : Type 0 → Type 0
 VersionPagesJoin B =
     (asked : VersionsAsked) (c : Catalogue B) (name : List ℕ) → AreCatalogued c → 0 < asked.max_keys
     → AllJoin (λ a. versions_page a c name) behind_row (λ a. versions_asked a c name) asked
+
+-- the same request, behind an upload
+abbrev pub behind_upload : UploadsAsked → UploadRow → UploadsAsked
+behind_upload asked last = record asked { key_marker = last.key; id_marker = Some last.id }
+
+-- so do the pages of a list of uploads
+abbrev pub UploadPagesJoin : Type 0 → Type 0
+UploadPagesJoin B =
+    (asked : UploadsAsked) (c : Catalogue B) (name : List ℕ) → 0 < asked.max_uploads
+    → AllJoin (λ a. uploads_page a c name) behind_upload (λ a. uploads_asked a c name) asked
+
+-- the same request, behind a part
+abbrev pub behind_part : PartsAsked → PartRow → PartsAsked
+behind_part asked last = record asked { marker = last.number }
+
+-- and those of a list of parts, whose numbers rise
+abbrev pub PartPagesJoin : Type 0 → Type 0
+PartPagesJoin B =
+    (asked : PartsAsked) (parts : PartList B) → IsTrue (rising (numbers_of parts)) → 0 < asked.max_parts
+    → AllJoin (λ a. parts_page a parts) behind_part (λ a. parts_asked a parts) asked

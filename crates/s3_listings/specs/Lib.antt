@@ -2,7 +2,9 @@ pub mod Laws
 pub mod Drafts
 pub mod Objects
 pub mod Pages
+pub mod Parts
 pub mod Sought
 pub mod Text
+pub mod Uploads
 pub mod Versions
 pub use Rattle.s3_records.specs.Rows

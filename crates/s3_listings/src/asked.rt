@@ -1,7 +1,7 @@
 //! What is asked of a list.
 
 use crate::Text;
-use s3_names::VersionId;
+use s3_names::{UploadId, VersionId};
 
 /// What is asked of a list of a bucket's objects (Amazon S3 API Reference, ListObjectsV2).
 #[derive(Drop)]
@@ -29,4 +29,26 @@ pub struct VersionsAsked {
     pub id_marker: Option<VersionId>,
     /// How many versions a page has at most, from 0 to 1,000.
     pub max_keys: u16,
+}
+
+/// What is asked of a list of the uploads in a bucket (Amazon S3 API Reference, ListMultipartUploads).
+#[derive(Drop)]
+pub struct UploadsAsked {
+    /// Only uploads whose keys begin so are told.
+    pub prefix: Text,
+    /// Only what stands behind this key is told, unless an upload of it is named.
+    pub key_marker: Text,
+    /// Of that key only uploads with greater ids than this one are told, whether it is there or not.
+    pub id_marker: Option<UploadId>,
+    /// How many uploads a page has at most, from 0 to 1,000.
+    pub max_uploads: u16,
+}
+
+/// What is asked of a list of an upload's parts (Amazon S3 API Reference, ListParts).
+#[derive(Clone, Copy)]
+pub struct PartsAsked {
+    /// Only parts with greater numbers are told.
+    pub marker: u64,
+    /// How many parts a page has at most, from 0 to 1,000.
+    pub max_parts: u16,
 }

@@ -1,7 +1,7 @@
 //! Laws of lists: what users may rely on, with nothing to run.
-ghost use Rattle.s3_listings.specs.Laws.{ItemsRise, ItemsAreOfKeys, KeysAreToldOnce, ListedAreKeys, ListedAreRead, PagesJoin, VersionPagesJoin};
+ghost use Rattle.s3_listings.specs.Laws.{ItemsRise, ItemsAreOfKeys, KeysAreToldOnce, ListedAreKeys, ListedAreRead, PagesJoin, VersionPagesJoin, UploadPagesJoin, PartPagesJoin};
 
-use s3_records::keys_rise;
+use s3_records::{keys_rise, uploads_are_listed};
 
 /// A law, with nothing to run: the items of a list are distinct and stand in the order of bytes, and they are those that keys
 /// are told as and that stand behind the token; each of them is there once, however many keys it is told of.
@@ -30,4 +30,16 @@ pub fn pages_join()
 /// A law, with nothing to run: so are the pages of a list of versions, joined by their markers.
 pub fn version_pages_join<B>()
     ensures { VersionPagesJoin B }
+{}
+
+/// A law, with nothing to run: so are the pages of a list of uploads.
+pub fn upload_pages_join<B>()
+    ensures { UploadPagesJoin B }
+{
+    uploads_are_listed::<B>();
+}
+
+/// A law, with nothing to run: so are the pages of a list of an upload's parts, whose numbers rise.
+pub fn part_pages_join<B>()
+    ensures { PartPagesJoin B }
 {}

@@ -1,23 +1,31 @@
-//! Lists of what is in a bucket, page by page: which objects and common prefixes, and which versions, a page has, and where
-//! the next one goes on. What a list is stands in `specs/Objects.antt` and `specs/Versions.antt`, and what users may rely
-//! on in `specs/Laws.antt`.
+//! Lists of what is in a bucket, page by page: which objects and common prefixes, which versions and which uploads a
+//! page has, and where the next one goes on; and the same of an upload's parts. What a list is stands in
+//! `specs/Objects.antt`, `Versions`, `Uploads` and `Parts`, and what users may rely on in `specs/Laws.antt`.
 #![tactic(auto)]
 
 mod asked;
 mod draft;
 mod laws;
+mod list_page;
 mod object_page;
 mod objects;
+mod parts;
 mod places;
 mod rolling;
+mod sought;
 mod text;
-mod version_page;
+mod uploads;
 mod versions;
 
-pub use asked::{ObjectsAsked, VersionsAsked};
-pub use laws::{items_are_distinct, listed_keys_are_read, pages_join, version_pages_join};
+pub use asked::{ObjectsAsked, PartsAsked, UploadsAsked, VersionsAsked};
+pub use laws::{
+    items_are_distinct, listed_keys_are_read, pages_join, part_pages_join, upload_pages_join,
+    version_pages_join,
+};
+pub use list_page::{ListPage, PartPage, UploadPage, VersionPage};
 pub use object_page::{ListedObject, ObjectPage};
 pub use objects::list_objects;
+pub use parts::list_parts;
 pub use text::Text;
-pub use version_page::VersionPage;
+pub use uploads::list_uploads;
 pub use versions::list_versions;

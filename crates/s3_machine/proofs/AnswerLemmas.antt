@@ -1,5 +1,6 @@
 -- What right answers say, and how a delete marker hides.
 use Rattle.std.proofs.Common.{◌≡◌, refl, sym, ap, subst, ◌∙◌, Bool, true, false, not, ℕ, ⊎_elim, inl, inr, List, ◌∷◌, ◌++◌, append_assoc, Option, Some, None, option_map, is_some, Result, Ok, Err}
+use Rattle.std.proofs.lemmas.Option.{same_Some}
 use Rattle.std.specs.Result.{result_ok}
 use Rattle.s3_terms.specs.declared.code.Code.TheVariants.{NoSuchBucket, NoSuchKey}
 use Rattle.s3_names.specs.declared.ids.VersionId.{VersionId}
@@ -15,22 +16,26 @@ use Rattle.s3_versions.specs.declared.version.Versioning.{Versioning}
 use Rattle.s3_versions.specs.declared.version.Versioning.TheVariants.{Unversioned, Enabled, Suspended}
 use Rattle.s3_versions.specs.Rules.{made, new_id, pick, facts_of, asked_for, judged, current, after_delete, KeyDeleted}
 use Rattle.s3_versions.specs.Laws as versions
+use Rattle.s3_uploads.specs.Completion.{parts_listed, joined_data}
+use Rattle.s3_uploads.specs.declared.listed.ListedPart.{ListedPart}
+use Rattle.s3_uploads.specs.declared.upload.Upload.{Upload}
 use Rattle.s3_records.specs.Catalogue.{has_bucket, versions_of, versioning_of}
 use Rattle.s3_records.specs.Laws.{ChangesFollowRules}
 use Rattle.s3_records.specs.Places.{ChangesAreByPlace}
 use Rattle.s3_machine.specs.declared.command.Command.{Command}
 use Rattle.s3_machine.specs.declared.command.Command.TheVariants as commands
 use Rattle.s3_machine.specs.declared.command.KeyCommand.TheVariants as key_commands
+use Rattle.s3_machine.specs.declared.command.UploadCommand.TheVariants as upload_commands
 use Rattle.s3_machine.specs.declared.command.Source.{Source as CopySource}
 use Rattle.s3_machine.specs.declared.command.Outcome.TheVariants as outcomes
 use Rattle.s3_terms.specs.Fault.{◌>>◌, ◌>>=◌}
 use Rattle.s3_machine.specs.Fault.{refuse}
-use Rattle.s3_machine.specs.Effects.{Address, Object, Read, writes, copies, source_read, brought, brings, object_of, stored_by, whole, read_at, reads, given_whole, is_refused, succeeds, shown_as, by_conditions}
+use Rattle.s3_machine.specs.Effects.{Address, Object, UploadPlace, Read, place_of, open_at, upload_stored, joined_at, writes, copies, completes, source_read, brought, brings, object_of, stored_by, whole, read_at, reads, given_whole, is_refused, succeeds, shown_as, by_conditions}
 use Rattle.s3_machine.specs.History.{Entry, IsAnswer, after, after_entry}
-use Rattle.s3_machine.specs.Kept.{SparesVersion, ReadsVersion, Stores, Copies, WouldGive, Source, Put, Copy, Marks, EveryHistory, StoredIsKept, VersionsAreKept, StoredIsTold, ReadsGiveOrFail, MarkersHide, QuietEntriesChangeNothing, PutsAreKept, PutVersionsAreKept, CopiesAreKept, CopyVersionsAreKept, BodiesAreTagged, PutsStoreTheirContents, CopiesStoreTheirSource, StoredHasSource}
+use Rattle.s3_machine.specs.Kept.{SparesVersion, ReadsVersion, Stores, Copies, WouldGive, WouldMake, Source, Put, Copy, Completion, Marks, EveryHistory, StoredIsKept, VersionsAreKept, StoredIsTold, ReadsGiveOrFail, MarkersHide, QuietEntriesChangeNothing, PutsAreKept, PutVersionsAreKept, CopiesAreKept, CopyVersionsAreKept, BodiesAreTagged, PutsStoreTheirContents, CopiesStoreTheirSource, CompletionsStoreTheirParts, StoredHasSource}
 use Rattle.s3_machine.specs.Laws.{QuietStepsChangeNothing, ConditionsJudgeReads}
 use Rattle.s3_machine.specs.Step.{State, Stepped, copied, data_of, data_read, shown_in, makes_marker, found_in, shown_by, key_done, done, stepped, step}
-use Rattle.s3_machine.proofs.EffectLemmas.{shown, after_line, copy_done, not_false}
+use Rattle.s3_machine.proofs.EffectLemmas.{Rules, shown, after_line, copy_done, not_false}
 use Rattle.s3_machine.proofs.HistoryLemmas.{after-push, parts_of, right_at}
 use Rattle.s3_machine.proofs.KeptLemmas.{versions_at, outcome_is, picked, got, plain_shown, whole_given, step_reads, stored_there, key_left}
 
@@ -219,6 +224,37 @@ copy_versions_are_kept tells law least s n entries legal before between later co
           (subst (λ (i : VersionId). ReadsVersion address i read) same reading),
     )
 
+-- ---- completions
+
+-- what a completion stores is what its upload's listed parts make
+made_of : (s : State) (n t : ℕ) (upload : UploadPlace) (listed : List ListedPart) (found : Option (Upload (List ℕ))) (object : Object)
+    → open_at s upload ≡ found
+    → option_map (object_of s n t upload.address) (upload_stored found (upload_commands.Complete listed)) ≡ Some object
+    → (upload.address ≡ object.address) × WouldMake s upload listed object.stored
+made_of s n t upload listed (Some u) object there is =
+    let same : object_of s n t upload.address (joined_data u (parts_listed listed u.parts)) ≡ object = cc in (
+      ap (λ (o : Object). o.address) same,
+      record { found = u; there = there; makes = sym (ap (λ (o : Object). o.stored) same) },
+    )
+made_of s n t upload listed None object there is = absurd (cc)
+
+parts_made : (s : State) (n t : ℕ) (upload : UploadPlace) (listed : List ListedPart) (object : Object)
+    → joined_at s n t upload (upload_commands.Complete listed) ≡ Some object
+    → (upload.address ≡ object.address) × WouldMake s upload listed object.stored
+parts_made s n t upload listed object is = made_of s n t upload listed (open_at s upload) object refl is
+
+completion_stored : (s : State) (n t : ℕ) (command : Command) (upload : UploadPlace) (listed : List ListedPart) (object : Object)
+    → completes command ≡ Some (upload, listed) → stored_by s n t command ≡ Some object → WouldMake s upload listed object.stored
+completion_stored s n t (commands.Upload bucket key id (upload_commands.Complete parts)) upload listed object asks is =
+    let same = same_Some (place_of bucket key id, parts) (upload, listed) asks in
+    subst (λ (p : UploadPlace × List ListedPart). WouldMake s p.0 p.1 object.stored) same
+    (parts_made s n t (place_of bucket key id) parts object is).1
+completion_stored s n t _ upload listed object asks is = absurd (cc)
+
+pub completions_store_their_parts : CompletionsStoreTheirParts
+completions_store_their_parts s e upload listed object asks stores =
+    completion_stored s e.answer.number e.moment e.command upload listed object asks stores.by
+
 -- ---- sources
 
 -- where an object is stored, it has a source
@@ -236,6 +272,10 @@ source_of s e (commands.Key bucket key (key_commands.Copy copy)) object same is 
     Copy (source_read copy.source)
     (record { written = ap writes same ∙ ap Some address; from = ap copies same; accepted = accepted })
     (source_gives s e.answer.number e.moment (record { bucket = bucket; key = key }) copy.source object is)
+source_of s e (commands.Upload bucket key id (upload_commands.Complete listed)) object same is accepted =
+    let upload = place_of bucket key id in
+    let made = parts_made s e.answer.number e.moment upload listed object is in
+    Completion upload listed made.0 (record { asks = ap completes same; accepted = accepted }) made.1
 source_of s e _ object same is accepted = absurd (cc)
 
 pub stored_has_source : StoredHasSource
@@ -302,13 +342,13 @@ step_marks hide rules least s n t a id is =
     (λ there marked. hidden_by hide _ a (versioning_of s a.bucket) n t (versions_at s a) id (rules s a.bucket a.key (KeyDeleted n t) (not_false (has_bucket s a.bucket) there)) (told_shown (versioning_of s a.bucket) n id marked))
     is
 
-module _ (places : ChangesAreByPlace (List ℕ)) (rules : ChangesFollowRules (List ℕ)) (hide : versions.MarkersHide (List ℕ)) where
+module _ (places : ChangesAreByPlace (List ℕ)) (rules : Rules) (hide : versions.MarkersHide (List ℕ)) where
   entry_marks : (least : ℕ) (s : State) (n : ℕ) (e : Entry) (a : Address) → IsAnswer least s n e → Marks a e → IsHidden (after_entry least s e) a
   entry_marks least s n e a answer marks =
       let deletes = commands.Key a.bucket a.key (key_commands.Delete None) in
       let outcome = ap (λ c. (step least s e.answer.number e.moment c).1) (sym marks.deletes) ∙ sym (outcome_is least s n e answer) ∙ marks.marked in
       subst (λ c. IsHidden (step least s e.answer.number e.moment c).0 a) (sym marks.deletes)
-      (step_marks hide rules least s e.answer.number e.moment a marks.id outcome)
+      (step_marks hide rules.keys least s e.answer.number e.moment a marks.id outcome)
 
   pub markers_hide : EveryHistory MarkersHide
   markers_hide least s n entries legal before between later mark read address parts marks leaves reads =

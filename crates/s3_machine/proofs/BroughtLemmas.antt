@@ -1,9 +1,10 @@
--- What is stored was put once, however often it was copied.
-use Rattle.std.proofs.Common.{◌≡◌, refl, ap, subst, ◌∙◌, arith, ℕ, zero, suc, ◌≤◌, ◌+◌, List, ◌∷◌, ◌++◌, append_assoc, length, length-append, Some}
+-- What is stored was put once, or joined once by a completion, however often it was copied.
+use Rattle.std.proofs.Common.{◌≡◌, refl, sym, ap, subst, ◌∙◌, arith, ◌⊎◌, inl, inr, ℕ, zero, suc, ◌≤◌, ◌+◌, List, ◌∷◌, ◌++◌, append_assoc, length, length-append, Some}
+use Rattle.std.proofs.lemmas.Option.{same_Some}
 use Rattle.s3_versions.specs.Laws.{IdsAreTold}
 use Rattle.s3_versions.specs.declared.version.Data.{Data}
 use Rattle.s3_records.specs.Catalogue.{opening}
-use Rattle.s3_records.specs.Laws.{ChangesFollowRules, OpeningIsEmpty}
+use Rattle.s3_records.specs.Laws.{OpeningIsEmpty}
 use Rattle.s3_records.specs.Places.{ChangesAreByPlace}
 use Rattle.s3_machine.specs.declared.command.Command.{Command}
 use Rattle.s3_machine.specs.declared.command.Command.TheVariants as commands
@@ -12,11 +13,14 @@ use Rattle.s3_machine.specs.declared.command.Found.{Found}
 use Rattle.s3_machine.specs.declared.command.Outcome.{Outcome}
 use Rattle.s3_machine.specs.declared.command.Outcome.TheVariants as outcomes
 use Rattle.s3_conditions.specs.declared.conditions.Selection.TheVariants.{Whole}
-use Rattle.s3_machine.specs.Effects.{Object, Read, reads, given, given_whole, found_object}
+use Rattle.s3_machine.specs.Effects.{Address, Object, Read, object_of, reads, given, given_whole, found_object}
 use Rattle.s3_machine.specs.History.{Entry, Legal, after}
-use Rattle.s3_machine.specs.Kept.{WasStored, WasPut, Source, Put, Copy, EveryHistory, OnlyPutsAreStored}
+use Rattle.s3_machine.specs.Kept.{Stores, WasStored, WasPut, Source, Put, Copy, Completion, EveryHistory, StoredWasBrought}
 use Rattle.s3_machine.specs.Step.{State}
+use Rattle.s3_machine.specs.Uploads.{AreJoined, WasJoined}
+use Rattle.s3_machine.specs.UploadsKept.{CompletionsJoinWhatWasSent}
 use Rattle.s3_machine.proofs.AnswerLemmas.{stored_has_source}
+use Rattle.s3_machine.proofs.EffectLemmas.{Rules}
 use Rattle.s3_machine.proofs.HistoryLemmas.{Legal-append}
 use Rattle.s3_machine.proofs.OriginLemmas.{only_stored_stands, reads_found}
 
@@ -44,25 +48,65 @@ put_before entries before more what parts was = record {
   puts = was.puts;
 }
 
-module _ (places : ChangesAreByPlace (List ℕ)) (rules : ChangesFollowRules (List ℕ)) (empty : OpeningIsEmpty (List ℕ))
-    (ids : IdsAreTold (List ℕ)) (least : ℕ) (s : State) (n : ℕ) (names : List (List ℕ)) (opens : s ≡ opening names) where
-  -- what an entry stored was put, if all that was stored before it was
-  from_source : (earlier : List Entry) (object : Object) (was : WasStored least s earlier object) → Legal least s n was.before
-      → ((o : Object) → WasStored least s was.before o → WasPut was.before o.stored)
-      → Source (after least s was.before) was.write object → WasPut earlier object.stored
-  from_source earlier object was legal known (Put puts) =
-      record { before = was.before; put = was.write; later = was.between; parts = was.parts; address = object.address; puts = puts }
-  from_source earlier object was legal known (Copy asked copy gives) =
+-- and so is what was joined before
+joined_before : (entries before more : List Entry) (what : Data (List ℕ)) → entries ≡ before ++ more → WasJoined before what → WasJoined entries what
+joined_before entries before more what parts was = record {
+  before = was.before;
+  complete = was.complete;
+  later = was.later ++ more;
+  parts = parts ∙ ap (λ (es : List Entry). es ++ more) was.parts ∙ append_assoc was.before (was.complete ∷ was.later) more;
+  upload = was.upload;
+  listed = was.listed;
+  completes = was.completes;
+  joined = was.joined;
+}
+
+-- these data were put or joined
+abbrev WasBrought : List Entry → Data (List ℕ) → Type 0
+WasBrought entries what = WasPut entries what ⊎ WasJoined entries what
+
+brought_before : (entries before more : List Entry) (what : Data (List ℕ)) → entries ≡ before ++ more → WasBrought before what → WasBrought entries what
+brought_before entries before more what parts (inl was) = inl (put_before entries before more what parts was)
+brought_before entries before more what parts (inr was) = inr (joined_before entries before more what parts was)
+
+-- what an entry stores is one object
+same_stored : (s : State) (e : Entry) (n t : ℕ) (address : Address) (what : Data (List ℕ)) (object : Object) → Stores s e object
+    → Stores s e (object_of s n t address what) → what ≡ object.stored
+same_stored s e n t address what object stores others =
+    ap (λ (o : Object). o.stored) (same_Some (object_of s n t address what) object (sym others.by ∙ stores.by))
+
+module _ (places : ChangesAreByPlace (List ℕ)) (rules : Rules) (empty : OpeningIsEmpty (List ℕ))
+    (ids : IdsAreTold (List ℕ)) (joins : EveryHistory CompletionsJoinWhatWasSent) (least : ℕ) (s : State) (n : ℕ) (names : List (List ℕ)) (opens : s ≡ opening names) where
+  -- what an entry stored was put or joined, if all that was stored before it was
+  from_source : (earlier : List Entry) (object : Object) (was : WasStored least s earlier object) → Legal least s n earlier → Legal least s n was.before
+      → ((o : Object) → WasStored least s was.before o → WasBrought was.before o.stored)
+      → Source (after least s was.before) was.write object → WasBrought earlier object.stored
+  from_source earlier object was all legal known (Put puts) =
+      inl (record { before = was.before; put = was.write; later = was.between; parts = was.parts; address = object.address; puts = puts })
+  from_source earlier object was all legal known (Completion upload listed at completes makes) =
+      let made = joins least s n earlier all names was.before was.between was.write upload listed opens was.parts completes in
+      let same = same_stored (after least s was.before) was.write was.write.answer.number was.write.moment upload.address made.0 object was.stores made.2 in
+      inr (record {
+        before = was.before;
+        complete = was.write;
+        later = was.between;
+        parts = was.parts;
+        upload = upload;
+        listed = listed;
+        completes = completes;
+        joined = subst (AreJoined was.before upload listed) same made.1;
+      })
+  from_source earlier object was all legal known (Copy asked copy gives) =
       let here = after least s was.before in
       let read = reads_found ids least here 0 0 (read_of asked) asked gives.found (reads_it asked)
       (whole_given _ gives.found (gives.gives least 0 0 (read_of asked) (reads_it asked))) in
       let from = found_object asked.address read.0 gives.found in
       let stored = only_stored_stands places rules empty least s n was.before legal names from opens read.2 in
-      put_before earlier was.before (was.write ∷ was.between) object.stored was.parts
-      (subst (WasPut was.before) gives.holds (known from stored))
+      brought_before earlier was.before (was.write ∷ was.between) object.stored was.parts
+      (subst (WasBrought was.before) gives.holds (known from stored))
 
   brought_within : (k : ℕ) (earlier : List Entry) (object : Object) → length earlier ≤ k → Legal least s n earlier
-      → WasStored least s earlier object → WasPut earlier object.stored
+      → WasStored least s earlier object → WasBrought earlier object.stored
   brought_within zero earlier object within legal was =
       let size : length earlier ≡ length was.before + suc (length was.between) = ap length was.parts ∙ length-append was.before (was.write ∷ was.between) in
       absurd (omega arith)
@@ -70,12 +114,12 @@ module _ (places : ChangesAreByPlace (List ℕ)) (rules : ChangesFollowRules (Li
       let size : length earlier ≡ length was.before + suc (length was.between) = ap length was.parts ∙ length-append was.before (was.write ∷ was.between) in
       let fewer : length was.before ≤ k = omega arith in
       let before = (Legal-append least s n was.before (was.write ∷ was.between) (subst (Legal least s n) was.parts legal)).0 in
-      from_source earlier object was before
+      from_source earlier object was legal before
       (λ (o : Object) stored. brought_within k was.before o fewer before stored)
       (stored_has_source (after least s was.before) was.write object was.stores)
 
-pub only_puts_are_stored : ChangesAreByPlace (List ℕ) → ChangesFollowRules (List ℕ) → OpeningIsEmpty (List ℕ) → IdsAreTold (List ℕ)
-    → EveryHistory OnlyPutsAreStored
-only_puts_are_stored places rules empty ids least s n entries legal names earlier later object opens parts was =
-    brought_within places rules empty ids least s n names opens (length earlier) earlier object (omega arith)
+pub stored_was_brought : ChangesAreByPlace (List ℕ) → Rules → OpeningIsEmpty (List ℕ) → IdsAreTold (List ℕ)
+    → EveryHistory CompletionsJoinWhatWasSent → EveryHistory StoredWasBrought
+stored_was_brought places rules empty ids joins least s n entries legal names earlier later object opens parts was =
+    brought_within places rules empty ids joins least s n names opens (length earlier) earlier object (omega arith)
     (Legal-append least s n earlier later (subst (Legal least s n) parts legal)).0 was

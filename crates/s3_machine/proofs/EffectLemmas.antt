@@ -1,9 +1,10 @@
 -- What one step does: to the versions under keys, and that a refusal and a command that only reads do nothing.
-use Rattle.std.proofs.Common.{◌≡◌, refl, sym, ap, subst, ◌∙◌, arith, Bool, true, false, not, ℕ, ◌+◌, ◌<◌, ◌⊎◌, inl, inr, IsTrue, List, Option, Some, None, option_map, IfSome, Result, Ok, Err}
+use Rattle.std.proofs.Common.{◌≡◌, refl, sym, ap, subst, ◌∙◌, arith, Bool, true, false, not, ℕ, ◌+◌, ◌<◌, ◌⊎◌, inl, inr, IsTrue, List, Option, Some, None, option_map, IfSome, Result, Ok, Err, ok_or}
 use Rattle.std.proofs.lemmas.Bool.{false≢true}
+use Rattle.std.specs.List.{list_all, list_any}
 use Rattle.std.specs.Result.{result_ok}
 use Rattle.s3_terms.specs.declared.code.Code.{Code}
-use Rattle.s3_terms.specs.declared.code.Code.TheVariants.{NoSuchBucket, BucketAlreadyOwnedByYou, BucketNotEmpty}
+use Rattle.s3_terms.specs.declared.code.Code.TheVariants.{NoSuchBucket, BucketAlreadyOwnedByYou, BucketNotEmpty, NoSuchUpload, InvalidPartOrder, InvalidPart, EntityTooSmall}
 use Rattle.s3_names.specs.declared.ids.VersionId.{VersionId}
 use Rattle.s3_conditions.specs.declared.conditions.Conditions.{Conditions}
 use Rattle.s3_conditions.specs.declared.conditions.Selection.{Selection}
@@ -14,11 +15,18 @@ use Rattle.s3_versions.specs.declared.version.Version.{Version}
 use Rattle.s3_versions.specs.declared.version.Versioning.{Versioning}
 use Rattle.s3_versions.specs.declared.version.Versioning.TheVariants.{Unversioned, Enabled, Suspended}
 use Rattle.s3_versions.specs.Rules.{made, new_id, stored, pick, facts_of, is_new_number, KeyChange, VersionPut, KeyDeleted, VersionDropped, after_change}
-use Rattle.s3_versions.specs.Laws.{number_of, id_changed, marker_made, version_made}
+use Rattle.s3_versions.specs.Laws.{id_changed, marker_made, version_made}
+use Rattle.s3_uploads.specs.Completion.{numbers_listed, is_sent, is_small, front_of, parts_listed, completed_parts, joined_data, completed}
+use Rattle.s3_uploads.specs.Parts.{PartList, rises, part_sent}
+use Rattle.s3_uploads.specs.declared.listed.ListedPart.{ListedPart}
+use Rattle.s3_uploads.specs.declared.part.Part.{Part}
+use Rattle.s3_uploads.specs.declared.upload.Upload.{Upload}
 use Rattle.s3_records.specs.Catalogue.{has_bucket, is_empty_bucket, versions_of, versioning_of}
-use Rattle.s3_records.specs.Changes.{BucketAdded, BucketDropped, VersioningSet, KeyChanged, changed}
-use Rattle.s3_records.specs.Laws.{ChangesFollowRules}
-use Rattle.s3_records.specs.Places.{SameVersions, OnePlaceChanges, ChangesAreByPlace, AreBelow, NumbersStayBelow, LaterIsBelow}
+use Rattle.s3_records.specs.Changes.{Change, BucketAdded, BucketDropped, VersioningSet, KeyChanged, UploadAdded, PartPut, UploadDropped, UploadCompleted, changed}
+use Rattle.s3_records.specs.Laws.{ChangesFollowRules, CompletionsFollowRules}
+use Rattle.s3_records.specs.OpenUploads.{upload_at}
+use Rattle.s3_records.specs.Places.{SameVersions, OnePlaceChanges, ChangesAreByPlace, number_in, AreBelow, NumbersStayBelow, LaterIsBelow}
+use Rattle.s3_documents.specs.Upload.{completed_text}
 use Rattle.s3_machine.specs.declared.command.BucketCommand.{BucketCommand}
 use Rattle.s3_machine.specs.declared.command.BucketCommand.TheVariants as bucket_commands
 use Rattle.s3_machine.specs.declared.command.Command.{Command}
@@ -26,12 +34,15 @@ use Rattle.s3_machine.specs.declared.command.Command.TheVariants as commands
 use Rattle.s3_machine.specs.declared.command.KeyCommand.{KeyCommand}
 use Rattle.s3_machine.specs.declared.command.KeyCommand.TheVariants as key_commands
 use Rattle.s3_machine.specs.declared.command.ObjectCopy.{ObjectCopy}
+use Rattle.s3_machine.specs.declared.command.UploadCommand.{UploadCommand}
+use Rattle.s3_machine.specs.declared.command.UploadCommand.TheVariants as upload_commands
 use Rattle.s3_machine.specs.declared.command.Outcome.{Outcome}
 use Rattle.s3_machine.specs.declared.command.Outcome.TheVariants as outcomes
+use Rattle.s3_terms.specs.Fault as faults
 use Rattle.s3_terms.specs.Fault.{◌>>◌, ◌>>=◌}
-use Rattle.s3_machine.specs.Fault.{refuse}
-use Rattle.s3_machine.specs.Effects.{Address, writes, object_of, stored_by, acknowledged, touched, told, is_refused, succeeds, only_reads}
-use Rattle.s3_machine.specs.Step.{State, Stepped, copied, data_of, shown_in, found_in, shown_by, bucket_done, key_done, done, stepped, step}
+use Rattle.s3_machine.specs.Fault.{refuse, as_refusal}
+use Rattle.s3_machine.specs.Effects.{Address, writes, object_of, upload_stored, stored_by, acknowledged, touched, told, is_refused, succeeds, only_reads}
+use Rattle.s3_machine.specs.Step.{State, Stepped, copied, data_of, shown_in, found_in, shown_by, upload_begun, open_upload, bucket_done, key_done, upload_done, done, stepped, step}
 use Rattle.s3_machine.specs.Laws.{QuietStepsChangeNothing, StepsStayBelow}
 
 -- the command was refused, or only reads
@@ -65,9 +76,9 @@ pub record Changes (s : State) (n t : ℕ) (command : Command) (st : Stepped) : 
   pub written : writes command ≡ Some address
   pub accepted : succeeds st.1 ≡ true
   pub more : only_reads command ≡ false
-  pub what : KeyChange (List ℕ)
-  pub is : st.0 ≡ changed s address.bucket (KeyChanged address.key what)
-  pub numbered : IfSome (number_of what) (λ m. m < n + 1)
+  pub change : Change (List ℕ)
+  pub is : st.0 ≡ changed s address.bucket change
+  pub numbered : IfSome (number_in change) (λ m. m < n + 1)
   pub id : VersionId
   pub touches : touched command st.1 ≡ Some id
   pub now : Option (Version (List ℕ))
@@ -136,7 +147,50 @@ copy_done s n t name key what =
 abbrev pub shown : State → List ℕ → Conditions → Version (List ℕ) × Data (List ℕ) → Result Stepped Refusal
 shown s name conditions read = shown_by conditions (facts_of read) >>= (λ selection. Ok (s, outcomes.Got (found_in (versioning_of s name) read) selection))
 
-module _ (places : ChangesAreByPlace (List ℕ)) (rules : ChangesFollowRules (List ℕ)) where
+-- what a rule is past a line that may refuse, where it doesn't
+let_pass : {A : Type 0} (fault : Bool) (code : Code) (next : Result A Code) (a : A) → (faults.refuse fault code >> next) ≡ Ok a → next ≡ Ok a
+let_pass true code next a is = absurd (cc)
+let_pass false code next a is = is
+
+joined_is : (u : Upload (List ℕ)) (rule : Result (List (Part (List ℕ))) Code) (what : Data (List ℕ))
+    → (rule >>= (λ parts. Ok (joined_data u parts))) ≡ Ok what
+    → (parts : List (Part (List ℕ))) × (rule ≡ Ok parts) × (joined_data u parts ≡ what)
+joined_is u (Ok parts) what is = (parts, refl, cc)
+joined_is u (Err code) what is = absurd (cc)
+
+listed_are : (least : ℕ) (listed : List ListedPart) (parts : PartList (List ℕ)) (made : List (Part (List ℕ)))
+    → completed_parts least listed parts ≡ Ok made → parts_listed listed parts ≡ made
+unfolding completed_parts
+listed_are least listed parts made is =
+    let last : ◌≡◌ {A = Result (List (Part (List ℕ))) Code} (Ok (parts_listed listed parts)) (Ok made) =
+    let_pass (list_any (is_small least parts) (front_of listed)) EntityTooSmall _ made
+    (let_pass (not (list_all (is_sent parts) listed)) InvalidPart _ made
+    (let_pass (not (rises (numbers_listed listed))) InvalidPartOrder _ made is)) in
+    cc
+
+-- so what a completion stores are its listed parts, joined
+pub completed_is : (least : ℕ) (listed : List ListedPart) (u : Upload (List ℕ)) (what : Data (List ℕ)) → completed least listed u ≡ Ok what
+    → joined_data u (parts_listed listed u.parts) ≡ what
+unfolding completed
+completed_is least listed u what is =
+    let made = joined_is u (completed_parts least listed u.parts) what is in
+    ap (joined_data u) (listed_are least listed u.parts made.0 made.1) ∙ made.2
+
+-- what a completion does once it is known what it stores
+abbrev pub completing : State → ℕ → ℕ → List ℕ → List ℕ → ℕ → Data (List ℕ) → Result Stepped Refusal
+completing s n t name key id what =
+    Ok (
+      changed s name (UploadCompleted key id (VersionPut n t what)),
+      outcomes.Completed
+          (completed_text name key what.tag) what.tag (shown_in (versioning_of s name) (new_id (versioning_of s name) n)),
+    )
+
+-- the versions of a key that changes are those that the rules of its bucket give, where a completion changes it, too
+pub record Rules : Type 0 where
+  pub keys : ChangesFollowRules (List ℕ)
+  pub completions : CompletionsFollowRules (List ℕ)
+
+module _ (places : ChangesAreByPlace (List ℕ)) (rules : Rules) where
   bucket_does : (s : State) (n t : ℕ) (name : List ℕ) (asked : BucketCommand) → Does s n t (commands.Bucket name asked) (stepped s (bucket_done s t name asked))
   unfolding bucket_done
   bucket_does s n t name bucket_commands.Create =
@@ -157,6 +211,8 @@ module _ (places : ChangesAreByPlace (List ℕ)) (rules : ChangesFollowRules (Li
       next_line s n t _ (not (has_bucket s name)) NoSuchBucket _ refl (λ there. unwritten s n t _ refl)
   bucket_does s n t name (bucket_commands.ListVersions asked) =
       next_line s n t _ (not (has_bucket s name)) NoSuchBucket _ refl (λ there. unwritten s n t _ refl)
+  bucket_does s n t name (bucket_commands.ListUploads asked) =
+      next_line s n t _ (not (has_bucket s name)) NoSuchBucket _ refl (λ there. unwritten s n t _ refl)
 
   -- a rule that only reads changes nothing
   showing : (s : State) (n t : ℕ) (command : Command) (selection : Result Selection Refusal) (out : Selection → Outcome) → writes command ≡ None → Does s n t command (stepped s (selection >>= (λ chosen. Ok (s, out chosen))))
@@ -168,42 +224,60 @@ module _ (places : ChangesAreByPlace (List ℕ)) (rules : ChangesFollowRules (Li
   reading s n t command (Err refusal) name conditions none = unwritten s n t command none
 
   -- a command changes the versions under a key, as entry n
-  writing : (s : State) (n t : ℕ) (name key : List ℕ) (command : Command) (what : KeyChange (List ℕ)) (outcome : Outcome)
-      → IsTrue (has_bucket s name)
+  writing : (s : State) (n t : ℕ) (name key : List ℕ) (command : Command) (change : Change (List ℕ)) (what : KeyChange (List ℕ))
+      (outcome : Outcome)
+      → OnePlaceChanges s (changed s name change) name key (id_changed (versioning_of s name) what) (version_made (versioning_of s name) what)
       → writes command ≡ Some (record { bucket = name; key = key })
-      → succeeds outcome ≡ true → only_reads command ≡ false → IfSome (number_of what) (λ m. m < n + 1)
+      → succeeds outcome ≡ true → only_reads command ≡ false → IfSome (number_in change) (λ m. m < n + 1)
       → touched command outcome ≡ Some (id_changed (versioning_of s name) what)
-      → Adds s n t command (changed s name (KeyChanged key what), outcome) (record { bucket = name; key = key }) (id_changed (versioning_of s name) what) (version_made (versioning_of s name) what)
+      → Adds s n t command (changed s name change, outcome) (record { bucket = name; key = key }) (id_changed (versioning_of s name) what) (version_made (versioning_of s name) what)
       ⊎ AddsNothing s n t command (version_made (versioning_of s name) what)
-      → Does s n t command (changed s name (KeyChanged key what), outcome)
-  writing s n t name key command what outcome there written accepted more numbered touches adds =
+      → Does s n t command (changed s name change, outcome)
+  writing s n t name key command change what outcome place written accepted more numbered touches adds =
       inr (record {
         address = record { bucket = name; key = key };
         written = written;
         accepted = accepted;
         more = more;
-        what = what;
+        change = change;
         is = refl;
         numbered = numbered;
         id = id_changed (versioning_of s name) what;
         touches = touches;
         now = version_made (versioning_of s name) what;
-        place = places s name (KeyChanged key what) there;
+        place = place;
         adds = adds;
       })
 
-  -- it stores these data, and tells their tag and the new id
-  stores : (s : State) (n t : ℕ) (name key : List ℕ) (command : Command) (what : Data (List ℕ)) (outcome : Outcome)
+  -- it stores these data, by a change that puts them under a key, and tells their tag and the new id
+  stores : (s : State) (n t : ℕ) (name key : List ℕ) (command : Command) (change : Change (List ℕ)) (what : Data (List ℕ)) (outcome : Outcome)
+      → OnePlaceChanges s (changed s name change) name key (id_changed (versioning_of s name) (VersionPut n t what))
+      (version_made (versioning_of s name) (VersionPut n t what))
+      → versions_of (changed s name change) name key ≡ after_change (versioning_of s name) (VersionPut n t what) (versions_of s name key)
+      → number_in change ≡ Some n
+      → writes command ≡ Some (record { bucket = name; key = key })
+      → stored_by s n t command ≡ Some (object_of s n t (record { bucket = name; key = key }) what)
+      → succeeds outcome ≡ true → only_reads command ≡ false → acknowledged outcome ≡ Some what.tag
+      → touched command outcome ≡ Some (told (shown_in (versioning_of s name) (new_id (versioning_of s name) n)))
+      → Does s n t command (changed s name change, outcome)
+  stores s n t name key command change what outcome place versions numbered written by accepted more tagged touches =
+      let next : n < n + 1 = omega arith in
+      writing s n t name key command change (VersionPut n t what) outcome place written accepted more
+      (subst (λ (number : Option ℕ). IfSome number (λ m. m < n + 1)) (sym numbered) next)
+      (touches ∙ ap Some (told_new (versioning_of s name) n))
+      (inl (record { what = what; by = by; under = refl; tagged = tagged; makes = refl; versions = versions }))
+
+  -- a put under a key stores what it puts
+  puts : (s : State) (n t : ℕ) (name key : List ℕ) (command : Command) (what : Data (List ℕ)) (outcome : Outcome)
       → IsTrue (has_bucket s name)
       → writes command ≡ Some (record { bucket = name; key = key })
       → stored_by s n t command ≡ Some (object_of s n t (record { bucket = name; key = key }) what)
       → succeeds outcome ≡ true → only_reads command ≡ false → acknowledged outcome ≡ Some what.tag
       → touched command outcome ≡ Some (told (shown_in (versioning_of s name) (new_id (versioning_of s name) n)))
       → Does s n t command (changed s name (KeyChanged key (VersionPut n t what)), outcome)
-  stores s n t name key command what outcome there written by accepted more tagged touches =
-      writing s n t name key command (VersionPut n t what) outcome there written accepted more (omega arith)
-      (touches ∙ ap Some (told_new (versioning_of s name) n))
-      (inl (record { what = what; by = by; under = refl; tagged = tagged; makes = refl; versions = rules s name key (VersionPut n t what) there }))
+  puts s n t name key command what outcome there =
+      stores s n t name key command (KeyChanged key (VersionPut n t what)) what outcome
+      (places s name (KeyChanged key (VersionPut n t what)) there) (rules.keys s name key (VersionPut n t what) there) refl
 
   -- a copy stores what its source has, or is refused
   key_copies : (s : State) (n t : ℕ) (name key : List ℕ) (copy : ObjectCopy) (source : Result (Data (List ℕ)) Refusal)
@@ -211,7 +285,7 @@ module _ (places : ChangesAreByPlace (List ℕ)) (rules : ChangesFollowRules (Li
       → Does s n t (commands.Key name key (key_commands.Copy copy)) (stepped s (source >>= copy_done s n t name key))
   unfolding copy_done
   key_copies s n t name key copy (Ok what) is there =
-      stores s n t name key (commands.Key name key (key_commands.Copy copy)) what _ there refl
+      puts s n t name key (commands.Key name key (key_commands.Copy copy)) what _ there refl
       (ap (λ (r : Result (Data (List ℕ)) Refusal). option_map (object_of s n t (record { bucket = name; key = key })) (result_ok r)) is) refl refl refl refl
   key_copies s n t name key copy (Err refusal) is there =
       untouched s n t (commands.Key name key (key_commands.Copy copy)) _ (λ a written. refl)
@@ -221,16 +295,63 @@ module _ (places : ChangesAreByPlace (List ℕ)) (rules : ChangesFollowRules (Li
   unfolding key_done copy_done
   key_does s n t name key (key_commands.Copy copy) there = key_copies s n t name key copy (copied s copy.source) refl there
   key_does s n t name key (key_commands.Put put) there =
-      stores s n t name key (commands.Key name key (key_commands.Put put)) (data_of put) _ there refl refl refl refl refl refl
+      puts s n t name key (commands.Key name key (key_commands.Put put)) (data_of put) _ there refl refl refl refl refl refl
   key_does s n t name key (key_commands.Read asked) there =
       reading s n t (commands.Key name key (key_commands.Read asked)) (pick asked.version (versions_of s name key)) name asked.conditions refl
   key_does s n t name key (key_commands.Delete None) there =
-      writing s n t name key (commands.Key name key (key_commands.Delete None)) (KeyDeleted n t) _ there refl refl refl (omega arith)
+      writing s n t name key (commands.Key name key (key_commands.Delete None)) (KeyChanged key (KeyDeleted n t)) (KeyDeleted n t) _
+      (places s name (KeyChanged key (KeyDeleted n t)) there) refl refl refl (omega arith)
       (ap Some (told_new (versioning_of s name) n))
       (inr (record { by = refl; empty = λ v is. nothing_stored (versioning_of s name) n t v is }))
   key_does s n t name key (key_commands.Delete (Some id)) there =
-      writing s n t name key (commands.Key name key (key_commands.Delete (Some id))) (VersionDropped id) _ there refl refl refl tt refl
+      writing s n t name key (commands.Key name key (key_commands.Delete (Some id))) (KeyChanged key (VersionDropped id))
+      (VersionDropped id) _ (places s name (KeyChanged key (VersionDropped id)) there) refl refl refl tt refl
       (inr (record { by = refl; empty = λ v is. absurd (cc) }))
+  key_does s n t name key (key_commands.Begin begin) there =
+      same_versions s (changed s name (UploadAdded key n (upload_begun t begin))) n t (commands.Key name key (key_commands.Begin begin))
+      refl refl refl (places s name (UploadAdded key n (upload_begun t begin)) there)
+
+  -- what is done with an upload, where it is open
+  opened : (s : State) (n t : ℕ) (name key : List ℕ) (id : ℕ) (asked : UploadCommand) (next : Upload (List ℕ) → Result Stepped Refusal)
+      → ((u : Upload (List ℕ)) → upload_at s name key id ≡ Some u → Does s n t (commands.Upload name key id asked) (stepped s (next u)))
+      → Does s n t (commands.Upload name key id asked) (stepped s (open_upload s name key id >>= next))
+  opened s n t name key id asked next goes =
+      elim (upload_at s name key id) as (λ found. upload_at s name key id ≡ found
+      → Does s n t (commands.Upload name key id asked) (stepped s (as_refusal (ok_or found NoSuchUpload) >>= next))) [
+        | None ↦ λ none. untouched s n t (commands.Upload name key id asked) _ (λ a is. refl)
+        | Some u ↦ λ is. goes u is
+      ] refl
+
+  -- a completion stores what the listed parts make, or is refused
+  upload_completes : (least : ℕ) (s : State) (n t : ℕ) (name key : List ℕ) (id : ℕ) (listed : List ListedPart) (u : Upload (List ℕ))
+      (rule : Result (Data (List ℕ)) Code)
+      → completed least listed u ≡ rule → upload_at s name key id ≡ Some u → IsTrue (has_bucket s name)
+      → Does s n t (commands.Upload name key id (upload_commands.Complete listed)) (stepped s (as_refusal rule >>= completing s n t name key id))
+  upload_completes least s n t name key id listed u (Ok what) is found there =
+      let change = UploadCompleted key id (VersionPut n t what) in
+      stores s n t name key (commands.Upload name key id (upload_commands.Complete listed)) change what _
+      (places s name change there) (rules.completions s name key id (VersionPut n t what) there) refl refl
+      (ap (λ (f : Option (Upload (List ℕ))). option_map (object_of s n t (record { bucket = name; key = key })) (upload_stored f (upload_commands.Complete listed))) found
+      ∙ ap (λ (d : Data (List ℕ)). Some (object_of s n t (record { bucket = name; key = key }) d)) (completed_is least listed u what is))
+      refl refl refl refl
+  upload_completes least s n t name key id listed u (Err code) is found there =
+      untouched s n t (commands.Upload name key id (upload_commands.Complete listed)) _ (λ a written. refl)
+
+  upload_does : (least : ℕ) (s : State) (n t : ℕ) (name key : List ℕ) (id : ℕ) (asked : UploadCommand) → IsTrue (has_bucket s name)
+      → Does s n t (commands.Upload name key id asked) (stepped s (upload_done least s n t name key id asked))
+  unfolding upload_done
+  upload_does least s n t name key id (upload_commands.PutPart number payload) there =
+      opened s n t name key id (upload_commands.PutPart number payload) _
+      (λ u is. same_versions s (changed s name (PartPut key id number (part_sent t payload))) n t _ refl refl refl
+      (places s name (PartPut key id number (part_sent t payload)) there))
+  upload_does least s n t name key id (upload_commands.Complete listed) there =
+      opened s n t name key id (upload_commands.Complete listed) _
+      (λ u is. upload_completes least s n t name key id listed u (completed least listed u) refl is there)
+  upload_does least s n t name key id upload_commands.Abort there =
+      opened s n t name key id upload_commands.Abort _
+      (λ u is. same_versions s (changed s name (UploadDropped key id)) n t _ refl refl refl (places s name (UploadDropped key id) there))
+  upload_does least s n t name key id (upload_commands.ListParts asked) there =
+      opened s n t name key id (upload_commands.ListParts asked) _ (λ u is. unwritten s n t _ refl)
 
   pub step_does : (least : ℕ) (s : State) (n t : ℕ) (command : Command) → Does s n t command (step least s n t command)
   unfolding done
@@ -240,6 +361,10 @@ module _ (places : ChangesAreByPlace (List ℕ)) (rules : ChangesFollowRules (Li
       after_line (Does s n t (commands.Key name key asked)) s (not (has_bucket s name)) NoSuchBucket (key_done s n t name key asked)
       (untouched s n t (commands.Key name key asked) _ (λ a is. refl))
       (λ there. key_does s n t name key asked (not_false (has_bucket s name) there))
+  step_does least s n t (commands.Upload name key id asked) =
+      after_line (Does s n t (commands.Upload name key id asked)) s (not (has_bucket s name)) NoSuchBucket (upload_done least s n t name key id asked)
+      (untouched s n t (commands.Upload name key id asked) _ (λ a is. refl))
+      (λ there. upload_does least s n t name key id asked (not_false (has_bucket s name) there))
 
   -- so a refusal and a command that only reads change nothing
   pub quiet_steps_change_nothing : QuietStepsChangeNothing
@@ -257,5 +382,5 @@ module _ (places : ChangesAreByPlace (List ℕ)) (rules : ChangesFollowRules (Li
         | inl same ↦ λ (name key : List ℕ). ap (is_new_number (n + 1)) (same.versions name key) ∙ next name key
         | inr changes ↦
             subst (AreBelow (n + 1)) (sym changes.is)
-            (stay (n + 1) s changes.address.bucket (KeyChanged changes.address.key changes.what) next changes.numbered)
+            (stay (n + 1) s changes.address.bucket changes.change next changes.numbered)
       ]

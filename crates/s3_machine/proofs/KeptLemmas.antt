@@ -19,22 +19,22 @@ use Rattle.s3_versions.specs.declared.version.Versioning.{Versioning}
 use Rattle.s3_versions.specs.Rules.{made, pick, facts_of, asked_for, judged, VersionPut, after_change}
 use Rattle.s3_versions.specs.Laws.{PutsAreCurrent}
 use Rattle.s3_records.specs.Catalogue.{Bucket, has_bucket, versions_in, versions_of, versioning_of}
-use Rattle.s3_records.specs.Laws.{ChangesFollowRules}
 use Rattle.s3_records.specs.Places.{version_at, ChangesAreByPlace}
 use Rattle.s3_machine.specs.declared.command.Command.{Command}
 use Rattle.s3_machine.specs.declared.command.Command.TheVariants as commands
 use Rattle.s3_machine.specs.declared.command.KeyCommand.{KeyCommand}
 use Rattle.s3_machine.specs.declared.command.KeyCommand.TheVariants as key_commands
+use Rattle.s3_machine.specs.declared.command.UploadCommand.TheVariants as upload_commands
 use Rattle.s3_machine.specs.declared.command.Found.{Found}
 use Rattle.s3_machine.specs.declared.command.Outcome.{Outcome}
 use Rattle.s3_machine.specs.declared.command.Outcome.TheVariants as outcomes
 use Rattle.s3_terms.specs.Fault.{◌>>◌, ◌>>=◌}
 use Rattle.s3_machine.specs.Fault.{refuse}
-use Rattle.s3_machine.specs.Effects.{Address, Object, Read, writes, object_of, key_stored, stored_at, stored_by, whole, read_at, reads, given_whole, shown_as, acknowledged, touched, succeeds}
+use Rattle.s3_machine.specs.Effects.{Address, Object, Read, writes, object_of, key_stored, stored_at, place_of, open_at, upload_stored, stored_by, whole, read_at, reads, given_whole, shown_as, acknowledged, touched, succeeds}
 use Rattle.s3_machine.specs.History.{Entry, IsAnswer, Legal, after, after_entry}
 use Rattle.s3_machine.specs.Kept.{Leaves, LeavesKey, Spares, SparesVersion, Stores, Tells, IsGiven, EveryHistory, StoredIsKept, VersionsAreKept, StoredIsTold}
 use Rattle.s3_machine.specs.Step.{State, Stepped, found_in, shown_by, key_done, done, stepped, step}
-use Rattle.s3_machine.proofs.EffectLemmas.{Changes, Does, shown, step_does}
+use Rattle.s3_machine.proofs.EffectLemmas.{Rules, Changes, Does, shown, step_does}
 use Rattle.s3_machine.proofs.HistoryLemmas.{parts_of, right_at}
 
 -- the versions under an address, and the one of an id
@@ -114,7 +114,7 @@ step_reads least s n t (commands.Key name key (key_commands.Read asked)) wanted 
     ∙ ap (λ (q : Read). picked s q.address.bucket q.conditions (pick q.version (versions_at s q.address))) same
 step_reads least s n t _ wanted v is found = absurd (cc)
 
-module _ (places : ChangesAreByPlace (List ℕ)) (rules : ChangesFollowRules (List ℕ)) (least : ℕ) where
+module _ (places : ChangesAreByPlace (List ℕ)) (rules : Rules) (least : ℕ) where
   -- what an entry did
   pub entry_does : (s : State) (n : ℕ) (e : Entry) → IsAnswer least s n e → Does s e.answer.number e.moment e.command (step least s e.answer.number e.moment e.command)
   entry_does s n e answer = step_does places rules least s e.answer.number e.moment e.command
@@ -200,6 +200,9 @@ stored_writes s n t (commands.Key bucket key (key_commands.Put put)) object is =
     stored_at_address s n t (record { bucket = bucket; key = key }) (key_commands.Put put) object is
 stored_writes s n t (commands.Key bucket key (key_commands.Copy copy)) object is =
     stored_at_address s n t (record { bucket = bucket; key = key }) (key_commands.Copy copy) object is
+stored_writes s n t (commands.Upload bucket key id (upload_commands.Complete listed)) object is =
+    let upload = place_of bucket key id in
+    ap Some (stored_there s n t upload.address (upload_stored (open_at s upload) (upload_commands.Complete listed)) object is)
 stored_writes s n t _ object is = absurd (cc)
 
 -- what an entry leaves that stores an object: its answer tells it, and it stands as the newest version of its key
@@ -211,7 +214,7 @@ pub record Added (s now : State) (e : Entry) (object : Object) : Type 0 where
   pub stands : version_at now object.address.bucket object.address.key object.id
       ≡ Some (made versioning e.answer.number object.moment (Stored object.stored))
 
-module _ (places : ChangesAreByPlace (List ℕ)) (rules : ChangesFollowRules (List ℕ)) where
+module _ (places : ChangesAreByPlace (List ℕ)) (rules : Rules) where
   pub entry_stores : (least : ℕ) (s : State) (n : ℕ) (e : Entry) (object : Object) → IsAnswer least s n e → Stores s e object
       → Added s (after_entry least s e) e object
   entry_stores least s n e object answer stores =

@@ -1,8 +1,15 @@
 pub mod AnswerLemmas
 pub mod BroughtLemmas
+pub mod CourseLemmas
 pub mod EffectLemmas
 pub mod HistoryLemmas
+pub mod JoinedLemmas
 pub mod KeptLemmas
 pub mod ListLemmas
+pub mod OpenLemmas
 pub mod OriginLemmas
+pub mod RowLemmas
 pub mod ShownLemmas
+pub mod StayLemmas
+pub mod TellingLemmas
+pub mod UploadLemmas

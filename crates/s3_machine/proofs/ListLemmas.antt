@@ -14,7 +14,7 @@ use Rattle.s3_versions.specs.declared.version.Version.{Version}
 use Rattle.s3_versions.specs.Rules.{id_of, pick, facts_of, facts_read}
 use Rattle.s3_versions.specs.Laws.{PutsAreCurrent, IdsAreTold}
 use Rattle.s3_records.specs.Catalogue.{Bucket, Catalogue, has_bucket, versions_in, versions_of, versioning_of}
-use Rattle.s3_records.specs.Laws.{ChangesFollowRules, OpeningIsEmpty}
+use Rattle.s3_records.specs.Laws.{OpeningIsEmpty}
 use Rattle.s3_records.specs.Places.{ChangesAreByPlace}
 use Rattle.s3_records.specs.Rows.{key_rows}
 use Rattle.s3_listings.specs.declared.asked.ObjectsAsked.{ObjectsAsked}
@@ -36,6 +36,7 @@ use Rattle.s3_machine.specs.History.{Entry, Legal, after, after_entry}
 use Rattle.s3_machine.specs.Kept.{EveryHistory, facts_stored, StoredIsListed, ListedIsStored, ListsTellWhatIsThere, VersionListsTellWhatIsThere}
 use Rattle.s3_machine.specs.Laws.{reading, all_keys, IsListed, ListsShowWhatReadsGive, ListsAreTold, VersionListsAreTold}
 use Rattle.s3_machine.specs.Step.{State, Stepped, found_in, bucket_done, key_done, done, stepped, step}
+use Rattle.s3_machine.proofs.EffectLemmas.{Rules}
 use Rattle.s3_machine.proofs.HistoryLemmas.{Legal-append, after-append, right_at}
 use Rattle.s3_machine.proofs.KeptLemmas.{versions_at, outcome_is, picked, got, whole_given, past_line, key_left, entry_stores}
 use Rattle.s3_machine.proofs.OriginLemmas.{picked_stands, only_stored_stands}
@@ -110,7 +111,7 @@ facts_known : (read : Result (Version (List ℕ) × Data (List ℕ)) Refusal) (f
 facts_known (Ok picks) facts is = (picks, refl, cc)
 facts_known (Err refusal) facts is = absurd (cc)
 
-module _ (law : ListedIsCurrent) (places : ChangesAreByPlace (List ℕ)) (rules : ChangesFollowRules (List ℕ)) where
+module _ (law : ListedIsCurrent) (places : ChangesAreByPlace (List ℕ)) (rules : Rules) where
   pub stored_is_listed : PutsAreCurrent (List ℕ) → EveryHistory StoredIsListed
   stored_is_listed current least s n entries legal before between write object parts stores leaves =
       let here = after least s before in
@@ -140,7 +141,7 @@ module _ (law : ListedIsCurrent) (places : ChangesAreByPlace (List ℕ)) (rules 
 -- ---- what lists tell
 
 -- a list that isn't refused is told
-page_told : (s : State) (fault : Bool) (outcome : Outcome) → succeeds (stepped s (refuse fault NoSuchBucket >> Ok (s, outcome))).1 ≡ true
+pub page_told : (s : State) (fault : Bool) (outcome : Outcome) → succeeds (stepped s (refuse fault NoSuchBucket >> Ok (s, outcome))).1 ≡ true
     → (stepped s (refuse fault NoSuchBucket >> Ok (s, outcome))).1 ≡ outcome
 page_told s true outcome success = absurd (false≢true success)
 page_told s false outcome success = refl
@@ -160,7 +161,7 @@ unfolding done bucket_done
 versions_step least s n t name asked success = page_told s (not (has_bucket s name)) _ success
 
 -- an entry of this command has the outcome of its step
-command_outcome : (least : ℕ) (s : State) (n : ℕ) (entries before later : List Entry) (e : Entry) (command : Command)
+pub command_outcome : (least : ℕ) (s : State) (n : ℕ) (entries before later : List Entry) (e : Entry) (command : Command)
     → Legal least s n entries → entries ≡ before ++ e ∷ later → e.command ≡ command
     → e.answer.outcome ≡ (step least (after least s before) e.answer.number e.moment command).1
 command_outcome least s n entries before later e command legal parts is =

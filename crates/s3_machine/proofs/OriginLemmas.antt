@@ -18,7 +18,7 @@ use Rattle.s3_versions.specs.Rules.{id_of, is_under, made, stored, stored_in, pi
 use Rattle.s3_terms.specs.declared.code.Code.TheVariants.{NoSuchBucket, NoSuchKey, MethodNotAllowed}
 use Rattle.s3_versions.specs.Laws.{IdsAreTold}
 use Rattle.s3_records.specs.Catalogue.{opening, has_bucket, versions_of, versioning_of}
-use Rattle.s3_records.specs.Laws.{ChangesFollowRules, OpeningIsEmpty}
+use Rattle.s3_records.specs.Laws.{OpeningIsEmpty}
 use Rattle.s3_records.specs.Places.{version_at, ChangesAreByPlace}
 use Rattle.s3_machine.specs.declared.command.Found.{Found}
 use Rattle.s3_machine.specs.declared.command.Outcome.TheVariants as outcomes
@@ -30,7 +30,7 @@ use Rattle.s3_machine.specs.declared.command.Command.TheVariants as commands
 use Rattle.s3_machine.specs.declared.command.KeyCommand.TheVariants as key_commands
 use Rattle.s3_terms.specs.Fault.{◌>>=◌}
 use Rattle.s3_machine.specs.Step.{State, found_in, shown_in, shown_by, key_done, done, stepped, step}
-use Rattle.s3_machine.proofs.EffectLemmas.{Changes, shown, after_line}
+use Rattle.s3_machine.proofs.EffectLemmas.{Rules, Changes, shown, after_line}
 use Rattle.s3_machine.proofs.HistoryLemmas.{Legal-append, after-push}
 use Rattle.s3_machine.proofs.KeptLemmas.{versions_at, outcome_is, same_address, entry_does, version_left}
 
@@ -81,7 +81,7 @@ same_object x y address id moment stored_same =
     (subst (λ (t : ℕ). built y.address y.id t x.stored) (sym moment)
     (subst (λ (d : Data (List ℕ)). built y.address y.id y.moment d) (sym stored_same) refl)))
 
-module _ (places : ChangesAreByPlace (List ℕ)) (rules : ChangesFollowRules (List ℕ)) (least : ℕ) where
+module _ (places : ChangesAreByPlace (List ℕ)) (rules : Rules) (least : ℕ) where
   -- what stands at a place that an entry changed, it stored
   stored_here : (s : State) (n : ℕ) (e : Entry) (object : Object) (answer : IsAnswer least s n e)
       (changes : Changes s e.answer.number e.moment e.command (step least s e.answer.number e.moment e.command))
@@ -272,7 +272,7 @@ nothing_known empty least names object stands =
     let none = ap (asked_for (Some object.id))
     ((empty names object.address.bucket).empty object.address.key) in let some = stands.there in absurd (cc)
 
-module _ (places : ChangesAreByPlace (List ℕ)) (rules : ChangesFollowRules (List ℕ)) (empty : OpeningIsEmpty (List ℕ)) where
+module _ (places : ChangesAreByPlace (List ℕ)) (rules : Rules) (empty : OpeningIsEmpty (List ℕ)) where
   opened : (least : ℕ) (s : State) (n : ℕ) (names : List (List ℕ)) (es : List Entry) → s ≡ opening names → Legal least s n es
       → Known least s es
   opened least s n names es opens =

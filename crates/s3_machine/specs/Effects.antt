@@ -13,7 +13,13 @@ use Rattle.s3_versions.specs.declared.picking.Refusal.{Refusal}
 use Rattle.s3_versions.specs.declared.version.Data.{Data}
 use Rattle.s3_versions.specs.declared.version.Versioning.{Versioning}
 use Rattle.s3_versions.specs.Rules.{new_id}
+use Rattle.s3_uploads.specs.Completion.{parts_listed, joined_data}
+use Rattle.s3_uploads.specs.Parts.{part_at}
+use Rattle.s3_uploads.specs.declared.listed.ListedPart.{ListedPart}
+use Rattle.s3_uploads.specs.declared.part.Part.{Part}
+use Rattle.s3_uploads.specs.declared.upload.Upload.{Upload}
 use Rattle.s3_records.specs.Catalogue.{versioning_of}
+use Rattle.s3_records.specs.OpenUploads.{upload_at, parts_at}
 use Rattle.s3_machine.specs.declared.command.BucketCommand.{BucketCommand}
 use Rattle.s3_machine.specs.declared.command.BucketCommand.TheVariants as bucket_commands
 use Rattle.s3_machine.specs.declared.command.Command.{Command}
@@ -25,12 +31,37 @@ use Rattle.s3_machine.specs.declared.command.ObjectRead.{ObjectRead}
 use Rattle.s3_machine.specs.declared.command.Found.{Found}
 use Rattle.s3_machine.specs.declared.command.Outcome.{Outcome}
 use Rattle.s3_machine.specs.declared.command.Outcome.TheVariants as outcomes
+use Rattle.s3_machine.specs.declared.command.UploadBegin.{UploadBegin}
+use Rattle.s3_machine.specs.declared.command.UploadCommand.{UploadCommand}
+use Rattle.s3_machine.specs.declared.command.UploadCommand.TheVariants as upload_commands
 use Rattle.s3_machine.specs.Step.{State, copied, data_of, makes_marker, shown_by}
 
 -- a key of a bucket
 pub record Address : Type 0 where
   pub bucket : List ℕ
   pub key : List ℕ
+
+-- an upload: the key under which it is to store an object, and its id
+pub record UploadPlace : Type 0 where
+  pub address : Address
+  pub id : ℕ
+
+-- the same, by its parts
+abbrev pub place_of : List ℕ → List ℕ → ℕ → UploadPlace
+place_of bucket key id = record { address = record { bucket = bucket; key = key }; id = id }
+
+-- what the upload has, if it is open
+abbrev pub open_at : State → UploadPlace → Option (Upload (List ℕ))
+open_at s upload = upload_at s upload.address.bucket upload.address.key upload.id
+
+-- a part of an upload, by its number
+pub record PartPlace : Type 0 where
+  pub upload : UploadPlace
+  pub number : ℕ
+
+-- the part that stands there, if one does
+abbrev pub part_in : State → PartPlace → Option (Part (List ℕ))
+part_in s part = part_at part.number (parts_at s part.upload.address.bucket part.upload.address.key part.upload.id)
 
 -- the address whose versions a command may change
 abbrev pub key_written : Address → KeyCommand (List ℕ) → Option Address
@@ -39,8 +70,13 @@ key_written address (key_commands.Copy copy) = Some address
 key_written address (key_commands.Delete asked) = Some address
 key_written address other = None
 
+abbrev pub upload_written : Address → UploadCommand → Option Address
+upload_written address (upload_commands.Complete listed) = Some address
+upload_written address other = None
+
 abbrev pub writes : Command → Option Address
 writes (commands.Key bucket key asked) = key_written (record { bucket = bucket; key = key }) asked
+writes (commands.Upload bucket key id asked) = upload_written (record { bucket = bucket; key = key }) asked
 writes other = None
 
 -- the data that a command brings along, to be stored as they are
@@ -74,13 +110,69 @@ key_stored s address (key_commands.Put put) = Some (data_of put)
 key_stored s address (key_commands.Copy copy) = result_ok (copied s copy.source)
 key_stored s address other = None
 
+-- the same of a command on this upload, if it is open
+abbrev pub upload_stored : Option (Upload (List ℕ)) → UploadCommand → Option (Data (List ℕ))
+upload_stored found (upload_commands.Complete listed) =
+    option_map (λ (u : Upload (List ℕ)). joined_data u (parts_listed listed u.parts)) found
+upload_stored found other = None
+
 -- the object that it stores as entry n at moment t
 abbrev pub stored_at : State → ℕ → ℕ → Address → KeyCommand (List ℕ) → Option Object
 stored_at s n t address asked = option_map (object_of s n t address) (key_stored s address asked)
 
+abbrev pub joined_at : State → ℕ → ℕ → UploadPlace → UploadCommand → Option Object
+joined_at s n t upload asked = option_map (object_of s n t upload.address) (upload_stored (open_at s upload) asked)
+
 abbrev pub stored_by : State → ℕ → ℕ → Command → Option Object
 stored_by s n t (commands.Key bucket key asked) = stored_at s n t (record { bucket = bucket; key = key }) asked
+stored_by s n t (commands.Upload bucket key id asked) = joined_at s n t (place_of bucket key id) asked
 stored_by s n t other = None
+
+-- where a command begins an upload, and with what; the upload's id is the number of the entry
+abbrev pub key_begins : Address → KeyCommand (List ℕ) → Option (Address × UploadBegin)
+key_begins address (key_commands.Begin begin) = Some (address, begin)
+key_begins address other = None
+
+abbrev pub begins : Command → Option (Address × UploadBegin)
+begins (commands.Key bucket key asked) = key_begins (record { bucket = bucket; key = key }) asked
+begins other = None
+
+-- as which part of an upload a command sends bytes
+abbrev pub upload_sends : UploadPlace → UploadCommand → Option PartPlace
+upload_sends upload (upload_commands.PutPart number payload) = Some (record { upload = upload; number = number })
+upload_sends upload other = None
+
+abbrev pub sends : Command → Option PartPlace
+sends (commands.Upload bucket key id asked) = upload_sends (place_of bucket key id) asked
+sends other = None
+
+-- the bytes that it sends
+abbrev pub upload_sent : UploadCommand → Option (List ℕ)
+upload_sent (upload_commands.PutPart number payload) = Some payload
+upload_sent other = None
+
+abbrev pub sent : Command → Option (List ℕ)
+sent (commands.Upload bucket key id asked) = upload_sent asked
+sent other = None
+
+-- the upload that a command completes, and the parts that it lists
+abbrev pub upload_completes : UploadPlace → UploadCommand → Option (UploadPlace × List ListedPart)
+upload_completes upload (upload_commands.Complete listed) = Some (upload, listed)
+upload_completes upload other = None
+
+abbrev pub completes : Command → Option (UploadPlace × List ListedPart)
+completes (commands.Upload bucket key id asked) = upload_completes (place_of bucket key id) asked
+completes other = None
+
+-- the upload that it is to end
+abbrev pub upload_ends : UploadPlace → UploadCommand → Option UploadPlace
+upload_ends upload (upload_commands.Complete listed) = Some upload
+upload_ends upload upload_commands.Abort = Some upload
+upload_ends upload other = None
+
+abbrev pub ends : Command → Option UploadPlace
+ends (commands.Upload bucket key id asked) = upload_ends (place_of bucket key id) asked
+ends other = None
 
 -- what a command reads: an address, the version that it names, if it names one, and by which conditions
 pub record Read : Type 0 where
@@ -122,22 +214,30 @@ only_reads_bucket bucket_commands.Head = true
 only_reads_bucket bucket_commands.GetVersioning = true
 only_reads_bucket (bucket_commands.ListObjects asked) = true
 only_reads_bucket (bucket_commands.ListVersions asked) = true
+only_reads_bucket (bucket_commands.ListUploads asked) = true
 only_reads_bucket other = false
 
 abbrev pub only_reads_key : KeyCommand (List ℕ) → Bool
 only_reads_key (key_commands.Read asked) = true
 only_reads_key other = false
 
+abbrev pub only_reads_upload : UploadCommand → Bool
+only_reads_upload (upload_commands.ListParts asked) = true
+only_reads_upload other = false
+
 abbrev pub only_reads : Command → Bool
 only_reads commands.ListBuckets = true
 only_reads (commands.Bucket name asked) = only_reads_bucket asked
 only_reads (commands.Key name key asked) = only_reads_key asked
+only_reads (commands.Upload name key id asked) = only_reads_upload asked
 
--- the command may take memory: it makes a bucket, a version or a delete marker, hands out what is kept, or tells of it in a list
+-- the command may take memory: it makes a bucket, a version, a delete marker, an upload or a part, hands out what is kept, or
+-- tells of it in a list
 abbrev pub takes_room_in_bucket : BucketCommand → Bool
 takes_room_in_bucket bucket_commands.Create = true
 takes_room_in_bucket (bucket_commands.ListObjects asked) = true
 takes_room_in_bucket (bucket_commands.ListVersions asked) = true
+takes_room_in_bucket (bucket_commands.ListUploads asked) = true
 takes_room_in_bucket other = false
 
 abbrev pub takes_room_at_key : Versioning → KeyCommand (List ℕ) → Bool
@@ -145,12 +245,18 @@ takes_room_at_key versioning (key_commands.Put put) = true
 takes_room_at_key versioning (key_commands.Copy copy) = true
 takes_room_at_key versioning (key_commands.Read asked) = true
 takes_room_at_key versioning (key_commands.Delete None) = makes_marker versioning
+takes_room_at_key versioning (key_commands.Begin begin) = true
 takes_room_at_key versioning other = false
+
+abbrev pub takes_room_in_upload : UploadCommand → Bool
+takes_room_in_upload upload_commands.Abort = false
+takes_room_in_upload other = true
 
 abbrev pub takes_room : State → Command → Bool
 takes_room s commands.ListBuckets = true
 takes_room s (commands.Bucket name asked) = takes_room_in_bucket asked
 takes_room s (commands.Key name key asked) = takes_room_at_key (versioning_of s name) asked
+takes_room s (commands.Upload name key id asked) = takes_room_in_upload asked
 
 -- the machine refuses
 abbrev pub is_refused : Outcome → Bool
@@ -200,6 +306,7 @@ found_object address id found = record { address = address; id = id; moment = fo
 abbrev pub acknowledged : Outcome → Option (List ℕ)
 acknowledged (outcomes.Put tag shown) = Some tag
 acknowledged (outcomes.Copied tag moment shown) = Some tag
+acknowledged (outcomes.Completed document tag shown) = Some tag
 acknowledged other = None
 
 -- an id that is shown or not: it isn't where versioning was never set, where all versions are `null`
@@ -209,6 +316,7 @@ told shown = unwrap_or shown Null
 abbrev pub told_id : Outcome → Option VersionId
 told_id (outcomes.Put tag shown) = Some (told shown)
 told_id (outcomes.Copied tag moment shown) = Some (told shown)
+told_id (outcomes.Completed document tag shown) = Some (told shown)
 told_id (outcomes.Deleted shown is_delete_marker) = Some (told shown)
 told_id other = None
 

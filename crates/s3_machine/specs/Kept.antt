@@ -12,6 +12,9 @@ use Rattle.s3_versions.specs.declared.picking.Facts.{Facts}
 use Rattle.s3_versions.specs.declared.version.Data.{Data}
 use Rattle.s3_versions.specs.declared.version.Version.{Version}
 use Rattle.s3_versions.specs.Rules.{stored}
+use Rattle.s3_uploads.specs.Completion.{parts_listed, joined_data}
+use Rattle.s3_uploads.specs.declared.listed.ListedPart.{ListedPart}
+use Rattle.s3_uploads.specs.declared.upload.Upload.{Upload}
 use Rattle.s3_records.specs.Catalogue.{opening}
 use Rattle.s3_records.specs.Places.{version_at}
 use Rattle.s3_records.specs.Rows.{key_rows}
@@ -29,9 +32,10 @@ use Rattle.s3_machine.specs.declared.command.Found.{Found}
 use Rattle.s3_machine.specs.declared.command.Outcome.{Outcome}
 use Rattle.s3_machine.specs.declared.command.Outcome.TheVariants as outcomes
 use Rattle.s3_machine.specs.Step.{State, step}
-use Rattle.s3_machine.specs.Effects.{Address, Object, Read, writes, copies, brought, brings, object_of, stored_by, whole, reads, given, given_whole, found_object, acknowledged, touched, is_refused, succeeds, only_reads}
+use Rattle.s3_machine.specs.Effects.{Address, Object, UploadPlace, Read, open_at, writes, copies, completes, brought, brings, object_of, stored_by, whole, reads, given, given_whole, found_object, acknowledged, touched, is_refused, succeeds, only_reads}
 use Rattle.s3_machine.specs.History.{Entry, Legal, after}
 use Rattle.s3_machine.specs.Laws.{IsListed}
+use Rattle.s3_machine.specs.Uploads.{Completes, WasJoined}
 
 -- the entry, if it may change the versions of the address, doesn't succeed
 abbrev pub Leaves : Address → Entry → Type 0
@@ -138,11 +142,19 @@ pub record WouldGive (s : State) (asked : Read) (what : Data (List ℕ)) : Type 
   pub gives : (least n t : ℕ) (read : Command) → reads read ≡ Some asked → given_whole (step least s n t read).1 ≡ Some found
   pub holds : found.stored ≡ what
 
+-- in this state the upload is open, and its parts that are listed make these data
+pub record WouldMake (s : State) (upload : UploadPlace) (listed : List ListedPart) (what : Data (List ℕ)) : Type 0 where
+  pub found : Upload (List ℕ)
+  pub there : open_at s upload ≡ Some found
+  pub makes : what ≡ joined_data found (parts_listed listed found.parts)
+
 -- How an entry comes to store an object in a state. Each operation that stores one has a case: a put stores what it
--- brings, and a copy what its source has.
+-- brings, a copy what its source has, and a completion what the listed parts of its upload make.
 pub data Source (s : State) (e : Entry) (object : Object) : Type 0 where
   Put : Puts object.address object.stored e → Source s e object
   Copy : (asked : Read) → Copies object.address asked e → WouldGive s asked object.stored → Source s e object
+  Completion : (upload : UploadPlace) → (listed : List ListedPart) → upload.address ≡ object.address
+      → Completes upload listed e → WouldMake s upload listed object.stored → Source s e object
 
 -- these data were put by one of the entries
 pub record WasPut (entries : List Entry) (what : Data (List ℕ)) : Type 0 where
@@ -247,14 +259,14 @@ module _ (least : ℕ) (s : State) (entries : List Entry) where
       → succeeds list.answer.outcome ≡ true
       → list.answer.outcome ≡ outcomes.Told (versions_text name asked (versions_page asked (after least s before) name))
 
-  -- However often data were copied since, a put brought them once.
-  abbrev pub OnlyPutsAreStored : Type 0
-  OnlyPutsAreStored =
+  -- However often data were copied since, a put brought them once, or a completion joined them once.
+  abbrev pub StoredWasBrought : Type 0
+  StoredWasBrought =
       (names : List (List ℕ)) (earlier later : List Entry) (object : Object)
       → s ≡ opening names
       → entries ≡ earlier ++ later
       → WasStored least s earlier object
-      → WasPut earlier object.stored
+      → (WasPut earlier object.stored ⊎ WasJoined earlier object.stored)
 
   -- A read without conditions hands out all of a version, or doesn't succeed.
   abbrev pub ReadsGiveOrFail : Type 0
@@ -357,6 +369,14 @@ CopiesStoreTheirSource =
     → copies e.command ≡ Some asked
     → Stores s e object
     → WouldGive s asked object.stored
+
+-- What a completion stores is what the listed parts of its upload make.
+abbrev pub CompletionsStoreTheirParts : Type 0
+CompletionsStoreTheirParts =
+    (s : State) (e : Entry) (upload : UploadPlace) (listed : List ListedPart) (object : Object)
+    → completes e.command ≡ Some (upload, listed)
+    → Stores s e object
+    → WouldMake s upload listed object.stored
 
 -- What an entry stores has a source.
 abbrev pub StoredHasSource : Type 0

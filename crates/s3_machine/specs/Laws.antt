@@ -1,25 +1,40 @@
 -- What holds of every step.
-use Rattle.std.specs.Prelude.{◌≡◌, ◌↔◌, ◌⊎◌, ℕ, ◌+◌, true, IsTrue, List, [], Option, Some, None, option_map}
+use Rattle.std.specs.Prelude.{◌≡◌, ◌↔◌, ◌⊎◌, ℕ, ◌+◌, true, false, IsTrue, List, [], Option, Some, None, option_map, Result, Ok, Err}
 use Rattle.std.specs.List.{Contains}
+use Rattle.s3_terms.specs.declared.code.Code.{Code}
+use Rattle.s3_terms.specs.declared.code.Code.TheVariants.{NoSuchUpload}
 use Rattle.s3_names.specs.declared.ids.VersionId.{VersionId}
 use Rattle.s3_conditions.specs.declared.conditions.Conditions.{Conditions}
 use Rattle.s3_conditions.specs.Conditions.{plain}
 use Rattle.s3_versions.specs.declared.picking.Facts.{Facts}
+use Rattle.s3_versions.specs.declared.version.Data.{Data}
+use Rattle.s3_uploads.specs.Completion.{completed}
+use Rattle.s3_uploads.specs.declared.listed.ListedPart.{ListedPart}
+use Rattle.s3_uploads.specs.declared.upload.Upload.{Upload}
 use Rattle.s3_records.specs.Catalogue.{has_bucket}
 use Rattle.s3_records.specs.Places.{AreBelow}
 use Rattle.s3_records.specs.Rows.{key_rows}
 use Rattle.s3_listings.specs.declared.asked.ObjectsAsked.{ObjectsAsked}
+use Rattle.s3_listings.specs.declared.asked.PartsAsked.{PartsAsked}
+use Rattle.s3_listings.specs.declared.asked.UploadsAsked.{UploadsAsked}
 use Rattle.s3_listings.specs.declared.asked.VersionsAsked.{VersionsAsked}
 use Rattle.s3_listings.specs.Objects.{Object, objects_asked, objects_told}
+use Rattle.s3_listings.specs.Parts.{parts_page}
+use Rattle.s3_listings.specs.Uploads.{uploads_page}
 use Rattle.s3_listings.specs.Versions.{versions_page}
 use Rattle.s3_documents.specs.ObjectList.{objects_text}
+use Rattle.s3_documents.specs.PartList.{parts_text}
+use Rattle.s3_documents.specs.UploadList.{uploads_text}
 use Rattle.s3_documents.specs.VersionList.{versions_text}
 use Rattle.s3_machine.specs.declared.command.BucketCommand.TheVariants as bucket_commands
 use Rattle.s3_machine.specs.declared.command.Command.{Command}
 use Rattle.s3_machine.specs.declared.command.Command.TheVariants as commands
 use Rattle.s3_machine.specs.declared.command.KeyCommand.TheVariants as key_commands
+use Rattle.s3_machine.specs.declared.command.Outcome.{Outcome}
 use Rattle.s3_machine.specs.declared.command.Outcome.TheVariants as outcomes
-use Rattle.s3_machine.specs.Effects.{Address, is_refused, only_reads, given_whole, facts_found, by_conditions}
+use Rattle.s3_machine.specs.declared.command.UploadCommand.{UploadCommand}
+use Rattle.s3_machine.specs.declared.command.UploadCommand.TheVariants as upload_commands
+use Rattle.s3_machine.specs.Effects.{Address, UploadPlace, open_at, is_refused, only_reads, given_whole, acknowledged, facts_found, by_conditions}
 use Rattle.s3_machine.specs.Step.{State, step}
 
 -- a refusal leaves the state as it was, and so does a command that only reads
@@ -74,3 +89,46 @@ VersionListsAreTold =
     → IsTrue (has_bucket s name)
     → (step least s n t (commands.Bucket name (bucket_commands.ListVersions asked))).1
     ≡ outcomes.Told (versions_text name asked (versions_page asked s name))
+
+-- so is one of its uploads,
+abbrev pub UploadListsAreTold : Type 0
+UploadListsAreTold =
+    (least : ℕ) (s : State) (n t : ℕ) (name : List ℕ) (asked : UploadsAsked)
+    → IsTrue (has_bucket s name)
+    → (step least s n t (commands.Bucket name (bucket_commands.ListUploads asked))).1
+    ≡ outcomes.Told (uploads_text name asked (uploads_page asked s name))
+
+-- a command on an upload
+abbrev pub asking : UploadPlace → UploadCommand → Command
+asking upload asked = commands.Upload upload.address.bucket upload.address.key upload.id asked
+
+-- and one of the parts of an upload that is open.
+abbrev pub PartListsAreTold : Type 0
+PartListsAreTold =
+    (least : ℕ) (s : State) (n t : ℕ) (upload : UploadPlace) (asked : PartsAsked) (found : Upload (List ℕ))
+    → IsTrue (has_bucket s upload.address.bucket)
+    → open_at s upload ≡ Some found
+    → (step least s n t (asking upload (upload_commands.ListParts asked))).1
+    ≡ outcomes.Told (parts_text upload.address.bucket upload.address.key upload.id asked (parts_page asked found.parts))
+
+-- Whatever is asked of an upload that isn't open is refused with NoSuchUpload.
+abbrev pub ClosedUploadsAreRefused : Type 0
+ClosedUploadsAreRefused =
+    (least : ℕ) (s : State) (n t : ℕ) (upload : UploadPlace) (asked : UploadCommand)
+    → IsTrue (has_bucket s upload.address.bucket)
+    → open_at s upload ≡ None
+    → (step least s n t (asking upload asked)).1 ≡ outcomes.Refused NoSuchUpload false
+
+-- what comes of a completion, by what its rule says
+abbrev pub IsByRule : Result (Data (List ℕ)) Code → Outcome → Type 0
+IsByRule (Ok what) outcome = acknowledged outcome ≡ Some what.tag
+IsByRule (Err code) outcome = outcome ≡ outcomes.Refused code false
+
+-- The completion of one that is open goes by the rule of uploads: it is refused where that refuses, with its code, and stores what
+-- that joins where it doesn't.
+abbrev pub CompletionsGoByTheRule : Type 0
+CompletionsGoByTheRule =
+    (least : ℕ) (s : State) (n t : ℕ) (upload : UploadPlace) (listed : List ListedPart) (found : Upload (List ℕ))
+    → IsTrue (has_bucket s upload.address.bucket)
+    → open_at s upload ≡ Some found
+    → IsByRule (completed least listed found) (step least s n t (asking upload (upload_commands.Complete listed))).1

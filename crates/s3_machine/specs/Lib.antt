@@ -4,3 +4,5 @@ pub mod History
 pub mod Kept
 pub mod Laws
 pub mod Step
+pub mod Uploads
+pub mod UploadsKept

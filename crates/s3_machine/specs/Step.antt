@@ -1,10 +1,10 @@
 -- The state of a server, and one step of it (Amazon S3 API Reference, the operations that are named; Amazon S3 User
--- Guide, "Using versioning in S3 buckets").
-use Rattle.std.specs.Prelude.{ℕ, Bool, true, false, not, List, length, Option, Some, None, find, Result, Ok, Err}
+-- Guide, "Using versioning in S3 buckets" and "Uploading and copying objects using multipart upload").
+use Rattle.std.specs.Prelude.{ℕ, Bool, true, false, not, List, [], length, Option, Some, None, find, Result, Ok, Err, ok_or}
 use Rattle.std.specs.Option.{option_map, unwrap_or}
 use Rattle.s3_bodies.specs.Payload.{tag_of}
 use Rattle.s3_terms.specs.declared.code.Code.{Code}
-use Rattle.s3_terms.specs.declared.code.Code.TheVariants.{NoSuchBucket, BucketAlreadyOwnedByYou, BucketNotEmpty, InvalidRequest, MethodNotAllowed}
+use Rattle.s3_terms.specs.declared.code.Code.TheVariants.{NoSuchBucket, BucketAlreadyOwnedByYou, BucketNotEmpty, InvalidRequest, MethodNotAllowed, NoSuchUpload}
 use Rattle.s3_names.specs.declared.ids.VersionId.{VersionId}
 use Rattle.s3_conditions.specs.declared.conditions.Conditions.{Conditions}
 use Rattle.s3_conditions.specs.declared.conditions.Selection.{Selection}
@@ -16,13 +16,22 @@ use Rattle.s3_versions.specs.declared.version.Version.{Version}
 use Rattle.s3_versions.specs.declared.version.Versioning.{Versioning}
 use Rattle.s3_versions.specs.declared.version.Versioning.TheVariants.{Unversioned, Enabled, Suspended}
 use Rattle.s3_versions.specs.Rules.{id_of, is_under, is_delete_marker, pick, facts_of, new_id, VersionPut, KeyDeleted, VersionDropped}
+use Rattle.s3_uploads.specs.Completion.{completed}
+use Rattle.s3_uploads.specs.Parts.{part_sent}
+use Rattle.s3_uploads.specs.declared.upload.Upload.{Upload}
 use Rattle.s3_records.specs.Catalogue.{Catalogue, has_bucket, listed_buckets, is_empty_bucket, versions_of, versioning_of}
 use Rattle.s3_records.specs.Rows.{key_rows}
-use Rattle.s3_records.specs.Changes.{BucketAdded, BucketDropped, VersioningSet, KeyChanged, changed}
+use Rattle.s3_records.specs.Changes.{BucketAdded, BucketDropped, VersioningSet, KeyChanged, UploadAdded, PartPut, UploadDropped, UploadCompleted, changed}
+use Rattle.s3_records.specs.OpenUploads.{upload_at}
 use Rattle.s3_listings.specs.Objects.{objects_told}
+use Rattle.s3_listings.specs.Parts.{parts_page}
+use Rattle.s3_listings.specs.Uploads.{uploads_page}
 use Rattle.s3_listings.specs.Versions.{versions_page}
 use Rattle.s3_documents.specs.Buckets.{buckets_text}
 use Rattle.s3_documents.specs.ObjectList.{objects_text}
+use Rattle.s3_documents.specs.PartList.{parts_text}
+use Rattle.s3_documents.specs.Upload.{upload_text, completed_text}
+use Rattle.s3_documents.specs.UploadList.{uploads_text}
 use Rattle.s3_documents.specs.VersionList.{versions_text}
 use Rattle.s3_machine.specs.declared.command.BucketCommand.{BucketCommand}
 use Rattle.s3_machine.specs.declared.command.BucketCommand.TheVariants as bucket_commands
@@ -32,13 +41,16 @@ use Rattle.s3_machine.specs.declared.command.KeyCommand.{KeyCommand}
 use Rattle.s3_machine.specs.declared.command.KeyCommand.TheVariants as key_commands
 use Rattle.s3_machine.specs.declared.command.ObjectPut.{ObjectPut}
 use Rattle.s3_machine.specs.declared.command.Source.{Source}
+use Rattle.s3_machine.specs.declared.command.UploadBegin.{UploadBegin}
+use Rattle.s3_machine.specs.declared.command.UploadCommand.{UploadCommand}
+use Rattle.s3_machine.specs.declared.command.UploadCommand.TheVariants as upload_commands
 use Rattle.s3_machine.specs.declared.command.Found.{Found}
 use Rattle.s3_machine.specs.declared.command.Outcome.{Outcome}
 use Rattle.s3_machine.specs.declared.command.Outcome.TheVariants as outcomes
 use Rattle.s3_terms.specs.Fault.{◌>>◌, ◌>>=◌}
 use Rattle.s3_machine.specs.Fault.{refuse, as_refusal}
 
--- the buckets, with their keys and the versions under these, with their bytes
+-- the buckets, with their keys and the versions under these, and with the uploads that are open, with their bytes
 abbrev pub State : Type 0
 State = Catalogue (List ℕ)
 
@@ -122,6 +134,14 @@ bucket_done s t name (bucket_commands.ListObjects asked) = do
 bucket_done s t name (bucket_commands.ListVersions asked) = do
   refuse (not (has_bucket s name)) NoSuchBucket
   Ok (s, outcomes.Told (versions_text name asked (versions_page asked s name)))
+bucket_done s t name (bucket_commands.ListUploads asked) = do
+  refuse (not (has_bucket s name)) NoSuchBucket
+  Ok (s, outcomes.Told (uploads_text name asked (uploads_page asked s name)))
+
+-- the upload that begins at moment t
+abbrev pub upload_begun : ℕ → UploadBegin → Upload (List ℕ)
+upload_begun t begin =
+    record { moment = t; content_type = begin.content_type; metadata = begin.metadata; parts = [] }
 
 -- what a command on a key does, as entry n at moment t, in a bucket that is there
 unfoldable pub key_done : State → ℕ → ℕ → List ℕ → List ℕ → KeyCommand (List ℕ) → Result Stepped Refusal
@@ -150,15 +170,44 @@ key_done s n t name key (key_commands.Delete (Some id)) =
       changed s name (KeyChanged key (VersionDropped id)),
       outcomes.Deleted (shown_in (versioning_of s name) id) (is_marker_under id (versions_of s name key)),
     )
+key_done s n t name key (key_commands.Begin begin) =
+    Ok (changed s name (UploadAdded key n (upload_begun t begin)), outcomes.Told (upload_text name key n))
+
+-- the upload of an id to a key, where it is open
+abbrev pub open_upload : State → List ℕ → List ℕ → ℕ → Result (Upload (List ℕ)) Refusal
+open_upload s name key id = as_refusal (ok_or (upload_at s name key id) NoSuchUpload)
+
+-- what a command on an upload does, as entry n at moment t, in a bucket that is there
+unfoldable pub upload_done : ℕ → State → ℕ → ℕ → List ℕ → List ℕ → ℕ → UploadCommand → Result Stepped Refusal
+upload_done least s n t name key id (upload_commands.PutPart number payload) = do
+  _ ← open_upload s name key id
+  Ok (changed s name (PartPut key id number (part_sent t payload)), outcomes.PartPut (tag_of payload))
+upload_done least s n t name key id (upload_commands.Complete listed) = do
+  upload ← open_upload s name key id
+  stored ← as_refusal (completed least listed upload)
+  Ok (
+    changed s name (UploadCompleted key id (VersionPut n t stored)),
+    outcomes.Completed
+        (completed_text name key stored.tag) stored.tag (shown_in (versioning_of s name) (new_id (versioning_of s name) n)),
+  )
+upload_done least s n t name key id upload_commands.Abort = do
+  _ ← open_upload s name key id
+  Ok (changed s name (UploadDropped key id), outcomes.UploadDropped)
+upload_done least s n t name key id (upload_commands.ListParts asked) = do
+  upload ← open_upload s name key id
+  Ok (s, outcomes.Told (parts_text name key id asked (parts_page asked upload.parts)))
 
 -- what a command does, as entry n at moment t: the first refusal, or the change and what came of it; least is the
--- least size of a part that is not the last, which none of these operations looks at
+-- least size of a part that is not the last
 unfoldable pub done : ℕ → State → ℕ → ℕ → Command → Result Stepped Refusal
 done least s n t commands.ListBuckets = Ok (s, outcomes.Told (buckets_text (listed_buckets s)))
 done least s n t (commands.Bucket name asked) = bucket_done s t name asked
 done least s n t (commands.Key name key asked) = do
   refuse (not (has_bucket s name)) NoSuchBucket
   key_done s n t name key asked
+done least s n t (commands.Upload name key id asked) = do
+  refuse (not (has_bucket s name)) NoSuchBucket
+  upload_done least s n t name key id asked
 
 -- a refusal leaves the state as it was
 abbrev pub stepped : State → Result Stepped Refusal → Stepped

@@ -4,9 +4,10 @@ use s3_bodies::{Body, Payload};
 use s3_calendar::Moment;
 use s3_conditions::{Conditions, Selection};
 use s3_documents::Document;
-use s3_listings::{ObjectsAsked, VersionsAsked};
-use s3_names::{BucketName, Key, Tag, VersionId};
+use s3_listings::{ObjectsAsked, PartsAsked, UploadsAsked, VersionsAsked};
+use s3_names::{BucketName, Key, PartNumber, Tag, UploadId, VersionId};
 use s3_terms::Code;
+use s3_uploads::ListedParts;
 use s3_versions::{ContentType, Data, Metadata, Versioning, VersioningStatus};
 
 /// An operation with its arguments and the body that came with it, by what it addresses.
@@ -24,6 +25,13 @@ pub enum Command {
         bucket: BucketName,
         key: Key,
         asked: KeyCommand<Payload>,
+    },
+    /// Asks something of an upload to a key in a bucket.
+    Upload {
+        bucket: BucketName,
+        key: Key,
+        id: UploadId,
+        asked: UploadCommand,
     },
 }
 
@@ -44,6 +52,8 @@ pub enum BucketCommand {
     ListObjects(ObjectsAsked),
     /// Lists its versions (ListObjectVersions).
     ListVersions(VersionsAsked),
+    /// Lists the uploads that are open in it (ListMultipartUploads).
+    ListUploads(UploadsAsked),
 }
 
 /// What is asked of a key. `B` is what came as a body: nothing before it is read, and the payload after.
@@ -57,6 +67,26 @@ pub enum KeyCommand<B> {
     Read(ObjectRead),
     /// Deletes it, or its version of this id (DeleteObject).
     Delete { version: Option<VersionId> },
+    /// Begins an upload to it (CreateMultipartUpload).
+    Begin(UploadBegin),
+}
+
+/// What is asked of an upload.
+#[derive(Drop)]
+pub enum UploadCommand {
+    /// Puts the body under a number, as a part of it (UploadPart).
+    PutPart {
+        number: PartNumber,
+        payload: Payload,
+    },
+    /// Stores under its key the parts that are listed, joined in this order, and ends it (CompleteMultipartUpload).
+    Complete {
+        listed: ListedParts,
+    },
+    /// Drops it with its parts (AbortMultipartUpload).
+    Abort,
+    /// Lists its parts (ListParts).
+    ListParts(PartsAsked),
 }
 
 /// What is to be stored.
@@ -65,6 +95,13 @@ pub struct ObjectPut<B> {
     pub content_type: ContentType,
     pub metadata: Metadata,
     pub payload: B,
+}
+
+/// What is to be stored once the upload that begins is completed.
+#[derive(Drop)]
+pub struct UploadBegin {
+    pub content_type: ContentType,
+    pub metadata: Metadata,
 }
 
 /// What is to be copied.
@@ -99,8 +136,8 @@ pub struct Answer {
 /// What came of a command. A version's id is shown where the bucket's versioning was ever set.
 #[derive(Drop)]
 pub enum Outcome {
-    /// What was asked for, as the text of a document: a list of buckets, of objects or of versions. Its room is taken in the
-    /// step, so that printing it takes no memory.
+    /// What was asked for, as the text of a document: a list of buckets, of objects, of versions, of uploads or of parts, or the
+    /// id of the upload that was begun. Its room is taken in the step, so that printing it takes no memory.
     Told {
         document: Document,
     },
@@ -129,6 +166,18 @@ pub enum Outcome {
         moment: Moment,
         shown: Option<VersionId>,
     },
+    /// The part is put, under this tag.
+    PartPut {
+        tag: Tag,
+    },
+    /// The parts are stored, joined, under this tag and as a version of this id; the document tells it.
+    Completed {
+        document: Document,
+        tag: Tag,
+        shown: Option<VersionId>,
+    },
+    /// The upload is dropped.
+    UploadDropped,
     /// The version with all its bytes, and what of them is shown.
     Got {
         found: Found<Body>,

@@ -2,12 +2,17 @@
 ghost use Rattle.std.specs.Prelude.{◌≡◌, ℕ, ◌+◌, List, [], ◌∷◌, ◌++◌, length};
 ghost use Rattle.s3_machine.specs.Step.{State};
 ghost use Rattle.s3_machine.specs.History.{Entry, IsAnswer, Legal, after, after_entry};
-ghost use Rattle.s3_machine.specs.Kept.{EveryHistory, StoredIsKept, VersionsAreKept, StoredIsTold, StoredIsListed, OnlyStoredStands, OnlyStoredIsGiven, ListedIsStored, ListsTellWhatIsThere, VersionListsTellWhatIsThere, OnlyPutsAreStored, ReadsGiveOrFail, ReadsAreJudged, PutsStoreTheirContents, StoredHasSource, PutsAreKept, PutVersionsAreKept, CopiesStoreTheirSource, CopiesAreKept, CopyVersionsAreKept, BodiesAreTagged, MarkersHide, QuietEntriesChangeNothing};
+ghost use Rattle.s3_machine.specs.Kept.{EveryHistory, StoredIsKept, VersionsAreKept, StoredIsTold, StoredIsListed, OnlyStoredStands, OnlyStoredIsGiven, ListedIsStored, ListsTellWhatIsThere, VersionListsTellWhatIsThere, StoredWasBrought, ReadsGiveOrFail, ReadsAreJudged, PutsStoreTheirContents, StoredHasSource, PutsAreKept, PutVersionsAreKept, CopiesStoreTheirSource, CopiesAreKept, CopyVersionsAreKept, BodiesAreTagged, CompletionsStoreTheirParts, MarkersHide, QuietEntriesChangeNothing};
+ghost use Rattle.s3_machine.specs.UploadsKept.{UploadsAreOpenUntilEnded, PartsAreKept, OnlySentStands, BegunIsTold, SentIsTold, CompletedIsTold, CompletionsJoinWhatWasSent, CompletionsAreKept, CompletionVersionsAreKept, UploadListsTellWhatIsThere, PartListsTellWhatIsThere, UploadsAreListedWhileOpen, PartsAreListedWhileStanding, OnlyWritesChangeVersions};
 
 use crate::laws::steps_keep;
 use s3_bodies::Body;
 use s3_listings::listed_keys_are_read;
-use s3_records::{changes_are_by_place, changes_follow_rules, versions_stay_in_order};
+use s3_records::{
+    changes_are_by_place, changes_are_by_upload, changes_follow_rules, uploads_are_listed,
+    versions_stay_in_order,
+};
+use s3_uploads::{completions_join_the_listed, puts_are_under_one_number};
 use s3_versions::{ids_differ, puts_are_current};
 
 /// A law, with nothing to run: a legal history with one more entry, whose answer is that of the next step, is legal, and
@@ -34,13 +39,13 @@ pub fn stored_is_kept()
 }
 
 /// A law, with nothing to run: in a legal history from the opening state, what stands was stored by an entry, and so was
-/// what a read is given, and no entry behind that one replaced or deleted it. What was stored was put once, and may have been
-/// copied since. A read of all of a version is given one, or doesn't succeed; one by conditions is shown what they select, or
-/// doesn't succeed.
+/// what a read is given, and no entry behind that one replaced or deleted it. What was stored was put once, or joined once by a
+/// completion, and may have been copied since. A read of all of a version is given one, or doesn't succeed; one by conditions
+/// is shown what they select, or doesn't succeed.
 pub fn only_stored_is_given()
     ensures stands { EveryHistory OnlyStoredStands }
     ensures given { EveryHistory OnlyStoredIsGiven }
-    ensures put { EveryHistory OnlyPutsAreStored }
+    ensures brought { EveryHistory StoredWasBrought }
     ensures or_fails { EveryHistory ReadsGiveOrFail }
     ensures judged { EveryHistory ReadsAreJudged }
 {
@@ -48,6 +53,7 @@ pub fn only_stored_is_given()
     changes_follow_rules::<Body>();
     ids_differ::<Body>();
     versions_stay_in_order::<Body>();
+    completions_join_what_was_sent();
 }
 
 /// A law, with nothing to run: what an entry stored is listed under its key, with its moment, its tag and its size, until an
@@ -70,13 +76,17 @@ pub fn stored_is_listed()
 pub fn lists_tell_what_is_there()
     ensures objects { EveryHistory ListsTellWhatIsThere }
     ensures versions { EveryHistory VersionListsTellWhatIsThere }
+    ensures uploads { EveryHistory UploadListsTellWhatIsThere }
+    ensures parts { EveryHistory PartListsTellWhatIsThere }
 {}
 
-/// A law, with nothing to run: which data an entry stores, one clause an operation: a put stores what it brings, and a copy
-/// what a read of all of its source would be given. An entry that stores something is of one of these operations.
+/// A law, with nothing to run: which data an entry stores, one clause an operation: a put stores what it brings, a copy what a
+/// read of all of its source would be given, and a completion what the listed parts of its upload make. An entry that stores
+/// something is of one of these operations.
 pub fn stored_has_a_source()
     ensures put { PutsStoreTheirContents }
     ensures copied { CopiesStoreTheirSource }
+    ensures completed { CompletionsStoreTheirParts }
     ensures sources { StoredHasSource }
 {}
 
@@ -97,6 +107,70 @@ pub fn copies_are_kept()
     ensures by_version { EveryHistory CopyVersionsAreKept }
 {
     stored_is_kept();
+}
+
+/// A law, with nothing to run: in a legal history from the opening state an upload is open exactly from the entry that begins it,
+/// whose number is its id, to one that completes or aborts it, with its moment, its type and its metadata, and it shows in the
+/// list of all uploads of its bucket exactly so long.
+pub fn uploads_are_open_until_ended()
+    ensures begun { EveryHistory UploadsAreOpenUntilEnded }
+    ensures listed { EveryHistory UploadsAreListedWhileOpen }
+{
+    changes_are_by_upload::<Body>();
+    puts_are_under_one_number::<Body>();
+    versions_stay_in_order::<Body>();
+    uploads_are_listed::<Body>();
+}
+
+/// A law, with nothing to run: in a legal history from the opening state a part that was sent with success stands in its upload,
+/// with its bytes and its moment, until one is sent in its place or the upload ends, and nothing else stands there. The list of
+/// all parts of the upload shows it exactly so long.
+pub fn parts_are_kept()
+    ensures kept { EveryHistory PartsAreKept }
+    ensures nothing_else { EveryHistory OnlySentStands }
+    ensures listed { EveryHistory PartsAreListedWhileStanding }
+{
+    changes_are_by_upload::<Body>();
+    puts_are_under_one_number::<Body>();
+    versions_stay_in_order::<Body>();
+}
+
+/// A law, with nothing to run: who begins an upload is told its id, who sends a part the tag of its bytes, and who completes an
+/// upload the tag of what is stored.
+pub fn uploads_are_told()
+    ensures begun { EveryHistory BegunIsTold }
+    ensures sent { EveryHistory SentIsTold }
+    ensures completed { EveryHistory CompletedIsTold }
+{}
+
+/// A law, with nothing to run: in a legal history from the opening state a completion that succeeds stores the bytes that were
+/// sent last under each listed number since the upload was begun, in the order in which they are listed, with the tag that is
+/// joined of theirs, and with the type and the metadata of the beginning.
+pub fn completions_join_what_was_sent()
+    ensures { EveryHistory CompletionsJoinWhatWasSent }
+{
+    changes_are_by_upload::<Body>();
+    puts_are_under_one_number::<Body>();
+    versions_stay_in_order::<Body>();
+    completions_join_the_listed();
+}
+
+/// A law, with nothing to run: so this comes back as if it had been put, with the moment of the completion.
+pub fn completions_are_kept()
+    ensures by_key { EveryHistory CompletionsAreKept }
+    ensures by_version { EveryHistory CompletionVersionsAreKept }
+{
+    completions_join_what_was_sent();
+    stored_is_kept();
+}
+
+/// A law, with nothing to run: an entry that writes under no key leaves the versions of all: a list of objects shows nothing of
+/// an upload, and no read does, before it is completed.
+pub fn only_writes_change_versions()
+    ensures { EveryHistory OnlyWritesChangeVersions }
+{
+    changes_are_by_place::<Body>();
+    changes_follow_rules::<Body>();
 }
 
 /// A law, with nothing to run: in a legal history a delete marker hides its key until an entry changes the key's versions.

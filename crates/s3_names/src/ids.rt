@@ -1,7 +1,7 @@
 //! The ids of versions and uploads, and the numbers of parts.
 ghost use Rattle.std.specs.Prelude.{◌≡◌, ℕ, ◌<◌, ◌≤◌, ◌^◌, ◌∷◌, Some, IfSome, IsTrue, drop, length, codes};
 ghost use Rattle.std.specs.List.{list_all};
-ghost use Rattle.s3_names.specs.Ids.{numbered_id, is_numbered_id, number_of_id, upload_id_text, upload_id, version_id_text, version_id, HasSmallNumber, part_number};
+ghost use Rattle.s3_names.specs.Ids.{numbered_id, is_numbered_id, number_of_id, upload_id_text, upload_id, version_id_text, version_id, HasSmallNumber, as_part_number, part_number};
 ghost use Rattle.s3_text.specs.Characters.{is_lower_hex};
 
 use s3_text::{decimal_number, number_digits, number_from};
@@ -40,6 +40,13 @@ impl PartNumber {
         ensures { result ≡ part_number text.now }
     {
         let number = decimal_number(text, PART_DIGITS)?;
+        PartNumber::of(number)
+    }
+
+    /// The part's number that this number is; `None` where it is out of range.
+    pub fn of(number: u64) -> Option<PartNumber>
+        ensures { result ≡ as_part_number number }
+    {
         if number < 1 || number > PART_MAX {
             return None;
         }

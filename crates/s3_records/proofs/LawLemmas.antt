@@ -1,12 +1,9 @@
 -- The laws of the catalogue.
-use Rattle.std.proofs.Common.{◌≡◌, refl, sym, ap, subst, ◌∙◌, ◌≢◌, ◌||◌, ◌⊎◌, inl, inr, IsTrue, Bool, true, false, cond, ℕ, List, [], ◌∷◌, Option, Some, None, is_some, option_map, ◌==◌, length}
-use Rattle.std.proofs.lemmas.Bool.{false_from_ne_true, false≢true, eqb-true}
-use Rattle.std.proofs.lemmas.Option.{none-some, same_Some}
-use Rattle.std.specs.Cmp.{eq_by_cmp_equiv}
-use Rattle.std.specs.Cmp.Lexicographic.{nat_list_cmp_total, texts_ties}
-use Rattle.std.specs.FinMap.{FinMap, get, insert, remove, get-remove, get-empty, empty_of_len, len, entries, len-entries, get-entries}
-use Rattle.std.specs.FinMap.Entries.{find}
-use Rattle.std.specs.Ordering.{eq_by_cmp}
+use Rattle.std.proofs.Common.{◌≡◌, refl, sym, ap, subst, ◌∙◌, ◌≢◌, ◌||◌, ◌⊎◌, inl, inr, IsTrue, Bool, true, false, cond, ℕ, List, [], ◌∷◌, Option, Some, None, is_some, option_map}
+use Rattle.std.proofs.lemmas.Bool.{false≢true, eqb-true, and_parts}
+use Rattle.std.specs.Cmp.Lexicographic.{texts_ties}
+use Rattle.std.specs.FinMap.{get, empty, get-empty, empty_of_len, len}
+use Rattle.std.specs.Ordering.{eq_by_cmp, nat_cmp}
 use Rattle.std.specs.List.{list_any}
 use Rattle.std.specs.Str.{bytes_eq}
 use Rattle.s3_text.specs.Order.{byte_order}
@@ -16,24 +13,14 @@ use Rattle.s3_versions.specs.declared.version.VersioningStatus.TheVariants as st
 use Rattle.s3_versions.specs.declared.version.Versioning.TheVariants.{Unversioned}
 use Rattle.s3_versions.specs.Rules.{are_versions, versioning_set, KeyChange, after_change}
 use Rattle.s3_versions.specs.Laws.{ChangesLeaveVersions}
-use Rattle.s3_records.specs.Catalogue.{Keys, Bucket, Catalogue, new_bucket, opening, facts_of, versions_at, versions_in, versions_of, versioning_in, versioning_of, found_versions, has_bucket, is_empty_in}
-use Rattle.s3_records.specs.Changes.{Change, BucketAdded, BucketDropped, VersioningSet, KeyChanged, with_versions, set_in, change_in, bucket_after, with_bucket, changed}
-use Rattle.s3_records.specs.Laws.{ChangesAreLocal, ChangesNameOneKey, ChangesFollowRules, SwitchesKeepKeys, IsNew, VersionsStayInOrder, OpeningIsEmpty, EmptyHasNothing, KeysHaveVersions, KeysStayFilled, OthersHaveSomething}
-use Rattle.s3_text.proofs.MapLemmas.{get-put, tied_equal, same_or}
-use Rattle.s3_records.proofs.MapLemmas.{get-put_here}
-
--- a write at one key leaves what is at another
-not_tied : (q k : List ℕ) → q ≢ k → eq_by_cmp byte_order q k ≡ false
-not_tied q k differ = false_from_ne_true (eq_by_cmp byte_order q k) (λ tied. differ (tied_equal q k tied))
-
-get-put_other : {X : Type 0} (m : FinMap byte_order X) (k : List ℕ) (v : X) (q : List ℕ) → q ≢ k → get (insert m k v) q ≡ get m q
-get-put_other m k v q differ = get-put m k v q ∙ ap (λ b. cond b (Some v) (get m q)) (not_tied q k differ)
-
-get-remove_other : {X : Type 0} (m : FinMap byte_order X) (k q : List ℕ) → q ≢ k → get (remove m k) q ≡ get m q
-get-remove_other m k q differ = get-remove nat_list_cmp_total m k q ∙ ap (λ b. cond b None (get m q)) (not_tied q k differ)
-
-pub get-remove_here : {X : Type 0} (m : FinMap byte_order X) (k : List ℕ) → get (remove m k) k ≡ None
-get-remove_here m k = get-remove nat_list_cmp_total m k k ∙ ap (λ b. cond b None (get m k)) ((eq_by_cmp_equiv nat_list_cmp_total).refl k)
+use Rattle.s3_records.specs.Catalogue.{Keys, Uploads, Bucket, has_no_keys, has_no_uploads, Catalogue, new_bucket, opening, facts_of, versions_at, versions_in, versions_of, versioning_in, versioning_of, found_versions, has_bucket, is_empty_in}
+use Rattle.s3_uploads.specs.declared.upload.Upload.{Upload}
+use Rattle.s3_records.specs.Changes.{Change, BucketAdded, BucketDropped, VersioningSet, KeyChanged, UploadAdded, PartPut, UploadDropped, UploadCompleted, with_versions, upload_change_in, set_in, change_in, bucket_after, with_bucket, changed}
+use Rattle.s3_records.specs.OpenUploads.{upload_under, upload_in, found_uploads}
+use Rattle.s3_uploads.specs.Uploads.{with_part}
+use Rattle.s3_records.specs.Laws.{ChangesAreLocal, ChangesNameOneKey, ChangesFollowRules, CompletionsFollowRules, CompletionsDoBoth, SwitchesKeepKeys, IsNew, VersionsStayInOrder, OpeningIsEmpty, EmptyHasNothing}
+use Rattle.s3_text.proofs.MapLemmas.{get-put, same_by_get, same_or}
+use Rattle.s3_records.proofs.MapLemmas.{get-put_here, get-put_other, get-remove_here, get-remove_other}
 
 -- the bucket of a name, and the others
 bucket_other : {B : Type 0} (c : Catalogue B) (name : List ℕ) (after : Option (Bucket B)) (other : List ℕ) → other ≢ name → get (with_bucket c name after) other ≡ get c other
@@ -81,6 +68,30 @@ pub changes_follow_rules : {B : Type 0} → ChangesFollowRules B
 changes_follow_rules c name key what there =
     ap (λ found. versions_in found key) (changed_here c name (KeyChanged key what)) ∙ this_key key what (get c name) there
 
+-- a bucket that changes twice
+changed_twice : {B : Type 0} (c : Catalogue B) (name : List ℕ) (first second : Option (Bucket B)) → with_bucket (with_bucket c name first) name second ≡ with_bucket c name second
+changed_twice c name first second = same_by_get _ _ (λ q.
+    elim (same_or q name) [
+      | inl same ↦ ap (get (with_bucket (with_bucket c name first) name second)) same ∙ bucket_here (with_bucket c name first) name second
+          ∙ sym (bucket_here c name second) ∙ ap (get (with_bucket c name second)) (sym same)
+      | inr other ↦ bucket_other (with_bucket c name first) name second q other ∙ bucket_other c name first q other ∙ sym (bucket_other c name second q other)
+    ])
+
+pub completions_do_both : {B : Type 0} → CompletionsDoBoth B
+completions_do_both c name key id what =
+    sym (changed_twice c name (bucket_after (KeyChanged key what) (get c name)) (bucket_after (UploadCompleted key id what) (get c name)))
+    ∙ ap (λ found. with_bucket (changed c name (KeyChanged key what)) name (bucket_after (UploadDropped key id) found)) (sym (changed_here c name (KeyChanged key what)))
+
+-- a bucket where an upload changes keeps the versions under its keys
+pub same_versions : {B : Type 0} (key : List ℕ) (id : ℕ) (next : Option (Upload B) → Option (Upload B)) (found : Option (Bucket B)) (k : List ℕ) → versions_in (option_map (upload_change_in key id next) found) k ≡ versions_in found k
+same_versions key id next None k = refl
+same_versions key id next (Some b) k = refl
+
+pub completions_follow_rules : {B : Type 0} → CompletionsFollowRules B
+completions_follow_rules c name key id what there =
+    ap (λ found. versions_in found key) (changed_here c name (UploadCompleted key id what))
+    ∙ same_versions key id (λ old. None) (option_map (change_in key what) (get c name)) key ∙ this_key key what (get c name) there
+
 -- a bucket whose versioning is switched
 switched_keys : {B : Type 0} (status : VersioningStatus) (found : Option (Bucket B)) (key : List ℕ) → versions_in (option_map (set_in status) found) key ≡ versions_in found key
 switched_keys status None key = refl
@@ -121,6 +132,7 @@ module _ {B : Type 0} (P : List (Version B) → Type 0) (none : P []) where
   -- of the versions that a change makes
   abbrev pub Makes : Change B → Option (Bucket B) → Type 0
   Makes (KeyChanged key what) found = P (after_change (versioning_in found) what (versions_in found key))
+  Makes (UploadCompleted key id what) found = P (after_change (versioning_in found) what (versions_in found key))
   Makes other found = Unit {0}
 
   bucket_holds : (change : Change B) (found : Option (Bucket B)) → ((k : List ℕ) → P (versions_in found k)) → Makes change found → (k : List ℕ) → P (versions_in (bucket_after change found) k)
@@ -128,6 +140,11 @@ module _ {B : Type 0} (P : List (Version B) → Type 0) (none : P []) where
   bucket_holds BucketDropped found old new k = none
   bucket_holds (VersioningSet status) found old new k = subst P (sym (switched_keys status found k)) (old k)
   bucket_holds (KeyChanged key what) found old new k = key_holds key what found old new k
+  bucket_holds (UploadAdded key id u) found old new k = subst P (sym (same_versions key id (λ old. Some u) found k)) (old k)
+  bucket_holds (PartPut key id n part) found old new k = subst P (sym (same_versions key id (option_map (with_part n part)) found k)) (old k)
+  bucket_holds (UploadDropped key id) found old new k = subst P (sym (same_versions key id (λ old. None) found k)) (old k)
+  bucket_holds (UploadCompleted key id what) found old new k =
+      subst P (sym (same_versions key id (λ old. None) (option_map (change_in key what) found) k)) (key_holds key what found old new k)
 
   pub all_hold : (c : Catalogue B) (name : List ℕ) (change : Change B) → ((bucket k : List ℕ) → P (versions_of c bucket k)) → Makes change (get c name)
       → (bucket k : List ℕ) → P (versions_of (changed c name change) bucket k)
@@ -146,17 +163,38 @@ versions_stay_in_order {B} leave c name change valid new =
       | BucketDropped ↦ λ is. tt
       | VersioningSet status ↦ λ is. tt
       | KeyChanged key what ↦ λ is. leave (versioning_of c name) what (versions_of c name key) (valid name key) is
+      | UploadAdded key id u ↦ λ is. tt
+      | PartPut key id n part ↦ λ is. tt
+      | UploadDropped key id ↦ λ is. tt
+      | UploadCompleted key id what ↦ λ is. leave (versioning_of c name) what (versions_of c name key) (valid name key) is
     ] new in
     all_hold (λ vs. IsTrue (are_versions vs)) (none_valid B) c name change valid made
 
--- an empty bucket's keys are none
+-- an empty bucket's keys are none, and to none an upload is open
+pub empty_versions : {B : Type 0} (keys : Keys B) (key : List ℕ) → has_no_keys keys ≡ true → versions_at keys key ≡ []
+empty_versions keys key nothing =
+    ap (λ keys. versions_at keys key) (empty_of_len keys (eqb-true (len keys) 0 nothing)) ∙ ap found_versions (get-empty byte_order key)
+
+pub no_upload : {B : Type 0} (key : List ℕ) (id : ℕ) → upload_under {B = B} empty key id ≡ None
+no_upload key id = ap (λ found. get (found_uploads found) id) (get-empty byte_order key) ∙ get-empty nat_cmp id
+
+empty_uploads : {B : Type 0} (uploads : Uploads B) (key : List ℕ) (id : ℕ) → has_no_uploads uploads ≡ true → upload_under uploads key id ≡ None
+empty_uploads uploads key id nothing =
+    ap (λ uploads. upload_under uploads key id) (empty_of_len uploads (eqb-true (len uploads) 0 nothing)) ∙ no_upload key id
+
 no_versions : {B : Type 0} (found : Option (Bucket B)) (key : List ℕ) → IsTrue (is_empty_in found) → versions_in found key ≡ []
 no_versions None key nothing = refl
-no_versions (Some b) key nothing =
-    ap (λ keys. versions_at keys key) (empty_of_len b.keys (eqb-true (len b.keys) 0 nothing)) ∙ ap found_versions (get-empty byte_order key)
+no_versions (Some b) key nothing = empty_versions b.keys key (and_parts (has_no_keys b.keys) (has_no_uploads b.uploads) nothing).0
+
+no_uploads : {B : Type 0} (found : Option (Bucket B)) (key : List ℕ) (id : ℕ) → IsTrue (is_empty_in found) → upload_in found key id ≡ None
+no_uploads None key id nothing = refl
+no_uploads (Some b) key id nothing = empty_uploads b.uploads key id (and_parts (has_no_keys b.keys) (has_no_uploads b.uploads) nothing).1
 
 pub empty_has_nothing : {B : Type 0} → EmptyHasNothing B
-empty_has_nothing c name key nothing = no_versions (get c name) key nothing
+empty_has_nothing c name nothing = record {
+  no_versions = λ key. no_versions (get c name) key nothing;
+  no_uploads = λ key id. no_uploads (get c name) key id nothing;
+}
 
 found_or : {X : Type 0} (b : Bool) (x : X) (found : Option X) → is_some (cond b (Some x) found) ≡ (b || is_some found)
 found_or true x found = refl
@@ -175,7 +213,7 @@ new_or : {B : Type 0} (b : Bool) (found : Option (Bucket B)) → (found ≡ None
 new_or true found either = inr refl
 new_or false found either = either
 
-opening_found : {B : Type 0} (names : List (List ℕ)) (name : List ℕ) → (get (opening {B = B} names) name ≡ None) ⊎ (get (opening {B = B} names) name ≡ Some (new_bucket 0))
+pub opening_found : {B : Type 0} (names : List (List ℕ)) (name : List ℕ) → (get (opening {B = B} names) name ≡ None) ⊎ (get (opening {B = B} names) name ≡ Some (new_bucket 0))
 opening_found [] name = inl (get-empty byte_order name)
 opening_found (first ∷ names) name =
     elim (new_or (eq_by_cmp byte_order name first) (get (opening names) name) (opening_found names name)) [
@@ -190,75 +228,12 @@ opening_is_empty names name =
         there = opening_there _ names name;
         unversioned = ap versioning_in none;
         empty = λ key. ap (λ found. versions_in found key) none;
+        no_uploads = λ key id. ap (λ found. upload_in found key id) none;
       }
       | inr new ↦ record {
         there = opening_there _ names name;
         unversioned = ap versioning_in new;
         empty = λ key. ap (λ found. versions_in found key) new ∙ ap found_versions (get-empty byte_order key);
+        no_uploads = λ key id. ap (λ found. upload_in found key id) new ∙ no_upload key id;
       }
     ]
-
--- no key of a bucket is without versions
-abbrev pub Filled : {B : Type 0} → Bucket B → Type 0
-Filled b = (key : List ℕ) → get b.keys key ≢ Some []
-
-with_filled : {B : Type 0} (keys : Keys B) (key : List ℕ) (vs : List (Version B)) → ((q : List ℕ) → get keys q ≢ Some []) → (q : List ℕ) → get (with_versions keys key vs) q ≢ Some []
-with_filled keys key [] filled q is =
-    elim (same_or q key) [
-      | inl same ↦ absurd (none-some [] (sym (get-remove_here keys key) ∙ ap (get (remove keys key)) (sym same) ∙ is))
-      | inr other ↦ filled q (sym (get-remove_other keys key q other) ∙ is)
-    ]
-with_filled keys key (v ∷ vs) filled q is =
-    elim (same_or q key) [
-      | inl same ↦ let some = sym (get-put_here keys key (v ∷ vs)) ∙ ap (get (insert keys key (v ∷ vs))) (sym same) ∙ is in absurd (cc)
-      | inr other ↦ filled q (sym (get-put_other keys key (v ∷ vs) q other) ∙ is)
-    ]
-
-new_filled : {B : Type 0} (t : ℕ) (b : Bucket B) → Some (new_bucket t) ≡ Some b → Filled b
-new_filled t b is =
-    subst Filled (same_Some (new_bucket t) b is) (λ key some. none-some [] (sym (get-empty byte_order key) ∙ some))
-
-change_filled : {B : Type 0} (change : Bucket B → Bucket B) (found : Option (Bucket B)) → ((b : Bucket B) → found ≡ Some b → Filled (change b)) → (b : Bucket B) → option_map change found ≡ Some b → Filled b
-change_filled change None kept b is = absurd (none-some b is)
-change_filled change (Some a) kept b is = subst Filled (same_Some (change a) b is) (kept a refl)
-
-filled_after : {B : Type 0} (change : Change B) (found : Option (Bucket B)) → ((b : Bucket B) → found ≡ Some b → Filled b) → (b : Bucket B) → bucket_after change found ≡ Some b → Filled b
-filled_after (BucketAdded t) found filled b is = new_filled t b is
-filled_after BucketDropped found filled b is = absurd (none-some b is)
-filled_after (VersioningSet status) found filled b is = change_filled (set_in status) found filled b is
-filled_after (KeyChanged key what) found filled b is =
-    change_filled (change_in key what) found (λ a there. with_filled a.keys key (after_change a.versioning what (versions_at a.keys key)) (filled a there)) b is
-
-stay_filled : {B : Type 0} (c : Catalogue B) (name : List ℕ) (change : Change B) → KeysHaveVersions c → KeysHaveVersions (changed c name change)
-stay_filled c name change valid bucket key b found =
-    elim (same_or bucket name) [
-      | inl same ↦
-          filled_after change (get c name) (λ a there k. valid name k a there) b
-          (sym (changed_here c name change) ∙ ap (get (changed c name change)) (sym same) ∙ found) key
-      | inr other ↦ valid bucket key b (sym (changes_are_local c name change bucket other) ∙ found)
-    ]
-
-opening_filled : {B : Type 0} (names : List (List ℕ)) → KeysHaveVersions {B = B} (opening names)
-opening_filled names name key b is =
-    elim (opening_found names name) [
-      | inl none ↦ λ some. none-some b (sym none ∙ is)
-      | inr new ↦ new_filled 0 b (sym new ∙ is) key
-    ]
-
-pub keys_stay_filled : {B : Type 0} → KeysStayFilled B
-keys_stay_filled = (opening_filled, stay_filled)
-
--- a map that is not empty has a first key
-first_key : {X : Type 0} (m : FinMap byte_order X) (es : List (List ℕ × X)) → entries m ≡ es → (len m == 0) ≡ false → (k : List ℕ) × (v : X) × (get m k ≡ Some v)
-first_key m [] is some = absurd (false≢true (sym some ∙ ap (λ n. n == 0) (len-entries m ∙ ap length is)))
-first_key m (e ∷ es) is some =
-    (e.0, e.1, get-entries m e.0 ∙ ap (find byte_order e.0) is ∙ ap (λ b. cond b (Some e.1) (find byte_order e.0 es)) ((eq_by_cmp_equiv nat_list_cmp_total).refl e.0))
-
-found_version : {B : Type 0} (found : Option (Bucket B)) → ((b : Bucket B) → found ≡ Some b → Filled b) → is_empty_in found ≡ false → (key : List ℕ) × (versions_in found key ≢ [])
-found_version None filled some = absurd (false≢true (sym some))
-found_version (Some b) filled some =
-    let first = first_key b.keys (entries b.keys) refl some in
-    (first.0, λ none. filled b refl first.0 (first.2 ∙ ap Some (sym (ap found_versions first.2) ∙ none)))
-
-pub others_have_something : {B : Type 0} → OthersHaveSomething B
-others_have_something c name valid some = found_version (get c name) (λ b is key. valid name key b is) some

@@ -1,8 +1,14 @@
 pub mod CatalogueLemmas
+pub mod FilledLemmas
 pub mod KeyLemmas
 pub mod LawLemmas
 pub mod ListingLemmas
 pub mod ListLemmas
 pub mod MapLemmas
+pub mod OrderedLemmas
 pub mod PlaceLemmas
 pub mod RowLemmas
+pub mod UploadLawLemmas
+pub mod UploadLemmas
+pub mod UploadListingLemmas
+pub mod UploadRowLemmas

@@ -91,6 +91,16 @@ next_some f n have all x xs ys before is room some none =
     cut_room n (have ++ flat_map f (x ∷ ys)) (omega arith) (some_behind have _ (some_before (f x) (flat_map f ys) some))
     (ap (λ xs. take n (have ++ flat_map f xs)) (sym is) ∙ before ∙ none)
 
+-- or of one row for each
+pub row_left : {A C : Type 0} (f : A → C) (n : ℕ) (have all : List C) (x : A) (xs ys : List A) → have ++ map f xs ≡ all → xs ≡ x ∷ ys → length have < n → take n all ≢ []
+row_left f n have all x xs ys before is room none =
+    cut_room n (have ++ map f (x ∷ ys)) (omega arith) (some_behind have _ (cons-some (f x) (map f ys)))
+    (ap (λ xs. take n (have ++ map f xs)) (sym is) ∙ ap (take n) before ∙ none)
+
+pub one_left : {A C : Type 0} (f : A → C) (have all : List C) (x : A) (xs ys : List A) → have ++ map f xs ≡ all → xs ≡ x ∷ ys → all ≢ []
+one_left f have all x xs ys before is none =
+    some_behind have (f x ∷ map f ys) (cons-some (f x) (map f ys)) (ap (λ xs. have ++ map f xs) (sym is) ∙ before ∙ none)
+
 pub cut_fits : {A : Type 0} (n : ℕ) (xs ys : List A) → ys ≡ take n xs → length ys ≤ n
 cut_fits n xs ys is = subst (λ k. k ≤ n) (sym (ap length is ∙ length-take n xs)) (omega arith)
 
@@ -101,3 +111,9 @@ cut_first n have xs ys none is = ap (λ have. take n (have ++ xs)) none ∙ ap (
 -- and behind what was cut
 pub cut_then : {A : Type 0} (n : ℕ) (have xs ys zs : List A) → have ≡ take n xs → ys ≡ zs → take n (have ++ ys) ≡ take n (xs ++ zs)
 cut_then n have xs ys zs cut is = ap (λ have. take n (have ++ ys)) cut ∙ cut_again n xs ys ∙ ap (λ ys. take n (xs ++ ys)) is
+
+-- where some is told, some of all is
+pub next_told : {A C : Type 0} (f : A → List C) (n : ℕ) (have all : List C) (x : A) (xs ys : List A) → take n (have ++ flat_map f xs) ≡ take n all → xs ≡ x ∷ ys → take n (have ++ f x) ≢ [] → take n all ≢ []
+next_told f n have all x xs ys before is some none =
+    cut_some n (have ++ f x) (flat_map f ys) some
+    (ap (take n) (append_assoc have (f x) (flat_map f ys)) ∙ ap (λ xs. take n (have ++ flat_map f xs)) (sym is) ∙ before ∙ none)

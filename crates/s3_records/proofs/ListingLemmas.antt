@@ -1,10 +1,10 @@
 -- The rows of a list, from the entries of a tree.
-use Rattle.std.proofs.Common.{◌≡◌, refl, sym, ap, subst, ◌∙◌, true, false, cond, ◌&&◌, T, ℕ, List, [], ◌∷◌, ◌++◌, map, Some, None}
+use Rattle.std.proofs.Common.{◌≡◌, refl, sym, ap, subst, ◌∙◌, true, false, cond, ◌&&◌, T, ℕ, List, [], ◌∷◌, ◌++◌, map, Option, Some, None}
 use Rattle.std.specs.Prelude.{if◌then◌else◌}
 use Rattle.std.specs.List.{filter, flat_map}
 use Rattle.std.specs.Cmp.{eq_by_cmp_equiv}
 use Rattle.std.specs.Cmp.Lexicographic.{nat_list_cmp_total, texts_ties}
-use Rattle.std.specs.FinMap.{get-entries, entries, entries_sorted}
+use Rattle.std.specs.FinMap.{FinMap, get, get-entries, entries, entries_sorted}
 use Rattle.std.specs.FinMap.Entries.{find, is_sorted, below_all}
 use Rattle.std.specs.Ordering.{is_lt, is_eq}
 use Rattle.std.specs.declared.cmp.Ordering.{Ordering}
@@ -15,6 +15,7 @@ use Rattle.std.specs.declared.ops.Bound.TheVariants.{Excluded, Unbounded}
 use Rattle.s3_text.specs.Order.{byte_order}
 use Rattle.s3_text.proofs.MapLemmas.{tied_equal}
 use Rattle.s3_names.specs.declared.ids.VersionId.{VersionId}
+use Rattle.s3_versions.specs.declared.version.Version.{Version}
 use Rattle.s3_records.specs.declared.rows.Start.{Start}
 use Rattle.s3_records.specs.declared.rows.Start.TheVariants.{Behind}
 use Rattle.s3_records.specs.declared.rows.VersionRow.{VersionRow}
@@ -68,31 +69,12 @@ pub rows_behind_key : {B : Type 0} (key : List ℕ) (es fs : List (Held B)) → 
 rows_behind_key key es fs is =
     ap (flat_map rows_of) (entries_from (Excluded key) (Behind key) (λ q. refl) es) ∙ ap (λ es. flat_map rows_of (filter (λ e. is_lt (byte_order key e.0)) es)) is
 
--- where a key stands to another decides what is told of it
-row_by : {B : Type 0} → VersionId → Held B → Ordering → List VersionRow
-row_by id e r = if is_eq r then rows_behind id e else if is_lt r then rows_of e else []
-
-rows_at_by : {B : Type 0} (key : List ℕ) (id : VersionId) (e : Held B) → rows_at (BehindVersion key id) e ≡ row_by id e (byte_order key e.0)
-unfolding row_by
-rows_at_by key id e =
-    ap (λ b. if b then rows_behind id e else if is_lt (byte_order key e.0) then rows_of e else []) (texts_ties e.0 key ∙ (eq_by_cmp_equiv nat_list_cmp_total).symm e.0 key)
-
--- keys above one are not it, and all their versions are told
-above_absent : {B : Type 0} (key : List ℕ) (es : List (Held B)) → T (below_all byte_order key es) → find byte_order key es ≡ None
+-- keys above one are not it
+above_absent : {X : Type 0} (key : List ℕ) (es : List (List ℕ × X)) → T (below_all byte_order key es) → find byte_order key es ≡ None
 above_absent key [] above = refl
 above_absent key (e ∷ es) above =
     let less = is_less (byte_order key e.0) (is_true _ (first_of _ (below_all byte_order key es) above)) in
     ap (λ r. cond (is_eq r) (Some e.1) (find byte_order key es)) less ∙ above_absent key es (second_of _ _ above)
-
-above_told : {B : Type 0} (key : List ℕ) (id : VersionId) (es : List (Held B)) → T (below_all byte_order key es) → flat_map rows_of (filter (λ e. is_lt (byte_order key e.0)) es) ≡ flat_map (rows_at (BehindVersion key id)) es
-unfolding row_by
-above_told key id [] above = refl
-above_told key id (e ∷ es) above =
-    let less = is_less (byte_order key e.0) (is_true _ (first_of _ (below_all byte_order key es) above)) in
-    let rest = filter (λ e. is_lt (byte_order key e.0)) es in
-    ap (λ r. flat_map rows_of (cond (is_lt r) (e ∷ rest) rest)) less
-    ∙ ap (λ rows. rows_of e ++ rows) (above_told key id es (second_of _ _ above))
-    ∙ ap (λ rows. rows ++ flat_map (rows_at (BehindVersion key id)) es) (sym (rows_at_by key id e ∙ ap (row_by id e) less))
 
 above_above : {X : Type 0} (key k : List ℕ) (es : List (List ℕ × X)) → byte_order key k ≡ Less → T (below_all byte_order k es) → T (below_all byte_order key es)
 above_above key k [] less above = tt
@@ -100,39 +82,55 @@ above_above key k (e ∷ es) less above =
     let next = nat_list_cmp_total.trans key k e.0 less (is_less (byte_order k e.0) (is_true _ (first_of _ (below_all byte_order k es) above))) in
     subst (λ b. T (b && below_all byte_order key es)) (sym (ap is_lt next)) (above_above key k es less (second_of _ _ above))
 
--- behind a version of a key: its older versions, and the versions of the keys behind it
-OlderThen : {B : Type 0} (key : List ℕ) (id : VersionId) (e : Held B) (es : List (Held B)) → Ordering → Type 0
-OlderThen key id e es r =
-    map (version_row key false) (behind_version id (found_versions (cond (is_eq r) (Some e.1) (find byte_order key es))))
-    ++ flat_map rows_of (cond (is_lt r) (e ∷ filter (λ e. is_lt (byte_order key e.0)) es) (filter (λ e. is_lt (byte_order key e.0)) es))
-    ≡ row_by id e r ++ flat_map (rows_at (BehindVersion key id)) es
+-- What is told from within a key on: some of what stands under it, and all under the keys behind it.
+module _ {X C : Type 0} (all : List ℕ × X → List C) (some : Option X → List C) (none : some None ≡ []) (key : List ℕ) where
+  -- where the key stands to another decides what is told of that
+  abbrev pub Told : List ℕ × X → Ordering → List C
+  Told e r = if is_eq r then some (Some e.1) else if is_lt r then all e else []
 
-older_of : {B : Type 0} (key : List ℕ) (id : VersionId) (es : List (Held B)) → List VersionRow
-older_of key id es = map (version_row key false) (behind_version id (found_versions (find byte_order key es)))
+  above_told : (es : List (List ℕ × X)) → T (below_all byte_order key es) → flat_map all (filter (λ e. is_lt (byte_order key e.0)) es) ≡ flat_map (λ e. Told e (byte_order key e.0)) es
+  above_told [] above = refl
+  above_told (e ∷ es) above =
+      let less = is_less (byte_order key e.0) (is_true _ (first_of _ (below_all byte_order key es) above)) in
+      let rest = filter (λ e. is_lt (byte_order key e.0)) es in
+      ap (λ r. flat_map all (cond (is_lt r) (e ∷ rest) rest)) less
+      ∙ ap (λ told. all e ++ told) (above_told es (second_of _ _ above))
+      ∙ ap (λ told. told ++ flat_map (λ e. Told e (byte_order key e.0)) es) (sym (ap (Told e) less))
 
-older_then : {B : Type 0} (key : List ℕ) (id : VersionId) (e : Held B) (es : List (Held B)) (r : Ordering) → byte_order key e.0 ≡ r → T (below_all byte_order e.0 es)
-    → older_of key id es ++ flat_map rows_of (filter (λ e. is_lt (byte_order key e.0)) es) ≡ flat_map (rows_at (BehindVersion key id)) es → OlderThen key id e es r
-unfolding row_by OlderThen older_of
-older_then key id e es Less is above rest =
-    let all = above_above key e.0 es is above in
-    ap (λ found. map (version_row key false) (behind_version id (found_versions found)) ++ (rows_of e ++ flat_map rows_of (filter (λ e. is_lt (byte_order key e.0)) es))) (above_absent key es all)
-    ∙ ap (λ rows. rows_of e ++ rows) (above_told key id es all)
-older_then key id e es Equal is above rest =
-    let same = tied_equal key e.0 (ap is_eq is) in
-    ap (λ k. map (version_row k false) (behind_version id e.1) ++ flat_map rows_of (filter (λ e. is_lt (byte_order key e.0)) es)) same
-    ∙ ap (λ rows. rows_behind id e ++ rows) (above_told key id es (subst (λ k. T (below_all byte_order k es)) (sym same) above))
-older_then key id e es Greater is above rest = rest
+  then_told : (e : List ℕ × X) (es : List (List ℕ × X)) (r : Ordering) → byte_order key e.0 ≡ r → T (below_all byte_order e.0 es)
+      → some (find byte_order key es) ++ flat_map all (filter (λ e. is_lt (byte_order key e.0)) es) ≡ flat_map (λ e. Told e (byte_order key e.0)) es
+      → some (cond (is_eq r) (Some e.1) (find byte_order key es)) ++ flat_map all (cond (is_lt r) (e ∷ filter (λ e. is_lt (byte_order key e.0)) es) (filter (λ e. is_lt (byte_order key e.0)) es))
+      ≡ Told e r ++ flat_map (λ e. Told e (byte_order key e.0)) es
+  then_told e es Less is above rest =
+      let behind = above_above key e.0 es is above in
+      ap (λ told. told ++ (all e ++ flat_map all (filter (λ e. is_lt (byte_order key e.0)) es))) (ap some (above_absent key es behind) ∙ none)
+      ∙ ap (λ told. all e ++ told) (above_told es behind)
+  then_told e es Equal is above rest =
+      let same = tied_equal key e.0 (ap is_eq is) in
+      ap (λ told. some (Some e.1) ++ told) (above_told es (subst (λ k. T (below_all byte_order k es)) (sym same) above))
+  then_told e es Greater is above rest = rest
 
-behind_sorted : {B : Type 0} (key : List ℕ) (id : VersionId) (es : List (Held B)) → T (is_sorted byte_order es) → older_of key id es ++ flat_map rows_of (filter (λ e. is_lt (byte_order key e.0)) es) ≡ flat_map (rows_at (BehindVersion key id)) es
-unfolding row_by OlderThen older_of
-behind_sorted key id [] sorted = refl
-behind_sorted key id (e ∷ es) sorted =
-    older_then key id e es (byte_order key e.0) refl (first_of (below_all byte_order e.0 es) _ sorted) (behind_sorted key id es (second_of (below_all byte_order e.0 es) _ sorted))
-    ∙ ap (λ rows. rows ++ flat_map (rows_at (BehindVersion key id)) es) (sym (rows_at_by key id e))
+  told_behind : (es : List (List ℕ × X)) → T (is_sorted byte_order es) → some (find byte_order key es) ++ flat_map all (filter (λ e. is_lt (byte_order key e.0)) es) ≡ flat_map (λ e. Told e (byte_order key e.0)) es
+  told_behind [] sorted = ap (λ told. told ++ []) none
+  told_behind (e ∷ es) sorted = then_told e es (byte_order key e.0) refl (first_of (below_all byte_order e.0 es) _ sorted) (told_behind es (second_of (below_all byte_order e.0 es) _ sorted))
+
+  -- in a map
+  pub told_in : (m : FinMap byte_order X) → some (get m key) ++ flat_map all (filter (λ e. is_lt (byte_order key e.0)) (entries m)) ≡ flat_map (λ e. Told e (byte_order key e.0)) (entries m)
+  told_in m = ap (λ found. some found ++ flat_map all (filter (λ e. is_lt (byte_order key e.0)) (entries m))) (get-entries m key) ∙ told_behind (entries m) (entries_sorted m)
+
+-- the older versions of a key
+abbrev older_in : {B : Type 0} → List ℕ → VersionId → Option (List (Version B)) → List VersionRow
+older_in key id found = map (version_row key false) (behind_version id (found_versions found))
+
+version_told : {B : Type 0} (key : List ℕ) (id : VersionId) (e : Held B) → Told rows_of (older_in key id) refl key e (byte_order key e.0) ≡ rows_at (BehindVersion key id) e
+version_told key id e =
+    elim (byte_order key e.0) as (λ r. byte_order key e.0 ≡ r → Told rows_of (older_in key id) refl key e r ≡ (if is_eq r then rows_behind id e else if is_lt r then rows_of e else [])) [
+      | Less ↦ λ is. refl
+      | Equal ↦ λ is. ap (λ k. map (version_row k false) (behind_version id e.1)) (tied_equal key e.0 (ap is_eq is))
+      | Greater ↦ λ is. refl
+    ] refl
+    ∙ ap (λ b. if b then rows_behind id e else if is_lt (byte_order key e.0) then rows_of e else []) (sym (texts_ties e.0 key ∙ (eq_by_cmp_equiv nat_list_cmp_total).symm e.0 key))
 
 pub version_rows_behind : {B : Type 0} (keys : Keys B) (key : List ℕ) (id : VersionId)
     → map (version_row key false) (behind_version id (versions_at keys key)) ++ flat_map rows_of (filter (λ e. is_lt (byte_order key e.0)) (entries keys)) ≡ flat_map (rows_at (BehindVersion key id)) (entries keys)
-unfolding older_of
-version_rows_behind keys key id =
-    ap (λ found. map (version_row key false) (behind_version id (found_versions found)) ++ flat_map rows_of (filter (λ e. is_lt (byte_order key e.0)) (entries keys))) (get-entries keys key)
-    ∙ behind_sorted key id (entries keys) (entries_sorted keys)
+version_rows_behind keys key id = told_in rows_of (older_in key id) refl key keys ∙ (λ i. flat_map (λ e. version_told key id e i) (entries keys))

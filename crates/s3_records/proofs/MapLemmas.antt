@@ -1,50 +1,27 @@
 -- The finite map that the entries of a tree make, whose keys rise, and from which entries are taken out.
-use Rattle.std.proofs.Common.{◌≡◌, sym, ap, subst, refl, ◌∙◌, Bool, true, false, cond, ◌&&◌, T, ℕ, List, [], ◌∷◌, length, Option, Some, None}
+use Rattle.std.proofs.Common.{◌≡◌, ◌≢◌, sym, ap, refl, ◌∙◌, Bool, true, false, cond, ℕ, List, length, Option, Some, None}
+use Rattle.std.proofs.lemmas.Bool.{false_from_ne_true}
 use Rattle.std.specs.BTreeMap.{is_at}
 use Rattle.std.specs.Cmp.{eq_by_cmp_equiv}
 use Rattle.std.specs.Cmp.Lexicographic.{nat_list_cmp_total}
-use Rattle.std.specs.FinMap.{FinMap, get, insert, from_entries, get-from_entries, entries, len, remove, from_sorted, get-remove, get-from_sorted, entries-from_sorted, len-entries}
-use Rattle.std.specs.FinMap.Entries.{is_sorted, below_all}
-use Rattle.std.specs.List.{AllByRecursion}
+use Rattle.std.specs.FinMap.{FinMap, get, insert, from_entries, entries, len, remove, get-remove}
 use Rattle.std.specs.List.Sorted.{IsStrictlySortedBy}
 use Rattle.std.specs.Map.{keys_of}
-use Rattle.std.specs.Ordering.{eq_by_cmp, is_lt}
-use Rattle.std.specs.declared.cmp.Ordering.TheVariants.{Less}
+use Rattle.std.specs.Ordering.{eq_by_cmp}
 use Rattle.s3_text.specs.Order.{byte_order}
-use Rattle.s3_text.proofs.MapLemmas.{value_at, get-made, same_by_get, get-put, tied_equal}
-
-both_hold : (a b : Bool) → T a → T b → T (a && b)
-both_hold true b p q = q
-both_hold false b p q = p
-
-both_true : (a b : Bool) → a ≡ true → T b → T (a && b)
-both_true a b is q = both_hold a b (subst T (sym is) tt) q
+use Rattle.s3_text.proofs.MapLemmas.{value_at, same_by_get, get-put, tied_equal}
+use Rattle.s3_records.proofs.OrderedLemmas.{entries_are, len_is, taken_out, keys_differ}
 
 -- the keys of a tree rise, so its map has its entries
-below_from : {X : Type 0} (k : List ℕ) (es : List (List ℕ × X)) → AllByRecursion (λ q. byte_order k q ≡ Less) (keys_of es) → T (below_all byte_order k es)
-below_from k [] all = tt
-below_from k (e ∷ es) all = both_true (is_lt (byte_order k e.0)) _ (ap is_lt all.0) (below_from k es all.1)
-
-sorted_from : {X : Type 0} (es : List (List ℕ × X)) → IsStrictlySortedBy byte_order (keys_of es) → T (is_sorted byte_order es)
-unfolding IsStrictlySortedBy
-sorted_from [] sorted = tt
-sorted_from (e ∷ es) sorted = both_hold (below_all byte_order e.0 es) _ (below_from e.0 es sorted.0) (sorted_from es sorted.1)
-
 pub entries-made : {X : Type 0} (es : List (List ℕ × X)) → IsStrictlySortedBy byte_order (keys_of es) → entries (from_entries {R = byte_order} es) ≡ es
-entries-made es sorted =
-    let rises = sorted_from es sorted in
-    let one : from_entries es ≡ from_sorted es =
-    same_by_get _ _ (λ q. get-from_entries nat_list_cmp_total es q ∙ sym (get-from_sorted byte_order es q rises)) in
-    ap entries one ∙ entries-from_sorted byte_order es rises
+entries-made es sorted = entries_are nat_list_cmp_total keys_differ es sorted
 
 pub len-made : {X : Type 0} (es : List (List ℕ × X)) → IsStrictlySortedBy byte_order (keys_of es) → len (from_entries {R = byte_order} es) ≡ length es
-len-made es sorted = len-entries (from_entries es) ∙ ap length (entries-made es sorted)
+len-made es sorted = len_is nat_list_cmp_total keys_differ es sorted
 
 -- what a tree becomes where an entry is taken out
 pub made_by_remove : {X : Type 0} (es fs : List (List ℕ × X)) (k : List ℕ) → ((q : List ℕ) → value_at fs q ≡ cond (is_at (byte_order k) q) None (value_at es q)) → from_entries {R = byte_order} fs ≡ remove (from_entries es) k
-made_by_remove es fs k h = same_by_get _ _ (λ q.
-    get-made fs q ∙ h q ∙ ap (λ b. cond b None (value_at es q)) ((eq_by_cmp_equiv nat_list_cmp_total).symm k q)
-    ∙ sym (get-remove nat_list_cmp_total (from_entries es) k q ∙ ap (cond (eq_by_cmp byte_order q k) None) (get-made es q)))
+made_by_remove es fs k h = taken_out nat_list_cmp_total keys_differ es fs k h
 
 absent_at_key : {X : Type 0} (m : FinMap byte_order X) (k q : List ℕ) (b : Bool) → get m k ≡ None → eq_by_cmp byte_order q k ≡ b → cond b None (get m q) ≡ get m q
 absent_at_key m k q true is tied = sym is ∙ ap (get m) (sym (tied_equal q k tied))
@@ -67,5 +44,18 @@ remove-over m k w = same_by_get _ _ (λ q.
 -- what was put is there
 pub get-put_here : {X : Type 0} (m : FinMap byte_order X) (k : List ℕ) (v : X) → get (insert m k v) k ≡ Some v
 get-put_here m k v = get-put m k v k ∙ ap (λ b. cond b (Some v) (get m k)) ((eq_by_cmp_equiv nat_list_cmp_total).refl k)
+
+-- a write at one key leaves what is at another
+not_tied : (q k : List ℕ) → q ≢ k → eq_by_cmp byte_order q k ≡ false
+not_tied q k differ = false_from_ne_true (eq_by_cmp byte_order q k) (λ tied. differ (tied_equal q k tied))
+
+pub get-put_other : {X : Type 0} (m : FinMap byte_order X) (k : List ℕ) (v : X) (q : List ℕ) → q ≢ k → get (insert m k v) q ≡ get m q
+get-put_other m k v q differ = get-put m k v q ∙ ap (λ b. cond b (Some v) (get m q)) (not_tied q k differ)
+
+pub get-remove_other : {X : Type 0} (m : FinMap byte_order X) (k q : List ℕ) → q ≢ k → get (remove m k) q ≡ get m q
+get-remove_other m k q differ = get-remove nat_list_cmp_total m k q ∙ ap (λ b. cond b None (get m q)) (not_tied q k differ)
+
+pub get-remove_here : {X : Type 0} (m : FinMap byte_order X) (k : List ℕ) → get (remove m k) k ≡ None
+get-remove_here m k = get-remove nat_list_cmp_total m k k ∙ ap (λ b. cond b None (get m k)) ((eq_by_cmp_equiv nat_list_cmp_total).refl k)
 
 pub ruleset made_entries = (entries-made)

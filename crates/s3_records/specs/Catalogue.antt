@@ -1,12 +1,14 @@
--- The catalogue: which buckets there are and what is under their keys (Amazon S3 User Guide, "Buckets overview"
--- and "Using versioning in S3 buckets"). What stands for the bytes is left open: in the state of a server it is the
+-- The catalogue: which buckets there are, and the versions and the open uploads under their keys (Amazon S3 User Guide,
+-- "Buckets overview", "Using versioning in S3 buckets" and "Using multipart upload"). What stands for the bytes is left open: in the state of a server it is the
 -- bytes themselves.
-use Rattle.std.specs.Prelude.{ℕ, ◌==◌, Bool, true, List, [], ◌∷◌, map as each, Option, Some, None, is_some, option_map}
+use Rattle.std.specs.Prelude.{ℕ, ◌==◌, ◌&&◌, Bool, true, List, [], ◌∷◌, map as each, Option, Some, None, is_some, option_map}
 use Rattle.std.specs.FinMap as map
+use Rattle.std.specs.Ordering.{nat_cmp}
 use Rattle.s3_text.specs.Order.{byte_order}
 use Rattle.s3_versions.specs.declared.version.Version.{Version}
 use Rattle.s3_versions.specs.declared.version.Versioning.{Versioning}
 use Rattle.s3_versions.specs.declared.version.Versioning.TheVariants.{Unversioned}
+use Rattle.s3_uploads.specs.declared.upload.Upload.{Upload}
 use Rattle.s3_records.specs.declared.records.BucketFacts.{BucketFacts}
 use Rattle.s3_records.specs.declared.records.ListedBucket.{ListedBucket}
 
@@ -14,11 +16,20 @@ use Rattle.s3_records.specs.declared.records.ListedBucket.{ListedBucket}
 abbrev pub Keys : Type 0 → Type 0
 Keys B = map.FinMap byte_order (List (Version B))
 
--- a bucket: when it was made, its versioning, and its keys
+-- the uploads that were begun to a key and aren't completed, by their ids: the numbers of the entries that began them
+abbrev pub KeyUploads : Type 0 → Type 0
+KeyUploads B = map.FinMap nat_cmp (Upload B)
+
+-- those to each key that has some
+abbrev pub Uploads : Type 0 → Type 0
+Uploads B = map.FinMap byte_order (KeyUploads B)
+
+-- a bucket: when it was made, its versioning, its keys, and its uploads
 pub record Bucket (B : Type 0) : Type 0 where
   pub made : ℕ
   pub versioning : Versioning
   pub keys : Keys B
+  pub uploads : Uploads B
 
 -- the buckets, by their names
 abbrev pub Catalogue : Type 0 → Type 0
@@ -26,7 +37,7 @@ Catalogue B = map.FinMap byte_order (Bucket B)
 
 -- a bucket that is made at moment t: unversioned, with nothing in it
 abbrev pub new_bucket : {B : Type 0} → ℕ → Bucket B
-new_bucket t = record { made = t; versioning = Unversioned; keys = map.empty }
+new_bucket t = record { made = t; versioning = Unversioned; keys = map.empty; uploads = map.empty }
 
 -- the opening catalogue: the named buckets, made at moment 0
 abbrev pub opening : {B : Type 0} → List (List ℕ) → Catalogue B
@@ -80,10 +91,14 @@ versioning_of c name = versioning_in (map.get c name)
 abbrev pub has_no_keys : {B : Type 0} → Keys B → Bool
 has_no_keys keys = map.len keys == 0
 
+-- to no key an upload is open
+abbrev pub has_no_uploads : {B : Type 0} → Uploads B → Bool
+has_no_uploads uploads = map.len uploads == 0
+
 -- nothing is in the bucket
 abbrev pub is_empty_in : {B : Type 0} → Option (Bucket B) → Bool
 is_empty_in None = true
-is_empty_in (Some b) = has_no_keys b.keys
+is_empty_in (Some b) = has_no_keys b.keys && has_no_uploads b.uploads
 
 abbrev pub is_empty_bucket : {B : Type 0} → Catalogue B → List ℕ → Bool
 is_empty_bucket c name = is_empty_in (map.get c name)

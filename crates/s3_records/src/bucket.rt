@@ -1,27 +1,32 @@
 //! One bucket, in memory.
-ghost use Rattle.std.specs.Prelude.{◌≡◌, ◌≢◌, [], None, Some, IfOk, OnOk, OnErr, IsTrue, find, filter, take, map as each};
+ghost use Rattle.std.specs.Prelude.{◌≡◌, ◌≢◌, [], None, Some, IfOk, OnOk, OnErr, IsTrue, is_some, option_map, find, filter, take, map as each};
 ghost use Rattle.std.specs.List.{flat_map};
 ghost use Rattle.std.specs.Option.{option_copied};
 ghost use Rattle.std.specs.FinMap as map;
+ghost use Rattle.s3_uploads.specs.Parts.{part_at};
+ghost use Rattle.s3_uploads.specs.Uploads.{with_part};
 ghost use Rattle.s3_versions.specs.Rules.{is_under, replaced, is_new_number, VersionPut, KeyDeleted, VersionDropped};
 
 use crate::keys::KeyMap;
 use crate::records::BucketFacts;
-use crate::rows::{KeyRow, Start, VersionRow, VersionStart};
+use crate::rows::{KeyRow, Start, UploadRow, UploadStart, VersionRow, VersionStart};
+use crate::uploads::UploadMap;
 use s3_bodies::Body;
 use s3_calendar::Moment;
-use s3_names::{Key, VersionId};
+use s3_names::{Key, PartNumber, UploadId, VersionId};
 use s3_terms::NoMemory;
+use s3_uploads::{Part, Upload};
 use s3_versions::{Content, Data, Version, Versioning, VersioningStatus, Versions};
 use std::alloc::Global;
 use std::marker::Model;
 
-/// A bucket: when it was made, its versioning, and its keys.
+/// A bucket: when it was made, its versioning, its keys, and its uploads.
 #[derive(Drop)]
 pub(crate) struct StoredBucket {
     made: Moment,
     versioning: Versioning,
     keys: KeyMap,
+    uploads: UploadMap,
 }
 
 impl Model for StoredBucket {
@@ -34,12 +39,13 @@ impl Model for StoredBucket {
 
     ghost coded = { coded_bucket coded_bytes };
 
-    ghost view = { λ b. record { made = b.made; versioning = b.versioning; keys = b.keys } };
+    ghost view = { λ b. record { made = b.made; versioning = b.versioning; keys = b.keys; uploads = b.uploads } };
 }
 
 impl StoredBucket {
-    ghost use Rattle.s3_records.specs.Catalogue.{new_bucket, facts_of, has_no_keys, versions_at};
-    ghost use Rattle.s3_records.specs.Changes.{set_in, change_in};
+    ghost use Rattle.s3_records.specs.Catalogue.{new_bucket, facts_of, is_empty_in, versions_at};
+    ghost use Rattle.s3_records.specs.Changes.{set_in, change_in, upload_change_in};
+    ghost use Rattle.s3_records.specs.OpenUploads.{upload_under, parts_sent, upload_rows_in, is_upload_from};
     ghost use Rattle.s3_records.specs.Rows.{is_from, key_row, held_in, rows_at};
 
     /// A bucket made at this moment, unversioned and empty. It takes no memory yet.
@@ -50,6 +56,7 @@ impl StoredBucket {
             made,
             versioning: Versioning::Unversioned,
             keys: KeyMap::new(alloc),
+            uploads: UploadMap::new(alloc),
         }
     }
 
@@ -65,9 +72,9 @@ impl StoredBucket {
 
     /// Whether nothing is in it.
     pub(crate) fn is_empty(&self) -> bool
-        ensures { result ≡ has_no_keys self.now.keys }
+        ensures { result ≡ is_empty_in (Some self.now) }
     {
-        self.keys.is_empty()
+        self.keys.is_empty() && self.uploads.is_empty()
     }
 
     /// The versions under the key; `None` where there are none.
@@ -167,5 +174,96 @@ impl StoredBucket {
         ensures gone { result ≡ find (is_under id) (versions_at self.old.keys key.now) }
     {
         self.keys.drop_version(key, id)
+    }
+
+    /// The upload of this id to the key.
+    pub(crate) fn upload(&self, key: &Key, id: UploadId) -> Option<&Upload<Body>>
+        ensures { option_copied result ≡ upload_under self.now.uploads key.now id }
+    {
+        self.uploads.get(key, id)
+    }
+
+    /// The rows of its uploads from a place on, at most so many.
+    pub(crate) fn uploads_from(
+        &self,
+        alloc: Global,
+        start: &UploadStart,
+        most: usize,
+    ) -> Result<Vec<UploadRow>, NoMemory>
+        ensures value { IfOk result (λ rows. rows.items
+            ≡ take most (filter (is_upload_from start.now) (upload_rows_in (Some self.now)))) }
+        ensures memory { OnErr result (
+            take most (filter (is_upload_from start.now) (upload_rows_in (Some self.now))) ≢ []) }
+    {
+        self.uploads.rows_from(alloc, start, most)
+    }
+
+    /// Puts in an upload, in the place of the one that has its key and its id. `NoMemory` leaves the bucket as it was.
+    pub(crate) fn add_upload(
+        &mut self,
+        alloc: Global,
+        key: Key,
+        id: UploadId,
+        upload: Upload<Body>,
+    ) -> Result<(), NoMemory>
+        ensures ok { OnOk result (self.new ≡ upload_change_in key id (λ old. Some upload) self.old) }
+        ensures err { OnErr result (self.new ≡ self.old) }
+    {
+        self.uploads.add(alloc, key, id, upload)
+    }
+
+    /// Puts a part to an upload, which is there, and answers the one that it replaces. `NoMemory`, which comes only where none
+    /// is replaced, leaves the bucket as it was.
+    pub(crate) fn put_part(
+        &mut self,
+        key: &Key,
+        id: UploadId,
+        number: PartNumber,
+        part: Part<Body>,
+    ) -> Result<Option<Part<Body>>, NoMemory>
+        requires { IsTrue (is_some (upload_under self.old.uploads key.now id)) }
+        ensures ok { OnOk result (self.new ≡ upload_change_in key.now id (option_map (with_part number part)) self.old) }
+        ensures former { IfOk result (λ former. former ≡ part_at number (parts_sent (upload_under self.old.uploads key.now id))) }
+        ensures err { OnErr result (self.new ≡ self.old) }
+        ensures memory { OnErr result (part_at number (parts_sent (upload_under self.old.uploads key.now id)) ≡ None) }
+    {
+        self.uploads.put_part(key, id, number, part)
+    }
+
+    /// Takes out an upload, and answers it. Takes no memory.
+    pub(crate) fn drop_upload(&mut self, key: &Key, id: UploadId) -> Option<Upload<Body>>
+        ensures value { self.new ≡ upload_change_in key.now id (λ old. None) self.old }
+        ensures gone { result ≡ upload_under self.old.uploads key.now id }
+    {
+        self.uploads.drop_upload(key, id)
+    }
+
+    /// Puts a version under the key, and drops the one that goes; then takes out an upload to it, and answers that.
+    /// `NoMemory`, which comes only where no version goes, leaves the bucket as it was.
+    pub(crate) fn complete(
+        &mut self,
+        alloc: Global,
+        key: &Key,
+        id: UploadId,
+        number: u64,
+        moment: Moment,
+        stored: Data<Body>,
+    ) -> Result<Option<Upload<Body>>, NoMemory>
+        requires { IsTrue (is_new_number number (versions_at self.old.keys key.now)) }
+        ensures ok { OnOk result (self.new
+            ≡ upload_change_in key.now id (λ old. None) (change_in key.now (VersionPut number moment stored) self.old)) }
+        ensures gone { IfOk result (λ gone. gone ≡ upload_under self.old.uploads key.now id) }
+        ensures err { OnErr result (self.new ≡ self.old) }
+        ensures memory { OnErr result (replaced self.old.versioning number (versions_at self.old.keys key.now) ≡ None) }
+    {
+        self.keys.add_at(
+            alloc,
+            key,
+            self.versioning,
+            number,
+            moment,
+            Content::Stored(stored),
+        )?;
+        Ok(self.uploads.drop_upload(key, id))
     }
 }

@@ -173,6 +173,31 @@ impl KeyMap {
         }
     }
 
+    /// The same, where the key is borrowed: it is copied where it has no versions yet.
+    pub(crate) fn add_at(
+        &mut self,
+        alloc: Global,
+        key: &Key,
+        versioning: Versioning,
+        number: u64,
+        moment: Moment,
+        content: Content<Body>,
+    ) -> Result<(), NoMemory>
+        requires { IsTrue (is_new_number number (versions_at self.old key.now)) }
+        ensures ok { OnOk result (self.new
+            ≡ with_versions self.old key.now (after_adding versioning number moment content (versions_at self.old key.now))) }
+        ensures err { OnErr result (self.new ≡ self.old) }
+        ensures memory { OnErr result (replaced versioning number (versions_at self.old key.now) ≡ None) }
+    {
+        match self.by_key.get_mut(key) {
+            Some(versions) => versions.add(versioning, number, moment, content),
+            None => {
+                let key = key.copy()?;
+                self.add(alloc, key, versioning, number, moment, content)
+            }
+        }
+    }
+
     /// Takes the version of this id from those under the key, and answers it. Takes no memory.
     pub(crate) fn drop_version(&mut self, key: &Key, id: VersionId) -> Option<Version<Body>>
         ensures value { self.new ≡ with_versions self.old key.now (without id (versions_at self.old key.now)) }

@@ -1,6 +1,6 @@
 //! Laws of the catalogue: what every change keeps, with nothing to run.
-ghost use Rattle.s3_records.specs.Laws.{ChangesAreLocal, ChangesNameOneKey, ChangesFollowRules, SwitchesKeepKeys, VersionsStayInOrder, OpeningIsEmpty, EmptyHasNothing, KeysStayFilled, OthersHaveSomething, KeysRise, HeldIsGot};
-ghost use Rattle.s3_records.specs.Places.{ChangesAreByPlace, NumbersStayBelow, LaterIsBelow, OpeningIsBelow};
+ghost use Rattle.s3_records.specs.Laws.{ChangesAreLocal, ChangesNameOneKey, ChangesFollowRules, CompletionsFollowRules, CompletionsDoBoth, SwitchesKeepKeys, VersionsStayInOrder, OpeningIsEmpty, EmptyHasNothing, KeysStayFilled, OthersHaveSomething, KeysRise, HeldIsGot, UploadsAreListed, UploadsFollow};
+ghost use Rattle.s3_records.specs.Places.{ChangesAreByPlace, ChangesAreByUpload, NumbersStayBelow, LaterIsBelow, OpeningIsBelow};
 
 use s3_versions::{one_id_changes, stay_versions};
 
@@ -12,9 +12,12 @@ pub fn changes_are_local<B>()
 {}
 
 /// A law, with nothing to run: the versions of the key that a change names are those that the rules of its
-/// bucket's versioning give. A bucket whose versioning was set keeps its keys, and is not unversioned again.
+/// bucket's versioning give. A completion of an upload is such a change of its key, and drops the upload. A bucket whose
+/// versioning was set keeps its keys, and is not unversioned again.
 pub fn changes_follow_rules<B>()
     ensures rules { ChangesFollowRules B }
+    ensures completions { CompletionsFollowRules B }
+    ensures both { CompletionsDoBoth B }
     ensures switches { SwitchesKeepKeys B }
 {}
 
@@ -27,22 +30,28 @@ pub fn versions_stay_in_order<B>()
     stay_versions::<B>();
 }
 
-/// A law, with nothing to run: a bucket that counts as empty has no version and no delete marker, and one that
-/// does not has one, since from the opening on no key is without versions.
+/// A law, with nothing to run: a bucket that counts as empty has no version, no delete marker and no open upload, and one
+/// that does not has one of them, since from the opening on no key is without.
 pub fn empty_has_nothing<B>()
     ensures nothing { EmptyHasNothing B }
     ensures something { OthersHaveSomething B }
     ensures filled { KeysStayFilled B }
 {}
 
-/// A law, with nothing to run: a put, a delete and a delete of a version change what stands at one place (in a bucket, under
-/// a key, with an id), and what stands at every other stays; to make a bucket, to drop an empty one and to set a bucket's
-/// versioning change it nowhere.
+/// A law, with nothing to run: a put, a delete, a delete of a version and the completion of an upload change what stands at
+/// one place (in a bucket, under a key, with an id), and what stands at every other stays; to make a bucket, to drop an empty
+/// one, to set a bucket's versioning, and to begin, to fill and to drop an upload change it nowhere.
 pub fn changes_are_by_place<B>()
     ensures places { ChangesAreByPlace B }
 {
     one_id_changes::<B>();
 }
+
+/// A law, with nothing to run: to begin an upload, to put a part to it, to drop it and to complete it change it alone, and every
+/// other upload stays; no other change makes or changes one, and none drops one.
+pub fn changes_are_by_upload<B>()
+    ensures { ChangesAreByUpload B }
+{}
 
 /// A law, with nothing to run: a number that is above those of the entries that made a version, and above that of a change,
 /// is above them after it, from the opening on; and so is every later one.
@@ -63,4 +72,11 @@ pub fn keys_rise<B>()
 /// bucket holds, and the other way round.
 pub fn held_is_got<B>()
     ensures { HeldIsGot B }
+{}
+
+/// A law, with nothing to run: the list of a bucket's uploads tells each open one, with its moment, and nothing else; one that
+/// goes on behind an upload of it tells those that stand behind that.
+pub fn uploads_are_listed<B>()
+    ensures listed { UploadsAreListed B }
+    ensures follow { UploadsFollow B }
 {}

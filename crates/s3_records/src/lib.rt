@@ -1,5 +1,5 @@
-//! The records of a server: which buckets there are and what is under their keys, with its bytes. `Records` is
-//! what every keeper of them promises, of one catalogue, and `MapRecords` keeps them in memory.
+//! The records of a server: which buckets there are, and the versions and the open uploads under their keys, with their
+//! bytes. `Records` is what every keeper of them promises, of one catalogue, and `MapRecords` keeps them in memory.
 #![tactic(auto)]
 
 mod bucket;
@@ -9,11 +9,14 @@ mod listing;
 mod map_records;
 mod records;
 mod rows;
+mod upload_listing;
+mod uploads;
 
 pub use laws::{
-    changes_are_by_place, changes_are_local, changes_follow_rules, empty_has_nothing, held_is_got,
-    keys_rise, numbers_stay_below, versions_stay_in_order,
+    changes_are_by_place, changes_are_by_upload, changes_are_local, changes_follow_rules,
+    empty_has_nothing, held_is_got, keys_rise, numbers_stay_below, uploads_are_listed,
+    versions_stay_in_order,
 };
 pub use map_records::MapRecords;
 pub use records::{BucketFacts, ListedBucket, Records};
-pub use rows::{KeyRow, Start, VersionRow, VersionStart};
+pub use rows::{KeyRow, Start, UploadRow, UploadStart, VersionRow, VersionStart};

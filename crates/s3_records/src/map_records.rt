@@ -1,19 +1,22 @@
 //! Records in memory.
-ghost use Rattle.std.specs.Prelude.{◌≡◌, ◌≢◌, [], true, false, None, IfOk, OnOk, OnErr, IsTrue};
+ghost use Rattle.std.specs.Prelude.{◌≡◌, ◌≢◌, [], true, false, None, IfOk, OnOk, OnErr, IsOk, IsTrue};
 ghost use Rattle.std.specs.FinMap as map;
 ghost use Rattle.std.specs.Option.{option_copied};
 ghost use Rattle.s3_versions.specs.Rules.{asked_for};
+ghost use Rattle.s3_uploads.specs.Completion.{completed};
+ghost use Rattle.s3_records.specs.OpenUploads.{upload_at};
 ghost use Rattle.s3_records.specs.Catalogue.{opening, new_bucket, found_versions, versions_of, listed_buckets};
 
 use crate::bucket::StoredBucket;
 use crate::listing::bucket_rows;
 use crate::records::{BucketFacts, ListedBucket, Records};
-use crate::rows::{KeyRow, Start, VersionRow, VersionStart};
+use crate::rows::{KeyRow, Start, UploadRow, UploadStart, VersionRow, VersionStart};
 use s3_bodies::Body;
 use s3_calendar::Moment;
 use s3_config::Config;
-use s3_names::{BucketName, Key, VersionId};
-use s3_terms::NoMemory;
+use s3_names::{BucketName, Key, PartNumber, UploadId, VersionId};
+use s3_terms::{Code, NoMemory};
+use s3_uploads::{CompletionError, ListedPart, Part, PartRow, Upload};
 use s3_versions::{
     Data, Facts, Refusal, Version, VersioningStatus, Versions, current, read_facts, version_under,
 };
@@ -97,6 +100,16 @@ impl MapRecords {
         match self.found_versions(bucket, key) {
             None => None,
             Some(versions) => asked_among(versions.as_slice(), asked),
+        }
+    }
+
+    // The upload at a place.
+    fn found_upload(&self, bucket: &BucketName, key: &Key, id: UploadId) -> Option<&Upload<Body>>
+        ensures { option_copied result ≡ upload_at self.now bucket.now key.now id }
+    {
+        match self.found_bucket(bucket) {
+            None => None,
+            Some(bucket) => bucket.upload(key, id),
         }
     }
 
@@ -277,6 +290,117 @@ impl Records for MapRecords {
             Some(bucket) => Ok(bucket.drop_version(key, id)),
         }
     }
+
+    fn has_upload(
+        &mut self,
+        _alloc: Global,
+        bucket: &BucketName,
+        key: &Key,
+        id: UploadId,
+    ) -> Result<bool, NoMemory> {
+        Ok(self.found_upload(bucket, key, id).is_some())
+    }
+
+    fn uploads_from(
+        &mut self,
+        alloc: Global,
+        bucket: &BucketName,
+        start: &UploadStart,
+        most: usize,
+    ) -> Result<Vec<UploadRow>, NoMemory> {
+        match self.found_bucket(bucket) {
+            None => Ok(Vec::new(alloc)),
+            Some(bucket) => bucket.uploads_from(alloc, start, most),
+        }
+    }
+
+    fn parts_from(
+        &mut self,
+        alloc: Global,
+        bucket: &BucketName,
+        key: &Key,
+        id: UploadId,
+        last: u64,
+        most: usize,
+    ) -> Result<Vec<PartRow>, NoMemory> {
+        match self.found_upload(bucket, key, id) {
+            None => Ok(Vec::new(alloc)),
+            Some(upload) => upload.parts_behind(alloc, last, most),
+        }
+    }
+
+    fn completed(
+        &mut self,
+        alloc: Global,
+        bucket: &BucketName,
+        key: &Key,
+        id: UploadId,
+        least: u64,
+        listed: &[ListedPart],
+    ) -> Result<Result<Data<Body>, Code>, NoMemory> {
+        match self.found_upload(bucket, key, id) {
+            None => Ok(Err(Code::NoSuchUpload)),
+            Some(upload) => completed(alloc, upload, least, listed),
+        }
+    }
+
+    fn add_upload(
+        &mut self,
+        alloc: Global,
+        bucket: &BucketName,
+        key: Key,
+        id: UploadId,
+        upload: Upload<Body>,
+    ) -> Result<(), NoMemory> {
+        match self.by_name.get_mut(bucket) {
+            None => unreachable!(),
+            Some(bucket) => bucket.add_upload(alloc, key, id, upload),
+        }
+    }
+
+    fn put_part(
+        &mut self,
+        _alloc: Global,
+        bucket: &BucketName,
+        key: &Key,
+        id: UploadId,
+        number: PartNumber,
+        part: Part<Body>,
+    ) -> Result<Option<Part<Body>>, NoMemory> {
+        match self.by_name.get_mut(bucket) {
+            None => unreachable!(),
+            Some(bucket) => bucket.put_part(key, id, number, part),
+        }
+    }
+
+    fn drop_upload(
+        &mut self,
+        _alloc: Global,
+        bucket: &BucketName,
+        key: &Key,
+        id: UploadId,
+    ) -> Result<Option<Upload<Body>>, NoMemory> {
+        match self.by_name.get_mut(bucket) {
+            None => unreachable!(),
+            Some(bucket) => Ok(bucket.drop_upload(key, id)),
+        }
+    }
+
+    fn complete(
+        &mut self,
+        alloc: Global,
+        bucket: &BucketName,
+        key: Key,
+        id: UploadId,
+        number: u64,
+        moment: Moment,
+        stored: Data<Body>,
+    ) -> Result<Option<Upload<Body>>, NoMemory> {
+        match self.by_name.get_mut(bucket) {
+            None => unreachable!(),
+            Some(bucket) => bucket.complete(alloc, &key, id, number, moment, stored),
+        }
+    }
 }
 
 // The moment at which the first buckets are made.
@@ -296,5 +420,22 @@ fn asked_among(versions: &[Version<Body>], asked: Option<VersionId>) -> Option<&
     match asked {
         None => current(versions),
         Some(id) => version_under(versions, id),
+    }
+}
+
+// What the completion of an upload stores, or why it is refused.
+fn completed(
+    alloc: Global,
+    upload: &Upload<Body>,
+    least: u64,
+    listed: &[ListedPart],
+) -> Result<Result<Data<Body>, Code>, NoMemory>
+    ensures value { IfOk result (λ stored. stored ≡ completed least listed.now upload.now) }
+    ensures memory { OnErr result (IsOk (completed least listed.now upload.now)) }
+{
+    match upload.complete(alloc, least, listed) {
+        Ok(stored) => Ok(Ok(stored)),
+        Err(CompletionError::Refused(code)) => Ok(Err(code)),
+        Err(CompletionError::NoMemory) => Err(NoMemory),
     }
 }

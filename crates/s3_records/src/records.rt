@@ -1,15 +1,18 @@
 //! What every keeper of records promises.
-ghost use Rattle.std.specs.Prelude.{◌≡◌, ◌≢◌, ℕ, List, [], Bool, true, false, None, IfOk, OnOk, OnErr, IsTrue, find, take, is_some, option_and_then};
+ghost use Rattle.std.specs.Prelude.{◌≡◌, ◌≢◌, ℕ, List, [], Bool, true, false, None, IfOk, OnOk, OnErr, IsOk, IsTrue, find, take, is_some, option_and_then};
 ghost use Rattle.s3_versions.specs.Rules.{is_under, asked_for, facts_read, pick, stored, replaced, is_new_number, VersionPut, KeyDeleted, VersionDropped};
 ghost use Rattle.s3_records.specs.Catalogue.{Catalogue, facts_in, listed_buckets, has_bucket, is_empty_bucket, versions_of, versioning_of};
-ghost use Rattle.s3_records.specs.Changes.{changed, BucketAdded, BucketDropped, VersioningSet, KeyChanged};
+ghost use Rattle.s3_uploads.specs.Parts.{part_at, rows_behind};
+ghost use Rattle.s3_records.specs.Changes.{changed, BucketAdded, BucketDropped, VersioningSet, KeyChanged, UploadAdded, PartPut, UploadDropped, UploadCompleted};
+ghost use Rattle.s3_records.specs.OpenUploads.{upload_at, parts_at, completed_at, uploads_from};
 ghost use Rattle.s3_records.specs.Rows.{keys_from, versions_from};
 
-use crate::rows::{KeyRow, Start, VersionRow, VersionStart};
+use crate::rows::{KeyRow, Start, UploadRow, UploadStart, VersionRow, VersionStart};
 use s3_bodies::Body;
 use s3_calendar::Moment;
-use s3_names::{BucketName, Key, VersionId};
-use s3_terms::NoMemory;
+use s3_names::{BucketName, Key, PartNumber, UploadId, VersionId};
+use s3_terms::{Code, NoMemory};
+use s3_uploads::{ListedPart, Part, PartRow, Upload};
 use s3_versions::{Data, Facts, Refusal, Version, Versioning, VersioningStatus};
 use std::alloc::Global;
 
@@ -29,11 +32,11 @@ pub struct ListedBucket {
     pub made: Moment,
 }
 
-/// A keeper of one catalogue: buckets, and the versions under their keys. Each call answers from the
-/// catalogue as it is; a change is the named one where it answers `Ok`, and none where it answers `NoMemory`.
-/// What is passed by value to a call that answers `NoMemory` is dropped.
+/// A keeper of one catalogue: buckets, and the versions and the open uploads under their keys. Each call answers
+/// from the catalogue as it is; a change is the named one where it answers `Ok`, and none where it answers
+/// `NoMemory`. What is passed by value to a call that answers `NoMemory` is dropped.
 ///
-/// Each version is kept with its bytes, and a change that takes a version away drops these too.
+/// Each version and each part is kept with its bytes, and a change that takes one away drops these too.
 pub trait Records {
     ghost catalogue: { Self → Catalogue (List ℕ) };
 
@@ -53,7 +56,7 @@ pub trait Records {
         ensures same { catalogue self.new ≡ catalogue self.old }
         ensures memory { OnErr result (is_in_memory ≡ true → listed_buckets (catalogue self.old) ≢ []) };
 
-    /// Whether a bucket has nothing in it, not even a delete marker; true where there is no such bucket.
+    /// Whether a bucket has nothing in it, not even a delete marker or an open upload; true where there is no such bucket.
     fn is_empty(&mut self, alloc: Global, name: &BucketName) -> Result<bool, NoMemory>
         ensures value { IfOk result (λ is_empty. is_empty ≡ is_empty_bucket (catalogue self.old) name.now) }
         ensures same { catalogue self.new ≡ catalogue self.old }
@@ -213,4 +216,130 @@ pub trait Records {
         ensures gone { IfOk result (λ gone. gone ≡ find (is_under id) (versions_of (catalogue self.old) bucket.now key.now)) }
         ensures err { OnErr result (catalogue self.new ≡ catalogue self.old) }
         ensures memory { OnErr result (is_in_memory ≡ false) };
+
+    /// Whether an upload is open: that of this id to this key.
+    fn has_upload(
+        &mut self,
+        alloc: Global,
+        bucket: &BucketName,
+        key: &Key,
+        id: UploadId,
+    ) -> Result<bool, NoMemory>
+        ensures value { IfOk result (λ there. there ≡ is_some (upload_at (catalogue self.old) bucket.now key.now id)) }
+        ensures same { catalogue self.new ≡ catalogue self.old }
+        ensures memory { OnErr result (is_in_memory ≡ false) };
+
+    /// The rows of the open uploads of a bucket from a place on, by key in the order of bytes and of one key by id, and at most
+    /// so many; none where there is no such bucket. Costs the rows that are told, and to find the first of them.
+    fn uploads_from(
+        &mut self,
+        alloc: Global,
+        bucket: &BucketName,
+        start: &UploadStart,
+        most: usize,
+    ) -> Result<Vec<UploadRow>, NoMemory>
+        ensures value { IfOk result (λ rows. rows.items ≡ take most (uploads_from (catalogue self.old) bucket.now start.now)) }
+        ensures same { catalogue self.new ≡ catalogue self.old }
+        ensures memory { OnErr result (
+            is_in_memory ≡ true → take most (uploads_from (catalogue self.old) bucket.now start.now) ≢ []) };
+
+    /// The rows of the parts of an upload whose numbers are above this one, by number, and at most so many; none where there is
+    /// no such upload. Costs the rows that are told, and to find the first of them.
+    fn parts_from(
+        &mut self,
+        alloc: Global,
+        bucket: &BucketName,
+        key: &Key,
+        id: UploadId,
+        last: u64,
+        most: usize,
+    ) -> Result<Vec<PartRow>, NoMemory>
+        ensures value { IfOk result (λ rows. rows.items
+            ≡ take most (rows_behind last (parts_at (catalogue self.old) bucket.now key.now id))) }
+        ensures same { catalogue self.new ≡ catalogue self.old }
+        ensures memory { OnErr result (is_in_memory ≡ true
+            → take most (rows_behind last (parts_at (catalogue self.old) bucket.now key.now id)) ≢ []) };
+
+    /// What the completion of an upload stores that lists these parts, of which each but the last has this many bytes; or why
+    /// it is refused. The upload stays.
+    fn completed(
+        &mut self,
+        alloc: Global,
+        bucket: &BucketName,
+        key: &Key,
+        id: UploadId,
+        least: u64,
+        listed: &[ListedPart],
+    ) -> Result<Result<Data<Body>, Code>, NoMemory>
+        ensures value { IfOk result (λ stored. stored
+            ≡ completed_at least listed.now (upload_at (catalogue self.old) bucket.now key.now id)) }
+        ensures same { catalogue self.new ≡ catalogue self.old }
+        ensures memory { OnErr result (is_in_memory ≡ true
+            → IsOk (completed_at least listed.now (upload_at (catalogue self.old) bucket.now key.now id))) };
+
+    /// Begins an upload of this id to a key of a bucket, which is there.
+    fn add_upload(
+        &mut self,
+        alloc: Global,
+        bucket: &BucketName,
+        key: Key,
+        id: UploadId,
+        upload: Upload<Body>,
+    ) -> Result<(), NoMemory>
+        requires { IsTrue (has_bucket (catalogue self.old) bucket.now) }
+        ensures ok { OnOk result (catalogue self.new ≡ changed (catalogue self.old) bucket.now (UploadAdded key id upload)) }
+        ensures err { OnErr result (catalogue self.new ≡ catalogue self.old) };
+
+    /// Puts a part under its number to an upload, which is there, and answers the one that it replaces.
+    fn put_part(
+        &mut self,
+        alloc: Global,
+        bucket: &BucketName,
+        key: &Key,
+        id: UploadId,
+        number: PartNumber,
+        part: Part<Body>,
+    ) -> Result<Option<Part<Body>>, NoMemory>
+        requires there { IsTrue (has_bucket (catalogue self.old) bucket.now) }
+        requires begun { IsTrue (is_some (upload_at (catalogue self.old) bucket.now key.now id)) }
+        ensures ok { OnOk result (catalogue self.new
+            ≡ changed (catalogue self.old) bucket.now (PartPut key.now id number part)) }
+        ensures former { IfOk result (λ former. former ≡ part_at number (parts_at (catalogue self.old) bucket.now key.now id)) }
+        ensures err { OnErr result (catalogue self.new ≡ catalogue self.old) }
+        ensures memory { OnErr result (is_in_memory ≡ true
+            → part_at number (parts_at (catalogue self.old) bucket.now key.now id) ≡ None) };
+
+    /// Drops an upload with its parts, in a bucket that is there, and answers it.
+    fn drop_upload(
+        &mut self,
+        alloc: Global,
+        bucket: &BucketName,
+        key: &Key,
+        id: UploadId,
+    ) -> Result<Option<Upload<Body>>, NoMemory>
+        requires { IsTrue (has_bucket (catalogue self.old) bucket.now) }
+        ensures ok { OnOk result (catalogue self.new ≡ changed (catalogue self.old) bucket.now (UploadDropped key.now id)) }
+        ensures gone { IfOk result (λ gone. gone ≡ upload_at (catalogue self.old) bucket.now key.now id) }
+        ensures err { OnErr result (catalogue self.new ≡ catalogue self.old) }
+        ensures memory { OnErr result (is_in_memory ≡ false) };
+
+    /// Completes an upload: puts a version under its key, as `put_version` does, and drops the upload, which is answered.
+    fn complete(
+        &mut self,
+        alloc: Global,
+        bucket: &BucketName,
+        key: Key,
+        id: UploadId,
+        number: u64,
+        moment: Moment,
+        stored: Data<Body>,
+    ) -> Result<Option<Upload<Body>>, NoMemory>
+        requires there { IsTrue (has_bucket (catalogue self.old) bucket.now) }
+        requires newer { IsTrue (is_new_number number (versions_of (catalogue self.old) bucket.now key)) }
+        ensures ok { OnOk result (catalogue self.new
+            ≡ changed (catalogue self.old) bucket.now (UploadCompleted key id (VersionPut number moment stored))) }
+        ensures gone { IfOk result (λ gone. gone ≡ upload_at (catalogue self.old) bucket.now key id) }
+        ensures err { OnErr result (catalogue self.new ≡ catalogue self.old) }
+        ensures memory { OnErr result (is_in_memory ≡ true
+            → replaced (versioning_of (catalogue self.old) bucket.now) number (versions_of (catalogue self.old) bucket.now key) ≡ None) };
 }

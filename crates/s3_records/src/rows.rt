@@ -1,7 +1,7 @@
-//! What lists are made of: the keys of a bucket, and their versions, from a place on.
+//! What lists are made of: the keys of a bucket, their versions and the open uploads to them, from a place on.
 
 use s3_calendar::Moment;
-use s3_names::{Key, VersionId};
+use s3_names::{Key, UploadId, VersionId};
 use s3_versions::Facts;
 
 /// Where a list of keys begins.
@@ -24,6 +24,15 @@ pub enum VersionStart {
     BehindVersion(Key, VersionId),
 }
 
+/// Where a list of uploads begins.
+#[derive(Drop)]
+pub enum UploadStart {
+    /// At the first upload to the first key from here on.
+    At(Start),
+    /// Behind the upload of this id to this key, whether it is there or not.
+    BehindUpload(Key, UploadId),
+}
+
 /// A key in a list.
 #[derive(Drop)]
 pub struct KeyRow {
@@ -43,4 +52,13 @@ pub struct VersionRow {
     pub moment: Moment,
     /// What is known of it; `None` where it is a delete marker.
     pub facts: Option<Facts>,
+}
+
+/// An open upload in a list.
+#[derive(Drop)]
+pub struct UploadRow {
+    pub key: Key,
+    pub id: UploadId,
+    /// When it was begun.
+    pub moment: Moment,
 }

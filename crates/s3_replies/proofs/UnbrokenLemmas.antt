@@ -1,5 +1,5 @@
 -- No line of a reply has a carriage return in it.
-use Rattle.std.proofs.Common.{◌≡◌, ℕ, zero, suc, ◌+◌, ◌-◌, ◌/◌, ◌%◌, ◌&&◌, Bool, true, false, not, List, [], ◌∷◌, ◌++◌, refl, ◌∙◌, arith, codes, slice_index_or}
+use Rattle.std.proofs.Common.{◌≡◌, ℕ, zero, suc, ◌+◌, ◌-◌, ◌/◌, ◌%◌, ◌&&◌, Bool, true, false, not, List, [], ◌∷◌, ◌++◌, refl, ◌∙◌, arith, codes, slice_index_or, Some, None}
 use Rattle.std.specs.Prelude.{◌==◌, if◌then◌else◌, decimal}
 use Rattle.std.specs.Fmt.{digit_glyph, digits, digits_onto}
 use Rattle.std.proofs.lemmas.Bool.Decides.{nat_tests}
@@ -10,6 +10,7 @@ use Rattle.hex.specs.Hex.{encode_lower, encode_with, lower_digits}
 use Rattle.httpdate.specs.declared.parts.Parts.{Parts}
 use Rattle.httpdate.specs.Text.{day_name, month_name, two_digits, four_digits, time_of_day, imf_fixdate}
 use Rattle.s3_text.specs.Digits.{number_digits}
+use Rattle.s3_names.specs.Tags.{joined_text}
 use Rattle.s3_names.specs.Ids.{numbered_id, version_id_text}
 use Rattle.s3_names.specs.declared.ids.VersionId.{VersionId}
 use Rattle.s3_names.specs.declared.ids.VersionId.TheVariants.{Null, Numbered}
@@ -53,9 +54,6 @@ unfolding numbered_id
 id_unbroken Null = refl
 id_unbroken (Numbered number) = number_unbroken number
 
-pub tags_are_unbroken : TagsAreUnbroken
-tags_are_unbroken body = hex_unbroken _
-
 -- nor has a number in decimal digits
 glyph_unbroken : (d : ℕ) → not (digit_glyph false d == 13) ≡ true
 glyph_unbroken d = grind (arith, nat_tests)
@@ -74,6 +72,11 @@ more_digits_unbroken (suc k) n rest are =
 decimal_unbroken : (n : ℕ) → is_unbroken (decimal n) ≡ true
 unfolding digits
 decimal_unbroken n = more_digits_unbroken 64 n [] refl
+
+pub tags_are_unbroken : TagsAreUnbroken
+unfolding joined_text
+tags_are_unbroken digest None = hex_unbroken digest
+tags_are_unbroken digest (Some parts) = joined (encode_lower digest) (45 ∷ decimal parts) (hex_unbroken digest) (decimal_unbroken parts)
 
 pub range_unbroken : (first last size : ℕ) → is_unbroken (content_range first last size) ≡ true
 range_unbroken first last size =

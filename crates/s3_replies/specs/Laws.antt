@@ -1,12 +1,12 @@
 -- What is known of all replies: they are fixed by what they answer, and a client sees in them what came of
 -- its request (RFC 9112, sections 4 to 6; RFC 9110, sections 8.6 and 15.3).
-use Rattle.std.specs.Prelude.{◌≡◌, IsTrue, ℕ, ◌==◌, Bool, true, false, not, ◌&&◌, List, ◌++◌, map, take, length, codes}
+use Rattle.std.specs.Prelude.{◌≡◌, IsTrue, ℕ, ◌==◌, Bool, true, false, not, ◌&&◌, List, ◌++◌, map, take, length, codes, Option}
 use Rattle.std.specs.Fmt.{decimal}
 use Rattle.std.specs.List.{Contains, list_all}
 use Rattle.std.specs.Str.{bytes_eq}
 use Rattle.s3_text.specs.Characters.{crlf, carriage_return}
 use Rattle.s3_terms.specs.declared.code.Code.{Code}
-use Rattle.s3_bodies.specs.Payload.{tag_of}
+use Rattle.s3_names.specs.Tags.{tag_text}
 use Rattle.s3_conditions.specs.declared.conditions.Selection.TheVariants.{Whole, Part}
 use Rattle.s3_versions.specs.declared.version.Data.{Data}
 use Rattle.s3_machine.specs.Effects.{succeeds}
@@ -69,11 +69,11 @@ pub record CarriesPart (first last : ℕ) (body reply : List ℕ) : Type 0 where
       ++ crlf
       ++ part first last body
 
--- a tag that a put gives has no carriage return
+-- a tag has no carriage return, whether of bytes that were put whole or of so many parts that were joined
 abbrev pub TagsAreUnbroken : Type 0
-TagsAreUnbroken = (body : List ℕ) → is_unbroken (tag_of body) ≡ true
+TagsAreUnbroken = (digest : List ℕ) (parts : Option ℕ) → is_unbroken (tag_text digest parts) ≡ true
 
--- no carriage return is in what a head tells of a put
+-- no carriage return is in what a head tells of an object
 pub record IsUnbroken (stored : Data (List ℕ)) : Type 0 where
   pub tag : is_unbroken stored.tag ≡ true
   pub content_type : is_unbroken stored.content_type ≡ true

@@ -56,11 +56,11 @@ shown_text shown = option_map version_id_text shown
 abbrev pub made_fields : Opening → List ℕ → Fields
 made_fields opening name = let base = bare statuses.Ok opening in record base { location = Some (codes "/" ++ name) }
 
--- ListBuckets, ListObjectsV2, ListObjectVersions and GetBucketVersioning: a document
+-- the lists, GetBucketVersioning and CreateMultipartUpload: a document
 abbrev pub document_fields : Opening → Fields
 document_fields opening = let base = bare statuses.Ok opening in record base { content_type = Some (codes "application/json") }
 
--- PutObject: the tag of what is stored, and the id of its version
+-- PutObject and UploadPart: the tag of what is stored, and the id of its version; a part has none
 abbrev pub put_fields : Opening → List ℕ → Option VersionId → Fields
 put_fields opening tag shown = let base = bare statuses.Ok opening in record base { version_id = shown_text shown; tag = Some tag }
 
@@ -97,9 +97,9 @@ unchanged_fields opening found modified =
     let base = bare statuses.NotModified opening in
     record base { version_id = shown_text found.shown; tag = Some found.stored.tag; modified = modified }
 
--- CopyObject: a document, and the id of the version that was made
-abbrev pub copied_fields : Opening → Option VersionId → Fields
-copied_fields opening shown = let base = document_fields opening in record base { version_id = shown_text shown }
+-- CopyObject and CompleteMultipartUpload: a document, and the id of the version that was made
+abbrev pub stored_fields : Opening → Option VersionId → Fields
+stored_fields opening shown = let base = document_fields opening in record base { version_id = shown_text shown }
 
 -- DeleteObject: the id of the delete marker that was made or of the version that is gone, and whether it is
 -- that of a delete marker
@@ -119,6 +119,13 @@ abbrev pub shown_at : Outcome → Option ℕ
 shown_at (outcomes.Got found selection) = Some found.moment
 shown_at other = None
 
+-- a body stands behind the reply: a document whose text is printed with it, or the bytes of a version
+abbrev pub has_body : Outcome → Bool
+has_body (outcomes.Told document) = true
+has_body (outcomes.Completed document tag shown) = true
+has_body (outcomes.Got found selection) = true
+has_body other = false
+
 -- the reply that shows this of a version
 abbrev pub reply_with : Opening → Option (List ℕ) → Found (List ℕ) → Selection → Reply
 reply_with opening modified found Whole = behind (got_fields opening found modified) found.stored.body
@@ -135,7 +142,10 @@ reply_to opening modified outcomes.VersioningSet = alone (bare statuses.Ok openi
 reply_to opening modified (outcomes.BucketVersioning versioning) = beside (document_fields opening) (versioning_text versioning)
 reply_to opening modified (outcomes.Put tag shown) = alone (put_fields opening tag shown)
 reply_to opening modified (outcomes.Got found selection) = reply_with opening modified found selection
-reply_to opening modified (outcomes.Copied tag moment shown) = beside (copied_fields opening shown) (copied_text tag moment)
+reply_to opening modified (outcomes.Copied tag moment shown) = beside (stored_fields opening shown) (copied_text tag moment)
+reply_to opening modified (outcomes.PartPut tag) = alone (put_fields opening tag None)
+reply_to opening modified (outcomes.Completed document tag shown) = behind (stored_fields opening shown) document
+reply_to opening modified outcomes.UploadDropped = alone (bare statuses.NoContent opening)
 reply_to opening modified (outcomes.Deleted shown is_delete_marker) = alone (deleted_fields opening shown is_delete_marker)
 reply_to opening modified (outcomes.Refused code is_delete_marker) = beside (error_fields opening code is_delete_marker) (error_document code)
 

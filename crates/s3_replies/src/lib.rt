@@ -12,6 +12,7 @@ mod lines;
 mod objects;
 mod replies;
 mod room;
+mod told;
 mod values;
 
 pub use context::Context;

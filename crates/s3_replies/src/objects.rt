@@ -1,16 +1,17 @@
-//! The replies that tell of an object: to a put, a copy, a read and a delete.
+//! The replies that tell of an object or a part of one: to a put, a copy, a read and a delete.
 
 ghost use Rattle.std.specs.Prelude.{◌≡◌, ◌+◌, ◌≤◌, [], ◌++◌, List, ℕ, Option, unwrap_or};
 ghost use Rattle.s3_documents.specs.Copied.{copied_text};
 ghost use Rattle.s3_machine.specs.declared.command.Found.{Found as FoundAs};
 ghost use Rattle.s3_replies.specs.declared.head.Opening.{Opening as Opens};
 ghost use Rattle.s3_replies.specs.Head.{print_head};
-ghost use Rattle.s3_replies.specs.Replies.{back, beside, front, reply_with, put_fields, got_fields, unchanged_fields, copied_fields, deleted_fields};
+ghost use Rattle.s3_replies.specs.Replies.{back, beside, front, reply_with, put_fields, got_fields, unchanged_fields, stored_fields, deleted_fields};
 
 use crate::body::{part_of, place_of, sent, write_body};
 use crate::date::DateText;
 use crate::head::{Head, Opening};
 use crate::room::Room;
+use crate::told::document_head;
 use crate::values::{RangeText, date_bytes, id_bytes, id_text, range_bytes};
 use s3_bodies::Body;
 use s3_calendar::Moment;
@@ -20,7 +21,7 @@ use s3_machine::Found;
 use s3_names::{Tag, VersionId};
 use s3_terms::Status;
 
-/// Appends all of the reply to a put.
+/// Appends all of the reply to a put, or to that of a part, which shows no version.
 pub(crate) fn put_reply<R: Room>(out: &mut R, opening: Opening, tag: &Tag, shown: Option<VersionId>)
     requires { R.size out.old + 4096 ≤ R.capacity out.old }
     ensures written { R.written out.new ≡ R.written out.old ++ print_head (put_fields opening tag.now shown) }
@@ -138,18 +139,11 @@ pub(crate) fn copied_reply<R: Room>(
 )
     requires { R.size out.old + 4096 ≤ R.capacity out.old }
     ensures written { R.written out.new ≡ R.written out.old
-        ++ front head_only (beside (copied_fields opening shown) (copied_text tag.now moment)) }
+        ++ front head_only (beside (stored_fields opening shown) (copied_text tag.now moment)) }
     ensures capacity { R.capacity out.old ≤ R.capacity out.new }
 {
     let document = copied_document(tag, moment);
-    let id = id_text(shown);
-    let head = Head {
-        version_id: id_bytes(&id),
-        content_type: Some(b"application/json"),
-        size: document.len() as u64,
-        ..Head::bare(Status::Ok, &opening)
-    };
-    head.print(out);
+    document_head(out, opening, shown, document.len() as u64);
     write_body(out, head_only, document.as_slice());
 }
 

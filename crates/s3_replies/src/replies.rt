@@ -1,28 +1,26 @@
 //! The replies to answers of the machine, and to messages that are refused before they come to it.
 
-ghost use Rattle.std.specs.Prelude.{◌≡◌, ◌+◌, ◌≤◌, [], ◌++◌, length, List, ℕ, unwrap_or};
-ghost use Rattle.s3_documents.specs.Versioning.{versioning_text};
+ghost use Rattle.std.specs.Prelude.{◌≡◌, ◌+◌, ◌≤◌, true, false, [], ◌++◌, length, List, ℕ, Option, unwrap_or};
 ghost use Rattle.s3_replies.specs.Date.{IsDateShown};
 ghost use Rattle.s3_replies.specs.Document.{error_document};
 ghost use Rattle.s3_replies.specs.Head.{bare, print_head};
-ghost use Rattle.s3_replies.specs.Replies.{Prints, PrintsRefusal, back, behind, beside, front, reply_to, shown_at, made_fields, document_fields, error_fields, internal_error, continue_line};
+ghost use Rattle.s3_replies.specs.Replies.{Prints, PrintsRefusal, back, beside, front, has_body, reply_to, shown_at, made_fields, error_fields, internal_error, continue_line};
 
 use crate::Context;
-use crate::body::{sent, write_body};
+use crate::body::write_body;
 use crate::date::DateText;
-use crate::document::{document_of, versioning_document};
+use crate::document::document_of;
 use crate::head::{Head, Opening};
 use crate::objects::{copied_reply, deleted_reply, got_reply, put_reply, shown_body};
 use crate::room::Room;
+use crate::told::{told_reply, versioning_reply};
 use crate::values::location_of;
 use arrayvec::ArrayVec;
 use s3_bodies::Body;
 use s3_calendar::Moment;
-use s3_documents::Document;
 use s3_machine::{Answer, Outcome};
 use s3_names::BucketName;
 use s3_terms::{Code, Status};
-use s3_versions::Versioning;
 
 /// Appends the whole reply that tells of nothing but its status.
 fn bare_reply<R: Room>(out: &mut R, opening: Opening, status: Status)
@@ -46,52 +44,6 @@ fn made_reply<R: Room>(out: &mut R, opening: Opening, name: &BucketName)
         ..Head::bare(Status::Ok, &opening)
     };
     head.print(out);
-}
-
-/// Appends the reply that is a document of this size, without the document.
-fn document_head<R: Room>(out: &mut R, opening: Opening, size: u64)
-    requires { R.size out.old + 4096 ≤ R.capacity out.old }
-    ensures written { R.written out.new
-        ≡ R.written out.old ++ print_head (record (document_fields opening) { size = size }) }
-    ensures bound { R.size out.new ≤ R.size out.old + 3840 }
-    ensures capacity { R.capacity out.old ≤ R.capacity out.new }
-{
-    let head = Head {
-        content_type: Some(b"application/json"),
-        size,
-        ..Head::bare(Status::Ok, &opening)
-    };
-    head.print(out);
-}
-
-/// Appends the reply that is a document, which is printed here, without it, and gives it, unless the reply is to a HEAD.
-fn told_reply<R: Room>(
-    out: &mut R,
-    opening: Opening,
-    document: Document,
-    head_only: bool,
-) -> Option<Body>
-    requires { R.size out.old + 4096 ≤ R.capacity out.old }
-    ensures written { R.written out.new
-        ≡ R.written out.old ++ front head_only (behind (document_fields opening) document) }
-    ensures body { unwrap_or result [] ≡ back head_only (behind (document_fields opening) document) }
-    ensures capacity { R.capacity out.old ≤ R.capacity out.new }
-{
-    let body = document.into_body();
-    document_head(out, opening, body.size());
-    sent(head_only, body)
-}
-
-/// Appends the whole reply that tells of a bucket's versioning.
-fn versioning_reply<R: Room>(out: &mut R, opening: Opening, versioning: Versioning, head_only: bool)
-    requires { R.size out.old + 4096 ≤ R.capacity out.old }
-    ensures written { R.written out.new ≡ R.written out.old
-        ++ front head_only (beside (document_fields opening) (versioning_text versioning)) }
-    ensures capacity { R.capacity out.old ≤ R.capacity out.new }
-{
-    let document = versioning_document(versioning);
-    document_head(out, opening, document.len() as u64);
-    write_body(out, head_only, document);
 }
 
 /// Appends the whole reply that refuses with the code, and says whether what was asked for is a delete marker. It is
@@ -120,8 +72,82 @@ fn error_reply<R: Room>(
     write_body(out, head_only, document.as_slice());
 }
 
-/// Appends the reply to what came of a command, without its body, and gives that, which is moved and not copied. The
-/// version that it shows was made at the date `modified`.
+/// Appends the whole reply to what came of a command, where nothing stands behind it.
+fn whole_reply<R: Room>(out: &mut R, opening: Opening, outcome: Outcome, head_only: bool)
+    requires room { R.size out.old + 4096 ≤ R.capacity out.old }
+    requires whole { has_body outcome ≡ false }
+    ensures written { (modified : Option (List ℕ)) → R.written out.new
+        ≡ R.written out.old ++ front head_only (reply_to opening modified outcome) }
+    ensures capacity { R.capacity out.old ≤ R.capacity out.new }
+{
+    match outcome {
+        Outcome::BucketMade { name } => made_reply(out, opening, &name),
+        Outcome::BucketFound | Outcome::VersioningSet => bare_reply(out, opening, Status::Ok),
+        Outcome::BucketDropped | Outcome::UploadDropped => {
+            bare_reply(out, opening, Status::NoContent);
+        }
+        Outcome::BucketVersioning { versioning } => {
+            versioning_reply(out, opening, versioning, head_only);
+        }
+        Outcome::Put { tag, shown } => put_reply(out, opening, &tag, shown),
+        Outcome::PartPut { tag } => put_reply(out, opening, &tag, None),
+        Outcome::Copied { tag, moment, shown } => {
+            copied_reply(out, opening, &tag, moment, shown, head_only);
+        }
+        Outcome::Deleted {
+            shown,
+            is_delete_marker,
+        } => deleted_reply(out, opening, shown, is_delete_marker),
+        Outcome::Refused {
+            code,
+            is_delete_marker,
+        } => error_reply(out, opening, code, is_delete_marker, head_only),
+        Outcome::Told { .. } | Outcome::Completed { .. } | Outcome::Got { .. } => unreachable!(),
+    }
+}
+
+/// Appends the reply to what came of a command, where a body stands behind it, and gives that.
+fn headed_reply<R: Room>(
+    out: &mut R,
+    opening: Opening,
+    outcome: Outcome,
+    modified: Option<DateText>,
+    head_only: bool,
+) -> Option<Body>
+    requires room { R.size out.old + 4096 ≤ R.capacity out.old }
+    requires body { has_body outcome ≡ true }
+    ensures written { R.written out.new
+        ≡ R.written out.old ++ front head_only (reply_to opening modified outcome) }
+    ensures body { unwrap_or result [] ≡ back head_only (reply_to opening modified outcome) }
+    ensures capacity { R.capacity out.old ≤ R.capacity out.new }
+{
+    match outcome {
+        Outcome::Told { document } => told_reply(out, opening, document, None, head_only),
+        Outcome::Completed {
+            document,
+            shown,
+            ..
+        } => told_reply(out, opening, document, shown, head_only),
+        Outcome::Got { found, selection } => {
+            got_reply(out, opening, &found, selection, modified, head_only);
+            shown_body(head_only, found.stored.body, selection)
+        }
+        _ => unreachable!(),
+    }
+}
+
+/// Whether a body stands behind the reply to what came of a command.
+fn has_body(outcome: &Outcome) -> bool
+    ensures { result ≡ has_body outcome.now }
+{
+    matches!(
+        outcome,
+        Outcome::Told { .. } | Outcome::Completed { .. } | Outcome::Got { .. }
+    )
+}
+
+/// Appends the reply to what came of a command, without what stands behind it, and gives that, which is moved and not
+/// copied. The version that it shows was made at the date `modified`.
 fn outcome_reply<R: Room>(
     out: &mut R,
     opening: Opening,
@@ -135,31 +161,10 @@ fn outcome_reply<R: Room>(
     ensures body { unwrap_or result [] ≡ back head_only (reply_to opening modified outcome) }
     ensures capacity { R.capacity out.old ≤ R.capacity out.new }
 {
-    match outcome {
-        Outcome::Told { document } => return told_reply(out, opening, document, head_only),
-        Outcome::Got { found, selection } => {
-            got_reply(out, opening, &found, selection, modified, head_only);
-            return shown_body(head_only, found.stored.body, selection);
-        }
-        Outcome::BucketMade { name } => made_reply(out, opening, &name),
-        Outcome::BucketFound | Outcome::VersioningSet => bare_reply(out, opening, Status::Ok),
-        Outcome::BucketDropped => bare_reply(out, opening, Status::NoContent),
-        Outcome::BucketVersioning { versioning } => {
-            versioning_reply(out, opening, versioning, head_only);
-        }
-        Outcome::Put { tag, shown } => put_reply(out, opening, &tag, shown),
-        Outcome::Copied { tag, moment, shown } => {
-            copied_reply(out, opening, &tag, moment, shown, head_only);
-        }
-        Outcome::Deleted {
-            shown,
-            is_delete_marker,
-        } => deleted_reply(out, opening, shown, is_delete_marker),
-        Outcome::Refused {
-            code,
-            is_delete_marker,
-        } => error_reply(out, opening, code, is_delete_marker, head_only),
+    if has_body(&outcome) {
+        return headed_reply(out, opening, outcome, modified, head_only);
     }
+    whole_reply(out, opening, outcome, head_only);
     None
 }
 

@@ -21,7 +21,12 @@ use Rattle.s3_versions.specs.Metadata.{Entry, metadata, metadata_size}
 use Rattle.s3_requests.specs.declared.routing.Plan.{Plan}
 use Rattle.s3_requests.specs.declared.routing.Plan.TheVariants as plans
 use Rattle.s3_requests.specs.declared.routing.BucketPlan.{BucketPlan}
+use Rattle.s3_requests.specs.declared.routing.KeyAsked.{KeyAsked}
+use Rattle.s3_requests.specs.declared.routing.KeyAsked.TheVariants as key_asked
+use Rattle.s3_requests.specs.declared.routing.UploadPlan.TheVariants as upload_plans
+use Rattle.s3_listings.specs.declared.asked.PartsAsked.{PartsAsked}
 use Rattle.s3_machine.specs.declared.command.KeyCommand.TheVariants as key_commands
+use Rattle.s3_machine.specs.declared.command.UploadBegin.{UploadBegin}
 use Rattle.s3_machine.specs.declared.command.Source.{Source}
 use Rattle.s3_requests.specs.declared.operations.Operation.{Operation}
 use Rattle.s3_requests.specs.declared.operations.Operation.TheVariants as operations
@@ -31,9 +36,11 @@ use Rattle.s3_requests.specs.Arguments.{version_argument}
 use Rattle.s3_requests.specs.ReadConditions.{conditions_of}
 use Rattle.s3_requests.specs.Operations.{service_operation, key_operation}
 use Rattle.s3_requests.specs.CopySource.{source_of}
-use Rattle.s3_requests.specs.Description.{type_sent, content_type_of, front, name_in, names_of, entry_of, metadata_of}
-use Rattle.s3_requests.specs.Routing.{KeyPlan, is_service, address_at, service_plan_for, service_plan, bucket_named, bucket_plan, put_plan, read_plan, delete_plan, key_plan_for, key_plan, plan_of_bucket, plan_of_key, named_plan, route_of}
-use Rattle.s3_requests.specs.Laws.{is_unbroken_entry, IsUnbrokenAsk, IsUnbrokenPlan, PlansAreUnbroken}
+use Rattle.s3_requests.specs.Description.{type_sent, content_type_of, front, name_in, names_of, entry_of, metadata_of, description_of}
+use Rattle.s3_requests.specs.ListArguments.{parts_asked_of}
+use Rattle.s3_requests.specs.UploadArguments.{upload_argument, part_argument}
+use Rattle.s3_requests.specs.Routing.{KeyPlan, is_service, address_at, service_plan_for, service_plan, bucket_named, bucket_plan, put_plan, read_plan, delete_plan, key_plan_for, upload_plan, parts_plan, asked_for, key_plan, plan_of_bucket, plan_under, plan_of_key, named_plan, route_of}
+use Rattle.s3_requests.specs.Laws.{is_unbroken_entry, AreUnbroken, IsUnbrokenAsk, IsUnbrokenPlan, PlansAreUnbroken}
 
 both : (a b : Bool) → (a && b) ≡ true → (a ≡ true) × (b ≡ true)
 both true b is = (refl, is)
@@ -180,11 +187,11 @@ no_put (Err code) other asked unbroken is = absurd (cc)
 read_unbroken : (head : HeadParts) (target : TargetParts) (asked : KeyPlan) → read_plan head target ≡ Ok asked → IsUnbrokenAsk asked
 unfolding read_plan
 read_unbroken head target asked is =
-    no_put (version_argument target) (λ (v : Option VersionId). key_commands.Read (record { version = v; conditions = conditions_of head })) asked (λ v. tt) is
+    no_put (version_argument (codes "versionId") target) (λ (v : Option VersionId). key_commands.Read (record { version = v; conditions = conditions_of head })) asked (λ v. tt) is
 
 delete_unbroken : (target : TargetParts) (asked : KeyPlan) → delete_plan target ≡ Ok asked → IsUnbrokenAsk asked
 unfolding delete_plan
-delete_unbroken target asked is = no_put (version_argument target) (λ (v : Option VersionId). key_commands.Delete v) asked (λ v. tt) is
+delete_unbroken target asked is = no_put (version_argument (codes "versionId") target) (λ (v : Option VersionId). key_commands.Delete v) asked (λ v. tt) is
 
 -- a copy stores what is stored already, and nothing that its head says
 copy_unbroken : (source : Result Source Code) (asked : KeyPlan) → (source >>= (λ (from : Source). Ok (key_commands.Copy (record { source = from })))) ≡ Ok asked → IsUnbrokenAsk asked
@@ -192,6 +199,27 @@ copy_unbroken (Ok from) asked is =
     let same : key_commands.Copy (record { source = from }) ≡ asked = cc in
     subst IsUnbrokenAsk same tt
 copy_unbroken (Err code) asked is = absurd (cc)
+
+-- what is asked under a key stores nothing with one beside a body
+abbrev IsUnbrokenUnder : KeyAsked → Type 0
+IsUnbrokenUnder (key_asked.Key asked) = IsUnbrokenAsk asked
+IsUnbrokenUnder (key_asked.Upload id asked) = Unit {0}
+
+under : (name key : List ℕ) (asked : KeyAsked) → IsUnbrokenUnder asked → IsUnbrokenPlan (plan_under name key asked)
+under name key (key_asked.Key asked) unbroken = unbroken
+under name key (key_asked.Upload id asked) unbroken = tt
+
+-- nor does what is asked of an upload
+of_upload : {A : Type 0} (argument : Result A Code) (with : A → KeyAsked) (asked : KeyAsked)
+    → ((a : A) → IsUnbrokenUnder (with a)) → (argument >>= (λ a. Ok (with a))) ≡ Ok asked → IsUnbrokenUnder asked
+of_upload (Ok a) with asked unbroken is =
+    let same : with a ≡ asked = cc in
+    subst IsUnbrokenUnder same (unbroken a)
+of_upload (Err code) with asked unbroken is = absurd (cc)
+
+-- an object with this type and this metadata
+abbrev describing : List ℕ → List Entry → UploadBegin
+describing kind entries = record { content_type = kind; metadata = entries }
 
 type_unbroken : (values : List (List ℕ)) → list_all is_unbroken values ≡ true → is_unbroken (type_sent (slice_get values 0)) ≡ true
 type_unbroken [] all = refl
@@ -211,31 +239,58 @@ module _ (head : HeadParts) (lines : list_all is_whole_line head.headers ≡ tru
       let all = map (entry_of head) (names_of head) in
       ap (list_all is_unbroken_entry) (sym (passed (nat_lt 2_048 (metadata_size all)) _ all entries is)) ∙ entries_unbroken head (names_of head) lines (names_unbroken head lines)
 
-  -- a put with this type and this metadata
-  putting : List ℕ → List Entry → KeyPlan
-  putting kind entries = key_commands.Put (record { content_type = kind; metadata = entries; payload = tt })
+  description_unbroken : (said : UploadBegin) → description_of head ≡ Ok said → AreUnbroken said.content_type said.metadata
+  unfolding description_of
+  description_unbroken said is =
+      let one = bound (content_type_of head) (λ (kind : List ℕ). metadata_of head >>= (λ (entries : List Entry). Ok (describing kind entries))) said is in
+      let two = bound (metadata_of head) (λ (entries : List Entry). Ok (describing one.0 entries)) said one.2 in
+      let same : describing one.0 two.0 ≡ said = cc in
+      subst (λ (s : UploadBegin). AreUnbroken s.content_type s.metadata) same (content_type_unbroken one.0 one.1, metadata_unbroken two.0 two.1)
+
+  -- what is asked with what the head says has none where that has none
+  described : (with : UploadBegin → KeyPlan) (asked : KeyPlan) → ((said : UploadBegin) → AreUnbroken said.content_type said.metadata → IsUnbrokenAsk (with said))
+      → (description_of head >>= (λ (said : UploadBegin). Ok (with said))) ≡ Ok asked → IsUnbrokenAsk asked
+  described with asked unbroken is =
+      let one = bound (description_of head) (λ (said : UploadBegin). Ok (with said)) asked is in
+      let same : with one.0 ≡ asked = cc in
+      subst IsUnbrokenAsk same (unbroken one.0 (description_unbroken one.0 one.1))
 
   put_unbroken : (asked : KeyPlan) → put_plan head ≡ Ok asked → IsUnbrokenAsk asked
-  unfolding put_plan putting
+  unfolding put_plan
   put_unbroken asked is =
-      let one = bound (content_type_of head) (λ (kind : List ℕ). metadata_of head >>= (λ (entries : List Entry). Ok (putting kind entries))) asked is in
-      let two = bound (metadata_of head) (λ (entries : List Entry). Ok (putting one.0 entries)) asked one.2 in
-      let same : putting one.0 two.0 ≡ asked = cc in
-      subst IsUnbrokenAsk same (content_type_unbroken one.0 one.1, metadata_unbroken two.0 two.1)
+      described (λ (said : UploadBegin). key_commands.Put (record { content_type = said.content_type; metadata = said.metadata; payload = tt })) asked (λ said unbroken. unbroken) is
 
   planned_unbroken : (operation : Operation) (target : TargetParts) (asked : KeyPlan) → key_plan_for operation head target ≡ Ok asked → IsUnbrokenAsk asked
+  unfolding key_plan_for
   planned_unbroken operations.PutObject target asked is = put_unbroken asked is
   planned_unbroken operations.CopyObject target asked is = copy_unbroken (source_of head) asked is
   planned_unbroken operations.GetObject target asked is = read_unbroken head target asked is
   planned_unbroken operations.HeadObject target asked is = read_unbroken head target asked is
   planned_unbroken operations.DeleteObject target asked is = delete_unbroken target asked is
+  planned_unbroken operations.CreateMultipartUpload target asked is = described key_commands.Begin asked (λ said unbroken. unbroken) is
   planned_unbroken _ target asked is = absurd (cc)
 
-  asked_unbroken : (target : TargetParts) (asked : KeyPlan) → key_plan head target ≡ Ok asked → IsUnbrokenAsk asked
+  asked_unbroken_for : (operation : Operation) (target : TargetParts) (asked : KeyAsked) → asked_for operation head target ≡ Ok asked → IsUnbrokenUnder asked
+  unfolding parts_plan
+  asked_unbroken_for operations.UploadPart target asked is =
+      of_upload (part_argument target) (λ (part : ℕ × ℕ). key_asked.Upload part.0 (upload_plans.PutPart part.1)) asked (λ part. tt) is
+  asked_unbroken_for operations.ListParts target asked is =
+      let one = bound (parts_asked_of target) (λ (listed : PartsAsked). upload_plan (upload_plans.ListParts listed) target) asked is in
+      of_upload (upload_argument target) (λ (id : ℕ). key_asked.Upload id (upload_plans.ListParts one.0)) asked (λ id. tt) one.2
+  asked_unbroken_for operations.CompleteMultipartUpload target asked is =
+      of_upload (upload_argument target) (λ (id : ℕ). key_asked.Upload id upload_plans.Complete) asked (λ id. tt) is
+  asked_unbroken_for operations.AbortMultipartUpload target asked is =
+      of_upload (upload_argument target) (λ (id : ℕ). key_asked.Upload id upload_plans.Abort) asked (λ id. tt) is
+  asked_unbroken_for operation target asked is =
+      let one = bound (key_plan_for operation head target) (λ (a : KeyPlan). Ok (key_asked.Key a)) asked is in
+      let same : key_asked.Key one.0 ≡ asked = cc in
+      subst IsUnbrokenUnder same (planned_unbroken operation target one.0 one.1)
+
+  asked_unbroken : (target : TargetParts) (asked : KeyAsked) → key_plan head target ≡ Ok asked → IsUnbrokenUnder asked
   unfolding key_plan
   asked_unbroken target asked is =
-      let one = bound (ok_or (key_operation (method_of head.method) head target) MethodNotAllowed) (λ (operation : Operation). key_plan_for operation head target) asked is in
-      planned_unbroken one.0 target asked one.2
+      let one = bound (ok_or (key_operation (method_of head.method) head target) MethodNotAllowed) (λ (operation : Operation). asked_for operation head target) asked is in
+      asked_unbroken_for one.0 target asked one.2
 
   service_unbroken : (plan : Plan) → service_plan head ≡ Ok plan → IsUnbrokenPlan plan
   unfolding service_plan
@@ -251,10 +306,10 @@ module _ (head : HeadParts) (lines : list_all is_whole_line head.headers ≡ tru
 
   key_unbroken : (name : List ℕ) (target : TargetParts) (plan : Plan) → plan_of_key name head target ≡ Ok plan → IsUnbrokenPlan plan
   key_unbroken name target plan is =
-      let key = bound (object_key target.key) (λ (k : List ℕ). key_plan head target >>= (λ (a : KeyPlan). Ok (plans.Key name k a))) plan is in
-      let asked = bound (key_plan head target) (λ (a : KeyPlan). Ok (plans.Key name key.0 a)) plan key.2 in
-      let same : plans.Key name key.0 asked.0 ≡ plan = cc in
-      subst IsUnbrokenPlan same (asked_unbroken target asked.0 asked.1)
+      let key = bound (object_key target.key) (λ (k : List ℕ). key_plan head target >>= (λ (a : KeyAsked). Ok (plan_under name k a))) plan is in
+      let asked = bound (key_plan head target) (λ (a : KeyAsked). Ok (plan_under name key.0 a)) plan key.2 in
+      let same : plan_under name key.0 asked.0 ≡ plan = cc in
+      subst IsUnbrokenPlan same (under name key.0 asked.0 (asked_unbroken target asked.0 asked.1))
 
   named_unbroken : (target : TargetParts) (plan : Plan) → named_plan head target ≡ Ok plan → IsUnbrokenPlan plan
   unfolding named_plan

@@ -1,5 +1,5 @@
 -- The arguments of operations (Amazon S3 API Reference, GetObject): of a parameter the first occurrence counts.
-use Rattle.std.specs.Prelude.{List, ℕ, codes, Option, Some, None, option_map, ok_or, Result, Ok, Err}
+use Rattle.std.specs.Prelude.{List, ℕ, Option, Some, None, option_map, ok_or, Result, Ok, Err}
 use Rattle.s3_terms.specs.declared.code.Code.{Code}
 use Rattle.s3_terms.specs.declared.code.Code.TheVariants.{InvalidArgument}
 use Rattle.s3_names.specs.Ids.{version_id}
@@ -20,6 +20,6 @@ abbrev pub version_named : Option (List ℕ) → Result (Option VersionId) Code
 version_named None = Ok None
 version_named (Some text) = id_read text
 
--- the version that is asked for, if one is
-unfoldable pub version_argument : TargetParts → Result (Option VersionId) Code
-version_argument target = version_named (first_parameter (codes "versionId") target)
+-- the version that the parameter of this name names, if it is there
+unfoldable pub version_argument : List ℕ → TargetParts → Result (Option VersionId) Code
+version_argument name target = version_named (first_parameter name target)

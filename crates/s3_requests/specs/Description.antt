@@ -1,17 +1,19 @@
--- What the head of a put says of its object: its media type and its user metadata (Amazon S3 API Reference,
--- PutObject; Amazon S3 User Guide, "Working with object metadata").
-use Rattle.std.specs.Prelude.{ℕ, if◌then◌else◌, List, ◌++◌, map, take, drop, codes, Option, Some, None, Result}
+-- What the head of a put, or of the beginning of an upload, says of its object: its media type and its user metadata (Amazon
+-- S3 API Reference, PutObject and CreateMultipartUpload; Amazon S3 User Guide, "Working with object metadata").
+use Rattle.std.specs.Prelude.{ℕ, if◌then◌else◌, List, ◌++◌, map, take, drop, codes, Option, Some, None, Result, Ok}
 use Rattle.std.specs.List.{dedup, filter_map, join_with_byte}
 use Rattle.std.specs.Str.{bytes_eq, str_to_ascii_lowercase}
 use Rattle.s3_text.specs.Characters.{comma}
 use Rattle.s3_text.specs.Order.{byte_order}
 use Rattle.s3_text.specs.Sorting.{sorted_by}
+use Rattle.s3_terms.specs.Fault.{◌>>=◌}
 use Rattle.s3_terms.specs.declared.code.Code.{Code}
 use Rattle.s3_http_heads.specs.Head.{HeadParts, first_value, values_of}
+use Rattle.s3_machine.specs.declared.command.UploadBegin.{UploadBegin}
 use Rattle.s3_versions.specs.ContentType.{content_type}
 use Rattle.s3_versions.specs.Metadata.{Entry, metadata}
 
--- the media type of an object whose put names none
+-- the media type of an object where none is named
 abbrev pub default_type : List ℕ
 default_type = codes "binary/octet-stream"
 
@@ -45,3 +47,10 @@ entry_of head name = record { name = name; value = join_with_byte comma (values_
 -- the metadata: its names with their values
 unfoldable pub metadata_of : HeadParts → Result (List Entry) Code
 metadata_of head = metadata (map (entry_of head) (names_of head))
+
+-- what is said of the object
+unfoldable pub description_of : HeadParts → Result UploadBegin Code
+description_of head = do
+  content_type ← content_type_of head
+  metadata ← metadata_of head
+  Ok (record { content_type = content_type; metadata = metadata })

@@ -15,10 +15,14 @@ use Rattle.s3_requests.specs.Routing.{KeyPlan, route_of}
 abbrev pub is_unbroken_entry : Entry → Bool
 is_unbroken_entry entry = is_unbroken entry.name && is_unbroken entry.value
 
--- nor in what is to be stored under a key beside a body
+-- nor in a media type and in metadata
+abbrev pub AreUnbroken : List ℕ → List Entry → Type 0
+AreUnbroken content_type metadata = (is_unbroken content_type ≡ true) × (list_all is_unbroken_entry metadata ≡ true)
+
+-- nor in what is to be stored under a key beside a body, now or when an upload is complete
 abbrev pub IsUnbrokenAsk : KeyPlan → Type 0
-IsUnbrokenAsk (key_commands.Put put) =
-    (is_unbroken put.content_type ≡ true) × (list_all is_unbroken_entry put.metadata ≡ true)
+IsUnbrokenAsk (key_commands.Put put) = AreUnbroken put.content_type put.metadata
+IsUnbrokenAsk (key_commands.Begin begin) = AreUnbroken begin.content_type begin.metadata
 IsUnbrokenAsk other = Unit {0}
 
 abbrev pub IsUnbrokenPlan : Plan → Type 0

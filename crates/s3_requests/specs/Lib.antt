@@ -7,6 +7,7 @@ pub mod Name
 pub mod Operations
 pub mod ReadConditions
 pub mod Routing
+pub mod UploadArguments
 pub use Rattle.s3_http_heads.specs.Head
 pub use Rattle.s3_http_heads.specs.Target
 pub use Rattle.s3_conditions.specs.Conditions
@@ -16,4 +17,5 @@ pub use Rattle.s3_names.specs.Ids
 pub use Rattle.s3_names.specs.Names
 pub use Rattle.s3_versions.specs.ContentType
 pub use Rattle.s3_versions.specs.Metadata
+pub use Rattle.s3_documents.specs.Completion
 pub use Rattle.s3_documents.specs.Versioning

@@ -1,6 +1,7 @@
--- The arguments of ListObjectsV2 and of ListObjectVersions (Amazon S3 API Reference, "URI Request Parameters" of each): of a
--- parameter the first occurrence counts, and one that is there with an empty value is there.
-use Rattle.std.specs.Prelude.{ℕ, Bool, not, ◌==◌, min, List, [], length, codes, Option, Some, None, option_map, ok_or, Result, Ok}
+-- The arguments of lists: of ListObjectsV2, ListObjectVersions, ListMultipartUploads and ListParts (Amazon S3 API Reference,
+-- "URI Request Parameters" of each): of a parameter the first occurrence counts, and one that is there with an empty value is
+-- there.
+use Rattle.std.specs.Prelude.{ℕ, Bool, not, ◌&&◌, ◌==◌, min, List, [], length, codes, Option, Some, None, option_map, ok_or, Result, Ok}
 use Rattle.std.specs.List.{list_all}
 use Rattle.std.specs.Option.{unwrap_or}
 use Rattle.hex.specs.Hex.{decode_of}
@@ -9,12 +10,16 @@ use Rattle.s3_text.specs.Digits.{decimal_number}
 use Rattle.s3_terms.specs.Fault.{refuse, ◌>>◌, ◌>>=◌}
 use Rattle.s3_terms.specs.declared.code.Code.{Code}
 use Rattle.s3_terms.specs.declared.code.Code.TheVariants.{InvalidArgument, NotImplemented}
+use Rattle.s3_names.specs.Ids.{upload_id}
 use Rattle.s3_names.specs.declared.ids.VersionId.{VersionId}
-use Rattle.s3_http_heads.specs.Target.{TargetParts, first_parameter}
+use Rattle.s3_http_heads.specs.Target.{TargetParts, first_parameter, has_parameter}
 use Rattle.s3_listings.specs.Text.{text_read}
 use Rattle.s3_listings.specs.declared.asked.ObjectsAsked.{ObjectsAsked}
+use Rattle.s3_listings.specs.declared.asked.PartsAsked.{PartsAsked}
+use Rattle.s3_listings.specs.declared.asked.UploadsAsked.{UploadsAsked}
 use Rattle.s3_listings.specs.declared.asked.VersionsAsked.{VersionsAsked}
-use Rattle.s3_requests.specs.Arguments.{as_argument, id_read}
+use Rattle.s3_requests.specs.declared.list_arguments.KeysAsked.{KeysAsked}
+use Rattle.s3_requests.specs.Arguments.{as_argument, version_argument}
 
 -- the value of a parameter; an absent one has the empty value
 abbrev pub value_of : List ℕ → TargetParts → List ℕ
@@ -50,17 +55,37 @@ token_named (Some digits) = do
   text ← text_spelled digits
   Ok (Some text)
 
--- how many items a page has at most: 1 to 9 decimal digits, and more than 1,000 are 1,000, as many as where it isn't said
-unfoldable pub count_named : Option (List ℕ) → Result ℕ Code
-count_named None = Ok 1_000
-count_named (Some text) = ok_or (option_map (min 1_000) (decimal_number 9 text)) InvalidArgument
+-- the number that 1 to 9 decimal digits spell; where it isn't said, this one
+abbrev pub number_named : ℕ → Option (List ℕ) → Result ℕ Code
+number_named otherwise None = Ok otherwise
+number_named otherwise (Some text) = ok_or (decimal_number 9 text) InvalidArgument
 
--- the version of the key, which has to be named, behind which the list goes on, if there is one
-unfoldable pub marker_named : List ℕ → Option (List ℕ) → Result (Option VersionId) Code
-marker_named key None = Ok None
-marker_named key (Some text) = do
-  refuse (length key == 0) InvalidArgument
-  id_read text
+-- how many items a page has at most: more than 1,000 are 1,000, as many as where it isn't said
+unfoldable pub count_named : Option (List ℕ) → Result ℕ Code
+count_named named = do
+  number ← number_named 1_000 named
+  Ok (min 1_000 number)
+
+-- the list is to go on behind an id, and the key is empty, whose it would be
+abbrev pub lacks_key : List ℕ → List ℕ → TargetParts → Bool
+lacks_key name key target = has_parameter name target && length key == 0
+
+-- the version of the key behind which the list goes on, if there is one
+unfoldable pub version_marker : List ℕ → TargetParts → Result (Option VersionId) Code
+version_marker key target = do
+  refuse (lacks_key (codes "version-id-marker") key target) InvalidArgument
+  version_argument (codes "version-id-marker") target
+
+-- the upload whose id a marker is, if one is there
+abbrev pub upload_marked : Option (List ℕ) → Result (Option ℕ) Code
+upload_marked None = Ok None
+upload_marked (Some text) = ok_or (option_map Some (upload_id text)) InvalidArgument
+
+-- the upload to the key behind which the list goes on, if there is one
+unfoldable pub upload_marker : List ℕ → TargetParts → Result (Option ℕ) Code
+upload_marker key target = do
+  refuse (lacks_key (codes "upload-id-marker") key target) InvalidArgument
+  upload_marked (first_parameter (codes "upload-id-marker") target)
 
 -- what is asked of a list of objects
 unfoldable pub objects_asked_of : TargetParts → Result ObjectsAsked Code
@@ -76,12 +101,32 @@ objects_asked_of target = do
 abbrev pub has_delimiter : TargetParts → Bool
 has_delimiter target = not (length (value_of (codes "delimiter") target) == 0)
 
--- what is asked of a list of versions, which has no common prefixes
-unfoldable pub versions_asked_of : TargetParts → Result VersionsAsked Code
-versions_asked_of target = do
+-- what is asked of a list of versions or of uploads, none of which has common prefixes, but for the id behind which it goes on
+unfoldable pub keys_asked_of : List ℕ → TargetParts → Result KeysAsked Code
+keys_asked_of count target = do
   refuse (has_delimiter target) NotImplemented
-  max_keys ← count_named (first_parameter (codes "max-keys") target)
+  most ← count_named (first_parameter count target)
   prefix ← text_argument (codes "prefix") target
   key_marker ← text_argument (codes "key-marker") target
-  id_marker ← marker_named key_marker (first_parameter (codes "version-id-marker") target)
-  Ok (record { prefix = prefix; key_marker = key_marker; id_marker = id_marker; max_keys = max_keys })
+  Ok (record { prefix = prefix; key_marker = key_marker; most = most })
+
+-- what is asked of a list of versions
+unfoldable pub versions_asked_of : TargetParts → Result VersionsAsked Code
+versions_asked_of target = do
+  keys ← keys_asked_of (codes "max-keys") target
+  id_marker ← version_marker keys.key_marker target
+  Ok (record { prefix = keys.prefix; key_marker = keys.key_marker; id_marker = id_marker; max_keys = keys.most })
+
+-- what is asked of a list of uploads
+unfoldable pub uploads_asked_of : TargetParts → Result UploadsAsked Code
+uploads_asked_of target = do
+  keys ← keys_asked_of (codes "max-uploads") target
+  id_marker ← upload_marker keys.key_marker target
+  Ok (record { prefix = keys.prefix; key_marker = keys.key_marker; id_marker = id_marker; max_uploads = keys.most })
+
+-- what is asked of a list of parts: those behind a number, or all
+unfoldable pub parts_asked_of : TargetParts → Result PartsAsked Code
+parts_asked_of target = do
+  max_parts ← count_named (first_parameter (codes "max-parts") target)
+  marker ← number_named 0 (first_parameter (codes "part-number-marker") target)
+  Ok (record { marker = marker; max_parts = max_parts })

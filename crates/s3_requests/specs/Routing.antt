@@ -18,6 +18,10 @@ use Rattle.s3_requests.specs.declared.routing.Plan.{Plan}
 use Rattle.s3_requests.specs.declared.routing.Plan.TheVariants as plans
 use Rattle.s3_requests.specs.declared.routing.BucketPlan.{BucketPlan}
 use Rattle.s3_requests.specs.declared.routing.BucketPlan.TheVariants as bucket_plans
+use Rattle.s3_requests.specs.declared.routing.UploadPlan.{UploadPlan}
+use Rattle.s3_requests.specs.declared.routing.UploadPlan.TheVariants as upload_plans
+use Rattle.s3_requests.specs.declared.routing.KeyAsked.{KeyAsked}
+use Rattle.s3_requests.specs.declared.routing.KeyAsked.TheVariants as key_asked
 use Rattle.s3_machine.specs.declared.command.Command.{Command}
 use Rattle.s3_machine.specs.declared.command.Command.TheVariants as commands
 use Rattle.s3_machine.specs.declared.command.BucketCommand.{BucketCommand}
@@ -25,12 +29,16 @@ use Rattle.s3_machine.specs.declared.command.BucketCommand.TheVariants as bucket
 use Rattle.s3_machine.specs.declared.command.KeyCommand.{KeyCommand}
 use Rattle.s3_machine.specs.declared.command.KeyCommand.TheVariants as key_commands
 use Rattle.s3_machine.specs.declared.command.ObjectPut.{ObjectPut}
+use Rattle.s3_machine.specs.declared.command.UploadCommand.{UploadCommand}
+use Rattle.s3_machine.specs.declared.command.UploadCommand.TheVariants as upload_commands
+use Rattle.s3_documents.specs.Completion.{completion_read}
 use Rattle.s3_documents.specs.Versioning.{versioning_read}
 use Rattle.s3_requests.specs.Arguments.{version_argument}
-use Rattle.s3_requests.specs.ListArguments.{objects_asked_of, versions_asked_of}
+use Rattle.s3_requests.specs.ListArguments.{objects_asked_of, versions_asked_of, uploads_asked_of, parts_asked_of}
+use Rattle.s3_requests.specs.UploadArguments.{upload_argument, part_argument}
 use Rattle.s3_requests.specs.CopySource.{source_of}
 use Rattle.s3_requests.specs.ReadConditions.{conditions_of}
-use Rattle.s3_requests.specs.Description.{content_type_of, metadata_of}
+use Rattle.s3_requests.specs.Description.{description_of}
 use Rattle.s3_requests.specs.Operations.{service_operation, bucket_operation, key_operation}
 
 -- the sub-resources of S3 that this server doesn't have
@@ -80,6 +88,12 @@ versions_plan target = do
   asked ← versions_asked_of target
   Ok (bucket_plans.ListVersions asked)
 
+-- ListMultipartUploads, with what is asked of the list
+abbrev pub uploads_plan : TargetParts → Result BucketPlan Code
+uploads_plan target = do
+  asked ← uploads_asked_of target
+  Ok (bucket_plans.ListUploads asked)
+
 -- an operation on a bucket with its arguments, if this server has it
 abbrev pub bucket_plan_for : Operation → TargetParts → Result BucketPlan Code
 bucket_plan_for operations.CreateBucket target = Ok bucket_plans.Create
@@ -89,6 +103,7 @@ bucket_plan_for operations.PutBucketVersioning target = Ok bucket_plans.PutVersi
 bucket_plan_for operations.GetBucketVersioning target = Ok bucket_plans.GetVersioning
 bucket_plan_for operations.ListObjectsV2 target = objects_plan target
 bucket_plan_for operations.ListObjectVersions target = versions_plan target
+bucket_plan_for operations.ListMultipartUploads target = uploads_plan target
 bucket_plan_for other target = Err NotImplemented
 
 -- what is asked of a bucket
@@ -104,9 +119,14 @@ KeyPlan = KeyCommand (Unit {0})
 -- PutObject, with what the head says of the object
 unfoldable pub put_plan : HeadParts → Result KeyPlan Code
 put_plan head = do
-  content_type ← content_type_of head
-  metadata ← metadata_of head
-  Ok (key_commands.Put (record { content_type = content_type; metadata = metadata; payload = tt }))
+  said ← description_of head
+  Ok (key_commands.Put (record { content_type = said.content_type; metadata = said.metadata; payload = tt }))
+
+-- CreateMultipartUpload, with what the head says of the object
+abbrev pub begin_plan : HeadParts → Result KeyPlan Code
+begin_plan head = do
+  said ← description_of head
+  Ok (key_commands.Begin said)
 
 -- CopyObject, with what it copies
 abbrev pub copy_plan : HeadParts → Result KeyPlan Code
@@ -117,29 +137,62 @@ copy_plan head = do
 -- GetObject and HeadObject, whose reply leaves the bytes out
 unfoldable pub read_plan : HeadParts → TargetParts → Result KeyPlan Code
 read_plan head target = do
-  version ← version_argument target
+  version ← version_argument (codes "versionId") target
   Ok (key_commands.Read (record { version = version; conditions = conditions_of head }))
 
 -- DeleteObject
 unfoldable pub delete_plan : TargetParts → Result KeyPlan Code
 delete_plan target = do
-  version ← version_argument target
+  version ← version_argument (codes "versionId") target
   Ok (key_commands.Delete version)
 
 -- an operation on a key with its arguments, if this server has it
-abbrev pub key_plan_for : Operation → HeadParts → TargetParts → Result KeyPlan Code
+unfoldable pub key_plan_for : Operation → HeadParts → TargetParts → Result KeyPlan Code
 key_plan_for operations.PutObject head target = put_plan head
 key_plan_for operations.CopyObject head target = copy_plan head
 key_plan_for operations.GetObject head target = read_plan head target
 key_plan_for operations.HeadObject head target = read_plan head target
 key_plan_for operations.DeleteObject head target = delete_plan target
+key_plan_for operations.CreateMultipartUpload head target = begin_plan head
 key_plan_for other head target = Err NotImplemented
 
--- what is asked of a key
-unfoldable pub key_plan : HeadParts → TargetParts → Result KeyPlan Code
+-- CompleteMultipartUpload and AbortMultipartUpload, with their upload
+abbrev pub upload_plan : UploadPlan → TargetParts → Result KeyAsked Code
+upload_plan asked target = do
+  id ← upload_argument target
+  Ok (key_asked.Upload id asked)
+
+-- ListParts, with what is asked of the list, and its upload
+unfoldable pub parts_plan : TargetParts → Result KeyAsked Code
+parts_plan target = do
+  asked ← parts_asked_of target
+  upload_plan (upload_plans.ListParts asked) target
+
+-- UploadPart, with its part
+abbrev pub part_plan : TargetParts → Result KeyAsked Code
+part_plan target = do
+  part ← part_argument target
+  Ok (key_asked.Upload part.0 (upload_plans.PutPart part.1))
+
+-- what is asked of the key itself
+abbrev pub of_key : Result KeyPlan Code → Result KeyAsked Code
+of_key plan = do
+  asked ← plan
+  Ok (key_asked.Key asked)
+
+-- an operation on a key, or on an upload to it, with its arguments, if this server has it
+abbrev pub asked_for : Operation → HeadParts → TargetParts → Result KeyAsked Code
+asked_for operations.UploadPart head target = part_plan target
+asked_for operations.ListParts head target = parts_plan target
+asked_for operations.CompleteMultipartUpload head target = upload_plan upload_plans.Complete target
+asked_for operations.AbortMultipartUpload head target = upload_plan upload_plans.Abort target
+asked_for other head target = of_key (key_plan_for other head target)
+
+-- what is asked of a key, or of an upload to it
+unfoldable pub key_plan : HeadParts → TargetParts → Result KeyAsked Code
 key_plan head target = do
   operation ← ok_or (key_operation (method_of head.method) head target) MethodNotAllowed
-  key_plan_for operation head target
+  asked_for operation head target
 
 -- what is asked of the bucket of this name
 abbrev pub plan_of_bucket : List ℕ → HeadParts → TargetParts → Result Plan Code
@@ -147,12 +200,17 @@ plan_of_bucket name head target = do
   asked ← bucket_plan head target
   Ok (plans.Bucket name asked)
 
+-- the plan of what is asked of this key
+abbrev pub plan_under : List ℕ → List ℕ → KeyAsked → Plan
+plan_under bucket key (key_asked.Key asked) = plans.Key bucket key asked
+plan_under bucket key (key_asked.Upload id asked) = plans.Upload bucket key id asked
+
 -- what is asked of a key in the bucket of this name
 abbrev pub plan_of_key : List ℕ → HeadParts → TargetParts → Result Plan Code
 plan_of_key name head target = do
   key ← object_key target.key
   asked ← key_plan head target
-  Ok (plans.Key name key asked)
+  Ok (plan_under name key asked)
 
 -- what is asked of a bucket, or of a key in it; where the key is empty, the bucket is meant
 unfoldable pub named_plan : HeadParts → TargetParts → Result Plan Code
@@ -187,6 +245,7 @@ bucket_command_of bucket_plans.PutVersioning body = versioning_command_of body
 bucket_command_of bucket_plans.GetVersioning body = Ok bucket_commands.GetVersioning
 bucket_command_of (bucket_plans.ListObjects asked) body = Ok (bucket_commands.ListObjects asked)
 bucket_command_of (bucket_plans.ListVersions asked) body = Ok (bucket_commands.ListVersions asked)
+bucket_command_of (bucket_plans.ListUploads asked) body = Ok (bucket_commands.ListUploads asked)
 
 -- what is to be stored, with its body
 abbrev pub put_with : ObjectPut (Unit {0}) → List ℕ → ObjectPut (List ℕ)
@@ -198,6 +257,20 @@ key_command_of (key_commands.Put put) body = key_commands.Put (put_with put body
 key_command_of (key_commands.Copy copy) body = key_commands.Copy copy
 key_command_of (key_commands.Read read) body = key_commands.Read read
 key_command_of (key_commands.Delete version) body = key_commands.Delete version
+key_command_of (key_commands.Begin begin) body = key_commands.Begin begin
+
+-- CompleteMultipartUpload, with the parts that the body lists
+abbrev pub completion_command_of : List ℕ → Result UploadCommand Code
+completion_command_of body = do
+  listed ← completion_read body
+  Ok (upload_commands.Complete listed)
+
+-- the same of an upload
+abbrev pub upload_command_of : UploadPlan → List ℕ → Result UploadCommand Code
+upload_command_of (upload_plans.PutPart number) body = Ok (upload_commands.PutPart number body)
+upload_command_of upload_plans.Complete body = completion_command_of body
+upload_command_of upload_plans.Abort body = Ok upload_commands.Abort
+upload_command_of (upload_plans.ListParts asked) body = Ok (upload_commands.ListParts asked)
 
 -- the operation with the body that came, if it can use the body
 unfoldable pub command_of : Plan → List ℕ → Result Command Code
@@ -206,13 +279,22 @@ command_of (plans.Bucket name asked) body = do
   command ← bucket_command_of asked body
   Ok (commands.Bucket name command)
 command_of (plans.Key bucket key asked) body = Ok (commands.Key bucket key (key_command_of asked body))
+command_of (plans.Upload bucket key id asked) body = do
+  command ← upload_command_of asked body
+  Ok (commands.Upload bucket key id command)
 
 -- the bucket's versioning is to be set
 abbrev pub is_versioning_set : BucketPlan → Bool
 is_versioning_set bucket_plans.PutVersioning = true
 is_versioning_set other = false
 
--- the operation reads a document from its body: a PutBucketVersioning
+-- the upload is to be completed
+abbrev pub is_completion : UploadPlan → Bool
+is_completion upload_plans.Complete = true
+is_completion other = false
+
+-- the operation reads a document from its body: a PutBucketVersioning, or a CompleteMultipartUpload
 abbrev pub reads_body : Plan → Bool
 reads_body (plans.Bucket name asked) = is_versioning_set asked
+reads_body (plans.Upload bucket key id asked) = is_completion asked
 reads_body other = false

@@ -6,12 +6,12 @@ use s3_http_heads::Target;
 use s3_names::VersionId;
 use s3_terms::Code;
 
-// The version that is asked for, if one is: `InvalidArgument` where what names it is no id.
+// The version that the first parameter of this name names, if one is there: `InvalidArgument` where its value is no id.
 #[tactic(auto, unfolding(crate::specs::Arguments::version_argument))]
-pub(crate) fn version_argument(target: &Target) -> Result<Option<VersionId>, Code>
-    ensures { result ≡ rules.version_argument target.now }
+pub(crate) fn version_argument(target: &Target, name: &[u8]) -> Result<Option<VersionId>, Code>
+    ensures { result ≡ rules.version_argument name.now target.now }
 {
-    match target.first(b"versionId") {
+    match target.first(name) {
         None => Ok(None),
         Some(text) => read_id(text),
     }

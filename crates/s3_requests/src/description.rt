@@ -1,4 +1,4 @@
-//! What the head of a put says of its object: its media type and its user metadata.
+//! What the head of a put, or of the beginning of an upload, says of its object: its media type and its user metadata.
 ghost use Rattle.std.specs.Prelude.{◌≡◌, ◌++◌, ◌∷◌, ◌≤◌, if◌then◌else◌, map, length, IfOk};
 ghost use Rattle.std.specs.List.{filter_map, join_with_byte};
 ghost use Rattle.std.specs.Option.{option_copied, option_to_list};
@@ -9,20 +9,34 @@ ghost use Rattle.s3_requests.specs.Description as rules;
 ghost use Rattle.s3_requests.specs.Name.{texts};
 
 use s3_http_heads::{Head, is_named};
+use s3_machine::UploadBegin;
 use s3_terms::Code;
 use s3_versions::{ContentType, Metadata, MetadataEntry};
 use std::alloc::{AllocError, Global};
 
-/// The media type of an object whose put names none.
+/// The media type of an object where none is named.
 const DEFAULT_TYPE: &[u8] = b"binary/octet-stream";
 
 /// How the names of metadata lines begin.
 const FRONT: &[u8] = b"x-amz-meta-";
 
+// What is said of the object: `InvalidArgument` of its media type, and then `MetadataTooLarge`.
+#[tactic(auto, unfolding(crate::specs::Description::description_of))]
+pub(crate) fn description_of(alloc: Global, head: &Head) -> Result<UploadBegin, Code>
+    ensures { Follows result (rules.description_of head.now) }
+{
+    let content_type = content_type_of(alloc, head)?;
+    let metadata = metadata_of(alloc, head)?;
+    Ok(UploadBegin {
+        content_type,
+        metadata,
+    })
+}
+
 // The media type of the object: the value of the first Content-Type line, or the default. `InvalidArgument` above
 // 255 bytes.
 #[tactic(auto, unfolding(crate::specs::Description::content_type_of))]
-pub(crate) fn content_type_of(alloc: Global, head: &Head) -> Result<ContentType, Code>
+fn content_type_of(alloc: Global, head: &Head) -> Result<ContentType, Code>
     ensures { FollowsToEnd result (rules.content_type_of head.now) }
 {
     ContentType::read(alloc, type_sent(head.first(b"content-type")))
@@ -40,7 +54,7 @@ fn type_sent<'a>(sent: Option<&'a [u8]>) -> &'a [u8]
 
 // The metadata of the object. `MetadataTooLarge` above 2,048 bytes.
 #[tactic(auto, unfolding(crate::specs::Description::metadata_of))]
-pub(crate) fn metadata_of(alloc: Global, head: &Head) -> Result<Metadata, Code>
+fn metadata_of(alloc: Global, head: &Head) -> Result<Metadata, Code>
     ensures { Follows result (rules.metadata_of head.now) }
 {
     match entries_of(alloc, head) {

@@ -4,8 +4,8 @@ ghost use Rattle.s3_requests.specs.Laws.{PlansAreUnbroken, TokensAreReadBack};
 
 use s3_http_heads::lines_are_whole;
 
-/// A law: no carriage return is in the media type and the metadata that a head asks to be stored, so that a reply
-/// may tell each in a line.
+/// A law: no carriage return is in the media type and the metadata that a head asks to be stored, with its body or when an
+/// upload is complete, so that a reply may tell each in a line.
 pub fn plans_are_unbroken()
     ensures { PlansAreUnbroken }
 {

@@ -10,7 +10,10 @@ mod list_arguments;
 mod operations;
 mod read_conditions;
 mod routing;
+mod upload_arguments;
 
 pub use laws::{plans_are_unbroken, tokens_are_read_back};
-pub use routing::{BucketPlan, Plan, command, route};
-pub use s3_machine::{BucketCommand, Command, KeyCommand, ObjectPut, ObjectRead};
+pub use routing::{BucketPlan, Plan, UploadPlan, command, route};
+pub use s3_machine::{
+    BucketCommand, Command, KeyCommand, ObjectPut, ObjectRead, UploadBegin, UploadCommand,
+};

@@ -1,32 +1,33 @@
 //! What is asked of a list.
 ghost use Rattle.std.specs.Prelude.{◌≡◌, ◌⊎◌, Ok, Err, IfOk, IfErr, codes};
 ghost use Rattle.std.specs.List.{list_all};
+ghost use Rattle.std.specs.Option.{option_copied};
 ghost use Rattle.s3_text.specs.Characters.{is_lower_hex};
 ghost use Rattle.s3_terms.specs.Fault.{Follows};
 ghost use Rattle.s3_http_heads.specs.Target.{first_parameter};
 ghost use Rattle.s3_requests.specs.ListArguments as rules;
 
-use crate::arguments::read_id;
+use crate::arguments::version_argument;
 use hex::FromHexError;
 use s3_http_heads::Target;
-use s3_listings::{ObjectsAsked, Text, VersionsAsked};
-use s3_names::VersionId;
+use s3_listings::{ObjectsAsked, PartsAsked, Text, UploadsAsked, VersionsAsked};
+use s3_names::{UploadId, VersionId};
 use s3_terms::Code;
 use s3_text::decimal_number;
 use std::alloc::Global;
 
 /// How many items a page has at most, however many are asked for.
-const MOST_KEYS: u16 = 1_000;
+const MOST_ITEMS: u64 = 1_000;
 
-/// The most decimal digits that spell a count.
-const COUNT_DIGITS: usize = 9;
+/// The most decimal digits that spell a count, or the number of a part as a marker.
+const NUMBER_DIGITS: usize = 9;
 
 // What is asked of a list of objects: `InvalidArgument` where an argument isn't of its form.
 #[tactic(auto, unfolding(crate::specs::ListArguments::objects_asked_of))]
 pub(crate) fn objects_asked(alloc: Global, target: &Target) -> Result<ObjectsAsked, Code>
     ensures { Follows result (rules.objects_asked_of target.now) }
 {
-    let max_keys = count_argument(target)?;
+    let max_keys = count_argument(target, b"max-keys")?;
     let prefix = text_argument(alloc, target, b"prefix")?;
     let delimiter = text_argument(alloc, target, b"delimiter")?;
     let start_after = optional_text(alloc, target, b"start-after")?;
@@ -42,23 +43,69 @@ pub(crate) fn objects_asked(alloc: Global, target: &Target) -> Result<ObjectsAsk
 
 // What is asked of a list of versions: `NotImplemented` where common prefixes are asked for, and then `InvalidArgument`
 // where an argument isn't of its form.
-#[tactic(auto, unfolding(crate::specs::ListArguments::versions_asked_of))]
+#[tactic(auto, unfolding(crate::specs::ListArguments::versions_asked_of, crate::specs::ListArguments::keys_asked_of))]
 pub(crate) fn versions_asked(alloc: Global, target: &Target) -> Result<VersionsAsked, Code>
     ensures { Follows result (rules.versions_asked_of target.now) }
+{
+    let keys = keys_asked(alloc, target, b"max-keys")?;
+    let id_marker = version_marker(target, &keys.key_marker)?;
+    Ok(VersionsAsked {
+        prefix: keys.prefix,
+        key_marker: keys.key_marker,
+        id_marker,
+        max_keys: keys.most,
+    })
+}
+
+// What is asked of a list of uploads, with the refusals of a list of versions.
+#[tactic(auto, unfolding(crate::specs::ListArguments::uploads_asked_of, crate::specs::ListArguments::keys_asked_of))]
+pub(crate) fn uploads_asked(alloc: Global, target: &Target) -> Result<UploadsAsked, Code>
+    ensures { Follows result (rules.uploads_asked_of target.now) }
+{
+    let keys = keys_asked(alloc, target, b"max-uploads")?;
+    let id_marker = upload_marker(target, &keys.key_marker)?;
+    Ok(UploadsAsked {
+        prefix: keys.prefix,
+        key_marker: keys.key_marker,
+        id_marker,
+        max_uploads: keys.most,
+    })
+}
+
+/// What is asked of a list of versions or of uploads, but for the id behind which it goes on.
+#[derive(Drop)]
+pub(crate) struct KeysAsked {
+    prefix: Text,
+    key_marker: Text,
+    most: u16,
+}
+
+// What is asked of such a list, whose count this parameter says.
+#[tactic(auto, unfolding(crate::specs::ListArguments::keys_asked_of))]
+fn keys_asked(alloc: Global, target: &Target, count: &[u8]) -> Result<KeysAsked, Code>
+    ensures { Follows result (rules.keys_asked_of count.now target.now) }
 {
     if has_delimiter(target) {
         return Err(Code::NotImplemented);
     }
-    let max_keys = count_argument(target)?;
+    let most = count_argument(target, count)?;
     let prefix = text_argument(alloc, target, b"prefix")?;
     let key_marker = text_argument(alloc, target, b"key-marker")?;
-    let id_marker = marker_argument(target, &key_marker)?;
-    Ok(VersionsAsked {
+    Ok(KeysAsked {
         prefix,
         key_marker,
-        id_marker,
-        max_keys,
+        most,
     })
+}
+
+// What is asked of a list of parts: `InvalidArgument` where an argument isn't of its form.
+#[tactic(auto, unfolding(crate::specs::ListArguments::parts_asked_of))]
+pub(crate) fn parts_asked(target: &Target) -> Result<PartsAsked, Code>
+    ensures { result ≡ rules.parts_asked_of target.now }
+{
+    let max_parts = count_argument(target, b"max-parts")?;
+    let marker = number_argument(target, b"part-number-marker", 0)?;
+    Ok(PartsAsked { marker, max_parts })
 }
 
 // Whether common prefixes are asked for.
@@ -69,7 +116,7 @@ fn has_delimiter(target: &Target) -> bool
 }
 
 // The value of the first parameter of this name; an absent one has the empty value.
-fn value_of<'a>(target: &'a Target, name: &[u8]) -> &'a [u8]
+pub(crate) fn value_of<'a>(target: &'a Target, name: &[u8]) -> &'a [u8]
     ensures { result.now ≡ rules.value_of name.now target.now }
 {
     match target.first(name) {
@@ -138,32 +185,63 @@ fn has_lower_hex_alone(digits: &[u8]) -> bool
         .all(|byte| matches!(*byte, b'0'..=b'9' | b'a'..=b'f'))
 }
 
-// How many items a page has at most.
+// How many items a page has at most, as the first parameter of this name says.
 #[tactic(auto, unfolding(crate::specs::ListArguments::count_named))]
-fn count_argument(target: &Target) -> Result<u16, Code>
-    ensures { result ≡ rules.count_named (first_parameter (codes "max-keys") target.now) }
+fn count_argument(target: &Target, name: &[u8]) -> Result<u16, Code>
+    ensures { result ≡ rules.count_named (first_parameter name.now target.now) }
 {
-    match target.first(b"max-keys") {
-        None => Ok(MOST_KEYS),
-        Some(text) => match decimal_number(text, COUNT_DIGITS) {
-            None => Err(Code::InvalidArgument),
-            Some(count) => Ok(count.min(u64::from(MOST_KEYS)) as u16),
-        },
+    let number = number_argument(target, name, MOST_ITEMS)?;
+    Ok(number.min(MOST_ITEMS) as u16)
+}
+
+// The number that the first parameter of this name spells; where there is none, this one.
+fn number_argument(target: &Target, name: &[u8], otherwise: u64) -> Result<u64, Code>
+    ensures { result ≡ rules.number_named otherwise (first_parameter name.now target.now) }
+{
+    match target.first(name) {
+        None => Ok(otherwise),
+        Some(text) => decimal_number(text, NUMBER_DIGITS).ok_or(Code::InvalidArgument),
     }
 }
 
-// The version of the key behind which a list goes on, if one is named.
-#[tactic(auto, unfolding(crate::specs::ListArguments::marker_named))]
-fn marker_argument(target: &Target, key: &Text) -> Result<Option<VersionId>, Code>
-    ensures { result ≡ rules.marker_named key.now (first_parameter (codes "version-id-marker") target.now) }
+// Whether a list is to go on behind an id, as the parameter of this name says, and its key is empty.
+fn lacks_key(target: &Target, name: &[u8], key: &Text) -> bool
+    ensures { result ≡ rules.lacks_key name.now key.now target.now }
 {
-    match target.first(b"version-id-marker") {
+    target.has_parameter(name) && key.as_bytes().is_empty()
+}
+
+// The version of the key behind which a list goes on, if one is named.
+#[tactic(auto, unfolding(crate::specs::ListArguments::version_marker))]
+fn version_marker(target: &Target, key: &Text) -> Result<Option<VersionId>, Code>
+    ensures { result ≡ rules.version_marker key.now target.now }
+{
+    if lacks_key(target, b"version-id-marker", key) {
+        return Err(Code::InvalidArgument);
+    }
+    version_argument(target, b"version-id-marker")
+}
+
+// The upload to the key behind which a list goes on, if one is named.
+#[tactic(auto, unfolding(crate::specs::ListArguments::upload_marker))]
+fn upload_marker(target: &Target, key: &Text) -> Result<Option<UploadId>, Code>
+    ensures { result ≡ rules.upload_marker key.now target.now }
+{
+    if lacks_key(target, b"upload-id-marker", key) {
+        return Err(Code::InvalidArgument);
+    }
+    upload_marked(target.first(b"upload-id-marker"))
+}
+
+// The upload whose id a marker is, if one is there.
+fn upload_marked(marker: Option<&[u8]>) -> Result<Option<UploadId>, Code>
+    ensures { result ≡ rules.upload_marked (option_copied marker.entry) }
+{
+    match marker {
         None => Ok(None),
-        Some(text) => {
-            if key.as_bytes().is_empty() {
-                return Err(Code::InvalidArgument);
-            }
-            read_id(text)
-        }
+        Some(text) => match UploadId::read(text) {
+            Some(id) => Ok(Some(id)),
+            None => Err(Code::InvalidArgument),
+        },
     }
 }

@@ -9,16 +9,19 @@ ghost use Rattle.s3_requests.specs.Routing as rules;
 
 use crate::arguments::version_argument;
 use crate::copy_source::copy_source;
-use crate::description::{content_type_of, metadata_of};
-use crate::list_arguments::{objects_asked, versions_asked};
+use crate::description::description_of;
+use crate::list_arguments::{objects_asked, parts_asked, uploads_asked, versions_asked};
 use crate::operations::{Operation, bucket_operation, key_operation, service_operation};
 use crate::read_conditions::conditions_of;
+use crate::upload_arguments::{part_argument, upload_argument};
 use s3_bodies::Payload;
-use s3_documents::read_versioning;
+use s3_documents::{read_completion, read_versioning};
 use s3_http_heads::{Head, Target};
-use s3_listings::{ObjectsAsked, VersionsAsked};
-use s3_machine::{BucketCommand, Command, KeyCommand, ObjectCopy, ObjectPut, ObjectRead};
-use s3_names::{BucketName, Key};
+use s3_listings::{ObjectsAsked, PartsAsked, UploadsAsked, VersionsAsked};
+use s3_machine::{
+    BucketCommand, Command, KeyCommand, ObjectCopy, ObjectPut, ObjectRead, UploadCommand,
+};
+use s3_names::{BucketName, Key, PartNumber, UploadId};
 use s3_terms::{Code, NoMemory};
 use std::alloc::Global;
 
@@ -37,6 +40,13 @@ pub enum Plan {
         bucket: BucketName,
         key: Key,
         asked: KeyCommand<()>,
+    },
+    /// One about an upload to a key of a bucket.
+    Upload {
+        bucket: BucketName,
+        key: Key,
+        id: UploadId,
+        asked: UploadPlan,
     },
 }
 
@@ -57,6 +67,28 @@ pub enum BucketPlan {
     ListObjects(ObjectsAsked),
     /// List its versions (ListObjectVersions).
     ListVersions(VersionsAsked),
+    /// List the uploads to its keys (ListMultipartUploads).
+    ListUploads(UploadsAsked),
+}
+
+/// What is asked of an upload, before the body is read.
+#[derive(Drop)]
+pub enum UploadPlan {
+    /// Keep the body as its part of this number (UploadPart).
+    PutPart { number: PartNumber },
+    /// Store the parts that the body lists as one object (CompleteMultipartUpload).
+    Complete,
+    /// Drop it (AbortMultipartUpload).
+    Abort,
+    /// List its parts (ListParts).
+    ListParts(PartsAsked),
+}
+
+/// What is asked under a key, before the body is read: of the key itself, or of an upload to it.
+#[derive(Drop)]
+pub(crate) enum KeyAsked {
+    Key(KeyCommand<()>),
+    Upload { id: UploadId, asked: UploadPlan },
 }
 
 /// The sub-resources of S3 that this server doesn't have, with a space between each two.
@@ -65,10 +97,10 @@ const LACKING: &[u8] =
 
 /// The operation that a verified head asks for, with its bucket, its key and its arguments (Amazon S3 User
 /// Guide, "Path-style requests"). A refusal is the first fault of routing in the order of
-/// `docs/PROTOCOL.md`; `InternalError` says that there was no memory for the names, for what a put says of
-/// its object, for the tags that a read names and for the texts that a list is asked by, of an address that may have
-/// them: without a sub-resource that this server lacks, and with the name of a bucket. The cost is linear in the names
-/// and the query, and in the header lines times the names of metadata.
+/// `docs/PROTOCOL.md`; `InternalError` says that there was no memory for the names, for what a put or the beginning of an
+/// upload says of its object, for the tags that a read names and for the texts that a list is asked by, of an address that
+/// may have them: without a sub-resource that this server lacks, and with the name of a bucket. The cost is linear in the
+/// names and the query, and in the header lines times the names of metadata.
 #[tactic(auto, unfolding(crate::specs::Routing::route_of, crate::specs::Routing::bucket_at))]
 pub fn route(alloc: Global, head: &Head) -> Result<Plan, Code>
     ensures { FollowsPast (rules.bucket_at head.now) result (rules.route_of head.now) }
@@ -81,9 +113,9 @@ pub fn route(alloc: Global, head: &Head) -> Result<Plan, Code>
 }
 
 /// The command of an operation and the body that came with its message, where the operation can use the body:
-/// `MalformedBody` where it can't. A body that the operation has no use for is dropped. Memory is taken for
-/// the document of a PutBucketVersioning alone, of a body that isn't empty; `InternalError` says that there was
-/// none.
+/// `MalformedBody` where it can't, and `InvalidArgument` where a completion lists a number that no part has. A body that the
+/// operation has no use for is dropped. Memory is taken for the document of a PutBucketVersioning or of a
+/// CompleteMultipartUpload alone, of a body that isn't empty; `InternalError` says that there was none.
 #[tactic(auto, unfolding(crate::specs::Routing::command_of))]
 pub fn command(alloc: Global, plan: Plan, payload: Payload) -> Result<Command, Code>
     ensures rule { Follows result (rules.command_of plan payload) }
@@ -100,6 +132,20 @@ pub fn command(alloc: Global, plan: Plan, payload: Payload) -> Result<Command, C
             let asked = key_command(asked, payload);
             Ok(Command::Key { bucket, key, asked })
         }
+        Plan::Upload {
+            bucket,
+            key,
+            id,
+            asked,
+        } => match upload_command(alloc, asked, payload) {
+            Ok(asked) => Ok(Command::Upload {
+                bucket,
+                key,
+                id,
+                asked,
+            }),
+            Err(code) => Err(code),
+        },
     }
 }
 
@@ -117,6 +163,7 @@ fn bucket_command(alloc: Global, asked: BucketPlan, payload: Payload) -> Result<
         BucketPlan::GetVersioning => Ok(BucketCommand::GetVersioning),
         BucketPlan::ListObjects(asked) => Ok(BucketCommand::ListObjects(asked)),
         BucketPlan::ListVersions(asked) => Ok(BucketCommand::ListVersions(asked)),
+        BucketPlan::ListUploads(asked) => Ok(BucketCommand::ListUploads(asked)),
     }
 }
 
@@ -150,6 +197,7 @@ fn key_command(asked: KeyCommand<()>, payload: Payload) -> KeyCommand<Payload>
         KeyCommand::Copy(copy) => KeyCommand::Copy(copy),
         KeyCommand::Read(read) => KeyCommand::Read(read),
         KeyCommand::Delete { version } => KeyCommand::Delete { version },
+        KeyCommand::Begin(begin) => KeyCommand::Begin(begin),
     }
 }
 
@@ -161,6 +209,32 @@ fn put_with(put: ObjectPut<()>, payload: Payload) -> ObjectPut<Payload>
         content_type: put.content_type,
         metadata: put.metadata,
         payload,
+    }
+}
+
+// What is asked of an upload, with the body.
+fn upload_command(alloc: Global, asked: UploadPlan, payload: Payload) -> Result<UploadCommand, Code>
+    ensures rule { Follows result (rules.upload_command_of asked payload) }
+    ensures memory { IfErr result (λ code. code ≡ Code.InternalError
+        → (rules.is_completion asked ≡ true) × (0 < length payload)) }
+{
+    match asked {
+        UploadPlan::PutPart { number } => Ok(UploadCommand::PutPart { number, payload }),
+        UploadPlan::Complete => completion_command(alloc, payload),
+        UploadPlan::Abort => Ok(UploadCommand::Abort),
+        UploadPlan::ListParts(asked) => Ok(UploadCommand::ListParts(asked)),
+    }
+}
+
+// CompleteMultipartUpload, with the parts that the body lists.
+fn completion_command(alloc: Global, payload: Payload) -> Result<UploadCommand, Code>
+    ensures rule { Follows result (rules.completion_command_of payload) }
+    ensures memory { IfErr result (λ code. code ≡ Code.InternalError → 0 < length payload) }
+{
+    let text = text_of(alloc, payload)?;
+    match read_completion(alloc, text.as_slice()) {
+        Ok(listed) => Ok(UploadCommand::Complete { listed }),
+        Err(code) => Err(code),
     }
 }
 
@@ -224,11 +298,22 @@ fn named_plan(alloc: Global, head: &Head, target: &Target) -> Result<Plan, Code>
     }
     let key = Key::read(alloc, target.key())?;
     let asked = key_plan(alloc, head, target)?;
-    Ok(Plan::Key {
-        bucket: name,
-        key,
-        asked,
-    })
+    Ok(plan_under(name, key, asked))
+}
+
+// The plan of what is asked under this key.
+fn plan_under(bucket: BucketName, key: Key, asked: KeyAsked) -> Plan
+    ensures { result ≡ rules.plan_under bucket key asked }
+{
+    match asked {
+        KeyAsked::Key(asked) => Plan::Key { bucket, key, asked },
+        KeyAsked::Upload { id, asked } => Plan::Upload {
+            bucket,
+            key,
+            id,
+            asked,
+        },
+    }
 }
 
 // What is asked of a bucket.
@@ -244,6 +329,7 @@ fn bucket_plan(alloc: Global, head: &Head, target: &Target) -> Result<BucketPlan
         Some(Operation::GetBucketVersioning) => Ok(BucketPlan::GetVersioning),
         Some(Operation::ListObjectsV2) => objects_plan(alloc, target),
         Some(Operation::ListObjectVersions) => versions_plan(alloc, target),
+        Some(Operation::ListMultipartUploads) => uploads_plan(alloc, target),
         Some(_) => Err(Code::NotImplemented),
         None => Err(Code::MethodNotAllowed),
     }
@@ -265,18 +351,77 @@ fn versions_plan(alloc: Global, target: &Target) -> Result<BucketPlan, Code>
     Ok(BucketPlan::ListVersions(asked))
 }
 
-// What is asked of a key.
+// ListMultipartUploads, with what is asked of the list.
+fn uploads_plan(alloc: Global, target: &Target) -> Result<BucketPlan, Code>
+    ensures { Follows result (rules.uploads_plan target.now) }
+{
+    let asked = uploads_asked(alloc, target)?;
+    Ok(BucketPlan::ListUploads(asked))
+}
+
+// What is asked of a key, or of an upload to it.
 #[tactic(auto, unfolding(crate::specs::Routing::key_plan))]
-fn key_plan(alloc: Global, head: &Head, target: &Target) -> Result<KeyCommand<()>, Code>
+fn key_plan(alloc: Global, head: &Head, target: &Target) -> Result<KeyAsked, Code>
     ensures { Follows result (rules.key_plan head.now target.now) }
 {
     match key_operation(head.method(), head, target) {
-        Some(Operation::PutObject) => put_plan(alloc, head),
-        Some(Operation::CopyObject) => copy_plan(alloc, head),
-        Some(Operation::GetObject | Operation::HeadObject) => read_plan(alloc, head, target),
-        Some(Operation::DeleteObject) => delete_plan(target),
-        Some(_) => Err(Code::NotImplemented),
+        Some(Operation::UploadPart) => part_plan(target),
+        Some(Operation::ListParts) => parts_plan(target),
+        Some(Operation::CompleteMultipartUpload) => upload_plan(target, UploadPlan::Complete),
+        Some(Operation::AbortMultipartUpload) => upload_plan(target, UploadPlan::Abort),
+        Some(operation) => match key_plan_for(alloc, head, target, operation) {
+            Ok(asked) => Ok(KeyAsked::Key(asked)),
+            Err(code) => Err(code),
+        },
         None => Err(Code::MethodNotAllowed),
+    }
+}
+
+// UploadPart, with its part.
+fn part_plan(target: &Target) -> Result<KeyAsked, Code>
+    ensures { result ≡ rules.part_plan target.now }
+{
+    let (id, number) = part_argument(target)?;
+    Ok(KeyAsked::Upload {
+        id,
+        asked: UploadPlan::PutPart { number },
+    })
+}
+
+// ListParts, with what is asked of the list, and its upload.
+#[tactic(auto, unfolding(crate::specs::Routing::parts_plan))]
+fn parts_plan(target: &Target) -> Result<KeyAsked, Code>
+    ensures { result ≡ rules.parts_plan target.now }
+{
+    let asked = parts_asked(target)?;
+    upload_plan(target, UploadPlan::ListParts(asked))
+}
+
+// CompleteMultipartUpload and AbortMultipartUpload, with their upload.
+fn upload_plan(target: &Target, asked: UploadPlan) -> Result<KeyAsked, Code>
+    ensures { result ≡ rules.upload_plan asked target.now }
+{
+    let id = upload_argument(target)?;
+    Ok(KeyAsked::Upload { id, asked })
+}
+
+// What is asked of a key itself by this operation.
+#[tactic(auto, unfolding(crate::specs::Routing::key_plan_for))]
+fn key_plan_for(
+    alloc: Global,
+    head: &Head,
+    target: &Target,
+    operation: Operation,
+) -> Result<KeyCommand<()>, Code>
+    ensures { Follows result (rules.key_plan_for operation head.now target.now) }
+{
+    match operation {
+        Operation::PutObject => put_plan(alloc, head),
+        Operation::CopyObject => copy_plan(alloc, head),
+        Operation::GetObject | Operation::HeadObject => read_plan(alloc, head, target),
+        Operation::DeleteObject => delete_plan(target),
+        Operation::CreateMultipartUpload => begin_plan(alloc, head),
+        _ => Err(Code::NotImplemented),
     }
 }
 
@@ -285,13 +430,20 @@ fn key_plan(alloc: Global, head: &Head, target: &Target) -> Result<KeyCommand<()
 fn put_plan(alloc: Global, head: &Head) -> Result<KeyCommand<()>, Code>
     ensures { Follows result (rules.put_plan head.now) }
 {
-    let content_type = content_type_of(alloc, head)?;
-    let metadata = metadata_of(alloc, head)?;
+    let said = description_of(alloc, head)?;
     Ok(KeyCommand::Put(ObjectPut {
-        content_type,
-        metadata,
+        content_type: said.content_type,
+        metadata: said.metadata,
         payload: (),
     }))
+}
+
+// CreateMultipartUpload, with what the head says of the object.
+fn begin_plan(alloc: Global, head: &Head) -> Result<KeyCommand<()>, Code>
+    ensures { Follows result (rules.begin_plan head.now) }
+{
+    let said = description_of(alloc, head)?;
+    Ok(KeyCommand::Begin(said))
 }
 
 // GetObject and HeadObject, with what the head asks of the version.
@@ -299,7 +451,7 @@ fn put_plan(alloc: Global, head: &Head) -> Result<KeyCommand<()>, Code>
 fn read_plan(alloc: Global, head: &Head, target: &Target) -> Result<KeyCommand<()>, Code>
     ensures { Follows result (rules.read_plan head.now target.now) }
 {
-    let version = version_argument(target)?;
+    let version = version_argument(target, b"versionId")?;
     let conditions = conditions_of(alloc, head)?;
     Ok(KeyCommand::Read(ObjectRead {
         version,
@@ -312,7 +464,7 @@ fn read_plan(alloc: Global, head: &Head, target: &Target) -> Result<KeyCommand<(
 fn delete_plan(target: &Target) -> Result<KeyCommand<()>, Code>
     ensures { result ≡ rules.delete_plan target.now }
 {
-    let version = version_argument(target)?;
+    let version = version_argument(target, b"versionId")?;
     Ok(KeyCommand::Delete { version })
 }
 

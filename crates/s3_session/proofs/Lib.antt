@@ -8,6 +8,7 @@ pub mod OutputLemmas
 pub mod ReadBackLemmas
 pub mod ReceivingLemmas
 pub mod ReplayLemmas
+pub mod SentLemmas
 pub mod ServesLemmas
 pub mod SoundLemmas
 pub mod StandsLemmas

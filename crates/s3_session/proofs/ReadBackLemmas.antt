@@ -1,16 +1,24 @@
 -- What is read back over one connection is what was stored.
-use Rattle.std.proofs.Common.{◌≡◌, ℕ, true, false, List, [], ◌∷◌, ◌++◌, Option, Some, None, option_map, is_some, Ok, refl, sym, ap, subst, ◌∙◌}
-use Rattle.std.specs.List.{AllByRecursion}
+use Rattle.std.proofs.Common.{◌≡◌, ◌⊎◌, inl, inr, ℕ, true, false, List, [], ◌∷◌, ◌++◌, append_assoc, length, map, Option, Some, None, option_map, is_some, Result, Ok, Err, refl, sym, ap, subst, ◌∙◌}
+use Rattle.std.specs.List.{AllByRecursion, list_all}
 use Rattle.std.proofs.lemmas.List.{map-append}
 use Rattle.s3_config.specs.Settings.{Settings}
 use Rattle.s3_names.specs.declared.ids.VersionId.{VersionId}
 use Rattle.s3_versions.specs.declared.version.Data.{Data}
+use Rattle.s3_versions.specs.Metadata.{Entry as MetadataEntry}
+use Rattle.s3_uploads.specs.declared.listed.ListedPart.{ListedPart}
+use Rattle.s3_terms.specs.Fault.{◌>>=◌}
+use Rattle.s3_terms.specs.declared.code.Code.{Code}
 use Rattle.s3_records.specs.Catalogue.{opening}
 use Rattle.s3_requests.specs.declared.routing.Plan.{Plan}
 use Rattle.s3_requests.specs.declared.routing.Plan.TheVariants as plans
+use Rattle.s3_requests.specs.declared.routing.UploadPlan.{UploadPlan}
+use Rattle.s3_requests.specs.declared.routing.UploadPlan.TheVariants as upload_plans
 use Rattle.s3_machine.specs.declared.command.KeyCommand.TheVariants as key_commands
+use Rattle.s3_machine.specs.declared.command.UploadCommand.{UploadCommand}
+use Rattle.s3_machine.specs.declared.command.UploadCommand.TheVariants as upload_commands
 use Rattle.s3_requests.specs.Laws.{PlansAreUnbroken}
-use Rattle.s3_requests.specs.Routing.{bucket_command_of, command_of}
+use Rattle.s3_requests.specs.Routing.{bucket_command_of, upload_command_of, command_of}
 use Rattle.s3_conditions.specs.declared.conditions.Selection.{Selection}
 use Rattle.s3_conditions.specs.declared.conditions.Selection.TheVariants.{Whole, Part, Unchanged}
 use Rattle.s3_machine.specs.declared.command.Command.{Command}
@@ -18,35 +26,41 @@ use Rattle.s3_machine.specs.declared.command.Found.{Found}
 use Rattle.s3_machine.specs.declared.command.Outcome.{Outcome}
 use Rattle.s3_machine.specs.declared.command.Outcome.TheVariants.{Got}
 use Rattle.s3_machine.specs.Step.{State}
-use Rattle.s3_machine.specs.Effects.{Address, Read, brought, brings, whole, given, given_whole, found_object, succeeds}
+use Rattle.s3_machine.specs.Effects.{Address, UploadPlace, Read, brought, brings, sent, upload_sent, whole, given, given_whole, found_object, succeeds}
 use Rattle.s3_machine.specs.History.{Entry, Legal}
-use Rattle.s3_machine.specs.Kept.{LeavesKey, SparesVersion, IsGiven, Puts, Copies, EveryHistory, StoredIsKept, VersionsAreKept, OnlyStoredIsGiven, OnlyPutsAreStored, ReadsGiveOrFail, ReadsAreJudged, PutsAreKept, PutVersionsAreKept, CopiesAreKept, CopyVersionsAreKept}
-use Rattle.s3_replies.specs.Laws.{Carries, IsUnbroken, PartsAreCarried, tells_success, SuccessIsShown, ObjectsAreCarried, TagsAreUnbroken}
+use Rattle.s3_machine.specs.Kept.{LeavesKey, SparesVersion, IsGiven, Puts, WasPut, Copies, EveryHistory, StoredIsKept, VersionsAreKept, OnlyStoredIsGiven, StoredWasBrought, ReadsGiveOrFail, ReadsAreJudged, PutsAreKept, PutVersionsAreKept, CopiesAreKept, CopyVersionsAreKept}
+use Rattle.s3_machine.specs.Uploads.{Completes, AreJoined, WasJoined}
+use Rattle.s3_machine.specs.UploadsKept.{CompletionsAreKept, CompletionVersionsAreKept}
+use Rattle.s3_replies.specs.Lines.{metadata_line}
+use Rattle.s3_replies.specs.Laws.{Carries, IsUnbroken, PartsAreCarried, is_unbroken, is_whole_line, tells_success, SuccessIsShown, ObjectsAreCarried, TagsAreUnbroken}
 use Rattle.s3_payloads.specs.Laws.{WholePayloadsAreBodies}
 use Rattle.s3_session.specs.Output.{Exchange, IsReplied}
 use Rattle.s3_session.specs.Laws.{SoundMessages}
-use Rattle.s3_session.specs.ReadBack.{entry_of, entries_from, AsksFor, Wrote, WroteCopy, LeavesAlone, SparesId, EveryReplay, StoredIsReadBack, VersionsAreReadBack, OnlyStoredIsReadBack, Shows, OnlyStoredIsShown, PutsAreReadBack, PutVersionsAreReadBack, CopiesAreReadBack, CopyVersionsAreReadBack, PayloadsAreBrought}
+use Rattle.s3_session.specs.ReadBack.{entry_of, entries_from, AsksFor, Wrote, WroteCopy, WroteParts, CarriesParts, LeavesAlone, SparesId, EveryReplay, StoredIsReadBack, VersionsAreReadBack, OnlyStoredIsReadBack, Shows, OnlyStoredIsShown, PutsAreReadBack, PutVersionsAreReadBack, CopiesAreReadBack, CopyVersionsAreReadBack, CompletionsAreReadBack, CompletionVersionsAreReadBack, ArePayloads, PayloadsAreBrought, PayloadsAreSent}
 use Rattle.s3_session.proofs.ReplayLemmas.{replayed_legal, replayed_walk}
 use Rattle.s3_session.proofs.ServesLemmas.{all_of_two}
 use Rattle.s3_session.proofs.SoundLemmas.{admitted_length, one_count}
-use Rattle.s3_session.proofs.UnbrokenLemmas.{BringsUnbroken, bucket_command, walked_unbroken}
+use Rattle.s3_session.proofs.SentLemmas.{all_sent}
+use Rattle.s3_session.proofs.UnbrokenLemmas.{BringsUnbroken, bucket_command, upload_command, walked_unbroken}
 
 -- ---- what a reply shows of its entry
 
-module _ (success : SuccessIsShown) (address : Address) where
+module _ (success : SuccessIsShown) where
   shows : (x : Exchange) → IsReplied x → tells_success x.reply ≡ succeeds x.answer.outcome
   shows x answered = success x.answer x.context x.reply answered
 
-  leaves_key : (xs : List Exchange) → AllByRecursion IsReplied xs → AllByRecursion (LeavesAlone address) xs → LeavesKey address (entries_from xs)
-  leaves_key [] answered alone = tt
-  leaves_key (x ∷ xs) answered alone =
-      ((λ is. sym (shows x answered.0) ∙ alone.0 is), leaves_key xs answered.1 alone.1)
+  leaves_key : (address : Address) (xs : List Exchange) → AllByRecursion IsReplied xs → AllByRecursion (LeavesAlone address) xs
+      → LeavesKey address (entries_from xs)
+  leaves_key address [] answered alone = tt
+  leaves_key address (x ∷ xs) answered alone =
+      ((λ is. sym (shows x answered.0) ∙ alone.0 is), leaves_key address xs answered.1 alone.1)
 
-  spares_version : (id : VersionId) (xs : List Exchange) → AllByRecursion IsReplied xs → AllByRecursion (SparesId address id) xs → SparesVersion address id (entries_from xs)
-  spares_version id [] answered spared = tt
-  spares_version id (x ∷ xs) answered spared = (
+  spares_version : (address : Address) (id : VersionId) (xs : List Exchange) → AllByRecursion IsReplied xs
+      → AllByRecursion (SparesId address id) xs → SparesVersion address id (entries_from xs)
+  spares_version address id [] answered spared = tt
+  spares_version address id (x ∷ xs) answered spared = (
     (λ is accepted. spared.0 is (shows x answered.0 ∙ accepted)),
-    spares_version id xs answered.1 spared.1,
+    spares_version address id xs answered.1 spared.1,
   )
 
 -- ---- what a reply carries
@@ -81,6 +95,17 @@ data_with None body is = absurd (cc)
 -- ---- the laws, of messages whose entries are a legal history, which were replied to, and which bring no carriage return
 -- beside bodies
 
+-- what they stand on
+pub record LawsBelow : Type 0 where
+  pub plans : PlansAreUnbroken
+  pub messages : SoundMessages
+  pub tags : TagsAreUnbroken
+  pub success : SuccessIsShown
+  pub objects : ObjectsAreCarried
+  pub parts : PartsAreCarried
+  pub given : EveryHistory OnlyStoredIsGiven
+  pub origins : EveryHistory StoredWasBrought
+
 -- what the messages of a replay are
 pub record AreReplayed (settings : Settings) (exchanges : List Exchange) : Type 0 where
   pub legal : Legal settings.min_part (opening settings.buckets) 0 (entries_from exchanges)
@@ -90,8 +115,24 @@ pub record AreReplayed (settings : Settings) (exchanges : List Exchange) : Type 
 abbrev BringsWhole : Entry → Type 0
 BringsWhole e = BringsUnbroken e.command
 
-module _ (success : SuccessIsShown) (carried : ObjectsAreCarried) (parts_carried : PartsAreCarried) (only : EveryHistory OnlyStoredIsGiven) (brought_once : EveryHistory OnlyPutsAreStored)
-    (settings : Settings) (exchanges : List Exchange) (are : AreReplayed settings exchanges) where
+-- what a put brought is so, and what a completion joined
+unbroken_origin : TagsAreUnbroken → (entries : List Entry) (what : Data (List ℕ)) → AllByRecursion BringsWhole entries
+    → (WasPut entries what ⊎ WasJoined entries what) → IsUnbroken what
+unbroken_origin tags entries what all (inl put) =
+    (all_of_two BringsWhole put.before (put.put ∷ put.later) (subst (AllByRecursion BringsWhole) put.parts all)).1.0.whole what put.puts.brings
+unbroken_origin tags entries what all (inr it) =
+    let before = (all_of_two BringsWhole it.before (it.complete ∷ it.later) (subst (AllByRecursion BringsWhole) it.parts all)).0 in
+    let joined = it.joined in
+    let begun = joined.begun in
+    let brings = (all_of_two BringsWhole begun.before (begun.begin ∷ begun.since) (subst (AllByRecursion BringsWhole) begun.parts before)).1.0 in
+    let said = brings.begun it.upload.address joined.asked begun.begins.at in
+    record {
+      tag = ap is_unbroken joined.tag ∙ tags _ (Some (length joined.bodies));
+      content_type = ap is_unbroken joined.content_type ∙ said.0;
+      metadata = ap (λ (entries : List MetadataEntry). list_all is_whole_line (map metadata_line entries)) joined.metadata ∙ said.1;
+    }
+
+module _ (laws : LawsBelow) (settings : Settings) (exchanges : List Exchange) (are : AreReplayed settings exchanges) where
   -- what holds of every history holds of theirs
   of_history : {Law : ℕ → State → List Entry → Type 0} → EveryHistory Law
       → Law settings.min_part (opening settings.buckets) (entries_from exchanges)
@@ -101,25 +142,24 @@ module _ (success : SuccessIsShown) (carried : ObjectsAreCarried) (parts_carried
   replied_at earlier later x at =
       (all_of_two IsReplied earlier (x ∷ later) (subst (AllByRecursion IsReplied) at are.replied)).1.0
 
-  -- what a read is given was stored before, and brought by a put
+  -- what a read is given was stored before, and brought by a put, or joined of parts
   unbroken_given : (earlier later : List Exchange) (read : Exchange) (asked : Read) (found : Found (List ℕ))
       → exchanges ≡ earlier ++ read ∷ later → AsksFor asked read → given read.answer.outcome ≡ Some found → IsUnbroken found.stored
   unbroken_given earlier later read asked found at asks gives =
       let entries = ap entries_from at ∙ entries_at earlier read later in
-      let was = (of_history only settings.buckets (entries_from earlier) (entries_from later) (entry_of read) asked found
+      let was = (of_history laws.given settings.buckets (entries_from earlier) (entries_from later) (entry_of read) asked found
       refl entries asks.read gives).2 in
       let all = subst (AllByRecursion BringsWhole) entries (all_entries BringsUnbroken exchanges are.unbroken) in
       let past = (all_of_two BringsWhole (entries_from earlier) (entry_of read ∷ entries_from later) all).0 in
-      let once = of_history brought_once settings.buckets (entries_from earlier) (entry_of read ∷ entries_from later) _ refl entries was in
-      let mine = all_of_two BringsWhole once.before (once.put ∷ once.later) (subst (AllByRecursion BringsWhole) once.parts past) in
-      mine.1.0 found.stored once.puts.brings
+      unbroken_origin laws.tags (entries_from earlier) found.stored past
+      (of_history laws.origins settings.buckets (entries_from earlier) (entry_of read ∷ entries_from later) _ refl entries was)
 
   -- so its reply carries it, where it is given all of it
   given_carried : (earlier later : List Exchange) (read : Exchange) (asked : Read) (found : Found (List ℕ))
       → exchanges ≡ earlier ++ read ∷ later → AsksFor asked read → given_whole read.answer.outcome ≡ Some found
       → Carries found.stored.body read.reply
   given_carried earlier later read asked found at asks gives =
-      carried read.answer read.context read.reply found (replied_at earlier later read at) (got_given read.answer.outcome found gives)
+      laws.objects read.answer read.context read.reply found (replied_at earlier later read at) (got_given read.answer.outcome found gives)
       (unbroken_given earlier later read asked found at asks (whole_is_given read.answer.outcome found gives)) asks.with_bytes
 
   -- the same of data that it is given
@@ -157,8 +197,8 @@ module _ (success : SuccessIsShown) (carried : ObjectsAreCarried) (parts_carried
       let before = entries_from earlier in
       let found = found_there (given_whole read.answer.outcome)
       (of_history or_fails before (entries_from later) (entry_of read) address version entries asks.read
-      ∙ sym (shows success address read (replied_at earlier later read at)) ∙ told) in
-      let was = of_history only settings.buckets before (entries_from later) (entry_of read) (whole address version) found.0
+      ∙ sym (shows laws.success read (replied_at earlier later read at)) ∙ told) in
+      let was = of_history laws.given settings.buckets before (entries_from later) (entry_of read) (whole address version) found.0
       refl entries asks.read (whole_is_given read.answer.outcome found.0 found.1) in (
         found_object address was.0 found.0,
         refl,
@@ -170,9 +210,9 @@ module _ (success : SuccessIsShown) (carried : ObjectsAreCarried) (parts_carried
   -- what is selected of it, the reply carries
   shown_of : (read : Exchange) (found : Found (List ℕ)) (selection : Selection) → IsReplied read → read.answer.outcome ≡ Got found selection
       → given read.answer.outcome ≡ Some found → IsUnbroken found.stored → read.context.head_only ≡ false → Shows selection found.stored.body read.reply
-  shown_of read found Whole replied shows gives unbroken whole = carried read.answer read.context read.reply found replied shows unbroken whole
+  shown_of read found Whole replied shows gives unbroken whole = laws.objects read.answer read.context read.reply found replied shows unbroken whole
   shown_of read found (Part first last) replied shows gives unbroken whole =
-      parts_carried read.answer read.context read.reply found first last replied shows unbroken whole
+      laws.parts read.answer read.context read.reply found first last replied shows unbroken whole
   shown_of read found Unchanged replied shows gives unbroken whole = let none = sym (ap given shows) ∙ gives in absurd (cc)
 
   shown_before : EveryHistory ReadsAreJudged → OnlyStoredIsShown settings exchanges
@@ -181,8 +221,8 @@ module _ (success : SuccessIsShown) (carried : ObjectsAreCarried) (parts_carried
       let before = entries_from earlier in
       let replied = replied_at earlier later read at in
       let shown = of_history judges before (entries_from later) (entry_of read) asked entries asks.read
-      (sym (shows success asked.address read replied) ∙ told) in
-      let was = of_history only settings.buckets before (entries_from later) (entry_of read) asked shown.found refl entries asks.read shown.gives in (
+      (sym (shows laws.success read replied) ∙ told) in
+      let was = of_history laws.given settings.buckets before (entries_from later) (entry_of read) asked shown.found refl entries asks.read shown.gives in (
         found_object asked.address was.0 shown.found,
         refl,
         was.1.named,
@@ -195,19 +235,24 @@ module _ (success : SuccessIsShown) (carried : ObjectsAreCarried) (parts_carried
 
   -- ---- puts
 
-  -- a put, and those behind it, were replied to
+  -- those before a put, the put and those behind it were replied to
+  replied_parts : (before between later : List Exchange) (write read : Exchange)
+      → exchanges ≡ before ++ write ∷ between ++ read ∷ later
+      → AllByRecursion IsReplied before × AllByRecursion IsReplied (write ∷ between)
+  replied_parts before between later write read parts =
+      let front = before ++ write ∷ between in
+      all_of_two IsReplied before (write ∷ between)
+      (all_of_two IsReplied front (read ∷ later) (subst (AllByRecursion IsReplied) parts are.replied)).0
+
   replied_from : (before between later : List Exchange) (write read : Exchange)
       → exchanges ≡ before ++ write ∷ between ++ read ∷ later → AllByRecursion IsReplied (write ∷ between)
-  replied_from before between later write read parts =
-      let front = before ++ write ∷ between in
-      (all_of_two IsReplied before (write ∷ between)
-      (all_of_two IsReplied front (read ∷ later) (subst (AllByRecursion IsReplied) parts are.replied)).0).1
+  replied_from before between later write read parts = (replied_parts before between later write read parts).1
 
   -- what a message wrote its entry put
   puts_of : (x : Exchange) (address : Address) (body : List ℕ) (what : Data (List ℕ)) → IsReplied x → Wrote address body x
       → brought x.command ≡ Some what → Puts address what (entry_of x)
   puts_of x address body what replied wrote brings =
-      record { written = wrote.written; brings = brings; accepted = sym (shows success address x replied) ∙ wrote.answered }
+      record { written = wrote.written; brings = brings; accepted = sym (shows laws.success x replied) ∙ wrote.answered }
 
   put_read_back : EveryHistory PutsAreKept → PutsAreReadBack settings exchanges
   put_read_back kept before between later put read address body parts wrote alone asks =
@@ -217,7 +262,7 @@ module _ (success : SuccessIsShown) (carried : ObjectsAreCarried) (parts_carried
       (data_carried (before ++ put ∷ between) later read _ put.context.moment what.0 parts asks
       (of_history kept (entries_from before) (entries_from between) (entries_from later) (entry_of put) (entry_of read) address what.0
       (entries_of_parts before between later put read parts) (puts_of put address body what.0 replied.0 wrote what.1)
-      (leaves_key success address between replied.1 alone) asks.read))
+      (leaves_key laws.success address between replied.1 alone) asks.read))
 
   put_version_read_back : EveryHistory PutVersionsAreKept → PutVersionsAreReadBack settings exchanges
   put_version_read_back kept before between later put read address id body parts wrote under spared asks =
@@ -227,20 +272,20 @@ module _ (success : SuccessIsShown) (carried : ObjectsAreCarried) (parts_carried
       (data_carried (before ++ put ∷ between) later read _ put.context.moment what.0 parts asks
       (of_history kept (entries_from before) (entries_from between) (entries_from later) (entry_of put) (entry_of read) address what.0 id
       (entries_of_parts before between later put read parts) (puts_of put address body what.0 replied.0 wrote what.1) under
-      (spares_version success address id between replied.1 spared) asks.read))
+      (spares_version laws.success address id between replied.1 spared) asks.read))
 
   -- ---- copies
 
   copies_of : (x : Exchange) (address : Address) (asked : Read) → IsReplied x → WroteCopy address asked x → Copies address asked (entry_of x)
   copies_of x address asked replied wrote =
-      record { written = wrote.written; from = wrote.from; accepted = sym (shows success address x replied) ∙ wrote.answered }
+      record { written = wrote.written; from = wrote.from; accepted = sym (shows laws.success x replied) ∙ wrote.answered }
 
   copy_read_back : EveryHistory CopiesAreKept → CopiesAreReadBack settings exchanges
   copy_read_back kept before between later copy read address asked parts wrote alone asks =
       let replied = replied_from before between later copy read parts in
       let found = of_history kept (entries_from before) (entries_from between) (entries_from later) (entry_of copy) (entry_of read) address asked
       (entries_of_parts before between later copy read parts) (copies_of copy address asked replied.0 wrote)
-      (leaves_key success address between replied.1 alone) asks.read in
+      (leaves_key laws.success address between replied.1 alone) asks.read in
       (found.0, found.1, data_carried (before ++ copy ∷ between) later read _ copy.context.moment found.0 parts asks found.2)
 
   copy_version_read_back : EveryHistory CopyVersionsAreKept → CopyVersionsAreReadBack settings exchanges
@@ -248,13 +293,52 @@ module _ (success : SuccessIsShown) (carried : ObjectsAreCarried) (parts_carried
       let replied = replied_from before between later copy read parts in
       let found = of_history kept (entries_from before) (entries_from between) (entries_from later) (entry_of copy) (entry_of read) address asked id
       (entries_of_parts before between later copy read parts) (copies_of copy address asked replied.0 wrote) under
-      (spares_version success address id between replied.1 spared) asks.read in
+      (spares_version laws.success address id between replied.1 spared) asks.read in
       (found.0, found.1, data_carried (before ++ copy ∷ between) later read _ copy.context.moment found.0 parts asks found.2)
+
+  -- ---- completions
+
+  completes_of : (x : Exchange) (upload : UploadPlace) (listed : List ListedPart) → IsReplied x → WroteParts upload listed x
+      → Completes upload listed (entry_of x)
+  completes_of x upload listed replied wrote =
+      record { asks = wrote.asks; accepted = sym (shows laws.success x replied) ∙ wrote.answered }
+
+  -- the reply to a read that is given what was joined carries the bytes that messages sent
+  joined_carried : (before between later : List Exchange) (complete read : Exchange) (upload : UploadPlace) (listed : List ListedPart)
+      (asked : Read) (what : Data (List ℕ))
+      → exchanges ≡ before ++ complete ∷ between ++ read ∷ later → AsksFor asked read
+      → AreJoined (entries_from before) upload listed what → IsGiven complete.context.moment what (entry_of read)
+      → CarriesParts before upload listed read.reply
+  joined_carried before between later complete read upload listed asked what parts asks joined given =
+      let begun = joined.begun in
+      record {
+        bodies = joined.bodies;
+        sent = all_sent laws.success before (replied_parts before between later complete read parts).0 upload
+            (begun.before ++ begun.begin ∷ []) begun.since
+            (begun.parts ∙ sym (append_assoc begun.before (begun.begin ∷ []) begun.since)) listed joined.bodies joined.sent;
+        carried = subst (λ (b : List ℕ). Carries b read.reply) joined.body
+            (data_carried (before ++ complete ∷ between) later read asked complete.context.moment what parts asks given);
+      }
+
+  completion_read_back : EveryHistory CompletionsAreKept → CompletionsAreReadBack settings exchanges
+  completion_read_back kept before between later complete read upload listed parts wrote alone asks =
+      let replied = replied_from before between later complete read parts in
+      let found = of_history kept settings.buckets (entries_from before) (entries_from between) (entries_from later) (entry_of complete) (entry_of read)
+      upload listed refl (entries_of_parts before between later complete read parts) (completes_of complete upload listed replied.0 wrote)
+      (leaves_key laws.success upload.address between replied.1 alone) asks.read in
+      joined_carried before between later complete read upload listed _ found.0 parts asks found.1 found.2
+
+  completion_version_read_back : EveryHistory CompletionVersionsAreKept → CompletionVersionsAreReadBack settings exchanges
+  completion_version_read_back kept before between later complete read upload listed id parts wrote under spared asks =
+      let replied = replied_from before between later complete read parts in
+      let found = of_history kept settings.buckets (entries_from before) (entries_from between) (entries_from later) (entry_of complete) (entry_of read)
+      upload listed id refl (entries_of_parts before between later complete read parts) (completes_of complete upload listed replied.0 wrote) under
+      (spares_version laws.success upload.address id between replied.1 spared) asks.read in
+      joined_carried before between later complete read upload listed _ found.0 parts asks found.1 found.2
 
 -- ---- of every replay
 
-module _ (plans : PlansAreUnbroken) (messages : SoundMessages) (tags : TagsAreUnbroken)
-    (success : SuccessIsShown) (carried : ObjectsAreCarried) (parts_carried : PartsAreCarried) (only : EveryHistory OnlyStoredIsGiven) (brought_once : EveryHistory OnlyPutsAreStored) where
+module _ (laws : LawsBelow) where
   of_replays : {Law : Settings → List Exchange → Type 0}
       → ((settings : Settings) (exchanges : List Exchange) → AreReplayed settings exchanges → Law settings exchanges) → EveryReplay Law
   of_replays law standing settings moment bytes out replay =
@@ -262,51 +346,96 @@ module _ (plans : PlansAreUnbroken) (messages : SoundMessages) (tags : TagsAreUn
       law settings exchanges (record {
         legal = replayed_legal standing settings moment bytes out replay;
         replied = replay.writes.serves.replied;
-        unbroken = walked_unbroken plans messages tags settings true bytes exchanges replay.writes.left
+        unbroken = walked_unbroken laws.plans laws.messages laws.tags settings true bytes exchanges replay.writes.left
             (replayed_walk standing settings moment bytes out replay);
       })
 
   pub stored_is_read_back : EveryHistory StoredIsKept → EveryReplay StoredIsReadBack
-  stored_is_read_back kept = of_replays (λ settings exchanges are. key_read_back success carried parts_carried only brought_once settings exchanges are kept)
+  stored_is_read_back kept = of_replays (λ settings exchanges are. key_read_back laws settings exchanges are kept)
 
   pub versions_are_read_back : EveryHistory VersionsAreKept → EveryReplay VersionsAreReadBack
-  versions_are_read_back kept = of_replays (λ settings exchanges are. version_read_back success carried parts_carried only brought_once settings exchanges are kept)
+  versions_are_read_back kept = of_replays (λ settings exchanges are. version_read_back laws settings exchanges are kept)
 
   pub only_stored_is_read_back : EveryHistory ReadsGiveOrFail → EveryReplay OnlyStoredIsReadBack
   only_stored_is_read_back or_fails =
-      of_replays (λ settings exchanges are. stored_before success carried parts_carried only brought_once settings exchanges are or_fails)
+      of_replays (λ settings exchanges are. stored_before laws settings exchanges are or_fails)
 
   pub only_stored_is_shown : EveryHistory ReadsAreJudged → EveryReplay OnlyStoredIsShown
   only_stored_is_shown judges =
-      of_replays (λ settings exchanges are. shown_before success carried parts_carried only brought_once settings exchanges are judges)
+      of_replays (λ settings exchanges are. shown_before laws settings exchanges are judges)
 
   pub puts_are_read_back : EveryHistory PutsAreKept → EveryReplay PutsAreReadBack
-  puts_are_read_back kept = of_replays (λ settings exchanges are. put_read_back success carried parts_carried only brought_once settings exchanges are kept)
+  puts_are_read_back kept = of_replays (λ settings exchanges are. put_read_back laws settings exchanges are kept)
 
   pub put_versions_are_read_back : EveryHistory PutVersionsAreKept → EveryReplay PutVersionsAreReadBack
   put_versions_are_read_back kept =
-      of_replays (λ settings exchanges are. put_version_read_back success carried parts_carried only brought_once settings exchanges are kept)
+      of_replays (λ settings exchanges are. put_version_read_back laws settings exchanges are kept)
 
   pub copies_are_read_back : EveryHistory CopiesAreKept → EveryReplay CopiesAreReadBack
-  copies_are_read_back kept = of_replays (λ settings exchanges are. copy_read_back success carried parts_carried only brought_once settings exchanges are kept)
+  copies_are_read_back kept = of_replays (λ settings exchanges are. copy_read_back laws settings exchanges are kept)
 
   pub copy_versions_are_read_back : EveryHistory CopyVersionsAreKept → EveryReplay CopyVersionsAreReadBack
   copy_versions_are_read_back kept =
-      of_replays (λ settings exchanges are. copy_version_read_back success carried parts_carried only brought_once settings exchanges are kept)
+      of_replays (λ settings exchanges are. copy_version_read_back laws settings exchanges are kept)
+
+  pub completions_are_read_back : EveryHistory CompletionsAreKept → EveryReplay CompletionsAreReadBack
+  completions_are_read_back kept = of_replays (λ settings exchanges are. completion_read_back laws settings exchanges are kept)
+
+  pub completion_versions_are_read_back : EveryHistory CompletionVersionsAreKept → EveryReplay CompletionVersionsAreReadBack
+  completion_versions_are_read_back kept =
+      of_replays (λ settings exchanges are. completion_version_read_back laws settings exchanges are kept)
 
 -- ---- payloads
 
-planned_payload : (plan : Plan) (came brought : List ℕ) (command : Command) → command_of plan came ≡ Ok command → brings command ≡ Some brought → brought ≡ came
-unfolding command_of
-planned_payload (plans.Bucket name asked) came brought command made is =
-    let none : None ≡ Some brought =
-    sym (ap (option_map (λ (what : Data (List ℕ)). what.body)) (bucket_command (bucket_command_of asked came) name command made)) ∙ is in absurd (cc)
-planned_payload (plans.Key bucket key (key_commands.Put put)) came brought command made is = cc
-planned_payload _ came brought command made is = absurd (cc)
+-- these bytes of a command are those that came as its body
+abbrev CameAs : (Command → Option (List ℕ)) → Type 0
+CameAs bytes_of =
+    (plan : Plan) (came taken : List ℕ) (command : Command) → command_of plan came ≡ Ok command → bytes_of command ≡ Some taken → taken ≡ came
 
-pub payloads_are_brought : WholePayloadsAreBodies → PayloadsAreBrought
-payloads_are_brought law settings moment bytes rest context command brought sound is =
-    let same = planned_payload sound.asks.plan sound.payload brought command sound.asked is in
+came_brought : CameAs brings
+unfolding command_of
+came_brought (plans.Bucket name asked) came taken command made is =
+    let same = bucket_command (bucket_command_of asked came) name command made in
+    let none : None ≡ Some taken = ap brings same.1 ∙ is in absurd (cc)
+came_brought (plans.Upload bucket key id asked) came taken command made is =
+    let same = upload_command (upload_command_of asked came) bucket key id command made in
+    let none : None ≡ Some taken = ap brings same.2 ∙ is in absurd (cc)
+came_brought (plans.Key bucket key (key_commands.Put put)) came taken command made is = cc
+came_brought _ came taken command made is = absurd (cc)
+
+completion_came : (listed : Result (List ListedPart) Code) (came taken : List ℕ) (asked : UploadCommand)
+    → (listed >>= (λ (parts : List ListedPart). Ok (upload_commands.Complete parts))) ≡ Ok asked → upload_sent asked ≡ Some taken → taken ≡ came
+completion_came (Ok parts) came taken asked made is =
+    let same : upload_commands.Complete parts ≡ asked = cc in
+    let none : None ≡ Some taken = ap upload_sent same ∙ is in absurd (cc)
+completion_came (Err code) came taken asked made is = absurd (cc)
+
+-- the bytes that a command on an upload sends
+part_came : (plan : UploadPlan) (came taken : List ℕ) (asked : UploadCommand) → upload_command_of plan came ≡ Ok asked
+    → upload_sent asked ≡ Some taken → taken ≡ came
+part_came (upload_plans.PutPart number) came taken asked made is = cc
+part_came upload_plans.Complete came taken asked made is = completion_came _ came taken asked made is
+part_came _ came taken asked made is = absurd (cc)
+
+came_sent : CameAs sent
+unfolding command_of
+came_sent (plans.Bucket name asked) came taken command made is =
+    let same = bucket_command (bucket_command_of asked came) name command made in
+    let none : None ≡ Some taken = ap sent same.1 ∙ is in absurd (cc)
+came_sent (plans.Upload bucket key id asked) came taken command made is =
+    let same = upload_command (upload_command_of asked came) bucket key id command made in
+    part_came asked came taken same.0 same.1 (ap sent same.2 ∙ is)
+came_sent _ came taken command made is = absurd (cc)
+
+payloads : (bytes_of : Command → Option (List ℕ)) → CameAs bytes_of → WholePayloadsAreBodies → ArePayloads bytes_of
+payloads bytes_of came law settings moment bytes rest context command taken sound is =
+    let same = came sound.asks.plan sound.payload taken command sound.asked is in
     let told = admitted_length settings sound.head moment sound.asks sound.admitted in
     let size = one_count _ _ (sym sound.message.whole ∙ told) in
-    (same, λ sent. same ∙ law sound.asks.announced sound.body sound.payload false sent size sound.accepted)
+    (same, λ whole. same ∙ law sound.asks.announced sound.body sound.payload false whole size sound.accepted)
+
+pub payloads_are_brought : WholePayloadsAreBodies → PayloadsAreBrought
+payloads_are_brought = payloads brings came_brought
+
+pub payloads_are_sent : WholePayloadsAreBodies → PayloadsAreSent
+payloads_are_sent = payloads sent came_sent

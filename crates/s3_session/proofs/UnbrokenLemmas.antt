@@ -1,8 +1,9 @@
--- What is brought through a connection has no carriage return beside its body.
-use Rattle.std.proofs.Common.{◌≡◌, ℕ, Bool, true, List, [], ◌∷◌, map, inl, inr, Option, Some, None, Result, Ok, Err, sym, ap, subst, ◌∙◌}
+-- What is brought through a connection has no carriage return beside bodies, nor has what an upload is begun with.
+use Rattle.std.proofs.Common.{◌≡◌, ℕ, Bool, true, List, [], ◌∷◌, map, inl, inr, Option, Some, None, Result, Ok, Err, refl, ap, subst, ◌∙◌}
 use Rattle.std.specs.List.{AllByRecursion, list_all}
 use Rattle.std.proofs.lemmas.Bool.{cases_Bool, MatchBool-at_true, MatchBool-at_false}
 use Rattle.std.proofs.lemmas.List.Folds.{list_all-map}
+use Rattle.std.proofs.lemmas.Option.{same_Some}
 use Rattle.s3_config.specs.Settings.{Settings}
 use Rattle.s3_versions.specs.Metadata.{Entry}
 use Rattle.s3_versions.specs.declared.version.Data.{Data}
@@ -10,47 +11,77 @@ use Rattle.s3_machine.specs.declared.command.Command.{Command}
 use Rattle.s3_terms.specs.Fault.{◌>>=◌}
 use Rattle.s3_terms.specs.declared.code.Code.{Code}
 use Rattle.s3_machine.specs.declared.command.BucketCommand.{BucketCommand}
+use Rattle.s3_machine.specs.declared.command.UploadBegin.{UploadBegin}
+use Rattle.s3_machine.specs.declared.command.UploadCommand.{UploadCommand}
 use Rattle.s3_machine.specs.declared.command.Command.TheVariants as commands
 use Rattle.s3_requests.specs.declared.routing.Plan.{Plan}
 use Rattle.s3_requests.specs.declared.routing.Plan.TheVariants as plans
 use Rattle.s3_requests.specs.Laws.{is_unbroken_entry, IsUnbrokenPlan, PlansAreUnbroken}
-use Rattle.s3_requests.specs.Routing.{bucket_command_of, put_with, command_of}
+use Rattle.s3_requests.specs.Routing.{bucket_command_of, upload_command_of, put_with, command_of}
 use Rattle.s3_machine.specs.declared.command.KeyCommand.TheVariants as key_commands
 use Rattle.s3_machine.specs.Step.{data_of}
-use Rattle.s3_machine.specs.Effects.{brought}
+use Rattle.s3_machine.specs.Effects.{Address, begins, brought}
 use Rattle.s3_replies.specs.declared.context.Context.{Context}
-use Rattle.s3_replies.specs.Laws.{IsUnbroken, TagsAreUnbroken, is_whole_line}
+use Rattle.s3_replies.specs.Laws.{IsUnbroken, TagsAreUnbroken, is_unbroken, is_whole_line}
 use Rattle.s3_replies.specs.Lines.{metadata_line}
 use Rattle.s3_session.specs.Laws.{IsSound, SoundMessages}
 use Rattle.s3_session.specs.Output.{Exchange, message_of}
 use Rattle.s3_session.specs.Walk.{Walks}
 use Rattle.s3_session.proofs.SoundLemmas.{admitted_route}
 
--- all that the command brings along is so
-abbrev pub BringsUnbroken : Command → Type 0
-BringsUnbroken command = (what : Data (List ℕ)) → brought command ≡ Some what → IsUnbroken what
+-- what an upload is begun with is so
+abbrev pub BeginsUnbroken : UploadBegin → Type 0
+BeginsUnbroken asked = (is_unbroken asked.content_type ≡ true) × (list_all is_whole_line (map metadata_line asked.metadata) ≡ true)
+
+-- all that the command brings along is so, and what it begins an upload with
+pub record BringsUnbroken (command : Command) : Type 0 where
+  pub whole : (what : Data (List ℕ)) → brought command ≡ Some what → IsUnbroken what
+  pub begun : (address : Address) (asked : UploadBegin) → begins command ≡ Some (address, asked) → BeginsUnbroken asked
 
 told_whole : (entries : List Entry) → list_all is_unbroken_entry entries ≡ true → list_all is_whole_line (map metadata_line entries) ≡ true
 told_whole entries all = list_all-map is_whole_line metadata_line entries ∙ all
 
--- a command on a bucket brings nothing
+-- a plan for a bucket makes a command on it
 pub bucket_command : (rule : Result BucketCommand Code) (name : List ℕ) (command : Command)
-    → (rule >>= (λ (asked : BucketCommand). Ok (commands.Bucket name asked))) ≡ Ok command → brought command ≡ None
-bucket_command (Ok asked) name command made =
-    let same : commands.Bucket name asked ≡ command = cc in ap brought (sym same)
+    → (rule >>= (λ (asked : BucketCommand). Ok (commands.Bucket name asked))) ≡ Ok command → (asked : BucketCommand) × (commands.Bucket name asked ≡ command)
+bucket_command (Ok asked) name command made = (asked, cc)
 bucket_command (Err code) name command made = absurd (cc)
+
+-- and one for an upload a command on that
+pub upload_command : (rule : Result UploadCommand Code) (bucket key : List ℕ) (id : ℕ) (command : Command)
+    → (rule >>= (λ (asked : UploadCommand). Ok (commands.Upload bucket key id asked))) ≡ Ok command
+    → (asked : UploadCommand) × (rule ≡ Ok asked) × (commands.Upload bucket key id asked ≡ command)
+upload_command (Ok asked) bucket key id command made = (asked, refl, cc)
+upload_command (Err code) bucket key id command made = absurd (cc)
 
 planned : TagsAreUnbroken → (plan : Plan) (payload : List ℕ) (command : Command) → IsUnbrokenPlan plan
     → command_of plan payload ≡ Ok command → BringsUnbroken command
 unfolding command_of
-planned tags (plans.Bucket name asked) payload command unbroken made what is =
-    let none : None ≡ Some what = sym (bucket_command (bucket_command_of asked payload) name command made) ∙ is in absurd (cc)
-planned tags (plans.Key bucket key (key_commands.Put put)) payload command unbroken made what is =
+planned tags (plans.Bucket name asked) payload command unbroken made =
+    subst BringsUnbroken (bucket_command (bucket_command_of asked payload) name command made).1
+    (record { whole = λ what is. absurd (cc); begun = λ address began is. absurd (cc) })
+planned tags (plans.Upload bucket key id asked) payload command unbroken made =
+    subst BringsUnbroken (upload_command (upload_command_of asked payload) bucket key id command made).2
+    (record { whole = λ what is. absurd (cc); begun = λ address began is. absurd (cc) })
+planned tags (plans.Key bucket key (key_commands.Put put)) payload command unbroken made =
     let same : commands.Key bucket key (key_commands.Put (put_with put payload)) ≡ command = cc in
-    let holds : ◌≡◌ {A = Option (Data (List ℕ))} (Some (data_of (put_with put payload))) (Some what) = ap brought same ∙ is in
-    let stored : data_of (put_with put payload) ≡ what = cc in
-    subst IsUnbroken stored (record { tag = tags payload; content_type = unbroken.0; metadata = told_whole put.metadata unbroken.1 })
-planned tags _ payload command unbroken made what is = absurd (cc)
+    let all : IsUnbroken (data_of (put_with put payload)) =
+    record { tag = tags _ None; content_type = unbroken.0; metadata = told_whole put.metadata unbroken.1 } in
+    subst BringsUnbroken same
+    (record {
+      whole = λ what is. let stored : data_of (put_with put payload) ≡ what = cc in subst IsUnbroken stored all;
+      begun = λ address began is. absurd (cc);
+    })
+planned tags (plans.Key bucket key (key_commands.Begin begin)) payload command unbroken made =
+    let same : commands.Key bucket key (key_commands.Begin begin) ≡ command = cc in
+    subst BringsUnbroken same
+    (record {
+      whole = λ what is. absurd (cc);
+      begun = λ address asked is.
+          let said : begin ≡ asked = ap (λ (it : Address × UploadBegin). it.1) (same_Some (record { bucket = bucket; key = key }, begin) (address, asked) is) in
+          subst BeginsUnbroken said (unbroken.0, told_whole begin.metadata unbroken.1);
+    })
+planned tags _ payload command unbroken made = record { whole = λ what is. absurd (cc); begun = λ address began is. absurd (cc) }
 
 module _ (law : PlansAreUnbroken) (messages : SoundMessages) (tags : TagsAreUnbroken) (settings : Settings) where
   sound_unbroken : (moment : ℕ) (bytes rest : List ℕ) (context : Context) (command : Command)

@@ -1,18 +1,20 @@
 -- What a client reads back over one connection, in the bytes of its replies: what was stored, and nothing else (Amazon S3
 -- User Guide, "Amazon S3 data consistency model" and "Using versioning in S3 buckets").
 use Rattle.std.specs.Prelude.{◌≡◌, ◌≢◌, ℕ, true, false, List, ◌∷◌, ◌++◌, map, Option, Some, None, Ok}
-use Rattle.std.specs.List.{AllByRecursion}
+use Rattle.std.specs.List.{AllByRecursion, AllZip, concat}
 use Rattle.s3_config.specs.Settings.{Settings}
 use Rattle.s3_names.specs.declared.ids.VersionId.{VersionId}
 use Rattle.s3_payloads.specs.Form.{IsSentAsItIs}
+use Rattle.s3_bodies.specs.Payload.{tag_of}
 use Rattle.s3_versions.specs.declared.version.Data.{Data}
+use Rattle.s3_uploads.specs.declared.listed.ListedPart.{ListedPart}
 use Rattle.s3_records.specs.Catalogue.{opening}
 use Rattle.s3_conditions.specs.declared.conditions.Selection.{Selection}
 use Rattle.s3_conditions.specs.declared.conditions.Selection.TheVariants.{Whole, Part, Unchanged}
 use Rattle.s3_conditions.specs.Conditions.{judged}
 use Rattle.s3_machine.specs.declared.command.Command.{Command}
 use Rattle.s3_machine.specs.Step.{State}
-use Rattle.s3_machine.specs.Effects.{Address, Object, Read, writes, copies, brings, whole, reads, touched}
+use Rattle.s3_machine.specs.Effects.{Address, Object, UploadPlace, PartPlace, Read, writes, copies, brings, sends, sent, completes, whole, reads, touched}
 use Rattle.s3_machine.specs.History.{Entry, after}
 use Rattle.s3_machine.specs.Kept.{LeavesKey, SparesVersion, Stores, WasStored, WouldGive}
 use Rattle.s3_replies.specs.declared.context.Context.{Context}
@@ -54,6 +56,42 @@ pub record WroteCopy (address : Address) (asked : Read) (x : Exchange) : Type 0 
   pub written : writes x.command ≡ Some address
   pub from : copies x.command ≡ Some asked
   pub answered : tells_success x.reply ≡ true
+
+-- the message completes the upload with these parts, and its reply tells of success
+pub record WroteParts (upload : UploadPlace) (listed : List ListedPart) (x : Exchange) : Type 0 where
+  pub asks : completes x.command ≡ Some (upload, listed)
+  pub answered : tells_success x.reply ≡ true
+
+-- the message sends these bytes as the part, and its reply tells of success
+pub record SentPart (part : PartPlace) (bytes : List ℕ) (x : Exchange) : Type 0 where
+  pub at : sends x.command ≡ Some part
+  pub brings : sent x.command ≡ Some bytes
+  pub answered : tells_success x.reply ≡ true
+
+-- the message sends nothing as the part, or its reply doesn't tell of success
+abbrev pub LeavesPart : PartPlace → Exchange → Type 0
+LeavesPart part x = sends x.command ≡ Some part → tells_success x.reply ≡ false
+
+-- the part of a listed number
+abbrev pub place_listed : UploadPlace → ListedPart → PartPlace
+place_listed upload listed = record { upload = upload; number = listed.number }
+
+-- one of these messages sent these bytes to the upload under a listed number, none behind it sent others, and the tag that is
+-- listed is theirs
+pub record WasSentLast (messages : List Exchange) (upload : UploadPlace) (listed : ListedPart) (bytes : List ℕ) : Type 0 where
+  pub before : List Exchange
+  pub send : Exchange
+  pub later : List Exchange
+  pub parts : messages ≡ before ++ send ∷ later
+  pub sends : SentPart (place_listed upload listed) bytes send
+  pub last : AllByRecursion (LeavesPart (place_listed upload listed)) later
+  pub tag : listed.tag ≡ tag_of bytes
+
+-- the reply carries the bytes of the listed parts of the upload, as these messages sent them last, one part behind another
+pub record CarriesParts (messages : List Exchange) (upload : UploadPlace) (listed : List ListedPart) (reply : List ℕ) : Type 0 where
+  pub bodies : List (List ℕ)
+  pub sent : AllZip (WasSentLast messages upload) listed bodies
+  pub carried : Carries (concat bodies) reply
 
 -- the message doesn't write under the address, or its reply doesn't tell of success
 abbrev pub LeavesAlone : Address → Exchange → Type 0
@@ -163,10 +201,43 @@ module _ (settings : Settings) (exchanges : List Exchange) where
       → AsksFor (whole address (Some id)) read
       → (what : Data (List ℕ)) × WouldGive (state_behind settings before) asked what × Carries what.body read.reply
 
--- the bytes that a command brings are the payload of its message's body, which is the body where that is sent as it is
-abbrev pub PayloadsAreBrought : Type 0
-PayloadsAreBrought =
-    (settings : Settings) (moment : ℕ) (bytes rest : List ℕ) (context : Context) (command : Command) (brought : List ℕ)
+  -- And what is read back of a completion whose reply tells of success are the bytes of its parts, in the order in which it lists
+  -- them: each those of the last message before it that sent a part of this number to the upload, and whose reply told of
+  -- success. They are read back by the key of the upload,
+  abbrev pub CompletionsAreReadBack : Type 0
+  CompletionsAreReadBack =
+      (before between later : List Exchange) (complete read : Exchange) (upload : UploadPlace) (listed : List ListedPart)
+      → exchanges ≡ before ++ complete ∷ between ++ read ∷ later
+      → WroteParts upload listed complete
+      → AllByRecursion (LeavesAlone upload.address) between
+      → AsksFor (whole upload.address None) read
+      → CarriesParts before upload listed read.reply
+
+  -- and by the version that the completion made.
+  abbrev pub CompletionVersionsAreReadBack : Type 0
+  CompletionVersionsAreReadBack =
+      (before between later : List Exchange) (complete read : Exchange) (upload : UploadPlace) (listed : List ListedPart)
+      (id : VersionId)
+      → exchanges ≡ before ++ complete ∷ between ++ read ∷ later
+      → WroteParts upload listed complete
+      → touched complete.command complete.answer.outcome ≡ Some id
+      → AllByRecursion (SparesId upload.address id) between
+      → AsksFor (whole upload.address (Some id)) read
+      → CarriesParts before upload listed read.reply
+
+-- The bytes that commands have so are the payloads of the bodies of their messages, which are the bodies where these are sent
+-- as they are.
+abbrev pub ArePayloads : (Command → Option (List ℕ)) → Type 0
+ArePayloads bytes_of =
+    (settings : Settings) (moment : ℕ) (bytes rest : List ℕ) (context : Context) (command : Command) (taken : List ℕ)
     → (sound : IsSound settings moment bytes context command rest)
-    → brings command ≡ Some brought
-    → (brought ≡ sound.payload) × (IsSentAsItIs sound.asks.announced.form → brought ≡ sound.body)
+    → bytes_of command ≡ Some taken
+    → (taken ≡ sound.payload) × (IsSentAsItIs sound.asks.announced.form → taken ≡ sound.body)
+
+-- those that a put brings,
+abbrev pub PayloadsAreBrought : Type 0
+PayloadsAreBrought = ArePayloads brings
+
+-- and those that are sent as a part
+abbrev pub PayloadsAreSent : Type 0
+PayloadsAreSent = ArePayloads sent

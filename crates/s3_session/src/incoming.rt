@@ -63,7 +63,11 @@ impl Incoming {
         let before = self.admission.reader.taken();
         match self.admission.reader.feed(piece) {
             Ok(len) => (len, self.settled(alloc)),
-            Err(code) => (self.taken_since(before), refused(code)),
+            Err(code) => {
+                let len = self.taken_since(before);
+                drop(self);
+                (len, refused(code))
+            }
         }
     }
 
@@ -81,7 +85,9 @@ impl Incoming {
     {
         payloads_are_judged();
         open_bodies_are_short();
-        self.admission.reader.end()
+        let ended = self.admission.reader.end();
+        drop(self);
+        ended
     }
 
     // What became of it with the bytes so far, where nothing refuses them.
@@ -97,7 +103,10 @@ impl Incoming {
         let Admission { reader, plan, .. } = self.admission;
         match reader.finish() {
             Ok(payload) => commanded(alloc, plan, payload),
-            Err(code) => Progress::Refused(code),
+            Err(code) => {
+                drop(plan);
+                Progress::Refused(code)
+            }
         }
     }
 }

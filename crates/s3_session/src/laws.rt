@@ -1,11 +1,13 @@
 //! What is known of all connections: laws, with nothing to run.
 
-ghost use Rattle.s3_session.specs.ReadBack.{EveryReplay, StoredIsReadBack, VersionsAreReadBack, OnlyStoredIsReadBack, OnlyStoredIsShown, PutsAreReadBack, PutVersionsAreReadBack, CopiesAreReadBack, CopyVersionsAreReadBack, PayloadsAreBrought};
+ghost use Rattle.s3_session.specs.ReadBack.{EveryReplay, StoredIsReadBack, VersionsAreReadBack, OnlyStoredIsReadBack, OnlyStoredIsShown, PutsAreReadBack, PutVersionsAreReadBack, CopiesAreReadBack, CopyVersionsAreReadBack, CompletionsAreReadBack, CompletionVersionsAreReadBack, PayloadsAreBrought, PayloadsAreSent};
 ghost use Rattle.s3_session.specs.Laws.{HeadlessAreSilent, HeadsAreDecided, InvitationsStay, OneInvitation, OneOutput, OneVerdict, OneWriting, OutputsStay, VerdictsExist, VerdictsStay, SoundMessages, SoundIsJudged};
 ghost use Rattle.s3_session.specs.Stands.{SessionsWrite};
 
 use s3_http_heads::{texts_say_one_thing, verdict_is_exact};
-use s3_machine::{copies_are_kept, only_stored_is_given, puts_are_kept, stored_is_kept};
+use s3_machine::{
+    completions_are_kept, copies_are_kept, only_stored_is_given, puts_are_kept, stored_is_kept,
+};
 use s3_payloads::{accepted_bodies_are_whole, payloads_are_judged, verdicts_are_final};
 use s3_replies::{refusals_are_unique, replies_are_unique, replies_show_what_came};
 use s3_requests::plans_are_unbroken;
@@ -155,6 +157,22 @@ pub fn copies_are_read_back()
     sound_verdicts_are_exact();
     plans_are_unbroken();
     copies_are_kept();
+    only_stored_is_given();
+    replies_show_what_came();
+}
+
+/// A law: and the parts of a completion whose reply tells of success are read back by its own key and version, one behind
+/// another: of each the payload of the last message before it that sent the part, and whose reply told of success. There is
+/// nothing to run.
+pub fn completions_are_read_back()
+    ensures back { EveryReplay CompletionsAreReadBack }
+    ensures versions { EveryReplay CompletionVersionsAreReadBack }
+    ensures payloads { PayloadsAreSent }
+{
+    accepted_bodies_are_whole();
+    sound_verdicts_are_exact();
+    plans_are_unbroken();
+    completions_are_kept();
     only_stored_is_given();
     replies_show_what_came();
 }

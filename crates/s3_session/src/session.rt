@@ -80,7 +80,7 @@ pub(crate) enum Stage {
 fn go_to(stage: &mut Stage, next: Stage)
     ensures { stage.new ≡ next }
 {
-    *stage = next;
+    drop(mem::replace(stage, next));
 }
 
 // What a connection needs behind a reply, which closes it or doesn't.
@@ -242,6 +242,7 @@ impl Session {
             Opening::Admitted(incoming, invited) => match self.invite(invited) {
                 Ok(()) => self.read_body(alloc, incoming, piece),
                 Err(NoMemory) => {
+                    drop(incoming);
                     self.die(moment);
                     (0, Need::Close)
                 }
@@ -331,6 +332,7 @@ impl Session {
                 Need::Turn(Turn { command, moment })
             }
             Err(NoMemory) => {
+                drop(command);
                 self.die(moment);
                 Need::Close
             }

@@ -1,1 +1,2 @@
 pub mod StepLemmas
+pub mod UploadLemmas

@@ -1,6 +1,7 @@
 -- One step of a store.
-use Rattle.std.specs.Prelude.{refl, ℕ, ◌+◌, false, List, Result, Ok, Err}
+use Rattle.std.specs.Prelude.{◌≡◌, refl, ℕ, ◌+◌, false, IsTrue, List, Result, Ok, Err}
 use Rattle.std.specs.Coded.{Coded, code_by, coded×, coded_ℕ}
+use Rattle.s3_terms.specs.declared.code.Code.{Code}
 use Rattle.s3_versions.specs.Codes.{coded_bytes}
 use Rattle.s3_conditions.specs.declared.conditions.Conditions.{Conditions}
 use Rattle.s3_conditions.specs.declared.conditions.Selection.{Selection}
@@ -10,16 +11,19 @@ use Rattle.s3_versions.specs.declared.version.Data.{Data}
 use Rattle.s3_versions.specs.declared.version.Version.{Version}
 use Rattle.s3_versions.specs.declared.version.Versioning.{Versioning}
 use Rattle.s3_versions.specs.Rules.{new_id, VersionPut}
-use Rattle.s3_records.specs.Catalogue.{versioning_of}
-use Rattle.s3_records.specs.Changes.{KeyChanged, changed}
+use Rattle.s3_records.specs.Catalogue.{has_bucket, versioning_of}
+use Rattle.s3_records.specs.Changes.{KeyChanged, UploadCompleted, changed}
 use Rattle.s3_records.specs.Codes.{coded_catalogue}
+use Rattle.s3_records.specs.Places.{AreBelow}
+use Rattle.s3_documents.specs.Upload.{completed_text}
 use Rattle.s3_machine.specs.declared.command.BucketCommand.{BucketCommand}
 use Rattle.s3_machine.specs.declared.command.Command.{Command}
 use Rattle.s3_machine.specs.declared.command.Found.{Found}
 use Rattle.s3_machine.specs.declared.command.KeyCommand.{KeyCommand}
 use Rattle.s3_machine.specs.declared.command.Outcome.{Outcome}
 use Rattle.s3_machine.specs.declared.command.Outcome.TheVariants as outcomes
-use Rattle.s3_machine.specs.Step.{State, Stepped, step, stepped, bucket_done, key_done, found_in, shown_by, shown_in, source_code}
+use Rattle.s3_machine.specs.declared.command.UploadCommand.{UploadCommand}
+use Rattle.s3_machine.specs.Step.{State, Stepped, step, stepped, bucket_done, key_done, upload_done, found_in, shown_by, shown_in, source_code}
 
 -- what a store is seen as: the state, and the number of the next entry
 pub record Standing : Type 0 where
@@ -37,12 +41,22 @@ after_step least s t command = record { state = (step least s.state s.number t c
 abbrev pub outcome_of : ℕ → Standing → ℕ → Command → Outcome
 outcome_of least s t command = (step least s.state s.number t command).1
 
--- the step of a command on a bucket, and of one on a key in a bucket that is there
+-- the step of a command on a bucket, and of one on a key or on an upload in a bucket that is there
 abbrev pub bucket_step : State → ℕ → List ℕ → BucketCommand → Stepped
 bucket_step s t name asked = stepped s (bucket_done s t name asked)
 
 abbrev pub key_step : State → ℕ → ℕ → List ℕ → List ℕ → KeyCommand (List ℕ) → Stepped
 key_step s n t name key asked = stepped s (key_done s n t name key asked)
+
+abbrev pub upload_step : ℕ → State → ℕ → ℕ → List ℕ → List ℕ → ℕ → UploadCommand → Stepped
+upload_step least s n t name key id asked = stepped s (upload_done least s n t name key id asked)
+
+-- entry n may change what is under the keys of a bucket: the bucket is there, with this versioning, and the number is above
+-- those of all versions
+pub record MayEnter (s : State) (n : ℕ) (name : List ℕ) (versioning : Versioning) : Type 0 where
+  pub below : AreBelow n s
+  pub there : IsTrue (has_bucket s name)
+  pub is_of : versioning ≡ versioning_of s name
 
 -- what is told of a version that was read
 abbrev pub read_as_found : {B : Type 0} → Versioning → Result (Version B × Data B) Refusal → Result (Found B) Refusal
@@ -74,6 +88,18 @@ copied_as s n t name key (Err refusal) = (s, outcomes.Refused refusal.code refus
 abbrev pub data_found : Result (Found (List ℕ)) Refusal → Result (Data (List ℕ)) Refusal
 data_found (Ok found) = Ok found.stored
 data_found (Err refusal) = Err (record { code = source_code refusal.code; is_delete_marker = false })
+
+-- what a completion does once it is known what it stores
+abbrev pub completion_step : State → ℕ → ℕ → List ℕ → List ℕ → ℕ → Data (List ℕ) → Stepped
+completion_step s n t name key id stored = (
+  changed s name (UploadCompleted key id (VersionPut n t stored)),
+  outcomes.Completed
+      (completed_text name key stored.tag) stored.tag (shown_in (versioning_of s name) (new_id (versioning_of s name) n)),
+)
+
+abbrev pub completed_as : State → ℕ → ℕ → List ℕ → List ℕ → ℕ → Result (Data (List ℕ)) Code → Stepped
+completed_as s n t name key id (Ok stored) = completion_step s n t name key id stored
+completed_as s n t name key id (Err code) = (s, outcomes.Refused code false)
 
 -- how std numbers it
 abbrev pub coded_standing : Coded Standing

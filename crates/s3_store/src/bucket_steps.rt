@@ -3,7 +3,7 @@ ghost use Rattle.std.specs.Prelude.{◌≡◌, ℕ, true, false, IfOk, OnErr, Is
 ghost use Rattle.s3_machine.specs.Effects.{is_refused, takes_room_in_bucket};
 ghost use Rattle.s3_store.specs.Steps.{bucket_step};
 
-use crate::list_steps::{tell_objects, tell_versions};
+use crate::list_steps::{tell_objects, tell_uploads, tell_versions};
 use s3_calendar::Moment;
 use s3_machine::{BucketCommand, Outcome};
 use s3_names::BucketName;
@@ -26,25 +26,26 @@ pub(crate) fn refused(code: Code) -> Outcome
 pub(crate) fn take_on_bucket<R: Records>(
     records: &mut R,
     alloc: Global,
-    name: BucketName,
+    name: &BucketName,
     asked: BucketCommand,
     moment: Moment,
 ) -> Result<Outcome, NoMemory>
     ensures ok { IfOk result (λ outcome.
-        bucket_step (R.catalogue records.old) moment name asked ≡ (R.catalogue records.new, outcome)) }
+        bucket_step (R.catalogue records.old) moment name.now asked ≡ (R.catalogue records.new, outcome)) }
     ensures err { OnErr result (R.catalogue records.new ≡ R.catalogue records.old) }
     ensures memory { OnErr result (R.is_in_memory ≡ true
-        → is_refused (bucket_step (R.catalogue records.old) moment name asked).1 ≡ false) }
+        → is_refused (bucket_step (R.catalogue records.old) moment name.now asked).1 ≡ false) }
     ensures room { OnErr result (R.is_in_memory ≡ true → IsTrue (takes_room_in_bucket asked)) }
 {
     match asked {
-        BucketCommand::Create => create(records, alloc, &name, moment),
-        BucketCommand::Head => head(records, alloc, &name),
-        BucketCommand::Delete => delete(records, alloc, &name),
-        BucketCommand::PutVersioning { status } => put_versioning(records, alloc, &name, status),
-        BucketCommand::GetVersioning => get_versioning(records, alloc, &name),
+        BucketCommand::Create => create(records, alloc, name, moment),
+        BucketCommand::Head => head(records, alloc, name),
+        BucketCommand::Delete => delete(records, alloc, name),
+        BucketCommand::PutVersioning { status } => put_versioning(records, alloc, name, status),
+        BucketCommand::GetVersioning => get_versioning(records, alloc, name),
         BucketCommand::ListObjects(asked) => tell_objects(records, alloc, name, asked),
         BucketCommand::ListVersions(asked) => tell_versions(records, alloc, name, asked),
+        BucketCommand::ListUploads(asked) => tell_uploads(records, alloc, name, asked),
     }
 }
 

@@ -1,10 +1,8 @@
 //! What a copy does.
 ghost use Rattle.std.specs.Prelude.{◌≡◌, ℕ, true, false, Ok, IfOk, OnErr, IsTrue, is_ok};
-ghost use Rattle.s3_records.specs.Catalogue.{has_bucket, versioning_of};
-ghost use Rattle.s3_records.specs.Places.{AreBelow};
 ghost use Rattle.s3_machine.specs.Effects.{is_refused};
 ghost use Rattle.s3_machine.specs.Step as rules;
-ghost use Rattle.s3_store.specs.Steps.{key_step, copy_step, data_found};
+ghost use Rattle.s3_store.specs.Steps.{key_step, copy_step, data_found, MayEnter};
 
 use crate::key_steps::refused_with;
 use crate::reading::{look, shown};
@@ -29,9 +27,7 @@ pub(crate) fn copy<R: Records>(
     number: u64,
     moment: Moment,
 ) -> Result<Outcome, NoMemory>
-    requires below { AreBelow number (R.catalogue records.old) }
-    requires there { IsTrue (has_bucket (R.catalogue records.old) bucket.now) }
-    requires versioning { versioning ≡ versioning_of (R.catalogue records.old) bucket.now }
+    requires { MayEnter (R.catalogue records.old) number bucket.now versioning }
     ensures ok { IfOk result (λ outcome.
         key_step (R.catalogue records.old) number moment bucket.now key (KeyCommand.Copy asked.now)
         ≡ (R.catalogue records.new, outcome)) }
@@ -58,9 +54,7 @@ fn put_copy<R: Records>(
     number: u64,
     moment: Moment,
 ) -> Result<Outcome, NoMemory>
-    requires below { AreBelow number (R.catalogue records.old) }
-    requires there { IsTrue (has_bucket (R.catalogue records.old) bucket.now) }
-    requires versioning { versioning ≡ versioning_of (R.catalogue records.old) bucket.now }
+    requires { MayEnter (R.catalogue records.old) number bucket.now versioning }
     ensures ok { IfOk result (λ outcome.
         copy_step (R.catalogue records.old) number moment bucket.now key stored ≡ (R.catalogue records.new, outcome)) }
     ensures err { OnErr result (R.catalogue records.new ≡ R.catalogue records.old) }

@@ -6,11 +6,12 @@ ghost use Rattle.s3_records.specs.Catalogue.{has_bucket, versioning_of};
 ghost use Rattle.s3_records.specs.Places.{AreBelow};
 ghost use Rattle.s3_machine.specs.Effects.{is_refused, takes_room, takes_room_at_key};
 ghost use Rattle.s3_machine.specs.Step.{step, data_of, makes_marker};
-ghost use Rattle.s3_store.specs.Steps.{key_step, got_of, selected_by};
+ghost use Rattle.s3_store.specs.Steps.{key_step, got_of, selected_by, MayEnter};
 
 use crate::bucket_steps::refused;
 use crate::copying::copy;
 use crate::reading::{look, shown};
+use crate::upload_steps::begin;
 use s3_bodies::{Body, Payload};
 use s3_calendar::Moment;
 use s3_conditions::{Conditions, Selection, judge};
@@ -76,9 +77,7 @@ fn take_in_bucket<R: Records>(
     number: u64,
     moment: Moment,
 ) -> Result<Outcome, NoMemory>
-    requires below { AreBelow number (R.catalogue records.old) }
-    requires there { IsTrue (has_bucket (R.catalogue records.old) bucket.now) }
-    requires versioning { versioning ≡ versioning_of (R.catalogue records.old) bucket.now }
+    requires { MayEnter (R.catalogue records.old) number bucket.now versioning }
     ensures ok { IfOk result (λ outcome.
         key_step (R.catalogue records.old) number moment bucket.now key asked ≡ (R.catalogue records.new, outcome)) }
     ensures err { OnErr result (R.catalogue records.new ≡ R.catalogue records.old) }
@@ -90,13 +89,22 @@ fn take_in_bucket<R: Records>(
         KeyCommand::Put(asked) => put(
             records, alloc, bucket, versioning, key, asked, number, moment,
         ),
-        KeyCommand::Copy(asked) => copy(
-            records, alloc, bucket, versioning, key, &asked, number, moment,
-        ),
-        KeyCommand::Read(asked) => read(records, alloc, bucket, versioning, &key, &asked),
+        KeyCommand::Copy(asked) => {
+            let copied = copy(
+                records, alloc, bucket, versioning, key, &asked, number, moment,
+            );
+            drop(asked);
+            copied
+        }
+        KeyCommand::Read(asked) => {
+            let told = read(records, alloc, bucket, versioning, &key, &asked);
+            drop(asked);
+            told
+        }
         KeyCommand::Delete { version } => delete(
             records, alloc, bucket, versioning, key, version, number, moment,
         ),
+        KeyCommand::Begin(asked) => begin(records, alloc, bucket, key, asked, number, moment),
     }
 }
 
@@ -112,9 +120,7 @@ fn put<R: Records>(
     number: u64,
     moment: Moment,
 ) -> Result<Outcome, NoMemory>
-    requires below { AreBelow number (R.catalogue records.old) }
-    requires there { IsTrue (has_bucket (R.catalogue records.old) bucket.now) }
-    requires versioning { versioning ≡ versioning_of (R.catalogue records.old) bucket.now }
+    requires { MayEnter (R.catalogue records.old) number bucket.now versioning }
     ensures ok { IfOk result (λ outcome.
         key_step (R.catalogue records.old) number moment bucket.now key (KeyCommand.Put asked)
         ≡ (R.catalogue records.new, outcome)) }
@@ -209,9 +215,7 @@ fn delete<R: Records>(
     number: u64,
     moment: Moment,
 ) -> Result<Outcome, NoMemory>
-    requires below { AreBelow number (R.catalogue records.old) }
-    requires there { IsTrue (has_bucket (R.catalogue records.old) bucket.now) }
-    requires versioning { versioning ≡ versioning_of (R.catalogue records.old) bucket.now }
+    requires { MayEnter (R.catalogue records.old) number bucket.now versioning }
     ensures ok { IfOk result (λ outcome.
         key_step (R.catalogue records.old) number moment bucket.now key (KeyCommand.Delete version)
         ≡ (R.catalogue records.new, outcome)) }
@@ -237,9 +241,7 @@ fn delete_key<R: Records>(
     number: u64,
     moment: Moment,
 ) -> Result<Outcome, NoMemory>
-    requires below { AreBelow number (R.catalogue records.old) }
-    requires there { IsTrue (has_bucket (R.catalogue records.old) bucket.now) }
-    requires versioning { versioning ≡ versioning_of (R.catalogue records.old) bucket.now }
+    requires { MayEnter (R.catalogue records.old) number bucket.now versioning }
     ensures ok { IfOk result (λ outcome.
         key_step (R.catalogue records.old) number moment bucket.now key (KeyCommand.Delete None)
         ≡ (R.catalogue records.new, outcome)) }

@@ -3,11 +3,13 @@
 #![tactic(auto)]
 
 mod bucket_steps;
+mod completing;
 mod copying;
 mod key_steps;
 mod list_steps;
 mod reading;
 mod store;
 mod take;
+mod upload_steps;
 
 pub use store::Store;

@@ -2,8 +2,10 @@
 ghost use Rattle.std.specs.Prelude.{◌≡◌, ℕ, true, false, IfOk, OnErr};
 ghost use Rattle.s3_records.specs.Rows.{key_rows};
 ghost use Rattle.s3_listings.specs.Objects.{objects_told};
+ghost use Rattle.s3_listings.specs.Uploads.{uploads_page};
 ghost use Rattle.s3_listings.specs.Versions.{versions_page};
 ghost use Rattle.s3_documents.specs.ObjectList.{objects_text};
+ghost use Rattle.s3_documents.specs.UploadList.{uploads_text};
 ghost use Rattle.s3_documents.specs.VersionList.{versions_text};
 ghost use Rattle.s3_machine.specs.Effects.{is_refused};
 ghost use Rattle.s3_machine.specs.Step.{step};
@@ -12,7 +14,9 @@ ghost use Rattle.s3_store.specs.Steps.{bucket_step};
 use crate::bucket_steps::refused;
 use s3_bodies::Body;
 use s3_documents::{Document, buckets_document};
-use s3_listings::{ObjectsAsked, VersionsAsked, list_objects, list_versions};
+use s3_listings::{
+    ObjectsAsked, UploadsAsked, VersionsAsked, list_objects, list_uploads, list_versions,
+};
 use s3_machine::{BucketCommand, Command, Outcome};
 use s3_names::BucketName;
 use s3_records::Records;
@@ -37,38 +41,47 @@ pub(crate) fn tell_buckets<R: Records>(records: &mut R, alloc: Global) -> Result
 pub(crate) fn tell_objects<R: Records>(
     records: &mut R,
     alloc: Global,
-    name: BucketName,
+    name: &BucketName,
     asked: ObjectsAsked,
 ) -> Result<Outcome, NoMemory>
     ensures ok { IfOk result (λ outcome. (t : ℕ)
-        → bucket_step (R.catalogue records.old) t name (BucketCommand.ListObjects asked)
+        → bucket_step (R.catalogue records.old) t name.now (BucketCommand.ListObjects asked)
         ≡ (R.catalogue records.new, outcome)) }
     ensures same { R.catalogue records.new ≡ R.catalogue records.old }
     ensures memory { OnErr result (R.is_in_memory ≡ true → (t : ℕ)
-        → is_refused (bucket_step (R.catalogue records.old) t name (BucketCommand.ListObjects asked)).1 ≡ false) }
+        → is_refused (bucket_step (R.catalogue records.old) t name.now (BucketCommand.ListObjects asked)).1 ≡ false) }
 {
-    match records.bucket(alloc, &name)? {
-        None => Ok(refused(Code::NoSuchBucket)),
-        Some(_) => {
-            let document = objects_told_of(records, alloc, name, asked)?;
-            Ok(Outcome::Told { document })
+    match records.bucket(alloc, name) {
+        Ok(Some(_)) => tell_objects_of(records, alloc, name, asked),
+        Ok(None) => {
+            drop(asked);
+            Ok(refused(Code::NoSuchBucket))
+        }
+        Err(no_memory) => {
+            drop(asked);
+            Err(no_memory)
         }
     }
 }
 
-// The document of the page of a bucket's objects.
-fn objects_told_of<R: Records>(
+// The page of a bucket's objects.
+fn tell_objects_of<R: Records>(
     records: &mut R,
     alloc: Global,
-    name: BucketName,
+    name: &BucketName,
     asked: ObjectsAsked,
-) -> Result<Document, NoMemory>
-    ensures value { IfOk result (λ document. document
-        ≡ objects_text name asked (objects_told asked (key_rows (R.catalogue records.old) name))) }
+) -> Result<Outcome, NoMemory>
+    ensures value { IfOk result (λ outcome. outcome
+        ≡ Outcome.Told (objects_text name.now asked (objects_told asked (key_rows (R.catalogue records.old) name.now)))) }
     ensures same { R.catalogue records.new ≡ R.catalogue records.old }
 {
-    let page = list_objects(records, alloc, &name, &asked)?;
-    Document::of_objects(alloc, name, asked, page)
+    let Ok(kept) = name.copy() else {
+        drop(asked);
+        return Err(NoMemory);
+    };
+    let page = list_objects(records, alloc, name, &asked)?;
+    let document = Document::of_objects(alloc, kept, asked, page)?;
+    Ok(Outcome::Told { document })
 }
 
 /// ListObjectVersions.
@@ -76,36 +89,87 @@ fn objects_told_of<R: Records>(
 pub(crate) fn tell_versions<R: Records>(
     records: &mut R,
     alloc: Global,
-    name: BucketName,
+    name: &BucketName,
     asked: VersionsAsked,
 ) -> Result<Outcome, NoMemory>
     ensures ok { IfOk result (λ outcome. (t : ℕ)
-        → bucket_step (R.catalogue records.old) t name (BucketCommand.ListVersions asked)
+        → bucket_step (R.catalogue records.old) t name.now (BucketCommand.ListVersions asked)
         ≡ (R.catalogue records.new, outcome)) }
     ensures same { R.catalogue records.new ≡ R.catalogue records.old }
     ensures memory { OnErr result (R.is_in_memory ≡ true → (t : ℕ)
-        → is_refused (bucket_step (R.catalogue records.old) t name (BucketCommand.ListVersions asked)).1 ≡ false) }
+        → is_refused (bucket_step (R.catalogue records.old) t name.now (BucketCommand.ListVersions asked)).1 ≡ false) }
 {
-    match records.bucket(alloc, &name)? {
-        None => Ok(refused(Code::NoSuchBucket)),
-        Some(_) => {
-            let document = versions_told_of(records, alloc, name, asked)?;
-            Ok(Outcome::Told { document })
+    match records.bucket(alloc, name) {
+        Ok(Some(_)) => tell_versions_of(records, alloc, name, asked),
+        Ok(None) => {
+            drop(asked);
+            Ok(refused(Code::NoSuchBucket))
+        }
+        Err(no_memory) => {
+            drop(asked);
+            Err(no_memory)
         }
     }
 }
 
-// The document of the page of a bucket's versions.
-fn versions_told_of<R: Records>(
+// The page of a bucket's versions.
+fn tell_versions_of<R: Records>(
     records: &mut R,
     alloc: Global,
-    name: BucketName,
+    name: &BucketName,
     asked: VersionsAsked,
-) -> Result<Document, NoMemory>
-    ensures value { IfOk result (λ document. document
-        ≡ versions_text name asked (versions_page asked (R.catalogue records.old) name)) }
+) -> Result<Outcome, NoMemory>
+    ensures value { IfOk result (λ outcome. outcome
+        ≡ Outcome.Told (versions_text name.now asked (versions_page asked (R.catalogue records.old) name.now))) }
     ensures same { R.catalogue records.new ≡ R.catalogue records.old }
 {
-    let page = list_versions(records, alloc, &name, &asked)?;
-    Document::of_versions(alloc, name, asked, page)
+    let kept = name.copy()?;
+    let page = list_versions(records, alloc, name, &asked)?;
+    let document = Document::of_versions(alloc, kept, asked, page)?;
+    Ok(Outcome::Told { document })
+}
+
+/// ListMultipartUploads.
+#[tactic(auto, unfolding(s3_machine::specs::Step::bucket_done))]
+pub(crate) fn tell_uploads<R: Records>(
+    records: &mut R,
+    alloc: Global,
+    name: &BucketName,
+    asked: UploadsAsked,
+) -> Result<Outcome, NoMemory>
+    ensures ok { IfOk result (λ outcome. (t : ℕ)
+        → bucket_step (R.catalogue records.old) t name.now (BucketCommand.ListUploads asked)
+        ≡ (R.catalogue records.new, outcome)) }
+    ensures same { R.catalogue records.new ≡ R.catalogue records.old }
+    ensures memory { OnErr result (R.is_in_memory ≡ true → (t : ℕ)
+        → is_refused (bucket_step (R.catalogue records.old) t name.now (BucketCommand.ListUploads asked)).1 ≡ false) }
+{
+    match records.bucket(alloc, name) {
+        Ok(Some(_)) => tell_uploads_of(records, alloc, name, asked),
+        Ok(None) => {
+            drop(asked);
+            Ok(refused(Code::NoSuchBucket))
+        }
+        Err(no_memory) => {
+            drop(asked);
+            Err(no_memory)
+        }
+    }
+}
+
+// The page of a bucket's uploads.
+fn tell_uploads_of<R: Records>(
+    records: &mut R,
+    alloc: Global,
+    name: &BucketName,
+    asked: UploadsAsked,
+) -> Result<Outcome, NoMemory>
+    ensures value { IfOk result (λ outcome. outcome
+        ≡ Outcome.Told (uploads_text name.now asked (uploads_page asked (R.catalogue records.old) name.now))) }
+    ensures same { R.catalogue records.new ≡ R.catalogue records.old }
+{
+    let kept = name.copy()?;
+    let page = list_uploads(records, alloc, name, &asked)?;
+    let document = Document::of_uploads(alloc, kept, asked, page)?;
+    Ok(Outcome::Told { document })
 }

@@ -57,7 +57,7 @@ impl<R: Records + Drop> Store<R> {
     }
 
     /// Takes one step: does what the command asks for at this moment, and answers it under its number. `least_part` is the
-    /// least size of a part that is not the last. A put moves the bytes and copies none, a get copies those of the version.
+    /// least size of a part that is not the last. No step copies the bytes of a version or of a part: they are moved or shared.
     ///
     /// `NoMemory` leaves the store as it was; it comes too where the numbers are used up. Where the records are in memory,
     /// it stands in the place of no refusal, and comes only where the command takes room.

@@ -7,6 +7,7 @@ ghost use Rattle.s3_machine.specs.Step.{step};
 use crate::bucket_steps::take_on_bucket;
 use crate::key_steps::{let_go_at_key, take_on_key};
 use crate::list_steps::tell_buckets;
+use crate::upload_steps::{let_go_of_upload, take_on_upload};
 use s3_calendar::Moment;
 use s3_machine::{Command, Outcome};
 use s3_records::Records;
@@ -32,13 +33,20 @@ pub(crate) fn take<R: Records>(
         → is_refused (step least_part (R.catalogue records.old) number moment command).1 ≡ false) }
     ensures room { OnErr result (R.is_in_memory ≡ true → IsTrue (takes_room (R.catalogue records.old) command)) }
 {
-    let _least_part = least_part;
     match command {
         Command::ListBuckets => tell_buckets(records, alloc),
-        Command::Bucket { name, asked } => take_on_bucket(records, alloc, name, asked, moment),
+        Command::Bucket { name, asked } => take_on_bucket(records, alloc, &name, asked, moment),
         Command::Key { bucket, key, asked } => {
             take_on_key(records, alloc, &bucket, key, asked, number, moment)
         }
+        Command::Upload {
+            bucket,
+            key,
+            id,
+            asked,
+        } => take_on_upload(
+            records, alloc, least_part, &bucket, key, id, asked, number, moment,
+        ),
     }
 }
 
@@ -55,5 +63,11 @@ pub(crate) fn let_go(command: Command) {
             key,
             asked,
         } => let_go_at_key(key, asked),
+        Command::Upload {
+            bucket: _bucket,
+            key,
+            id: _,
+            asked,
+        } => let_go_of_upload(key, asked),
     }
 }

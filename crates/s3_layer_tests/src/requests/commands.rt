@@ -82,6 +82,25 @@ const ROWS: &str = "\
     PUT /pail?versioning<{\"Status\":\"Enabled\"|MalformedBody^\
     PUT /pail?versioning<<Status>Enabled</Status>|MalformedBody";
 
+// The same of uploads.
+const UPLOADS: &str = "\
+    GET /pail?uploads<hello|ListMultipartUploads^\
+    POST /pail/k?uploads<hello|CreateMultipartUpload^\
+    PUT /pail/k?partNumber=1&uploadId=u0000000000000000<hello|UploadPart hello^\
+    PUT /pail/k?partNumber=1&uploadId=u0000000000000000|UploadPart^\
+    GET /pail/k?uploadId=u0000000000000000<hello|ListParts^\
+    DELETE /pail/k?uploadId=u0000000000000000<hello|AbortMultipartUpload^\
+    POST /pail/k?uploadId=u0000000000000000<{\"Parts\":[{\"ETag\":\"\\\"5d41402abc4b2a76b9719d911017c592\\\"\",\"PartNumber\":1}]}|CompleteMultipartUpload hello^\
+    POST /pail/k?uploadId=u0000000000000000<{\"Parts\":[{\"PartNumber\":1,\"Size\":5,\"ETag\":\"5d41402abc4b2a76b9719d911017c592\"}]} |CompleteMultipartUpload hello^\
+    POST /pail/k?uploadId=u0000000000000000<{\"Parts\":[{\"ETag\":\"\",\"PartNumber\":10000},{\"ETag\":\"b\",\"PartNumber\":1}]}|CompleteMultipartUpload^\
+    POST /pail/k?uploadId=u0000000000000000|MalformedBody^\
+    POST /pail/k?uploadId=u0000000000000000<hello|MalformedBody^\
+    POST /pail/k?uploadId=u0000000000000000<{\"Parts\":[]}|MalformedBody^\
+    POST /pail/k?uploadId=u0000000000000000<{\"Parts\":[{\"ETag\":\"a\",\"PartNumber\":0}]}|InvalidArgument^\
+    POST /pail/k?uploadId=u0000000000000000<{\"Parts\":[{\"ETag\":\"a\",\"PartNumber\":10001}]}|InvalidArgument^\
+    POST /pail/k?uploadId=u0000000000000000<{\"Parts\":[{\"ETag\":\"a\",\"PartNumber\":0},{\"PartNumber\":1}]}|MalformedBody^\
+    POST /pail/k?uploadId=u0000000000000000<{\"Parts\":[{\"ETag\":\"a\",\"PartNumber\":\"1\"}]}|MalformedBody";
+
 // Whether a row holds; `None` says that it has no bar.
 fn holds(alloc: Global, row: &str) -> Option<bool> {
     let (asked, wanted) = row.split_once('|')?;
@@ -92,11 +111,14 @@ fn holds(alloc: Global, row: &str) -> Option<bool> {
 // A document that is no text.
 const NO_TEXT: &[u8] = b"{\"Status\":\"Enabled\",\"a\":\"\xff\"}";
 
-// PutBucketVersioning alone reads a document, and PutObject keeps the body; nothing else looks at it.
+// PutBucketVersioning and CompleteMultipartUpload alone read a document, and PutObject and UploadPart keep the body; nothing
+// else looks at it.
 #[test]
 fn bodies_of_commands(rt: HostRuntime) {
-    for row in ROWS.split('^') {
-        check(&rt, holds(rt.alloc(), row) == Some(true), row);
+    for rows in [ROWS, UPLOADS] {
+        for row in rows.split('^') {
+            check(&rt, holds(rt.alloc(), row) == Some(true), row);
+        }
     }
     check(
         &rt,

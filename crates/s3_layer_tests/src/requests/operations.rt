@@ -4,9 +4,12 @@ use crate::requests::asked::{Told, is_same, number, word};
 use s3_bodies::{Body, Payload};
 use s3_calendar::Moment;
 use s3_conditions::{ByteRange, Conditions, Selection};
+use s3_documents::Document;
 use s3_machine::{Found, Outcome, Source};
-use s3_names::{Tag, VersionId};
-use s3_requests::{BucketCommand, BucketPlan, Command, KeyCommand, Plan};
+use s3_names::{Tag, UploadId, VersionId};
+use s3_requests::{
+    BucketCommand, BucketPlan, Command, KeyCommand, Plan, UploadCommand, UploadPlan,
+};
 use s3_terms::Code;
 use s3_versions::{Data, Versioning, VersioningStatus};
 use std::alloc::Global;
@@ -21,6 +24,7 @@ fn bucket_operation(asked: &BucketPlan) -> &'static str {
         BucketPlan::GetVersioning => "GetBucketVersioning",
         BucketPlan::ListObjects(_) => "ListObjectsV2",
         BucketPlan::ListVersions(_) => "ListObjectVersions",
+        BucketPlan::ListUploads(_) => "ListMultipartUploads",
     }
 }
 
@@ -31,6 +35,17 @@ fn key_operation<B>(asked: &KeyCommand<B>) -> (&'static str, Option<VersionId>) 
         KeyCommand::Copy(_) => ("CopyObject", None),
         KeyCommand::Read(asked) => ("GetObject", asked.version),
         KeyCommand::Delete { version } => ("DeleteObject", *version),
+        KeyCommand::Begin(_) => ("CreateMultipartUpload", None),
+    }
+}
+
+// The operation on an upload.
+fn upload_operation(asked: &UploadPlan) -> &'static str {
+    match asked {
+        UploadPlan::PutPart { .. } => "UploadPart",
+        UploadPlan::Complete => "CompleteMultipartUpload",
+        UploadPlan::Abort => "AbortMultipartUpload",
+        UploadPlan::ListParts(_) => "ListParts",
     }
 }
 
@@ -40,6 +55,7 @@ pub(crate) fn operation(plan: &Plan) -> &'static str {
         Plan::ListBuckets => "ListBuckets",
         Plan::Bucket { asked, .. } => bucket_operation(asked),
         Plan::Key { asked, .. } => key_operation(asked).0,
+        Plan::Upload { asked, .. } => upload_operation(asked),
     }
 }
 
@@ -111,7 +127,38 @@ fn with_asked<B>(alloc: Global, text: Vec<u8>, asked: &KeyCommand<B>) -> Told {
     }
 }
 
-/// The operation of a plan, its bucket, its key, the id of the version that is asked for, and what is asked of it.
+// That text, and a number.
+fn with_number(alloc: Global, text: &[u8], behind: u64) -> Told {
+    Ok([text, b" ", &number(alloc, behind)?].concat(alloc)?)
+}
+
+// That text, and what is asked of an upload: the number of a part, or behind which number how many are listed.
+fn with_part(alloc: Global, text: &[u8], asked: &UploadPlan) -> Told {
+    match asked {
+        UploadPlan::PutPart { number } => with_number(alloc, text, u64::from(number.get())),
+        UploadPlan::ListParts(asked) => {
+            let text = with_number(alloc, text, asked.marker)?;
+            with_number(alloc, &text, u64::from(asked.max_parts))
+        }
+        _ => Ok(Vec::from_slice(alloc, text)?),
+    }
+}
+
+// That text, and what is asked of the upload of this id.
+fn with_upload(alloc: Global, text: &[u8], id: UploadId, asked: &UploadPlan) -> Told {
+    let text = [text, b" ", id.text().as_bytes()].concat(alloc)?;
+    with_part(alloc, &text, asked)
+}
+
+// What is asked of a key in a bucket.
+fn key_plan_text(alloc: Global, bucket: &[u8], key: &[u8], asked: &KeyCommand<()>) -> Told {
+    let (operation, version) = key_operation(asked);
+    let text = with_key(alloc, operation.as_bytes(), bucket, key)?;
+    with_asked(alloc, with_version(text, version)?, asked)
+}
+
+/// The operation of a plan, its bucket, its key, the id of the version or of the upload that is asked for, and what is asked
+/// of it.
 pub(crate) fn plan_text(alloc: Global, plan: &Plan) -> Told {
     match plan {
         Plan::ListBuckets => word(alloc, "ListBuckets"),
@@ -119,14 +166,17 @@ pub(crate) fn plan_text(alloc: Global, plan: &Plan) -> Told {
             with_bucket(alloc, bucket_operation(asked).as_bytes(), name.as_bytes())
         }
         Plan::Key { bucket, key, asked } => {
-            let (operation, version) = key_operation(asked);
-            let text = with_key(
-                alloc,
-                operation.as_bytes(),
-                bucket.as_bytes(),
-                key.as_bytes(),
-            )?;
-            with_asked(alloc, with_version(text, version)?, asked)
+            key_plan_text(alloc, bucket.as_bytes(), key.as_bytes(), asked)
+        }
+        Plan::Upload {
+            bucket,
+            key,
+            id,
+            asked,
+        } => {
+            let operation = upload_operation(asked).as_bytes();
+            let text = with_key(alloc, operation, bucket.as_bytes(), key.as_bytes())?;
+            with_upload(alloc, &text, *id, asked)
         }
     }
 }
@@ -146,30 +196,45 @@ fn bucket_text(asked: &BucketCommand) -> &'static str {
         BucketCommand::GetVersioning => "GetBucketVersioning",
         BucketCommand::ListObjects(_) => "ListObjectsV2",
         BucketCommand::ListVersions(_) => "ListObjectVersions",
+        BucketCommand::ListUploads(_) => "ListMultipartUploads",
     }
 }
 
 // The tag of the bytes `hello`, as md5sum tells it.
 const HELLO_TAG: &[u8] = b"5d41402abc4b2a76b9719d911017c592";
 
-// What is put.
-fn put_text(payload: &Payload) -> &'static str {
-    if is_same(payload.tag().text().as_bytes(), HELLO_TAG) {
-        "PutObject hello"
-    } else {
-        "PutObject"
-    }
+// Whether the bytes `hello` came.
+fn is_hello(payload: &Payload) -> bool {
+    is_same(payload.tag().text().as_bytes(), HELLO_TAG)
 }
 
 // What a command does to a key.
 fn key_text(asked: &KeyCommand<Payload>) -> &'static str {
     match asked {
-        KeyCommand::Put(asked) => put_text(&asked.payload),
+        KeyCommand::Put(asked) if is_hello(&asked.payload) => "PutObject hello",
+        KeyCommand::Put(_) => "PutObject",
         KeyCommand::Copy(_) => "CopyObject",
         KeyCommand::Read(asked) if asked.version.is_some() => "GetObject of a version",
         KeyCommand::Read(_) => "GetObject",
         KeyCommand::Delete { version: None } => "DeleteObject",
         KeyCommand::Delete { version: Some(_) } => "DeleteObject of a version",
+        KeyCommand::Begin(_) => "CreateMultipartUpload",
+    }
+}
+
+// What a command does to an upload. Of what a completion lists it is told whether it is `hello` alone, as the first part.
+fn upload_text(asked: &UploadCommand) -> &'static str {
+    match asked {
+        UploadCommand::PutPart { payload, .. } if is_hello(payload) => "UploadPart hello",
+        UploadCommand::PutPart { .. } => "UploadPart",
+        UploadCommand::Complete { listed } => match listed.as_slice() {
+            [part] if part.number.get() == 1 && is_same(part.tag.as_bytes(), HELLO_TAG) => {
+                "CompleteMultipartUpload hello"
+            }
+            _ => "CompleteMultipartUpload",
+        },
+        UploadCommand::Abort => "AbortMultipartUpload",
+        UploadCommand::ListParts(_) => "ListParts",
     }
 }
 
@@ -179,6 +244,7 @@ pub(crate) fn command_text(command: &Command) -> &'static str {
         Command::ListBuckets => "ListBuckets",
         Command::Bucket { asked, .. } => bucket_text(asked),
         Command::Key { asked, .. } => key_text(asked),
+        Command::Upload { asked, .. } => upload_text(asked),
     }
 }
 
@@ -256,6 +322,21 @@ fn copied_text(alloc: Global, tag: &Tag, moment: Moment, shown: Option<VersionId
     shown_text(alloc, b"copied ", shown, &behind)
 }
 
+fn document_text(alloc: Global, document: Document) -> Told {
+    Ok(document.into_body().to_vec(alloc)?)
+}
+
+// The tag and the text of a document.
+fn with_document(alloc: Global, tag: &Tag, text: &[u8]) -> Told {
+    Ok([b" ".as_slice(), tag.text().as_bytes(), b" ", text].concat(alloc)?)
+}
+
+// What a completion stored, and its document.
+fn completed_text(alloc: Global, document: Document, tag: &Tag, shown: Option<VersionId>) -> Told {
+    let behind = with_document(alloc, tag, &document_text(alloc, document)?)?;
+    shown_text(alloc, b"completed ", shown, &behind)
+}
+
 fn marker(is_delete_marker: bool) -> &'static [u8] {
     if is_delete_marker { b" marker" } else { b"" }
 }
@@ -268,17 +349,33 @@ fn name_of(versioning: Versioning) -> &'static str {
     }
 }
 
+// Two words with nothing between them.
+fn joined(alloc: Global, word: &[u8], behind: &[u8]) -> Told {
+    Ok([word, behind].concat(alloc)?)
+}
+
+fn part_text(alloc: Global, tag: &Tag) -> Told {
+    joined(alloc, b"part ", tag.text().as_bytes())
+}
+
 /// What came of a command.
 pub(crate) fn outcome_text(alloc: Global, outcome: Outcome) -> Told {
     match outcome {
-        Outcome::Told { document } => Ok(document.into_body().to_vec(alloc)?),
-        Outcome::BucketMade { name } => Ok([b"made ".as_slice(), name.as_bytes()].concat(alloc)?),
+        Outcome::Told { document } => document_text(alloc, document),
+        Outcome::BucketMade { name } => joined(alloc, b"made ", name.as_bytes()),
         Outcome::BucketFound => word(alloc, "found"),
         Outcome::BucketDropped => word(alloc, "dropped"),
         Outcome::VersioningSet => word(alloc, "set"),
         Outcome::BucketVersioning { versioning } => word(alloc, name_of(versioning)),
         Outcome::Put { tag, shown } => stored_text(alloc, &tag, shown),
         Outcome::Copied { tag, moment, shown } => copied_text(alloc, &tag, moment, shown),
+        Outcome::PartPut { tag } => part_text(alloc, &tag),
+        Outcome::Completed {
+            document,
+            tag,
+            shown,
+        } => completed_text(alloc, document, &tag, shown),
+        Outcome::UploadDropped => word(alloc, "upload dropped"),
         Outcome::Got { found, selection } => got_text(alloc, &found, selection),
         Outcome::Deleted {
             shown,
@@ -287,6 +384,6 @@ pub(crate) fn outcome_text(alloc: Global, outcome: Outcome) -> Told {
         Outcome::Refused {
             code,
             is_delete_marker,
-        } => Ok([code.name().as_bytes(), marker(is_delete_marker)].concat(alloc)?),
+        } => joined(alloc, code.name().as_bytes(), marker(is_delete_marker)),
     }
 }

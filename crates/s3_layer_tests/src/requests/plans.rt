@@ -1,4 +1,5 @@
-//! The texts of plans: the operation, the bucket and the key, the version, and what a put says of its object.
+//! The texts of plans: the operation, the bucket and the key, the version or the upload, and what a put, or the beginning of
+//! an upload, says of its object.
 use crate::requests::asked::{Told, word};
 use crate::requests::operations::{operation, plan_text};
 use crate::requests::targets::push_line;
@@ -33,18 +34,22 @@ fn object_text(alloc: Global, content_type: &ContentType, metadata: &Metadata) -
     Ok(text)
 }
 
-// What a put says of the object.
+// What a put, or the beginning of an upload, says of the object.
 fn put_text(alloc: Global, plan: &Plan) -> Told {
     match plan {
         Plan::Key {
             asked: KeyCommand::Put(asked),
             ..
         } => object_text(alloc, &asked.content_type, &asked.metadata),
+        Plan::Key {
+            asked: KeyCommand::Begin(asked),
+            ..
+        } => object_text(alloc, &asked.content_type, &asked.metadata),
         _ => Err(Code::InvalidRequest),
     }
 }
 
-/// What the head, that of a put, says of the object.
+/// What the head, that of a put or of the beginning of an upload, says of the object.
 pub(crate) fn description_text(alloc: Global, head: &Head) -> Told {
     let plan = route(alloc, head)?;
     let text = put_text(alloc, &plan);

@@ -43,7 +43,7 @@ const PARAMETERS: Table = Table {
         GET /?list-type=2|ListBuckets^\
         PUT /pail?versioning|PutBucketVersioning pail^\
         GET /pail?versioning|GetBucketVersioning pail^\
-        GET /pail?uploads|NotImplemented^\
+        GET /pail?uploads|ListMultipartUploads pail^\
         GET /pail?versions|ListObjectVersions pail^\
         GET /pail?list-type=2|ListObjectsV2 pail^\
         GET /pail?list-type=1|NotImplemented^\
@@ -55,16 +55,16 @@ const PARAMETERS: Table = Table {
         GET /pail?versions&key-marker=k&version-id-marker=null|ListObjectVersions pail^\
         GET /pail?versions&version-id-marker=null|InvalidArgument^\
         OPTIONS /pail?versioning|MethodNotAllowed^\
-        PUT /pail/k?partNumber=1&uploadId=u0000000000000000|NotImplemented^\
-        PUT /pail/k?partNumber=1|NotImplemented^\
-        PUT /pail/k?uploadId|NotImplemented^\
-        GET /pail/k?uploadId=u0000000000000000|NotImplemented^\
+        PUT /pail/k?partNumber=1&uploadId=u0000000000000000|UploadPart pail k u0000000000000000 1^\
+        PUT /pail/k?partNumber=1|InvalidArgument^\
+        PUT /pail/k?uploadId|InvalidArgument^\
+        GET /pail/k?uploadId=u0000000000000000|ListParts pail k u0000000000000000 0 1000^\
         GET /pail/k?partNumber=1|NotImplemented^\
         HEAD /pail/k?partNumber=1|NotImplemented^\
         HEAD /pail/k?uploadId=u0000000000000000|GetObject pail k^\
-        DELETE /pail/k?uploadId=u0000000000000000|NotImplemented^\
-        POST /pail/k?uploads|NotImplemented^\
-        POST /pail/k?uploadId=u0000000000000000|NotImplemented^\
+        DELETE /pail/k?uploadId=u0000000000000000|AbortMultipartUpload pail k u0000000000000000^\
+        POST /pail/k?uploads|CreateMultipartUpload pail k^\
+        POST /pail/k?uploadId=u0000000000000000|CompleteMultipartUpload pail k u0000000000000000^\
         POST /pail/k?partNumber=1|MethodNotAllowed^\
         POST /pail/k?versionId=null|MethodNotAllowed^\
         PUT /pail/k?x-id=PutObject|PutObject pail k^\
@@ -113,14 +113,79 @@ const FAULTS: Table = Table {
         OPTIONS /Pail|InvalidBucketName^\
         OPTIONS /pail/%ff|InvalidURI^\
         GET /pail/%ff?versionId=|InvalidURI^\
-        GET /pail/k?uploadId&versionId=|NotImplemented^\
+        GET /pail/k?uploadId&versionId=|NoSuchUpload^\
         GET /pail/k?partNumber=1&versionId=|NotImplemented^\
         HEAD /pail/k?partNumber=1&versionId=|NotImplemented^\
-        DELETE /pail/k?uploadId&versionId=|NotImplemented^\
+        DELETE /pail/k?uploadId&versionId=|NoSuchUpload^\
         PUT /pail?versioning&policy|NotImplemented^\
         GET /?acl|NotImplemented^\
         DELETE /Pail|InvalidBucketName^\
         DELETE /pail/%ff?versionId=|InvalidURI",
+    ..ROUTES
+};
+
+// What is asked of the uploads in a bucket.
+const UPLOADS: Table = Table {
+    rows: "\
+        GET /pail/?uploads&max-uploads=000000000&delimiter=&key-marker=|ListMultipartUploads pail^\
+        GET /pail?uploads&max-uploads=999999999&max-keys=|ListMultipartUploads pail^\
+        GET /pail?max-uploads=0000000000&uploads|InvalidArgument^\
+        GET /pail?uploads&max-uploads=|InvalidArgument^\
+        GET /pail?uploads&max-uploads=1&max-uploads=|ListMultipartUploads pail^\
+        GET /pail?uploads&max-uploads=&max-uploads=1|InvalidArgument^\
+        GET /pail?uploads&prefix=%ff|InvalidArgument^\
+        GET /pail?uploads&key-marker=%ff|InvalidArgument^\
+        GET /pail?uploads&key-marker=k&upload-id-marker=u00000000000000ff|ListMultipartUploads pail^\
+        GET /pail?uploads&key-marker=k&upload-id-marker=|InvalidArgument^\
+        GET /pail?uploads&key-marker=k&upload-id-marker=null|InvalidArgument^\
+        GET /pail?uploads&key-marker=k&upload-id-marker=v00000000000000ff|InvalidArgument^\
+        GET /pail?uploads&key-marker=k&upload-id-marker=u00000000000000FF|InvalidArgument^\
+        GET /pail?uploads&key-marker=&upload-id-marker=u00000000000000ff|InvalidArgument^\
+        GET /pail?uploads&upload-id-marker=u00000000000000ff|InvalidArgument^\
+        GET /pail?uploads&version-id-marker=&uploadId|ListMultipartUploads pail^\
+        GET /pail?uploads&delimiter=/&max-uploads=|NotImplemented^\
+        GET /Pail?uploads&delimiter=/|InvalidBucketName^\
+        GET /pail?uploads&versions&list-type=2|ListMultipartUploads pail^\
+        PUT /pail?uploads=&max-uploads=|CreateBucket pail^\
+        POST /?uploads|MethodNotAllowed^\
+        POST /pail?uploads|NotImplemented^\
+        POST /pail?uploadId=|NotImplemented",
+    ..ROUTES
+};
+
+// What is asked of an upload: a number that is none refuses before an id that is none.
+const PARTS: Table = Table {
+    rows: "\
+        PUT /pail/k?uploadId=u00000000000000ff&partNumber=00001|UploadPart pail k u00000000000000ff 1^\
+        PUT /pail/k?partNumber=10000&uploadId=uffffffffffffffff|UploadPart pail k uffffffffffffffff 10000^\
+        PUT /pail/k?partNumber=10001&uploadId=|InvalidArgument^\
+        PUT /pail/k?partNumber=0&uploadId=u0000000000000000|InvalidArgument^\
+        PUT /pail/k?partNumber=000001&uploadId=u0000000000000000|InvalidArgument^\
+        PUT /pail/k?partNumber=&uploadId=|InvalidArgument^\
+        PUT /pail/k?uploadId=|InvalidArgument^\
+        PUT /pail/k?partNumber=1&uploadId=|NoSuchUpload^\
+        PUT /pail/k?partNumber=1&uploadId=u000000000000000|NoSuchUpload^\
+        PUT /pail/k?partNumber=1&uploadId=u000000000000000A|NoSuchUpload^\
+        PUT /pail/k?partNumber=1&uploadId=v0000000000000000|NoSuchUpload^\
+        PUT /pail/k?partNumber=2&partNumber=0&uploadId=u0000000000000000&uploadId=|UploadPart pail k u0000000000000000 2^\
+        PUT /pail/k?partNumber=1&uploadId=&uploadId=u0000000000000000|NoSuchUpload^\
+        PUT /pail/k?partNumber=1&uploadId=u0000000000000000&uploads&versionId=|UploadPart pail k u0000000000000000 1^\
+        GET /pail/k?uploadId=u0000000000000000&part-number-marker=000000007&max-parts=1001|ListParts pail k u0000000000000000 7 1000^\
+        GET /pail/k?uploadId=u0000000000000000&part-number-marker=999999999&max-parts=0|ListParts pail k u0000000000000000 999999999 0^\
+        GET /pail/k?uploadId=u0000000000000000&partNumber=0|ListParts pail k u0000000000000000 0 1000^\
+        GET /pail/k?uploadId=&part-number-marker=|InvalidArgument^\
+        GET /pail/k?uploadId=&part-number-marker=0000000000|InvalidArgument^\
+        GET /pail/k?uploadId=&part-number-marker=-1|InvalidArgument^\
+        GET /pail/k?uploadId=&max-parts=|InvalidArgument^\
+        GET /pail/k?uploadId=|NoSuchUpload^\
+        HEAD /pail/k?uploadId=|GetObject pail k^\
+        DELETE /pail/k?uploadId=|NoSuchUpload^\
+        DELETE /pail/k?uploadId=u00000000000000f&partNumber=1|NoSuchUpload^\
+        POST /pail/k?uploadId=|NoSuchUpload^\
+        POST /pail/k?uploadId=U0000000000000000|NoSuchUpload^\
+        POST /pail/k?uploads&uploadId=|CreateMultipartUpload pail k^\
+        POST /Pail/k?uploadId=|InvalidBucketName^\
+        POST /pail/%ff?uploadId=|InvalidURI",
     ..ROUTES
 };
 
@@ -169,7 +234,15 @@ const SUB_RESOURCES: Table = Table {
     end: " HTTP/1.1\r\n\r\n",
 };
 
-static OPERATIONS: [Table; 5] = [METHODS, PARAMETERS, FAULTS, ESCAPES, SUB_RESOURCES];
+static OPERATIONS: [Table; 7] = [
+    METHODS,
+    PARAMETERS,
+    FAULTS,
+    UPLOADS,
+    PARTS,
+    ESCAPES,
+    SUB_RESOURCES,
+];
 
 #[test]
 fn the_table_of_operations(rt: HostRuntime) {
@@ -207,6 +280,12 @@ const LONG_LINES: Table = Table {
         PUT /pail/k HTTP/1.1\r\nx-amz-copy-source: /pail/{j*1024}%|InvalidArgument^\
         PUT /pail/k HTTP/1.1\r\nx-amz-copy-source: /pail/{%6a*1025}|InvalidArgument^\
         GET /pail/k HTTP/1.1\r\ncontent-type: {t*256}|GetObject pail k^\
+        POST /pail/k?uploads HTTP/1.1\r\ncontent-type: {t*255}|CreateMultipartUpload pail k^\
+        POST /pail/k?uploads HTTP/1.1\r\ncontent-type: {t*256}|InvalidArgument^\
+        POST /pail/k?uploadId= HTTP/1.1\r\ncontent-type: {t*256}|NoSuchUpload^\
+        PUT /pail/k?partNumber=1&uploadId= HTTP/1.1\r\ncontent-type: {t*256}|NoSuchUpload^\
+        POST /pail/k?uploads HTTP/1.1\r\nx-amz-meta-a: {v*2047}|CreateMultipartUpload pail k^\
+        POST /pail/k?uploads HTTP/1.1\r\nx-amz-meta-a: {v*2048}|MetadataTooLarge^\
         PUT /pail/k HTTP/1.1\r\nx-amz-meta-a: {v*2047}|PutObject pail k^\
         PUT /pail/k HTTP/1.1\r\nx-amz-meta-a: {v*2048}|MetadataTooLarge^\
         PUT /pail/k HTTP/1.1\r\nx-amz-meta-a: 1\r\nX-Amz-Meta-{n*2046}:|PutObject pail k^\
@@ -258,6 +337,8 @@ const COPIES: Table = Table {
         PUT /pail/k|CopyObject pail k from pail j^\
         PUT /pail/k?versionId=v|CopyObject pail k from pail j^\
         PUT /pail/k?uploadId|NotImplemented^\
+        PUT /pail/k?partNumber=1&uploadId=u0000000000000000|NotImplemented^\
+        POST /pail/k?uploads|CreateMultipartUpload pail k^\
         PUT /pail|CreateBucket pail^\
         GET /pail/k|GetObject pail k",
     end: " HTTP/1.1\r\nX-Amz-Copy-Source: /pail/j\r\n\r\n",
@@ -326,7 +407,17 @@ const DESCRIPTIONS: Table = Table {
     end: "\r\n",
 };
 
-static SAID: [Table; 4] = [COPIES, SOURCES, NO_PUT, DESCRIPTIONS];
+// What the beginning of an upload says of the object that is to come.
+const BEGUN: Table = Table {
+    question: Question::Description,
+    front: "POST /pail/k?uploads HTTP/1.1\r\n",
+    rows: "\
+        |binary/octet-stream^\
+        Content-Type: text/plain\r\nx-amz-meta-b: 1\r\nX-Amz-Meta-A: 2\r\n|text/plain\na:2\nb:1",
+    end: "\r\n",
+};
+
+static SAID: [Table; 5] = [COPIES, SOURCES, NO_PUT, DESCRIPTIONS, BEGUN];
 
 // Bytes beyond ASCII stay as they are, and names that only look like it are none.
 const BEYOND_ASCII: &[u8] =

@@ -1,6 +1,6 @@
 use Rattle.std.proofs.Common.{sym, subst}
 use Rattle.std.specs.Str.{IsUtf8}
-use Rattle.s3_documents.proofs.VersionListLemmas.{id_utf8}
+use Rattle.s3_documents.proofs.IdLemmas.{id_utf8}
 use Rattle.s3_documents.proofs.texts.id_told.Goals as goal
 
 pub returns-in-Some-clause-utf8 : goal.returns-in-Some-clause-utf8

@@ -1,13 +1,5 @@
-use Rattle.std.proofs.Common.{ℕ, List}
-use Rattle.s3_machine.specs.History.{Entry}
-use Rattle.s3_machine.specs.Kept.{EveryHistory}
-use Rattle.s3_machine.specs.Step.{State}
-use Rattle.s3_journal.specs.Laws.{EveryBook}
-use Rattle.s3_journal.specs.Recorded.{history_of}
+use Rattle.s3_journal.proofs.BookLemmas.{of_books}
 use Rattle.s3_journal.proofs.laws.books_keep_promises.Goals as goal
-
-of_books : {Law : ℕ → State → List Entry → Type 0} → EveryHistory Law → EveryBook Law
-of_books law book keeps = law book.least book.opening.state book.opening.number (history_of book.entries) keeps.legal
 
 pub returns : goal.returns
 returns c = record {
@@ -20,7 +12,7 @@ returns c = record {
   only_listed = of_books c.stored_is_listed.ensures.nothing_else;
   lists = of_books c.lists_tell_what_is_there.ensures.objects;
   version_lists = of_books c.lists_tell_what_is_there.ensures.versions;
-  put_once = of_books c.only_stored_is_given.ensures.put;
+  brought = of_books c.only_stored_is_given.ensures.brought;
   or_fails = of_books c.only_stored_is_given.ensures.or_fails;
   judged = of_books c.only_stored_is_given.ensures.judged;
   hidden = of_books c.delete_markers_hide.ensures.hidden;

@@ -1,3 +1,4 @@
+use Rattle.s3_machine.proofs.EffectLemmas.{Rules}
 use Rattle.s3_machine.proofs.ListLemmas.{listed_is_current, stored_is_listed, listed_is_stored}
 use Rattle.s3_machine.proofs.history.stored_is_listed.Goals as goal
 
@@ -5,7 +6,8 @@ pub returns : goal.returns
 returns c =
     let law = listed_is_current c.listed_keys_are_read.ensures.read in
     let places = c.changes_are_by_place.ensures.places in
-    let rules = c.changes_follow_rules.ensures.rules in
+    let rules : Rules =
+    record { keys = c.changes_follow_rules.ensures.rules; completions = c.changes_follow_rules.ensures.completions } in
     record {
       listed = stored_is_listed law places rules c.puts_are_current.ensures;
       nothing_else = listed_is_stored law places rules c.ids_differ.ensures.told c.versions_stay_in_order.ensures.opening;

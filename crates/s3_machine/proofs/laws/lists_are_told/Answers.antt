@@ -1,5 +1,11 @@
 use Rattle.s3_machine.proofs.ListLemmas.{lists_are_told, version_lists_are_told}
+use Rattle.s3_machine.proofs.TellingLemmas.{upload_lists_are_told, part_lists_are_told}
 use Rattle.s3_machine.proofs.laws.lists_are_told.Goals as goal
 
 pub returns : goal.returns
-returns c = record { objects = lists_are_told; versions = version_lists_are_told }
+returns c = record {
+  objects = lists_are_told;
+  versions = version_lists_are_told;
+  uploads = upload_lists_are_told;
+  parts = part_lists_are_told;
+}

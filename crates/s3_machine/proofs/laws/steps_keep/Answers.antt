@@ -1,10 +1,15 @@
-use Rattle.s3_machine.proofs.EffectLemmas.{quiet_steps_change_nothing, steps_stay_below}
+use Rattle.s3_machine.proofs.EffectLemmas.{Rules, quiet_steps_change_nothing, steps_stay_below}
 use Rattle.s3_machine.proofs.laws.steps_keep.Goals as goal
 
 pub returns-clause-quiet : goal.returns-clause-quiet
-returns-clause-quiet c = quiet_steps_change_nothing c.changes_are_by_place.ensures.places c.changes_follow_rules.ensures.rules
+returns-clause-quiet c =
+    let rules : Rules =
+    record { keys = c.changes_follow_rules.ensures.rules; completions = c.changes_follow_rules.ensures.completions } in
+    quiet_steps_change_nothing c.changes_are_by_place.ensures.places rules
 
 pub returns-clause-numbers : goal.returns-clause-numbers
 returns-clause-numbers c =
-    steps_stay_below c.changes_are_by_place.ensures.places c.changes_follow_rules.ensures.rules
+    let rules : Rules =
+    record { keys = c.changes_follow_rules.ensures.rules; completions = c.changes_follow_rules.ensures.completions } in
+    steps_stay_below c.changes_are_by_place.ensures.places rules
     c.numbers_stay_below.ensures.stay c.numbers_stay_below.ensures.later

@@ -1,4 +1,5 @@
-use Rattle.s3_records.proofs.LawLemmas.{empty_has_nothing, others_have_something, keys_stay_filled}
+use Rattle.s3_records.proofs.LawLemmas.{empty_has_nothing}
+use Rattle.s3_records.proofs.FilledLemmas.{others_have_something, keys_stay_filled}
 use Rattle.s3_records.proofs.laws.empty_has_nothing.Goals as goal
 
 pub returns-clause-nothing : goal.returns-clause-nothing

@@ -16,7 +16,7 @@ returns-in-Err-clause-read c settings rest h =
     progress_err c.verdicts_stay.ensures.head c.verdicts_stay.ensures.pairs
     settings c.args.self (record c.args.self { admission = record c.args.self.admission { reader = c.feed.new.self } }) rest c.args.piece.now h refl refl
     c.payloads_are_judged.ensures.verdict c.payloads_are_judged.ensures.failed c.refusals_stand.ensures.place c.in-Err.code
-    (c.in-Err.ensures.stands h.asked.announced h.behind h.stands) c.feed.ensures.counts.0 _ (rw (c.taken_since.ensures, c.taken-before.ensures) refl) c.refused.result c.refused.ensures
+    (c.in-Err.ensures.stands h.asked.announced h.behind h.stands) c.feed.ensures.counts.0 _ (rw (c.taken_since-len.ensures, c.taken-before.ensures) refl) c.refused.result c.refused.ensures
 
 pub returns-in-Ok-clause-all : goal.returns-in-Ok-clause-all
 returns-in-Ok-clause-all c settings rest h still =
@@ -34,4 +34,4 @@ pub returns-in-Err-clause-at_once : goal.returns-in-Err-clause-at_once
 returns-in-Err-clause-at_once c settings rest h lives k less =
     refused_open c.verdicts_are_final.ensures.stay c.verdicts_are_final.ensures.one c.verdicts_are_final.ensures.exist c.refusals_stand.ensures.place c.accepted_bodies_are_whole.ensures.whole
     c.verdicts_stay.ensures.head c.verdicts_stay.ensures.pairs settings c.args.self rest c.args.piece.now h _ c.payloads_are_judged.ensures.verdict c.payloads_are_judged.ensures.failed c.in-Err.code
-    (c.in-Err.ensures.stands h.asked.announced h.behind h.stands) _ (rw (c.taken_since.ensures, c.taken-before.ensures) refl) c.refused.result c.refused.ensures lives k less
+    (c.in-Err.ensures.stands h.asked.announced h.behind h.stands) _ (rw (c.taken_since-len.ensures, c.taken-before.ensures) refl) c.refused.result c.refused.ensures lives k less

@@ -1,0 +1,7 @@
+use Rattle.std.proofs.Common.{sym, subst}
+use Rattle.std.specs.Str.{IsUtf8}
+use Rattle.s3_documents.proofs.IdLemmas.{upload_id_utf8}
+use Rattle.s3_documents.proofs.texts.upload_id_told.Goals as goal
+
+pub returns-in-Some-clause-utf8 : goal.returns-in-Some-clause-utf8
+returns-in-Some-clause-utf8 c = subst IsUtf8 (sym c.upload_id_spelled.ensures) (upload_id_utf8 _)

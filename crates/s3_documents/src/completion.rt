@@ -1,0 +1,149 @@
+//! The parts that the body of a completion lists.
+ghost use Rattle.std.specs.Prelude.{◌≡◌, ◌<◌, length, map as each, option_map, IfOk, IfErr};
+ghost use Rattle.std.specs.List.{list_all, filter_map};
+ghost use Rattle.serde_json.specs.View.{view, number_view};
+ghost use Rattle.s3_terms.specs.Fault.{Follows};
+ghost use Rattle.s3_documents.specs.Completion.{parts_in, judged, tag_in, number_in, is_part, part_number_in, is_numbered, listed_in, parts_listed, completion_read};
+
+use crate::body::parsed;
+use s3_conditions::unquoted;
+use s3_names::PartNumber;
+use s3_terms::{Code, NoMemory};
+use s3_uploads::{ListedPart, ListedParts, ListedTag};
+use serde_json::{Number, Value};
+use std::alloc::Global;
+
+/// The most parts that a completion may list.
+const PARTS_MAX: usize = 10_000;
+
+/// The parts that the body of a CompleteMultipartUpload lists: its member `Parts`, an array of 1 to 10,000 objects with
+/// an `ETag`, a text, of which the double quotes at both ends are dropped, and a `PartNumber`, a whole number. Of several
+/// members of one name the last one counts; other members are ignored. `MalformedBody` where it is no JSON, or asks for
+/// anything else; where nothing is malformed, `InvalidArgument` for a number outside 1 to 10,000. `InternalError` where
+/// memory runs out, which comes only where there is a body.
+#[tactic(auto, unfolding(crate::specs::Completion::completion_read))]
+pub fn read_completion(alloc: Global, body: &[u8]) -> Result<ListedParts, Code>
+    ensures rule { Follows result (completion_read body.now) }
+    ensures memory { IfErr result (λ code. code ≡ Code.InternalError → 0 < length body.now) }
+{
+    let value = parsed(alloc, body)?;
+    parts_listed(alloc, &value)
+}
+
+// The parts that a value lists.
+#[tactic(auto, unfolding(crate::specs::Completion::parts_listed))]
+fn parts_listed(alloc: Global, value: &Value) -> Result<ListedParts, Code>
+    ensures { Follows result (parts_listed (view value.now)) }
+{
+    let Some(parts) = parts_in(value) else {
+        return Err(Code::MalformedBody);
+    };
+    judge(parts)?;
+    let listed = listed(alloc, parts)?;
+    Ok(ListedParts::new(listed))
+}
+
+// The elements of a value's member `Parts`, where that is an array.
+fn parts_in(value: &Value) -> Option<&[Value]>
+    ensures { option_map (λ parts. each view parts.now) result ≡ parts_in (view value.now) }
+{
+    let parts = value.get("Parts")?.as_array()?;
+    Some(parts.as_slice())
+}
+
+// The first refusal of what is listed.
+#[tactic(auto, unfolding(crate::specs::Completion::judged))]
+fn judge(parts: &[Value]) -> Result<(), Code>
+    ensures { result ≡ judged (each view parts.now) }
+{
+    if parts.is_empty() || parts.len() > PARTS_MAX {
+        return Err(Code::MalformedBody);
+    }
+    if !are_parts(parts) {
+        return Err(Code::MalformedBody);
+    }
+    if !are_numbered(parts) {
+        return Err(Code::InvalidArgument);
+    }
+    Ok(())
+}
+
+// Whether each has a tag and a whole number.
+fn are_parts(parts: &[Value]) -> bool
+    ensures { result ≡ list_all is_part (each view parts.now) }
+{
+    parts.iter().all(|part| is_part(part))
+}
+
+fn are_numbered(parts: &[Value]) -> bool
+    ensures { result ≡ list_all is_numbered (each view parts.now) }
+{
+    parts.iter().all(|part| is_numbered(part))
+}
+
+// Whether a part has a tag and a whole number.
+fn is_part(part: &Value) -> bool
+    ensures { result ≡ is_part (view part.now) }
+{
+    match number_in(part) {
+        Some(number) => !number.is_f64() && tag_in(part).is_some(),
+        None => false,
+    }
+}
+
+fn is_numbered(part: &Value) -> bool
+    ensures { result ≡ is_numbered (view part.now) }
+{
+    part_number_in(part).is_some()
+}
+
+// The tag that a part names, if it names one.
+fn tag_in(part: &Value) -> Option<&[u8]>
+    ensures { option_map (λ tag. tag.now) result ≡ tag_in (view part.now) }
+{
+    let text = part.get("ETag")?.as_str()?;
+    Some(unquoted(text.as_bytes()))
+}
+
+// The number that it names, if it names one.
+fn number_in(part: &Value) -> Option<&Number>
+    ensures { option_map (λ number. number_view number.now) result ≡ number_in (view part.now) }
+{
+    part.get("PartNumber")?.as_number()
+}
+
+// The number of a part that it names.
+fn part_number_in(part: &Value) -> Option<PartNumber>
+    ensures { result ≡ part_number_in (view part.now) }
+{
+    let number = number_in(part)?.as_u64()?;
+    PartNumber::of(number)
+}
+
+// The parts that are listed, whose tags are copied.
+fn listed(alloc: Global, parts: &[Value]) -> Result<Vec<ListedPart>, NoMemory>
+    ensures { IfOk result (λ listed. listed.items ≡ filter_map listed_in (each view parts.now)) }
+{
+    let mut listed = Vec::new(alloc);
+    for part in parts {
+        match listed_in(alloc, part)? {
+            Some(part) => listed.push(part)?,
+            None => {}
+        }
+    }
+    Ok(listed)
+}
+
+// The part that is listed, if it has a tag and a number.
+fn listed_in(alloc: Global, part: &Value) -> Result<Option<ListedPart>, NoMemory>
+    ensures { IfOk result (λ listed. listed ≡ listed_in (view part.now)) }
+{
+    let Some(tag) = tag_in(part) else {
+        return Ok(None);
+    };
+    let Some(number) = part_number_in(part) else {
+        return Ok(None);
+    };
+    let tag = ListedTag::new(Vec::from_slice(alloc, tag)?);
+    Ok(Some(ListedPart { number, tag }))
+}

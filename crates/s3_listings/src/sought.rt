@@ -1,0 +1,237 @@
+//! Lists whose rows stand by key: from which place on their rows are asked for, and which of these a page has.
+ghost use Rattle.std.specs.Prelude.{◌≡◌, ◌≢◌, ◌<◌, ◌+◌, ℕ, List, nat_eq, not, true, false, filter, take, take_while, length, slice_get, slice_index_or, Option, Some, None, IfOk, OnErr, IfSome, All};
+ghost use Rattle.std.specs.List.{AllWithin, starts_with};
+ghost use Rattle.s3_names.specs.Names.{is_key};
+ghost use Rattle.s3_records.specs.Catalogue.{Catalogue};
+ghost use Rattle.s3_listings.specs.Objects.{is_before};
+ghost use Rattle.s3_listings.specs.Pages.{page_of};
+ghost use Rattle.s3_listings.specs.Sought.{AreByKey, AreBehind, begins_with, is_at_least, rows_from, rows_at_least};
+
+use crate::places::{from_text, read_key};
+use crate::rolling::is_before;
+use crate::{ListPage, Text};
+use s3_names::{BucketName, Key};
+use s3_records::{Records, Start};
+use s3_terms::NoMemory;
+use std::alloc::Global;
+
+/// A row of a list that stands by key, as a keeper offers its rows.
+pub(crate) trait Listed: Drop {
+    /// What names a row among those of its key.
+    type Name: Copy;
+
+    ghost key: { Self → List ℕ };
+
+    // All rows of a bucket.
+    ghost all: { Catalogue (List ℕ) → List ℕ → List Self };
+
+    // Those behind a marker: a key, and the id of a row of it or none.
+    ghost behind: { Catalogue (List ℕ) → List ℕ → List ℕ → Option Self.Name → List Self };
+
+    fn key(&self) -> &Key
+        ensures { result.now ≡ key self.now };
+
+    fn into_key(self) -> Key
+        ensures { result ≡ key self };
+
+    /// The rows from a place on, at most so many.
+    fn rows_from<R: Records>(
+        records: &mut R,
+        alloc: Global,
+        bucket: &BucketName,
+        start: Start,
+        most: usize,
+    ) -> Result<Vec<Self>, NoMemory>
+        ensures value { IfOk result (λ rows. rows.items ≡ take most (rows_from key start (all (R.catalogue records.old) bucket.now))) }
+        ensures same { R.catalogue records.new ≡ R.catalogue records.old };
+
+    /// The rows behind a marker, at most so many.
+    fn rows_behind<R: Records>(
+        records: &mut R,
+        alloc: Global,
+        bucket: &BucketName,
+        marker: Key,
+        id: Option<Self::Name>,
+        most: usize,
+    ) -> Result<Vec<Self>, NoMemory>
+        ensures value { IfOk result (λ rows. rows.items ≡ take most (behind (R.catalogue records.old) bucket.now marker id)) }
+        ensures same { R.catalogue records.new ≡ R.catalogue records.old };
+
+    /// A law, with nothing to run: the rows stand by key, and those behind a marker are of a later key, or of its own.
+    fn stand_by_key()
+        ensures order { (c : Catalogue (List ℕ)) (name : List ℕ) → AreByKey key (all c name) }
+        ensures behind { (c : Catalogue (List ℕ)) (name marker : List ℕ) (id : Option Self.Name) → AreBehind key marker (all c name) (behind c name marker id) };
+}
+
+/// Which rows are asked for: those behind a marker whose keys begin with a prefix.
+#[derive(Drop)]
+pub(crate) struct Wanted<'a, I> {
+    pub prefix: &'a [u8],
+    pub marker: &'a [u8],
+    pub id: Option<I>,
+}
+
+// The place of the last of the rows whose key is before a text.
+fn last_before<T: Listed>(rows: &[T], text: &[u8]) -> Option<usize>
+    ensures none { result ≡ None → All (λ row. is_before (T.key row) text.now ≡ false) rows.now }
+    ensures some { IfSome result (λ i. (i < length rows.now) × ((d : T) → is_before (T.key (slice_index_or rows.now i d)) text.now ≡ true)) }
+{
+    rows.iter().rposition(
+        |row| -> bool
+            ensures { result ≡ is_before (T.key row.now) text.entry.now }
+        { is_before(row.key().as_bytes(), text) },
+    )
+}
+
+// The key of the last of the rows that is before a text, which is taken out.
+fn take_key_before<T: Listed>(rows: &mut Vec<T>, text: &[u8]) -> Option<Key>
+    ensures none { result ≡ None → All (λ row. is_before (T.key row) text.now ≡ false) rows.old.items }
+    ensures same { result ≡ None → rows.new.items ≡ rows.old.items }
+    ensures some { IfSome result (λ key. (i : ℕ) × (i < length rows.old.items) × ((d : T) → (T.key (slice_index_or rows.old.items i d) ≡ key) × (is_before key text.now ≡ true))) }
+{
+    let i = last_before(rows, text)?;
+    let row = rows.swap_remove(i);
+    Some(row.into_key())
+}
+
+// The rows of the keys that aren't before a text, at most so many. Costs these, and where the text is longer than keys
+// may be the keys that begin as it does.
+fn rows_at_least<T: Listed, R: Records>(
+    records: &mut R,
+    alloc: Global,
+    bucket: &BucketName,
+    text: &[u8],
+    most: usize,
+) -> Result<Vec<T>, NoMemory>
+    requires { 0 < most }
+    ensures value { IfOk result (λ rows. rows.items ≡ take most (rows_at_least T.key text.now (T.all (R.catalogue records.old) bucket.now))) }
+    ensures same { R.catalogue records.new ≡ R.catalogue records.old }
+{
+    T::stand_by_key();
+    let mut start = from_text(alloc, text)?;
+    loop {
+        let mut rows = T::rows_from(records, alloc, bucket, start, most)?;
+        match take_key_before(&mut rows, text) {
+            None => return Ok(rows),
+            Some(key) => start = Start::Behind(key),
+        }
+    }
+}
+
+// The first row's key is a key.
+fn first_is_key<T: Listed>(rows: &[T])
+    ensures { IfSome (slice_get rows.now 0) (λ row. is_key (T.key row) ≡ true) }
+{
+    if let Some(row) = rows.first() {
+        row.key().as_bytes();
+    }
+}
+
+// The rows from a marker on that is no key, at most so many.
+fn rows_from_no_key<T: Listed, R: Records>(
+    records: &mut R,
+    alloc: Global,
+    bucket: &BucketName,
+    marker: &[u8],
+    most: usize,
+) -> Result<Vec<T>, NoMemory>
+    requires some { 0 < most }
+    requires no_key { is_key marker.now ≡ false }
+    ensures value { IfOk result (λ rows. rows.items ≡ take most (rows_at_least T.key marker.now (T.all (R.catalogue records.old) bucket.now))) }
+    ensures free { IfOk result (λ rows. IfSome (slice_get rows.items 0) (λ row. T.key row ≢ marker.now)) }
+    ensures same { R.catalogue records.new ≡ R.catalogue records.old }
+{
+    let rows = rows_at_least::<T, R>(records, alloc, bucket, marker, most)?;
+    first_is_key(&rows);
+    Ok(rows)
+}
+
+// The rows behind the marker whose keys aren't before the prefix, at most so many.
+fn rows_sought<T: Listed, R: Records>(
+    records: &mut R,
+    alloc: Global,
+    bucket: &BucketName,
+    wanted: &Wanted<'_, T::Name>,
+    most: usize,
+) -> Result<Vec<T>, NoMemory>
+    requires { 0 < most }
+    ensures value { IfOk result (λ rows. rows.items
+        ≡ take most (rows_at_least T.key wanted.now.prefix.now (T.behind (R.catalogue records.old) bucket.now wanted.now.marker.now wanted.now.id))) }
+    ensures same { R.catalogue records.new ≡ R.catalogue records.old }
+{
+    T::stand_by_key();
+    if is_before(wanted.marker, wanted.prefix) {
+        return rows_at_least(records, alloc, bucket, wanted.prefix, most);
+    }
+    match read_key(alloc, wanted.marker)? {
+        Some(marker) => T::rows_behind(records, alloc, bucket, marker, wanted.id, most),
+        None => rows_from_no_key(records, alloc, bucket, wanted.marker, most),
+    }
+}
+
+// The place of the first of the rows whose key doesn't begin with a prefix.
+fn first_without<T: Listed>(rows: &[T], prefix: &[u8]) -> Option<usize>
+    ensures none { result ≡ None → All (λ row. begins_with T.key prefix.now row ≡ true) rows.now }
+    ensures front { IfSome result (λ i. AllWithin (λ row. begins_with T.key prefix.now row ≡ true) rows.now 0 i) }
+    ensures ends { IfSome result (λ i. (d : T) → begins_with T.key prefix.now (slice_index_or rows.now i d) ≡ false) }
+    ensures within { IfSome result (λ i. i < length rows.now) }
+{
+    rows.iter().position(
+        |row| -> bool
+            ensures { result ≡ not (begins_with T.key prefix.entry.now row.now) }
+        { !row.key().as_bytes().starts_with(prefix) },
+    )
+}
+
+// The rows in front whose keys begin with a prefix.
+fn kept<T: Listed>(mut rows: Vec<T>, prefix: &[u8]) -> Vec<T>
+    ensures { result.items ≡ take_while (begins_with T.key prefix.now) rows.items }
+{
+    match first_without(&rows, prefix) {
+        None => rows,
+        Some(end) => {
+            rows.truncate(end);
+            rows
+        }
+    }
+}
+
+// The rows that are asked for, at most so many.
+fn rows_asked<T: Listed, R: Records>(
+    records: &mut R,
+    alloc: Global,
+    bucket: &BucketName,
+    wanted: &Wanted<'_, T::Name>,
+    most: usize,
+) -> Result<Vec<T>, NoMemory>
+    requires { 0 < most }
+    ensures value { IfOk result (λ rows. rows.items
+        ≡ take most (filter (begins_with T.key wanted.now.prefix.now) (T.behind (R.catalogue records.old) bucket.now wanted.now.marker.now wanted.now.id))) }
+    ensures same { R.catalogue records.new ≡ R.catalogue records.old }
+{
+    T::stand_by_key();
+    let rows = rows_sought(records, alloc, bucket, wanted, most)?;
+    Ok(kept(rows, wanted.prefix))
+}
+
+/// The page of the rows that are asked for, with at most so many. Costs as many rows as the page may have, also where fewer
+/// begin with the prefix, and to find the first of them. `NoMemory` comes only where the page may have a row.
+pub(crate) fn page_asked<T: Listed, R: Records>(
+    records: &mut R,
+    alloc: Global,
+    bucket: &BucketName,
+    wanted: &Wanted<'_, T::Name>,
+    most: u16,
+) -> Result<ListPage<T>, NoMemory>
+    ensures value { IfOk result (λ page. page
+        ≡ page_of most (filter (begins_with T.key wanted.now.prefix.now) (T.behind (R.catalogue records.old) bucket.now wanted.now.marker.now wanted.now.id))) }
+    ensures same { R.catalogue records.new ≡ R.catalogue records.old }
+    ensures memory { OnErr result (0 < most) }
+{
+    let most = most as usize;
+    if most == 0 {
+        return Ok(ListPage::empty(alloc));
+    }
+    let rows = rows_asked(records, alloc, bucket, wanted, most + 1)?;
+    Ok(ListPage::of(rows, most))
+}

@@ -1,0 +1,204 @@
+-- An upload that is open was begun by an entry of the history, and its parts were sent by entries behind that one.
+use Rattle.std.proofs.Common.{◌≡◌, ◌≢◌, refl, sym, ap, subst, ◌∙◌, ℕ, suc, inl, inr, List, [], ◌∷◌, ◌++◌, append_assoc, append-nil, Some, None}
+use Rattle.std.proofs.lemmas.Bool.Decides.{eqb_tells}
+use Rattle.std.proofs.lemmas.Option.{same_Some}
+use Rattle.std.specs.List.{AllByRecursion}
+use Rattle.s3_uploads.specs.Laws.{PutsAreUnderOneNumber}
+use Rattle.s3_uploads.specs.Parts.{part_at, part_put, part_sent}
+use Rattle.s3_uploads.specs.Uploads.{with_part}
+use Rattle.s3_uploads.specs.declared.part.Part.{Part}
+use Rattle.s3_uploads.specs.declared.upload.Upload.{Upload}
+use Rattle.s3_records.specs.Catalogue.{opening}
+use Rattle.s3_records.specs.Laws.{OpeningIsEmpty}
+use Rattle.s3_records.specs.Places.{ChangesAreByUpload}
+use Rattle.s3_machine.specs.declared.command.Command.{Command}
+use Rattle.s3_machine.specs.declared.command.Command.TheVariants as commands
+use Rattle.s3_machine.specs.declared.command.KeyCommand.TheVariants as key_commands
+use Rattle.s3_machine.specs.declared.command.UploadBegin.{UploadBegin}
+use Rattle.s3_machine.specs.declared.command.UploadCommand.TheVariants as upload_commands
+use Rattle.s3_machine.specs.Effects.{Address, UploadPlace, PartPlace, open_at, begins, sends, ends, succeeds}
+use Rattle.s3_machine.specs.History.{Entry, IsAnswer, Legal, after, after_entry}
+use Rattle.s3_machine.specs.Step.{State, upload_begun, step}
+use Rattle.s3_machine.specs.Uploads.{Sends, KeepsOpen, KeepsPart, WasBegun, WasSent}
+use Rattle.s3_machine.proofs.HistoryLemmas.{after-push}
+use Rattle.s3_machine.proofs.KeptLemmas.{outcome_is}
+use Rattle.s3_machine.proofs.UploadLemmas.{IsLeft, Fate, Left, Begun, Sent, Ended, step_fate}
+
+-- what an upload was begun with
+abbrev pub asked_of : Upload (List ℕ) → UploadBegin
+asked_of u = record { content_type = u.content_type; metadata = u.metadata }
+
+-- a part of an upload
+abbrev pub part_of : UploadPlace → ℕ → PartPlace
+part_of upload number = record { upload = upload; number = number }
+
+-- a part that stands was sent so
+pub record SentSo (entries : List Entry) (part : PartPlace) (p : Part (List ℕ)) : Type 0 where
+  pub was : WasSent entries part p.moment p.body
+  pub is : p ≡ part_sent p.moment p.body
+
+-- an upload that is open was begun, and its parts were sent since
+pub record Course (past : List Entry) (upload : UploadPlace) (u : Upload (List ℕ)) : Type 0 where
+  pub begun : WasBegun past upload u.moment (asked_of u)
+  pub sent : (number : ℕ) (p : Part (List ℕ)) → part_at number u.parts ≡ Some p → SentSo begun.since (part_of upload number) p
+
+abbrev pub AllCourses : ℕ → State → List Entry → Type 0
+AllCourses least s past = (upload : UploadPlace) (u : Upload (List ℕ)) → open_at (after least s past) upload ≡ Some u → Course past upload u
+
+-- ---- one more entry
+
+all_push : (P : Entry → Type 0) (es : List Entry) (e : Entry) → AllByRecursion P es → P e → AllByRecursion P (es ++ e ∷ [])
+all_push P [] e all last = (last, tt)
+all_push P (x ∷ es) e all last = (all.0, all_push P es e all.1 last)
+
+begun_push : (past : List Entry) (e : Entry) (upload : UploadPlace) (t : ℕ) (asked : UploadBegin) → WasBegun past upload t asked
+    → KeepsOpen upload e → WasBegun (past ++ e ∷ []) upload t asked
+begun_push past e upload t asked was keeps = record {
+  before = was.before;
+  begin = was.begin;
+  since = was.since ++ e ∷ [];
+  parts = ap (λ (es : List Entry). es ++ e ∷ []) was.parts ∙ append_assoc was.before (was.begin ∷ was.since) (e ∷ []);
+  begins = was.begins;
+  moment = was.moment;
+  stays = all_push (KeepsOpen upload) was.since e was.stays keeps;
+}
+
+sent_push : (past : List Entry) (e : Entry) (part : PartPlace) (p : Part (List ℕ)) → SentSo past part p
+    → KeepsPart part e → KeepsOpen part.upload e → SentSo (past ++ e ∷ []) part p
+sent_push past e part p so keeps stays = record {
+  was = record {
+    before = so.was.before;
+    send = so.was.send;
+    later = so.was.later ++ e ∷ [];
+    parts = ap (λ (es : List Entry). es ++ e ∷ []) so.was.parts ∙ append_assoc so.was.before (so.was.send ∷ so.was.later) (e ∷ []);
+    sends = so.was.sends;
+    moment = so.was.moment;
+    last = all_push (KeepsPart part) so.was.later e so.was.last keeps;
+    stays = all_push (KeepsOpen part.upload) so.was.later e so.was.stays stays;
+  };
+  is = so.is;
+}
+
+-- a command that begins an upload neither sends a part nor ends one, and one that sends a part ends none
+pub begins_alone : (command : Command) (what : Address × UploadBegin) → begins command ≡ Some what → (sends command ≡ None) × (ends command ≡ None)
+begins_alone (commands.Key bucket key (key_commands.Begin begin)) what is = (refl, refl)
+begins_alone _ what is = absurd (cc)
+
+pub sends_alone : (command : Command) (part : PartPlace) → sends command ≡ Some part → ends command ≡ None
+sends_alone (commands.Upload bucket key id (upload_commands.PutPart number payload)) part is = refl
+sends_alone _ part is = absurd (cc)
+
+-- nothing is at a number that no part has
+no_part : (number : ℕ) (p : Part (List ℕ)) → part_at {B = List ℕ} number [] ≡ Some p → ⊥
+no_part number p is = absurd (cc)
+
+module _ (law : ChangesAreByUpload (List ℕ)) (puts : PutsAreUnderOneNumber (List ℕ)) (least : ℕ) where
+  pub fate_of : (s : State) (e : Entry) (upload : UploadPlace)
+      → Fate s e.answer.number e.moment e.command (step least s e.answer.number e.moment e.command) upload
+  fate_of s e upload = step_fate law least s e.answer.number e.moment e.command upload
+
+  -- an entry that leaves an upload keeps it open, and its parts
+  left_keeps : (s : State) (n : ℕ) (e : Entry) (upload : UploadPlace) → IsAnswer least s n e
+      → IsLeft s e.answer.number e.command (step least s e.answer.number e.moment e.command) upload
+      → KeepsOpen upload e × ((number : ℕ) → KeepsPart (part_of upload number) e)
+  left_keeps s n e upload answer left =
+      let outcome = ap succeeds (outcome_is least s n e answer) in
+      (λ at. outcome ∙ left.unended at, λ number at. outcome ∙ left.unsent number at)
+
+  -- so does one that puts a part to it, but for the part of this number
+  sent_keeps_open : (e : Entry) (upload : UploadPlace) (number : ℕ) → sends e.command ≡ Some (part_of upload number) → KeepsOpen upload e
+  sent_keeps_open e upload number at end = absurd (cc (sends_alone e.command (part_of upload number) at))
+
+  sent_keeps_others : (e : Entry) (upload : UploadPlace) (number m : ℕ) → sends e.command ≡ Some (part_of upload number) → m ≢ number
+      → KeepsPart (part_of upload m) e
+  sent_keeps_others e upload number m at other sends_m =
+      let same = same_Some (part_of upload m) (part_of upload number) (sym sends_m ∙ at) in
+      absurd (other (ap (λ (p : PartPlace). p.number) same))
+
+  -- the part that an entry puts was sent by it, and the others before
+  sent_parts : (past : List Entry) (e : Entry) (upload : UploadPlace) (number : ℕ) (bytes : List ℕ) (found : Upload (List ℕ))
+      → Sends (part_of upload number) bytes e
+      → ((m : ℕ) (p : Part (List ℕ)) → part_at m found.parts ≡ Some p → SentSo past (part_of upload m) p)
+      → (m : ℕ) (p : Part (List ℕ)) → part_at m (part_put number (part_sent e.moment bytes) found.parts) ≡ Some p
+      → SentSo (past ++ e ∷ []) (part_of upload m) p
+  sent_parts past e upload number bytes found sends known m p is =
+      elim (eqb_tells m number) [
+        | inl same ↦
+            let part = part_sent e.moment bytes in
+            let there = (puts number part found.parts).0 in
+            let what = same_Some part p (sym there ∙ sym (ap (λ (k : ℕ). part_at k (part_put number part found.parts)) same.1) ∙ is) in
+            subst (SentSo (past ++ e ∷ []) (part_of upload m)) what (record {
+              was = record {
+                before = past;
+                send = e;
+                later = [];
+                parts = refl;
+                sends = subst (λ (k : ℕ). Sends (part_of upload k) bytes e) (sym same.1) sends;
+                moment = refl;
+                last = tt;
+                stays = tt;
+              };
+              is = refl;
+            })
+        | inr other ↦
+            sent_push past e (part_of upload m) p
+            (known m p (sym ((puts number (part_sent e.moment bytes) found.parts).1 m other.1) ∙ is))
+            (sent_keeps_others e upload number m sends.at other.1)
+            (sent_keeps_open e upload number sends.at)
+      ]
+
+  -- what is open behind an entry was begun by it, or before it
+  course_push : (s : State) (n : ℕ) (past : List Entry) (e : Entry) → AllCourses least s past → IsAnswer least (after least s past) n e
+      → AllCourses least s (past ++ e ∷ [])
+  unfolding begun_push
+  course_push s n past e known answer upload u is =
+      let here = after least s past in
+      let now : open_at (after_entry least here e) upload ≡ Some u = sym (ap (λ (t : State). open_at t upload) (after-push least s past e)) ∙ is in
+      let outcome = ap succeeds (outcome_is least here n e answer) in
+      elim (fate_of here e upload) [
+        | Left left ↦
+            let course = known upload u (sym left.same ∙ now) in
+            let keeps = left_keeps here n e upload answer left in
+            record {
+              begun = begun_push past e upload u.moment (asked_of u) course.begun keeps.0;
+              sent = λ number p at. sent_push course.begun.since e (part_of upload number) p (course.sent number p at) (keeps.1 number) keeps.0;
+            }
+        | Begun begun ↦
+            let what = same_Some (upload_begun e.moment begun.asked) u (sym begun.now ∙ now) in
+            subst (Course (past ++ e ∷ []) upload) what (record {
+              begun = record {
+                before = past;
+                begin = e;
+                since = [];
+                parts = refl;
+                begins = record { at = begun.at; numbered = begun.numbered; accepted = outcome ∙ begun.accepted };
+                moment = refl;
+                stays = tt;
+              };
+              sent = λ number p at. absurd (no_part number p at);
+            })
+        | Sent send ↦
+            let what = same_Some (with_part send.number (part_sent e.moment send.bytes) send.found) u (sym send.now ∙ now) in
+            let course = known upload send.found send.there in
+            let sends : Sends (part_of upload send.number) send.bytes e =
+            record { at = send.at; brings = send.brings; accepted = outcome ∙ send.accepted } in
+            subst (Course (past ++ e ∷ []) upload) what (record {
+              begun = begun_push past e upload send.found.moment (asked_of send.found) course.begun (sent_keeps_open e upload send.number send.at);
+              sent = sent_parts course.begun.since e upload send.number send.bytes send.found sends course.sent;
+            })
+        | Ended ended ↦ let none = ended.now in absurd (cc)
+      ]
+
+  course_after : (s : State) (n : ℕ) (past es : List Entry) → AllCourses least s past → Legal least (after least s past) n es
+      → AllCourses least s (past ++ es)
+  course_after s n past [] known legal = subst (AllCourses least s) (sym (append-nil past)) known
+  course_after s n past (e ∷ es) known legal =
+      subst (AllCourses least s) (append_assoc past (e ∷ []) es)
+      (course_after s (suc n) (past ++ e ∷ []) es (course_push s n past e known legal.0)
+      (subst (λ (t : State). Legal least t (suc n) es) (sym (after-push least s past e)) legal.1))
+
+  pub courses : OpeningIsEmpty (List ℕ) → (s : State) (n : ℕ) (names : List (List ℕ)) (es : List Entry) → s ≡ opening names → Legal least s n es
+      → AllCourses least s es
+  courses empty s n names es opens =
+      subst (λ (t : State). Legal least t n es → AllCourses least t es) (sym opens) (course_after (opening names) n [] es
+      (λ upload u is. let none = (empty names upload.address.bucket).no_uploads upload.address.key upload.id in absurd (cc)))

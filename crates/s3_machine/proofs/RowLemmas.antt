@@ -1,0 +1,150 @@
+-- The list of an upload's parts tells each part that stands, and nothing else.
+use Rattle.std.proofs.Common.{◌≡◌, refl, sym, ap, subst, ◌∙◌, arith, true, false, cond, ◌==◌, nat_lt, ℕ, zero, suc, ◌<◌, IsTrue, List, [], ◌∷◌, Contains, Option, Some, None}
+use Rattle.std.proofs.lemmas.Bool.{and_parts}
+use Rattle.std.proofs.lemmas.Bool.Decides.{nat_tests}
+use Rattle.std.proofs.lemmas.Option.{same_Some}
+use Rattle.std.specs.List.{list_all}
+use Rattle.s3_uploads.specs.Laws.{PutsAreUnderOneNumber, PutsKeepTheOrder}
+use Rattle.s3_uploads.specs.Parts.{PartList, rises, numbers_of, part_at, part_tag, part_row, part_rows, part_sent}
+use Rattle.s3_uploads.specs.declared.part.Part.{Part}
+use Rattle.s3_uploads.specs.declared.part.PartRow.{PartRow}
+use Rattle.s3_uploads.specs.declared.upload.Upload.{Upload}
+use Rattle.s3_records.specs.Catalogue.{opening}
+use Rattle.s3_records.specs.Laws.{OpeningIsEmpty}
+use Rattle.s3_records.specs.OpenUploads.{parts_sent}
+use Rattle.s3_records.specs.Places.{ChangesAreByUpload}
+use Rattle.s3_machine.specs.Effects.{UploadPlace, open_at}
+use Rattle.s3_machine.specs.History.{Entry, after, after_entry}
+use Rattle.s3_machine.specs.Kept.{EveryHistory}
+use Rattle.s3_machine.specs.Step.{State, upload_begun}
+use Rattle.s3_machine.specs.UploadsKept.{IsPartListed, TellsOfSent, PartsAreKept, OnlySentStands, PartsAreListedWhileStanding}
+use Rattle.s3_machine.proofs.CourseLemmas.{part_of, fate_of}
+use Rattle.s3_machine.proofs.TellingLemmas.{contains_later, kept_by, was_there}
+use Rattle.s3_machine.proofs.UploadLemmas.{Left, Begun, Sent, Ended}
+
+-- ---- where numbers rise
+
+-- a row of a list is one of a part of it
+row_there : (parts : PartList (List ℕ)) (row : PartRow) → Contains (part_rows parts) row
+    → (e : ℕ × Part (List ℕ)) × Contains parts e × (part_row e ≡ row)
+row_there [] row (k, within, is) = absurd (omega arith)
+row_there (e ∷ es) row (zero, within, is) = (e, (0, omega arith, refl), is)
+row_there (e ∷ es) row (suc k, within, is) =
+    let rest = row_there es row (k, omega arith, is) in
+    (rest.0, contains_later e rest.0 es rest.1, rest.2)
+
+row_of : (parts : PartList (List ℕ)) (e : ℕ × Part (List ℕ)) → Contains parts e → Contains (part_rows parts) (part_row e)
+row_of [] e (k, within, is) = absurd (omega arith)
+row_of (f ∷ es) e (zero, within, is) = (0, omega arith, ap part_row is)
+row_of (f ∷ es) e (suc k, within, is) = contains_later (part_row f) (part_row e) (part_rows es) (row_of es e (k, omega arith, is))
+
+-- what is at a number is in the list
+is_in : (parts : PartList (List ℕ)) (n : ℕ) (p : Part (List ℕ)) → part_at n parts ≡ Some p → Contains parts (n, p)
+is_in [] n p is = absurd (cc)
+is_in ((m, q) ∷ es) n p is =
+    elim (m == n) as (λ b. (m == n) ≡ b → cond b (Some q) (part_at n es) ≡ Some p → Contains ((m, q) ∷ es) (n, p)) [
+      | true ↦ λ same here.
+          let number : m ≡ n = grind (arith, nat_tests) in
+          (0, omega arith, ap (λ (k : ℕ). (k, q)) number ∙ ap (λ (x : Part (List ℕ)). (n, x)) (same_Some q p here))
+      | false ↦ λ other there. contains_later (m, q) (n, p) es (is_in es n p there)
+    ] refl is
+
+-- a number that is below all isn't among them
+below_all : (m n : ℕ) (p : Part (List ℕ)) (es : PartList (List ℕ)) → list_all (nat_lt m) (numbers_of es) ≡ true → Contains es (n, p) → m < n
+below_all m n p [] all (k, within, is) = absurd (omega arith)
+below_all m n p (e ∷ es) all (zero, within, is) =
+    let both = and_parts (nat_lt m e.0) (list_all (nat_lt m) (numbers_of es)) all in
+    let same : e.0 ≡ n = ap (λ (x : ℕ × Part (List ℕ)). x.0) is in
+    let below : nat_lt m e.0 ≡ true = both.0 in
+    grind (arith, nat_tests)
+below_all m n p (e ∷ es) all (suc k, within, is) =
+    let both = and_parts (nat_lt m e.0) (list_all (nat_lt m) (numbers_of es)) all in
+    below_all m n p es both.1 (k, omega arith, is)
+
+-- so what is in the list is at its number, where the numbers rise
+is_at : (parts : PartList (List ℕ)) (n : ℕ) (p : Part (List ℕ)) → IsTrue (rises (numbers_of parts)) → Contains parts (n, p) → part_at n parts ≡ Some p
+unfolding rises
+is_at [] n p rise (k, within, is) = absurd (omega arith)
+is_at (e ∷ es) n p rise (zero, within, is) =
+    let same : e.0 ≡ n = ap (λ (x : ℕ × Part (List ℕ)). x.0) is in
+    let test : (e.0 == n) ≡ true = grind (arith, nat_tests) in
+    ap (λ b. cond b (Some e.1) (part_at n es)) test ∙ ap (λ (x : ℕ × Part (List ℕ)). Some x.1) is
+is_at (e ∷ es) n p rise (suc k, within, is) =
+    let both = and_parts (list_all (nat_lt e.0) (numbers_of es)) (rises (numbers_of es)) rise in
+    let rest : Contains es (n, p) = (k, omega arith, is) in
+    let below = below_all e.0 n p es both.0 rest in
+    let test : (e.0 == n) ≡ false = grind (arith, nat_tests) in
+    ap (λ b. cond b (Some e.1) (part_at n es)) test ∙ is_at es n p both.1 rest
+
+-- rows with the same parts are the same
+same_row : (x y : PartRow) → x.number ≡ y.number → x.moment ≡ y.moment → x.tag ≡ y.tag → x.size ≡ y.size → x ≡ y
+same_row x y number moment tag size =
+    let built = λ (n t : ℕ) (g : List ℕ) (z : ℕ). ◌≡◌ {A = PartRow} (record { number = n; moment = t; tag = g; size = z }) y in
+    subst (λ (n : ℕ). built n x.moment x.tag x.size) (sym number)
+    (subst (λ (t : ℕ). built y.number t x.tag x.size) (sym moment)
+    (subst (λ (g : List ℕ). built y.number y.moment g x.size) (sym tag)
+    (subst (λ (z : ℕ). built y.number y.moment y.tag z) (sym size) refl)))
+
+-- ---- they rise
+
+-- in each upload that is open the numbers of the parts rise
+abbrev AllRise : State → Type 0
+AllRise s = (upload : UploadPlace) (u : Upload (List ℕ)) → open_at s upload ≡ Some u → IsTrue (rises (numbers_of u.parts))
+
+module _ (law : ChangesAreByUpload (List ℕ)) (puts : PutsAreUnderOneNumber (List ℕ)) (empty : OpeningIsEmpty (List ℕ))
+    (order : PutsKeepTheOrder (List ℕ)) where
+  none_rises : IsTrue (rises (numbers_of {B = List ℕ} []))
+  unfolding rises
+  none_rises = refl
+
+  rise_step : (least : ℕ) (s : State) (e : Entry) → AllRise s → AllRise (after_entry least s e)
+  rise_step least s e rise upload u is =
+      elim (fate_of law puts least s e upload) [
+        | Left left ↦ rise upload u (sym left.same ∙ is)
+        | Begun begun ↦
+            subst (λ (x : Upload (List ℕ)). IsTrue (rises (numbers_of x.parts))) (same_Some (upload_begun e.moment begun.asked) u (sym begun.now ∙ is))
+            none_rises
+        | Sent send ↦
+            subst (λ (x : Upload (List ℕ)). IsTrue (rises (numbers_of x.parts))) (same_Some _ u (sym send.now ∙ is))
+            (order send.number (part_sent e.moment send.bytes) send.found.parts (rise upload send.found send.there))
+        | Ended ended ↦ let none = ended.now in absurd (cc)
+      ]
+
+  rise_after : (least : ℕ) (s : State) (es : List Entry) → AllRise s → AllRise (after least s es)
+  rise_after least s [] rise = rise
+  rise_after least s (e ∷ es) rise = rise_after least (after_entry least s e) es (rise_step least s e rise)
+
+  none_open : (names : List (List ℕ)) → AllRise (opening names)
+  none_open names upload u is = let none = (empty names upload.address.bucket).no_uploads upload.address.key upload.id in absurd (cc)
+
+  -- the parts of an upload that is open or not
+  parts_rise : (found : Option (Upload (List ℕ))) → ((u : Upload (List ℕ)) → found ≡ Some u → IsTrue (rises (numbers_of u.parts)))
+      → IsTrue (rises (numbers_of (parts_sent found)))
+  parts_rise None all = none_rises
+  parts_rise (Some u) all = all u refl
+
+  pub parts_are_listed_while_standing : EveryHistory PartsAreKept → EveryHistory OnlySentStands → EveryHistory PartsAreListedWhileStanding
+  parts_are_listed_while_standing kept only least s n entries legal names upload row opens above =
+      let there = after least s entries in
+      let parts = parts_sent (open_at there upload) in
+      let rise = parts_rise (open_at there upload)
+      (rise_after least s entries (subst AllRise (sym opens) (none_open names)) upload) in
+      let passes : nat_lt 0 row.number ≡ true = grind (arith, nat_tests) in (
+        λ (shown : IsPartListed there upload row).
+            let found = row_there parts row (was_there (λ (r : PartRow). nat_lt 0 r.number) (part_rows parts) row shown) in
+            let number : found.0.0 ≡ row.number = ap (λ (r : PartRow). r.number) found.2 in
+            let stands = is_at parts found.0.0 found.0.1 rise found.1 in
+            let was = only least s n entries legal names (part_of upload found.0.0) found.0.1 opens stands in
+            subst (TellsOfSent entries upload) found.2 (record {
+              bytes = found.0.1.body;
+              was = was.0;
+              tag = ap part_tag was.1;
+              size = ap (λ (p : Part (List ℕ)). p.size) was.1;
+            }),
+        λ (tells : TellsOfSent entries upload row).
+            let stands = kept least s n entries legal names (part_of upload row.number) row.moment tells.bytes opens tells.was in
+            let entry : ℕ × Part (List ℕ) = (row.number, part_sent row.moment tells.bytes) in
+            let same : part_row entry ≡ row = same_row (part_row entry) row refl refl (sym tells.tag) (sym tells.size) in
+            kept_by (λ (r : PartRow). nat_lt 0 r.number) (part_rows parts) row passes
+            (subst (Contains (part_rows parts)) same (row_of parts entry (is_in parts row.number (part_sent row.moment tells.bytes) stands))),
+      )

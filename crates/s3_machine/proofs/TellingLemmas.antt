@@ -1,0 +1,306 @@
+-- What is told of uploads: by answers, and by lists.
+use Rattle.std.proofs.Common.{◌≡◌, ◌≢◌, refl, sym, ap, subst, ◌∙◌, ◌↔◌, arith, Bool, true, false, not, cond, ℕ, nat_eq, zero, suc, inl, inr, IsTrue, List, [], ◌∷◌, filter, Contains, Option, Some, None, option_map, Result, Ok, Err, ok_or}
+use Rattle.std.proofs.lemmas.Bool.{false≢true}
+use Rattle.std.proofs.lemmas.List.Elements.{All-filter, All-contains, All-contains_itself}
+use Rattle.std.proofs.lemmas.Option.{same_Some}
+use Rattle.std.specs.List.{starts_with}
+use Rattle.s3_terms.specs.declared.code.Code.{Code}
+use Rattle.s3_terms.specs.declared.code.Code.TheVariants.{NoSuchBucket, NoSuchUpload}
+use Rattle.s3_terms.specs.Fault.{◌>>◌, ◌>>=◌}
+use Rattle.s3_names.specs.declared.ids.VersionId.{VersionId}
+use Rattle.s3_bodies.specs.Payload.{tag_of}
+use Rattle.s3_versions.specs.declared.picking.Refusal.{Refusal}
+use Rattle.s3_versions.specs.declared.version.Data.{Data}
+use Rattle.s3_uploads.specs.Completion.{completed}
+use Rattle.s3_uploads.specs.declared.listed.ListedPart.{ListedPart}
+use Rattle.s3_uploads.specs.declared.upload.Upload.{Upload}
+use Rattle.s3_records.specs.Catalogue.{has_bucket}
+use Rattle.s3_records.specs.Laws.{UploadsAreListed}
+use Rattle.s3_records.specs.OpenUploads.{upload_at, parts_sent, parts_at, is_upload_from, upload_rows}
+use Rattle.s3_records.specs.Places.{ChangesAreByPlace, SameVersions}
+use Rattle.s3_records.specs.Rows.{is_from}
+use Rattle.s3_records.specs.declared.rows.Start.TheVariants.{Behind}
+use Rattle.s3_records.specs.declared.rows.UploadRow.{UploadRow}
+use Rattle.s3_records.specs.declared.rows.UploadStart.TheVariants.{At}
+use Rattle.s3_listings.specs.declared.asked.PartsAsked.{PartsAsked}
+use Rattle.s3_listings.specs.declared.asked.UploadsAsked.{UploadsAsked}
+use Rattle.s3_listings.specs.Parts.{parts_page}
+use Rattle.s3_listings.specs.Uploads.{is_asked, uploads_asked, uploads_page}
+use Rattle.s3_documents.specs.PartList.{parts_text}
+use Rattle.s3_documents.specs.Upload.{upload_text, completed_text}
+use Rattle.s3_documents.specs.UploadList.{uploads_text}
+use Rattle.s3_machine.specs.declared.command.BucketCommand.TheVariants as bucket_commands
+use Rattle.s3_machine.specs.declared.command.Command.{Command}
+use Rattle.s3_machine.specs.declared.command.Command.TheVariants as commands
+use Rattle.s3_machine.specs.declared.command.KeyCommand.TheVariants as key_commands
+use Rattle.s3_machine.specs.declared.command.Outcome.{Outcome}
+use Rattle.s3_machine.specs.declared.command.Outcome.TheVariants as outcomes
+use Rattle.s3_machine.specs.declared.command.UploadBegin.{UploadBegin}
+use Rattle.s3_machine.specs.declared.command.UploadCommand.{UploadCommand}
+use Rattle.s3_machine.specs.declared.command.UploadCommand.TheVariants as upload_commands
+use Rattle.s3_machine.specs.Effects.{Address, UploadPlace, PartPlace, place_of, open_at, begins, sends, sent, completes, succeeds}
+use Rattle.s3_machine.specs.Fault.{refuse, as_refusal}
+use Rattle.s3_machine.specs.History.{after}
+use Rattle.s3_machine.specs.Kept.{EveryHistory}
+use Rattle.s3_machine.specs.Laws.{asking, UploadListsAreTold, PartListsAreTold, ClosedUploadsAreRefused, IsByRule, CompletionsGoByTheRule}
+use Rattle.s3_machine.specs.Step.{State, Stepped, bucket_done, key_done, upload_done, done, stepped, step}
+use Rattle.s3_machine.specs.UploadsKept.{all_uploads, UploadsAreOpenUntilEnded, BegunIsTold, SentIsTold, CompletedIsTold, UploadListsTellWhatIsThere, PartListsTellWhatIsThere, UploadsAreListedWhileOpen, OnlyWritesChangeVersions}
+use Rattle.s3_machine.proofs.CourseLemmas.{asked_of}
+use Rattle.s3_machine.proofs.EffectLemmas.{Rules, after_line, step_does, completing}
+use Rattle.s3_machine.proofs.HistoryLemmas.{after-push, right_at}
+use Rattle.s3_machine.proofs.KeptLemmas.{outcome_is, past_line}
+use Rattle.s3_machine.proofs.ListLemmas.{page_told, command_outcome}
+
+-- ---- answers
+
+-- what succeeds is told this
+abbrev TellsWhere : (Outcome → Type 0) → Stepped → Type 0
+TellsWhere P st = succeeds st.1 ≡ true → P st.1
+
+-- behind a line that may refuse
+told_line : (P : Outcome → Type 0) (s : State) (fault : Bool) (code : Code) (next : Result Stepped Refusal) → TellsWhere P (stepped s next)
+    → TellsWhere P (stepped s (refuse fault code >> next))
+told_line P s fault code next tells =
+    after_line (TellsWhere P) s fault code next (λ success. absurd (false≢true success)) (λ there. tells)
+
+-- and where an upload may not be open
+told_open : (P : Outcome → Type 0) (s : State) (found : Option (Upload (List ℕ))) (next : Upload (List ℕ) → Result Stepped Refusal)
+    → ((u : Upload (List ℕ)) → found ≡ Some u → TellsWhere P (stepped s (next u)))
+    → TellsWhere P (stepped s (as_refusal (ok_or found NoSuchUpload) >>= next))
+told_open P s None next tells success = absurd (false≢true success)
+told_open P s (Some u) next tells success = tells u refl success
+
+begin_told : (least : ℕ) (s : State) (n t : ℕ) (command : Command) (a : Address) (asked : UploadBegin) → begins command ≡ Some (a, asked)
+    → TellsWhere (λ o. o ≡ outcomes.Told (upload_text a.bucket a.key n)) (step least s n t command)
+unfolding done key_done
+begin_told least s n t (commands.Key bucket key (key_commands.Begin begin)) a asked is =
+    let both = same_Some ((record { bucket = bucket; key = key }), begin) (a, asked) is in
+    told_line (λ o. o ≡ outcomes.Told (upload_text a.bucket a.key n)) s (not (has_bucket s bucket)) NoSuchBucket
+    (key_done s n t bucket key (key_commands.Begin begin))
+    (λ success. ap (λ (p : Address × UploadBegin). outcomes.Told (upload_text p.0.bucket p.0.key n)) both)
+begin_told least s n t _ a asked is = absurd (cc)
+
+pub begun_is_told : EveryHistory BegunIsTold
+begun_is_told least s n entries legal before later begin upload asked parts begins =
+    let outcome = outcome_is least (after least s before) _ begin (right_at least s n entries before later begin legal parts) in
+    outcome
+    ∙ begin_told least (after least s before) begin.answer.number begin.moment begin.command upload.address asked begins.at
+    (sym (ap succeeds outcome) ∙ begins.accepted)
+    ∙ ap (λ (id : ℕ). outcomes.Told (upload_text upload.address.bucket upload.address.key id)) (sym begins.numbered)
+
+send_told : (least : ℕ) (s : State) (n t : ℕ) (command : Command) (part : PartPlace) (bytes : List ℕ) → sends command ≡ Some part
+    → sent command ≡ Some bytes → TellsWhere (λ o. o ≡ outcomes.PartPut (tag_of bytes)) (step least s n t command)
+unfolding done upload_done
+send_told least s n t (commands.Upload name key id (upload_commands.PutPart number payload)) part bytes at brings =
+    let same = same_Some payload bytes brings in
+    let P : Outcome → Type 0 = λ o. o ≡ outcomes.PartPut (tag_of bytes) in
+    told_line P s (not (has_bucket s name)) NoSuchBucket (upload_done least s n t name key id (upload_commands.PutPart number payload))
+    (told_open P s (upload_at s name key id) _ (λ u is success. ap (λ (b : List ℕ). outcomes.PartPut (tag_of b)) same))
+send_told least s n t _ part bytes at brings = absurd (cc)
+
+pub sent_is_told : EveryHistory SentIsTold
+sent_is_told least s n entries legal before later send part bytes parts sends =
+    let outcome = outcome_is least (after least s before) _ send (right_at least s n entries before later send legal parts) in
+    outcome
+    ∙ send_told least (after least s before) send.answer.number send.moment send.command part bytes sends.at sends.brings
+    (sym (ap succeeds outcome) ∙ sends.accepted)
+
+-- a tag is told of a completion
+abbrev TellsTag : Address → Outcome → Type 0
+TellsTag a outcome = (tag : List ℕ) × (shown : Option VersionId) × (outcome ≡ outcomes.Completed (completed_text a.bucket a.key tag) tag shown)
+
+rule_told : (s : State) (n t : ℕ) (name key : List ℕ) (id : ℕ) (rule : Result (Data (List ℕ)) Code)
+    → TellsWhere (TellsTag (record { bucket = name; key = key })) (stepped s (as_refusal rule >>= completing s n t name key id))
+rule_told s n t name key id (Ok what) success = (what.tag, _, refl)
+rule_told s n t name key id (Err code) success = absurd (false≢true success)
+
+complete_told : (least : ℕ) (s : State) (n t : ℕ) (command : Command) (upload : UploadPlace) (listed : List ListedPart)
+    → completes command ≡ Some (upload, listed) → TellsWhere (TellsTag upload.address) (step least s n t command)
+unfolding done upload_done
+complete_told least s n t (commands.Upload name key id (upload_commands.Complete parts)) upload listed asks =
+    let same = same_Some (place_of name key id, parts) (upload, listed) asks in
+    let P = TellsTag (record { bucket = name; key = key }) in
+    subst (λ (p : UploadPlace × List ListedPart). TellsWhere (TellsTag p.0.address) (step least s n t (commands.Upload name key id (upload_commands.Complete parts)))) same
+    (told_line P s (not (has_bucket s name)) NoSuchBucket (upload_done least s n t name key id (upload_commands.Complete parts))
+    (told_open P s (upload_at s name key id) _ (λ u is. rule_told s n t name key id (completed least parts u))))
+complete_told least s n t _ upload listed asks = absurd (cc)
+
+pub completed_is_told : EveryHistory CompletedIsTold
+completed_is_told least s n entries legal before later complete upload listed parts completes =
+    let outcome = outcome_is least (after least s before) _ complete (right_at least s n entries before later complete legal parts) in
+    subst (TellsTag upload.address) (sym outcome)
+    (complete_told least (after least s before) complete.answer.number complete.moment complete.command upload listed completes.asks
+    (sym (ap succeeds outcome) ∙ completes.accepted))
+
+-- ---- rules
+
+-- where a bucket is there, what is asked of an upload goes by what is found of it
+past_bucket : (least : ℕ) (s : State) (n t : ℕ) (upload : UploadPlace) (asked : UploadCommand) → IsTrue (has_bucket s upload.address.bucket)
+    → step least s n t (asking upload asked)
+    ≡ stepped s (upload_done least s n t upload.address.bucket upload.address.key upload.id asked)
+unfolding done
+past_bucket least s n t upload asked there = past_line s (not (has_bucket s upload.address.bucket)) _ (ap not there)
+
+closed_done : (least : ℕ) (s : State) (n t : ℕ) (name key : List ℕ) (id : ℕ) (asked : UploadCommand) → upload_at s name key id ≡ None
+    → (stepped s (upload_done least s n t name key id asked)).1 ≡ outcomes.Refused NoSuchUpload false
+unfolding upload_done
+closed_done least s n t name key id (upload_commands.PutPart number payload) none =
+    rw none refl
+closed_done least s n t name key id (upload_commands.Complete listed) none = rw none refl
+closed_done least s n t name key id upload_commands.Abort none = rw none refl
+closed_done least s n t name key id (upload_commands.ListParts asked) none = rw none refl
+
+pub closed_uploads_are_refused : ClosedUploadsAreRefused
+closed_uploads_are_refused least s n t upload asked there none =
+    ap (λ (st : Stepped). st.1) (past_bucket least s n t upload asked there)
+    ∙ closed_done least s n t upload.address.bucket upload.address.key upload.id asked none
+
+by_rule : (s : State) (n t : ℕ) (name key : List ℕ) (id : ℕ) (rule : Result (Data (List ℕ)) Code)
+    → IsByRule rule (stepped s (as_refusal rule >>= completing s n t name key id)).1
+by_rule s n t name key id (Ok what) = refl
+by_rule s n t name key id (Err code) = refl
+
+completed_done : (least : ℕ) (s : State) (n t : ℕ) (name key : List ℕ) (id : ℕ) (listed : List ListedPart) (found : Upload (List ℕ))
+    → upload_at s name key id ≡ Some found
+    → IsByRule (completed least listed found) (stepped s (upload_done least s n t name key id (upload_commands.Complete listed))).1
+unfolding upload_done
+completed_done least s n t name key id listed found is = rw is (by_rule s n t name key id (completed least listed found))
+
+pub completions_go_by_the_rule : CompletionsGoByTheRule
+completions_go_by_the_rule least s n t upload listed found there is =
+    subst (λ (st : Stepped). IsByRule (completed least listed found) st.1) (sym (past_bucket least s n t upload (upload_commands.Complete listed) there))
+    (completed_done least s n t upload.address.bucket upload.address.key upload.id listed found is)
+
+pub upload_lists_are_told : UploadListsAreTold
+unfolding done bucket_done
+upload_lists_are_told least s n t name asked there = ap (λ (st : Stepped). st.1) (past_line s (not (has_bucket s name)) _ (ap not there))
+
+parts_done : (least : ℕ) (s : State) (n t : ℕ) (name key : List ℕ) (id : ℕ) (asked : PartsAsked) (found : Upload (List ℕ))
+    → upload_at s name key id ≡ Some found
+    → (stepped s (upload_done least s n t name key id (upload_commands.ListParts asked))).1
+    ≡ outcomes.Told (parts_text name key id asked (parts_page asked found.parts))
+unfolding upload_done
+parts_done least s n t name key id asked found is = rw is refl
+
+pub part_lists_are_told : PartListsAreTold
+part_lists_are_told least s n t upload asked found there is =
+    ap (λ (st : Stepped). st.1) (past_bucket least s n t upload (upload_commands.ListParts asked) there)
+    ∙ parts_done least s n t upload.address.bucket upload.address.key upload.id asked found is
+
+-- ---- lists
+
+uploads_step : (least : ℕ) (s : State) (n t : ℕ) (name : List ℕ) (asked : UploadsAsked)
+    → succeeds (step least s n t (commands.Bucket name (bucket_commands.ListUploads asked))).1 ≡ true
+    → (step least s n t (commands.Bucket name (bucket_commands.ListUploads asked))).1
+    ≡ outcomes.Told (uploads_text name asked (uploads_page asked s name))
+unfolding done bucket_done
+uploads_step least s n t name asked success = page_told s (not (has_bucket s name)) _ success
+
+pub upload_lists_tell_what_is_there : EveryHistory UploadListsTellWhatIsThere
+upload_lists_tell_what_is_there least s n entries legal before later list name asked parts is success =
+    let outcome = command_outcome least s n entries before later list _ legal parts is in
+    outcome
+    ∙ uploads_step least (after least s before) list.answer.number list.moment name asked (sym (ap succeeds outcome) ∙ success)
+
+parts_step : (least : ℕ) (s : State) (n t : ℕ) (name key : List ℕ) (id : ℕ) (asked : PartsAsked)
+    → TellsWhere (λ o. o ≡ outcomes.Told (parts_text name key id asked (parts_page asked (parts_at s name key id))))
+    (step least s n t (commands.Upload name key id (upload_commands.ListParts asked)))
+unfolding done upload_done
+parts_step least s n t name key id asked =
+    let P : Outcome → Type 0 = λ o. o ≡ outcomes.Told (parts_text name key id asked (parts_page asked (parts_at s name key id))) in
+    told_line P s (not (has_bucket s name)) NoSuchBucket (upload_done least s n t name key id (upload_commands.ListParts asked))
+    (told_open P s (upload_at s name key id) _
+    (λ u is success. ap (λ (found : Option (Upload (List ℕ))). outcomes.Told (parts_text name key id asked (parts_page asked (parts_sent found)))) (sym is)))
+
+pub part_lists_tell_what_is_there : EveryHistory PartListsTellWhatIsThere
+part_lists_tell_what_is_there least s n entries legal before later list name key id asked parts is success =
+    let outcome = command_outcome least s n entries before later list _ legal parts is in
+    outcome
+    ∙ parts_step least (after least s before) list.answer.number list.moment name key id asked (sym (ap succeeds outcome) ∙ success)
+
+-- what passes a test is kept with those that do
+pub contains_later : {X : Type 0} (y x : X) (ys : List X) → Contains ys x → Contains (y ∷ ys) x
+contains_later y x ys (k, within, is) = (suc k, omega arith, is)
+
+pub kept_by : {X : Type 0} (p : X → Bool) (xs : List X) (x : X) → p x ≡ true → Contains xs x → Contains (filter p xs) x
+kept_by p [] x passes (k, within, is) = absurd (omega arith)
+kept_by p (y ∷ ys) x passes (zero, within, is) =
+    let here : Contains (y ∷ filter p ys) x = (0, omega arith, is) in
+    subst (λ b. Contains (cond b (y ∷ filter p ys) (filter p ys)) x) (sym (ap p is ∙ passes)) here
+kept_by p (y ∷ ys) x passes (suc k, within, is) =
+    let rest = kept_by p ys x passes (k, omega arith, is) in
+    elim (p y) as (λ b. Contains (cond b (y ∷ filter p ys) (filter p ys)) x) [
+      | true ↦ contains_later y x (filter p ys) rest
+      | false ↦ rest
+    ]
+
+pub was_there : {X : Type 0} (p : X → Bool) (xs : List X) (x : X) → Contains (filter p xs) x → Contains xs x
+was_there p xs x = All-contains (Contains xs) (filter p xs) x (All-filter p (Contains xs) xs (All-contains_itself xs))
+
+-- each row is asked for whose key isn't empty
+behind_none : (key : List ℕ) → key ≢ [] → is_from (Behind []) key ≡ true
+behind_none [] some = absurd (some refl)
+behind_none (b ∷ bs) some = refl
+
+begins_empty : (key : List ℕ) → starts_with nat_eq key [] ≡ true
+begins_empty [] = refl
+begins_empty (b ∷ bs) = refl
+
+is_asked_all : (row : UploadRow) → is_asked all_uploads row ≡ true
+is_asked_all row = begins_empty row.key
+
+is_behind_none : (row : UploadRow) → row.key ≢ [] → is_upload_from (At (Behind [])) row ≡ true
+is_behind_none row some = behind_none row.key some
+
+-- so the list of all has all rows
+all_rows : (s : State) (name : List ℕ) (row : UploadRow) → row.key ≢ []
+    → Contains (upload_rows s name) row ↔ Contains (uploads_asked all_uploads s name) row
+all_rows s name row some = (
+  λ there.
+      kept_by (is_asked all_uploads) (filter (is_upload_from (At (Behind []))) (upload_rows s name)) row (is_asked_all row)
+      (kept_by (is_upload_from (At (Behind []))) (upload_rows s name) row (is_behind_none row some) there),
+  λ there.
+      was_there (is_upload_from (At (Behind []))) (upload_rows s name) row
+      (was_there (is_asked all_uploads) (filter (is_upload_from (At (Behind []))) (upload_rows s name)) row there),
+)
+
+-- an upload of a moment
+found_at : (found : Option (Upload (List ℕ))) (t : ℕ) → option_map (λ (u : Upload (List ℕ)). u.moment) found ≡ Some t
+    → (u : Upload (List ℕ)) × (found ≡ Some u) × (u.moment ≡ t)
+found_at None t is = absurd (cc)
+found_at (Some u) t is = (u, refl, cc)
+
+module _ (listed : UploadsAreListed (List ℕ)) where
+  pub uploads_are_listed_while_open : EveryHistory UploadsAreOpenUntilEnded → EveryHistory UploadsAreListedWhileOpen
+  uploads_are_listed_while_open law least s n entries legal names upload t opens some =
+      let there = after least s entries in
+      let row : UploadRow = record { key = upload.address.key; id = upload.id; moment = t } in
+      let rows = all_rows there upload.address.bucket row some in
+      let is = listed there upload.address.bucket row in (
+        λ shown.
+            let found = found_at (open_at there upload) t (is.1 (rows.1 shown)) in
+            let asked = asked_of found.0 in (
+              asked,
+              (law least s n entries legal names upload t asked opens).0 (record {
+                found = found.0;
+                there = found.1;
+                moment = found.2;
+                content_type = refl;
+                metadata = refl;
+              }),
+            ),
+        λ (asked, begun).
+            let now = (law least s n entries legal names upload t asked opens).1 begun in
+            rows.0 (is.0 (ap (option_map (λ (u : Upload (List ℕ)). u.moment)) now.there ∙ ap Some now.moment)),
+      )
+
+-- ---- what writes nothing
+
+module _ (places : ChangesAreByPlace (List ℕ)) (rules : Rules) where
+  pub only_writes_change_versions : EveryHistory OnlyWritesChangeVersions
+  only_writes_change_versions least s n entries legal before later e parts none =
+      let here = after least s before in
+      elim (step_does places rules least here e.answer.number e.moment e.command) [
+        | inl same ↦ subst (SameVersions here) (sym (after-push least s before e)) same.versions
+        | inr changes ↦ let written = changes.written in absurd (cc)
+      ]

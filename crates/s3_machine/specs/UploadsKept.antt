@@ -1,0 +1,189 @@
+-- What the machine keeps of uploads: one is open from the entry that begins it to the one that ends it, the parts that are sent
+-- to it stand in it and no others do, and what a completion stores are these, which come back as an object.
+use Rattle.std.specs.Prelude.{◌≡◌, ◌≢◌, ◌↔◌, ℕ, ◌<◌, true, List, [], ◌∷◌, ◌++◌, length, Contains, Option, Some, None}
+use Rattle.s3_names.specs.declared.ids.VersionId.{VersionId}
+use Rattle.s3_bodies.specs.Payload.{tag_of}
+use Rattle.s3_versions.specs.declared.version.Data.{Data}
+use Rattle.s3_uploads.specs.Parts.{part_sent}
+use Rattle.s3_uploads.specs.declared.listed.ListedPart.{ListedPart}
+use Rattle.s3_uploads.specs.declared.part.Part.{Part}
+use Rattle.s3_uploads.specs.declared.part.PartRow.{PartRow}
+use Rattle.s3_records.specs.Catalogue.{opening}
+use Rattle.s3_records.specs.OpenUploads.{parts_at}
+use Rattle.s3_records.specs.Places.{SameVersions}
+use Rattle.s3_listings.specs.declared.asked.PartsAsked.{PartsAsked}
+use Rattle.s3_listings.specs.declared.asked.UploadsAsked.{UploadsAsked}
+use Rattle.s3_listings.specs.Parts.{parts_asked, parts_page}
+use Rattle.s3_listings.specs.Uploads.{uploads_asked, uploads_page}
+use Rattle.s3_documents.specs.PartList.{parts_text}
+use Rattle.s3_documents.specs.Upload.{upload_text, completed_text}
+use Rattle.s3_documents.specs.UploadList.{uploads_text}
+use Rattle.s3_machine.specs.declared.command.BucketCommand.TheVariants as bucket_commands
+use Rattle.s3_machine.specs.declared.command.Command.TheVariants as commands
+use Rattle.s3_machine.specs.declared.command.Outcome.TheVariants as outcomes
+use Rattle.s3_machine.specs.declared.command.UploadBegin.{UploadBegin}
+use Rattle.s3_machine.specs.declared.command.UploadCommand.TheVariants as upload_commands
+use Rattle.s3_machine.specs.Step.{State}
+use Rattle.s3_machine.specs.Effects.{UploadPlace, PartPlace, part_in, writes, object_of, touched, succeeds}
+use Rattle.s3_machine.specs.History.{Entry, after}
+use Rattle.s3_machine.specs.Kept.{LeavesKey, SparesVersion, Stores, ReadsKey, ReadsVersion, IsGiven}
+use Rattle.s3_machine.specs.Uploads.{Begins, Sends, Completes, WasBegun, WasSent, IsOpen, AreJoined}
+
+-- a list of all uploads of a bucket
+abbrev pub all_uploads : UploadsAsked
+all_uploads = record { prefix = []; key_marker = []; id_marker = None; max_uploads = 1000 }
+
+-- the upload is listed as one of this moment, among all of its bucket
+abbrev pub IsUploadListed : State → UploadPlace → ℕ → Type 0
+IsUploadListed s upload t =
+    Contains (uploads_asked all_uploads s upload.address.bucket) (record { key = upload.address.key; id = upload.id; moment = t })
+
+-- a list of all parts of an upload
+abbrev pub all_parts : PartsAsked
+all_parts = record { marker = 0; max_parts = 1000 }
+
+-- the row is one of the parts of the upload, among all
+abbrev pub IsPartListed : State → UploadPlace → PartRow → Type 0
+IsPartListed s upload row =
+    Contains (parts_asked all_parts (parts_at s upload.address.bucket upload.address.key upload.id)) row
+
+-- the row tells of bytes that were sent as the upload's part of its number: their moment, their tag and how many they are
+pub record TellsOfSent (entries : List Entry) (upload : UploadPlace) (row : PartRow) : Type 0 where
+  pub bytes : List ℕ
+  pub was : WasSent entries (record { upload = upload; number = row.number }) row.moment bytes
+  pub tag : row.tag ≡ tag_of bytes
+  pub size : row.size ≡ length bytes
+
+-- The laws, of a history that begins at a state.
+module _ (least : ℕ) (s : State) (entries : List Entry) where
+  -- Where nothing was open at the beginning, an upload is open exactly from the entry that begins it to one that ends it, with
+  -- the moment, the type and the metadata that it was begun with.
+  abbrev pub UploadsAreOpenUntilEnded : Type 0
+  UploadsAreOpenUntilEnded =
+      (names : List (List ℕ)) (upload : UploadPlace) (t : ℕ) (asked : UploadBegin)
+      → s ≡ opening names
+      → (IsOpen (after least s entries) upload t asked ↔ WasBegun entries upload t asked)
+
+  -- A part that was sent with success stands in its upload, with its bytes and its moment, until one is sent in its place or
+  -- the upload ends,
+  abbrev pub PartsAreKept : Type 0
+  PartsAreKept =
+      (names : List (List ℕ)) (part : PartPlace) (t : ℕ) (bytes : List ℕ)
+      → s ≡ opening names
+      → WasSent entries part t bytes
+      → part_in (after least s entries) part ≡ Some (part_sent t bytes)
+
+  -- and nothing else stands there: each part that does was sent, and none was sent in its place since.
+  abbrev pub OnlySentStands : Type 0
+  OnlySentStands =
+      (names : List (List ℕ)) (part : PartPlace) (found : Part (List ℕ))
+      → s ≡ opening names
+      → part_in (after least s entries) part ≡ Some found
+      → (WasSent entries part found.moment found.body × (found ≡ part_sent found.moment found.body))
+
+  -- Who begins an upload is told its id,
+  abbrev pub BegunIsTold : Type 0
+  BegunIsTold =
+      (before later : List Entry) (begin : Entry) (upload : UploadPlace) (asked : UploadBegin)
+      → entries ≡ before ++ begin ∷ later
+      → Begins upload asked begin
+      → begin.answer.outcome ≡ outcomes.Told (upload_text upload.address.bucket upload.address.key upload.id)
+
+  -- who sends a part the tag of its bytes,
+  abbrev pub SentIsTold : Type 0
+  SentIsTold =
+      (before later : List Entry) (send : Entry) (part : PartPlace) (bytes : List ℕ)
+      → entries ≡ before ++ send ∷ later
+      → Sends part bytes send
+      → send.answer.outcome ≡ outcomes.PartPut (tag_of bytes)
+
+  -- and who completes it a tag, in a document, too; it is that of what is stored (`StoredIsTold`).
+  abbrev pub CompletedIsTold : Type 0
+  CompletedIsTold =
+      (before later : List Entry) (complete : Entry) (upload : UploadPlace) (listed : List ListedPart)
+      → entries ≡ before ++ complete ∷ later
+      → Completes upload listed complete
+      → (tag : List ℕ) × (shown : Option VersionId)
+      × (complete.answer.outcome
+      ≡ outcomes.Completed (completed_text upload.address.bucket upload.address.key tag) tag shown)
+
+  -- A completion that succeeds stores, as an object under its key, the bytes that were sent last under each listed number since
+  -- the upload was begun, joined in the order in which they are listed, with the type and the metadata of the beginning.
+  abbrev pub CompletionsJoinWhatWasSent : Type 0
+  CompletionsJoinWhatWasSent =
+      (names : List (List ℕ)) (before later : List Entry) (complete : Entry) (upload : UploadPlace) (listed : List ListedPart)
+      → s ≡ opening names
+      → entries ≡ before ++ complete ∷ later
+      → Completes upload listed complete
+      → (what : Data (List ℕ)) × AreJoined before upload listed what
+      × Stores (after least s before) complete
+      (object_of (after least s before) complete.answer.number complete.moment upload.address what)
+
+  -- It comes back just so, by key,
+  abbrev pub CompletionsAreKept : Type 0
+  CompletionsAreKept =
+      (names : List (List ℕ)) (before between later : List Entry) (complete read : Entry) (upload : UploadPlace)
+      (listed : List ListedPart)
+      → s ≡ opening names
+      → entries ≡ before ++ complete ∷ between ++ read ∷ later
+      → Completes upload listed complete
+      → LeavesKey upload.address between
+      → ReadsKey upload.address read
+      → (what : Data (List ℕ)) × AreJoined before upload listed what × IsGiven complete.moment what read
+
+  -- and by the version that it is told.
+  abbrev pub CompletionVersionsAreKept : Type 0
+  CompletionVersionsAreKept =
+      (names : List (List ℕ)) (before between later : List Entry) (complete read : Entry) (upload : UploadPlace)
+      (listed : List ListedPart) (id : VersionId)
+      → s ≡ opening names
+      → entries ≡ before ++ complete ∷ between ++ read ∷ later
+      → Completes upload listed complete
+      → touched complete.command complete.answer.outcome ≡ Some id
+      → SparesVersion upload.address id between
+      → ReadsVersion upload.address id read
+      → (what : Data (List ℕ)) × AreJoined before upload listed what × IsGiven complete.moment what read
+
+  -- A list of the uploads of a bucket tells the page of those that the entries before it leave, or doesn't succeed,
+  abbrev pub UploadListsTellWhatIsThere : Type 0
+  UploadListsTellWhatIsThere =
+      (before later : List Entry) (list : Entry) (name : List ℕ) (asked : UploadsAsked)
+      → entries ≡ before ++ list ∷ later
+      → list.command ≡ commands.Bucket name (bucket_commands.ListUploads asked)
+      → succeeds list.answer.outcome ≡ true
+      → list.answer.outcome ≡ outcomes.Told (uploads_text name asked (uploads_page asked (after least s before) name))
+
+  -- and one of the parts of an upload the page of these.
+  abbrev pub PartListsTellWhatIsThere : Type 0
+  PartListsTellWhatIsThere =
+      (before later : List Entry) (list : Entry) (name key : List ℕ) (id : ℕ) (asked : PartsAsked)
+      → entries ≡ before ++ list ∷ later
+      → list.command ≡ commands.Upload name key id (upload_commands.ListParts asked)
+      → succeeds list.answer.outcome ≡ true
+      → list.answer.outcome
+      ≡ outcomes.Told (parts_text name key id asked (parts_page asked (parts_at (after least s before) name key id)))
+
+  -- Where nothing was open at the beginning, an upload is listed exactly while it is open: with the moment at which it was begun
+  -- (no key is empty).
+  abbrev pub UploadsAreListedWhileOpen : Type 0
+  UploadsAreListedWhileOpen =
+      (names : List (List ℕ)) (upload : UploadPlace) (t : ℕ)
+      → s ≡ opening names
+      → upload.address.key ≢ []
+      → (IsUploadListed (after least s entries) upload t ↔ ((asked : UploadBegin) × WasBegun entries upload t asked))
+
+  -- So is a part while it stands, and nothing else is (no number is 0).
+  abbrev pub PartsAreListedWhileStanding : Type 0
+  PartsAreListedWhileStanding =
+      (names : List (List ℕ)) (upload : UploadPlace) (row : PartRow)
+      → s ≡ opening names
+      → 0 < row.number
+      → (IsPartListed (after least s entries) upload row ↔ TellsOfSent entries upload row)
+
+  -- No object shows of an upload before it is completed: what writes under no key leaves all versions.
+  abbrev pub OnlyWritesChangeVersions : Type 0
+  OnlyWritesChangeVersions =
+      (before later : List Entry) (e : Entry)
+      → entries ≡ before ++ e ∷ later
+      → writes e.command ≡ None
+      → SameVersions (after least s before) (after least s (before ++ e ∷ []))

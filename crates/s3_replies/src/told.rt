@@ -1,0 +1,77 @@
+//! The replies whose body is a document.
+
+ghost use Rattle.std.specs.Prelude.{◌≡◌, ◌+◌, ◌≤◌, [], ◌++◌, unwrap_or};
+ghost use Rattle.s3_documents.specs.Versioning.{versioning_text};
+ghost use Rattle.s3_replies.specs.Head.{print_head};
+ghost use Rattle.s3_replies.specs.Replies.{back, behind, beside, front, document_fields, stored_fields};
+
+use crate::body::{sent, write_body};
+use crate::document::versioning_document;
+use crate::head::{Head, Opening};
+use crate::room::Room;
+use crate::values::{id_bytes, id_text};
+use s3_bodies::Body;
+use s3_documents::Document;
+use s3_names::VersionId;
+use s3_terms::Status;
+use s3_versions::Versioning;
+
+/// Appends the reply that is a document of this size, and shows the version that was made, if it shows one, without the
+/// document.
+pub(crate) fn document_head<R: Room>(
+    out: &mut R,
+    opening: Opening,
+    shown: Option<VersionId>,
+    size: u64,
+)
+    requires { R.size out.old + 4096 ≤ R.capacity out.old }
+    ensures written { R.written out.new
+        ≡ R.written out.old ++ print_head (record (stored_fields opening shown) { size = size }) }
+    ensures bound { R.size out.new ≤ R.size out.old + 3840 }
+    ensures capacity { R.capacity out.old ≤ R.capacity out.new }
+{
+    let id = id_text(shown);
+    let head = Head {
+        version_id: id_bytes(&id),
+        content_type: Some(b"application/json"),
+        size,
+        ..Head::bare(Status::Ok, &opening)
+    };
+    head.print(out);
+}
+
+/// Appends the reply that is a document, which is printed here, without it, and gives it, unless the reply is to a HEAD.
+pub(crate) fn told_reply<R: Room>(
+    out: &mut R,
+    opening: Opening,
+    document: Document,
+    shown: Option<VersionId>,
+    head_only: bool,
+) -> Option<Body>
+    requires { R.size out.old + 4096 ≤ R.capacity out.old }
+    ensures written { R.written out.new
+        ≡ R.written out.old ++ front head_only (behind (stored_fields opening shown) document) }
+    ensures body { unwrap_or result [] ≡ back head_only (behind (stored_fields opening shown) document) }
+    ensures capacity { R.capacity out.old ≤ R.capacity out.new }
+{
+    let body = document.into_body();
+    document_head(out, opening, shown, body.size());
+    sent(head_only, body)
+}
+
+/// Appends the whole reply that tells of a bucket's versioning.
+pub(crate) fn versioning_reply<R: Room>(
+    out: &mut R,
+    opening: Opening,
+    versioning: Versioning,
+    head_only: bool,
+)
+    requires { R.size out.old + 4096 ≤ R.capacity out.old }
+    ensures written { R.written out.new ≡ R.written out.old
+        ++ front head_only (beside (document_fields opening) (versioning_text versioning)) }
+    ensures capacity { R.capacity out.old ≤ R.capacity out.new }
+{
+    let document = versioning_document(versioning);
+    document_head(out, opening, None, document.len() as u64);
+    write_body(out, head_only, document);
+}

@@ -1,0 +1,99 @@
+-- What comes of commands on uploads, from what is told of the records.
+use Rattle.std.proofs.Common.{◌≡◌, refl, ℕ, true, false, List, Option, Some, None, Result, Ok, Err}
+use Rattle.std.specs.Prelude.{is_some, is_ok, ok_or}
+use Rattle.s3_terms.specs.Fault.{◌>>=◌}
+use Rattle.s3_terms.specs.declared.code.Code.{Code}
+use Rattle.s3_terms.specs.declared.code.Code.TheVariants.{NoSuchUpload}
+use Rattle.s3_bodies.specs.Payload.{tag_of}
+use Rattle.s3_versions.specs.declared.picking.Refusal.{Refusal}
+use Rattle.s3_versions.specs.declared.version.Data.{Data}
+use Rattle.s3_uploads.specs.Completion.{completed}
+use Rattle.s3_uploads.specs.Parts.{part_sent}
+use Rattle.s3_uploads.specs.declared.listed.ListedPart.{ListedPart}
+use Rattle.s3_uploads.specs.declared.upload.Upload.{Upload}
+use Rattle.s3_records.specs.Changes.{PartPut, UploadDropped, changed}
+use Rattle.s3_records.specs.OpenUploads.{upload_at, parts_at, parts_sent, completed_at}
+use Rattle.s3_listings.specs.declared.asked.PartsAsked.{PartsAsked}
+use Rattle.s3_listings.specs.Parts.{parts_page}
+use Rattle.s3_documents.specs.PartList.{parts_text}
+use Rattle.s3_machine.specs.Effects.{is_refused}
+use Rattle.s3_machine.specs.Fault.{as_refusal}
+use Rattle.s3_machine.specs.declared.command.Outcome.TheVariants as outcomes
+use Rattle.s3_machine.specs.declared.command.UploadCommand.{UploadCommand}
+use Rattle.s3_machine.specs.declared.command.UploadCommand.TheVariants as upload_commands
+use Rattle.s3_machine.specs.Step.{State, Stepped, stepped, upload_done}
+use Rattle.s3_store.specs.Steps.{upload_step, completion_step, completed_as}
+
+-- what is asked for, if it is open
+abbrev opened : Option (Upload (List ℕ)) → Result (Upload (List ℕ)) Refusal
+opened found = as_refusal (ok_or found NoSuchUpload)
+
+-- a rule that an open upload meets
+met : (s : State) (found : Option (Upload (List ℕ))) (after : Stepped) → is_some found ≡ true → stepped s (opened found >>= (λ _. Ok after)) ≡ after
+met s None after is = absurd (cc)
+met s (Some u) after is = refl
+
+-- every rule refuses one that isn't open
+missed : (s : State) (found : Option (Upload (List ℕ))) (rule : Upload (List ℕ) → Result Stepped Refusal) → is_some found ≡ false
+    → stepped s (opened found >>= rule) ≡ (s, outcomes.Refused NoSuchUpload false)
+missed s None rule is = refl
+missed s (Some u) rule is = absurd (cc)
+
+told_parts : (s : State) (name key : List ℕ) (id : ℕ) (asked : PartsAsked) (found : Option (Upload (List ℕ))) → is_some found ≡ true
+    → stepped s (opened found >>= (λ u. Ok (s, outcomes.Told (parts_text name key id asked (parts_page asked u.parts)))))
+    ≡ (s, outcomes.Told (parts_text name key id asked (parts_page asked (parts_sent found))))
+told_parts s name key id asked None is = absurd (cc)
+told_parts s name key id asked (Some u) is = refl
+
+module _ (least : ℕ) (s : State) (n t : ℕ) (name key : List ℕ) (id : ℕ) where
+  pub upload_lost : (asked : UploadCommand) → is_some (upload_at s name key id) ≡ false
+      → upload_step least s n t name key id asked ≡ (s, outcomes.Refused NoSuchUpload false)
+  unfolding upload_done
+  upload_lost (upload_commands.PutPart number payload) is = missed s (upload_at s name key id) _ is
+  upload_lost (upload_commands.Complete listed) is = missed s (upload_at s name key id) _ is
+  upload_lost upload_commands.Abort is = missed s (upload_at s name key id) _ is
+  upload_lost (upload_commands.ListParts asked) is = missed s (upload_at s name key id) _ is
+
+  pub part_put : (number : ℕ) (payload : List ℕ) → is_some (upload_at s name key id) ≡ true
+      → upload_step least s n t name key id (upload_commands.PutPart number payload)
+      ≡ (changed s name (PartPut key id number (part_sent t payload)), outcomes.PartPut (tag_of payload))
+  unfolding upload_done
+  part_put number payload = met s (upload_at s name key id) _
+
+  pub upload_dropped : is_some (upload_at s name key id) ≡ true
+      → upload_step least s n t name key id upload_commands.Abort ≡ (changed s name (UploadDropped key id), outcomes.UploadDropped)
+  unfolding upload_done
+  upload_dropped = met s (upload_at s name key id) _
+
+  pub parts_told : (asked : PartsAsked) → is_some (upload_at s name key id) ≡ true
+      → upload_step least s n t name key id (upload_commands.ListParts asked)
+      ≡ (s, outcomes.Told (parts_text name key id asked (parts_page asked (parts_at s name key id))))
+  unfolding upload_done
+  parts_told asked = told_parts s name key id asked (upload_at s name key id)
+
+  -- ---- completions
+
+  completes_as : (r : Result (Data (List ℕ)) Code)
+      → stepped s (as_refusal r >>= (λ stored. Ok (completion_step s n t name key id stored))) ≡ completed_as s n t name key id r
+  completes_as (Ok stored) = refl
+  completes_as (Err code) = refl
+
+  completes_found : (listed : List ListedPart) (found : Option (Upload (List ℕ)))
+      → stepped s (opened found >>= (λ u. as_refusal (completed least listed u) >>= (λ stored. Ok (completion_step s n t name key id stored))))
+      ≡ completed_as s n t name key id (completed_at least listed found)
+  completes_found listed None = refl
+  completes_found listed (Some u) = completes_as (completed least listed u)
+
+  pub completes : (listed : List ListedPart)
+      → upload_step least s n t name key id (upload_commands.Complete listed)
+      ≡ completed_as s n t name key id (completed_at least listed (upload_at s name key id))
+  unfolding upload_done
+  completes listed = completes_found listed (upload_at s name key id)
+
+  pub completion_accepted : (r : Result (Data (List ℕ)) Code) → is_ok r ≡ true → is_refused (completed_as s n t name key id r).1 ≡ false
+  completion_accepted (Ok stored) is = refl
+  completion_accepted (Err code) is = absurd (cc)
+
+pub ruleset upload_steps = (upload_lost, part_put, upload_dropped, parts_told)
+
+pub ruleset completion_steps = (completes, completion_accepted)

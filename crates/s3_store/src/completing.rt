@@ -1,0 +1,88 @@
+//! What the completion of an upload does.
+ghost use Rattle.std.specs.Prelude.{◌≡◌, true, false, IfOk, OnErr};
+ghost use Rattle.s3_machine.specs.Effects.{is_refused};
+ghost use Rattle.s3_store.specs.Steps.{upload_step, completion_step, MayEnter};
+
+use crate::bucket_steps::refused;
+use crate::reading::shown;
+use s3_bodies::Body;
+use s3_calendar::Moment;
+use s3_documents::Document;
+use s3_machine::{Outcome, UploadCommand};
+use s3_names::{BucketName, Key, UploadId};
+use s3_records::Records;
+use s3_terms::NoMemory;
+use s3_uploads::ListedParts;
+use s3_versions::{Data, Versioning};
+use std::alloc::Global;
+
+/// CompleteMultipartUpload. The bytes of the parts are shared, and none is copied. `NoMemory` leaves the records as they
+/// were, and so does a refusal: the upload is still open.
+#[tactic(auto, using(crate::proofs::UploadLemmas::completion_steps))]
+pub(crate) fn complete<R: Records>(
+    records: &mut R,
+    alloc: Global,
+    least_part: u64,
+    bucket: &BucketName,
+    versioning: Versioning,
+    key: Key,
+    id: UploadId,
+    listed: &ListedParts,
+    number: u64,
+    moment: Moment,
+) -> Result<Outcome, NoMemory>
+    requires { MayEnter (R.catalogue records.old) number bucket.now versioning }
+    ensures ok { IfOk result (λ outcome.
+        upload_step least_part (R.catalogue records.old) number moment bucket.now key id (UploadCommand.Complete listed.now)
+        ≡ (R.catalogue records.new, outcome)) }
+    ensures err { OnErr result (R.catalogue records.new ≡ R.catalogue records.old) }
+    ensures memory { OnErr result (R.is_in_memory ≡ true
+        → is_refused (upload_step least_part (R.catalogue records.old) number moment bucket.now key id (UploadCommand.Complete listed.now)).1
+        ≡ false) }
+{
+    match records.completed(alloc, bucket, &key, id, least_part, listed.as_slice())? {
+        Err(code) => Ok(refused(code)),
+        Ok(stored) => put_joined(
+            records, alloc, bucket, versioning, key, id, stored, number, moment,
+        ),
+    }
+}
+
+// Puts what the listed parts make, and drops the upload with all its parts.
+fn put_joined<R: Records>(
+    records: &mut R,
+    alloc: Global,
+    bucket: &BucketName,
+    versioning: Versioning,
+    key: Key,
+    id: UploadId,
+    stored: Data<Body>,
+    number: u64,
+    moment: Moment,
+) -> Result<Outcome, NoMemory>
+    requires { MayEnter (R.catalogue records.old) number bucket.now versioning }
+    ensures ok { IfOk result (λ outcome.
+        completion_step (R.catalogue records.old) number moment bucket.now key id stored ≡ (R.catalogue records.new, outcome)) }
+    ensures err { OnErr result (R.catalogue records.new ≡ R.catalogue records.old) }
+{
+    let tag = stored.tag.copy();
+    let Ok(document) = Document::of_completed(alloc, bucket, &key, &tag) else {
+        drop(stored);
+        return Err(NoMemory);
+    };
+    match records.complete(alloc, bucket, key, id, number, moment, stored) {
+        Ok(gone) => {
+            drop(gone);
+            let shown = shown(versioning, versioning.new_id(number));
+            Ok(Outcome::Completed {
+                document,
+                tag,
+                shown,
+            })
+        }
+        Err(no_memory) => {
+            drop(document);
+            Err(no_memory)
+        }
+    }
+}

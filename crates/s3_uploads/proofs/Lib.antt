@@ -1,0 +1,4 @@
+pub mod CompletionLemmas
+pub mod LawLemmas
+pub mod ListedLemmas
+pub mod PartLemmas
