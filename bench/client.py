@@ -144,10 +144,10 @@ def part(address, key, upload, number, data):
     return request(address, "PUT", key, data, query={"partNumber": str(number), "uploadId": upload})
 
 
-def completion(address, key, upload, tags):
-    """The request that completes an upload, by the parts of these numbers with their tags."""
+def completion(address, key, upload, tags, more=None):
+    """The request that completes an upload, by the parts of these numbers with their tags, with more header lines."""
     listed = {"Parts": [{"ETag": tag, "PartNumber": number} for number, tag in sorted(tags.items())]}
-    return request(address, "POST", key, json.dumps(listed).encode(), query={"uploadId": upload})
+    return request(address, "POST", key, json.dumps(listed).encode(), more=more, query={"uploadId": upload})
 
 
 def abort(address, key, upload):

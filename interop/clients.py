@@ -41,6 +41,8 @@ class Lacking(Exception):
     """The client has no such operation."""
 
 
+# For how many seconds an address is signed.
+HOUR = 3600
 # The size of the parts that are sent here, where a client doesn't choose it.
 PART = 8 * MIB
 # What a status tells.
@@ -84,6 +86,14 @@ class Client:
 
     def copy(self, key, other):
         """Copies an object to another key."""
+        raise Lacking()
+
+    def put_new(self, key, data):
+        """Puts an object, where there is none under its key."""
+        raise Lacking()
+
+    def presigned(self, method, key):
+        """An address that is signed for a request with this method, for an hour."""
         raise Lacking()
 
     def listed(self, prefix, delimiter, page=None):
@@ -205,6 +215,9 @@ class Curl(Client):
     def head_if(self, key, tag):
         return self.head(key, ["-H", f"If-Match: {tag}"])
 
+    def put_new(self, key, data):
+        self.asked("PUT", key, data, ["-T", self.path(data), "-H", "If-None-Match: *"])
+
     def copy(self, key, other):
         self.asked("PUT", other, more=["-H", f"x-amz-copy-source: /{BUCKET}/{key}"])
 
@@ -258,11 +271,11 @@ class Boto3(Client):
 
         return boto3.__version__
 
-    def client(self):
+    def client(self, **more):
         import boto3
         from botocore.config import Config
 
-        settings = {"s3": {"addressing_style": "path"}, "retries": {"total_max_attempts": 1}, "proxies": {}}
+        settings = {"s3": {"addressing_style": "path"}, "retries": {"total_max_attempts": 1}, "proxies": {}, **more}
         try:
             config = Config(
                 request_checksum_calculation="when_required", response_checksum_validation="when_required", **settings
@@ -304,6 +317,15 @@ class Boto3(Client):
 
     def head_if(self, key, tag):
         return self.head(key, IfMatch=tag)
+
+    def put_new(self, key, data):
+        self.call("put_object", key, Body=data, IfNoneMatch="*")
+
+    def presigned(self, method, key):
+        # Without the version it signs an address by the second one, where the region is this.
+        operation = {"GET": "get_object", "PUT": "put_object", "HEAD": "head_object"}[method]
+        named = {"Bucket": BUCKET, "Key": key}
+        return self.client(signature_version="s3v4").generate_presigned_url(operation, Params=named, ExpiresIn=HOUR)
 
     def read(self, operation, key, **more):
         """Calls what is answered with a document: one that is no XML is told as an answer with the status 500."""

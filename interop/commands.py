@@ -10,7 +10,7 @@ import time
 import urllib.parse
 from pathlib import Path
 
-from clients import MIB, PART, PATIENCE, TOLD, Client, Lacking, first_line, in_order, listed_parts, of_page, ran, told
+from clients import HOUR, MIB, PART, PATIENCE, TOLD, Client, Lacking, first_line, in_order, listed_parts, of_page, ran, told
 from server import BUCKET, ID, PROGRAM, REGION, SECRET, TOP
 
 # Files that are larger are sent in parts.
@@ -21,6 +21,7 @@ request_checksum_calculation = when_required
 response_checksum_validation = when_required
 s3 =
     addressing_style = path
+    signature_version = s3v4
     multipart_threshold = """
 # What the generations of AWS's command line say of an answer that they can't read.
 UNREAD = ["(500)", "Unable to parse response"]
@@ -56,13 +57,17 @@ class Signer(Command):
         """The path of a keys file with the one credential."""
         return self.path(f"{ID} {self.secret}\n".encode())
 
+    def signed(self, method, key, words, query=""):
+        """What `s3d sign` writes."""
+        target = f"/{BUCKET}/{urllib.parse.quote(key, safe='/~')}{query}"
+        common = ["--keys", self.keys(), "--id", ID, "--moment", str(int(time.time())), "--region", REGION, "--host", self.address]
+        status, request, said = ran([self.program, "sign", *common, "--method", method, "--target", target, *words])
+        told(status, said)
+        return request
+
     def asked(self, method, key, data=b"", lines=(), query=""):
         """The head and the body that a request is answered."""
-        target = f"/{BUCKET}/{urllib.parse.quote(key, safe='/~')}{query}"
-        words = [self.program, "sign", "--keys", self.keys(), "--id", ID, "--moment", str(int(time.time())), "--region", REGION]
-        words += ["--host", self.address, "--method", method, "--target", target, "--body", self.path(data)]
-        status, request, said = ran([*words, *lines])
-        told(status, said)
+        request = self.signed(method, key, ["--body", self.path(data), *lines], query)
         host, port = self.address.rsplit(":", 1)
         with socket.create_connection((host, int(port)), PATIENCE) as stream:
             stream.sendall(request)
@@ -94,6 +99,12 @@ class Signer(Command):
 
     def head_if(self, key, tag):
         return self.head(key, f"if-match:{tag}")
+
+    def put_new(self, key, data):
+        self.asked("PUT", key, data, ["if-none-match:*"])
+
+    def presigned(self, method, key):
+        return self.signed(method, key, ["--presign", str(HOUR), "--url"]).decode().strip()
 
     def copy(self, key, other):
         self.asked("PUT", other, lines=[f"x-amz-copy-source:/{BUCKET}/{key}"])
@@ -182,6 +193,9 @@ class AwsApi(Aws):
     def put(self, key, data):
         self.api("put-object", key, "--body", self.path(data))
 
+    def put_new(self, key, data):
+        self.api("put-object", key, "--body", self.path(data), "--if-none-match", "*")
+
     def get(self, key, *words):
         path = self.path()
         self.api("get-object", key, *words, path)
@@ -233,6 +247,11 @@ class AwsCopy(Aws):
         self.aws("s3", "cp", "--only-show-errors", f"s3://{BUCKET}/{key}", path)
         return Path(path).read_bytes()
 
+    def presigned(self, method, key):
+        if method != "GET":
+            raise Lacking()
+        return self.aws("s3", "presign", "--expires-in", str(HOUR), f"s3://{BUCKET}/{key}").decode().strip()
+
     def copy(self, key, other):
         self.aws("s3", "cp", "--only-show-errors", f"s3://{BUCKET}/{key}", f"s3://{BUCKET}/{other}")
 
@@ -258,6 +277,7 @@ class S3cmd(Command):
     """`s3cmd`."""
 
     name = program = "s3cmd"
+    limits = {"presigned get": "it signs addresses by Signature Version 2 alone"}
 
     def s3cmd(self, *words, in_parts=False):
         config = [f"access_key = {ID}", f"secret_key = {self.secret}", f"host_base = {self.address}"]
@@ -283,6 +303,11 @@ class S3cmd(Command):
     def head(self, key):
         lines = self.s3cmd("info", f"s3://{BUCKET}/{key}").decode().splitlines()
         return int([line.split(":")[1] for line in lines if "File size" in line][0])
+
+    def presigned(self, method, key):
+        if method != "GET":
+            raise Lacking()
+        return self.s3cmd("signurl", f"s3://{BUCKET}/{key}", f"+{HOUR}").decode().strip()
 
     def copy(self, key, other):
         self.s3cmd("cp", f"s3://{BUCKET}/{key}", f"s3://{BUCKET}/{other}")
@@ -333,6 +358,11 @@ class Rclone(Command):
 
     def head(self, key):
         return json.loads(self.rclone("lsjson", "--stat", f"pail:{BUCKET}/{key}"))["Size"]
+
+    def presigned(self, method, key):
+        if method != "GET":
+            raise Lacking()
+        return self.rclone("link", "--expire", f"{HOUR}s", f"pail:{BUCKET}/{key}").decode().strip()
 
     def copy(self, key, other):
         self.rclone("copyto", "--ignore-times", f"pail:{BUCKET}/{key}", f"pail:{BUCKET}/{other}")

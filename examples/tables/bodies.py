@@ -1,5 +1,7 @@
 """The bytes of a body, as scenarios write them."""
 
+import re
+
 # A body of at most so many bytes is written out.
 SHORT = 100
 
@@ -18,9 +20,9 @@ class Body:
 
     @classmethod
     def read(cls, lines):
-        """The bytes of lines: `TEXT*N` is N bytes of a text over and over, and one without a star stands for itself."""
-        pairs = [line.split("*") if "*" in line else (line, len(line.encode())) for line in lines]
-        return cls([(text, int(size)) for text, size in pairs])
+        """The bytes of lines: `TEXT*N` is N bytes of a text over and over, and any other stands for itself."""
+        found = [(re.fullmatch(r"([^*]+)\*([0-9]+)", line), line) for line in lines]
+        return cls([(it[1], int(it[2])) if it else (line, len(line.encode())) for it, line in found])
 
     def __add__(self, other):
         return Body(self.runs + other.runs)

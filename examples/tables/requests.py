@@ -1,6 +1,8 @@
 """What the connection reads of a request, and which it refuses: the tables "Which operation a request asks for", "Documents" and "By the connection" of
 docs/PROTOCOL.md. Requests are signed and whole."""
 
+import base64
+import hashlib
 import json
 import math
 import re
@@ -68,15 +70,16 @@ def json_of(body):
 
 
 class Request:
-    """A request: its method, what its target names, the parameters of its query, its header lines and its body."""
+    """A request: its method, what its target names, the pairs of its query and of these its parameters, its header lines and its body."""
 
     def __init__(self, method, target, lines=(), body=Body()):
-        path, _, query = target.partition("?")
-        self.method, self.lines, self.body, self.asked = method, lines, body, {}
-        for piece in filter(None, query.split("&")):
-            name, _, value = piece.partition("=")
-            self.asked.setdefault(unquote_to_bytes(name), unquote_to_bytes(value))
-        bucket, _, key = path[1:].partition("/")
+        self.path, _, query = target.partition("?")
+        self.method, self.target, self.lines, self.body, self.asked = method, target, lines, body, {}
+        pieces = [piece.partition("=") for piece in query.split("&") if piece]
+        self.pairs = [(unquote_to_bytes(name), unquote_to_bytes(value)) for name, _, value in pieces]
+        for name, value in self.pairs:
+            self.asked.setdefault(name, value)
+        bucket, _, key = self.path[1:].partition("/")
         self.bucket, self.key = unquote_to_bytes(bucket), unquote_to_bytes(key)
 
     # Header lines.
@@ -98,6 +101,12 @@ class Request:
         refuse(content_type is not None and len(content_type.encode()) > 255)
         refuse(sum(len(f"{name}{value}".encode()) for name, value in metadata.items()) > 2048, "MetadataTooLarge")
         return "binary/octet-stream" if content_type is None else content_type, metadata
+
+    def wants_none(self):
+        """Whether a write is to be refused where its key has an object."""
+        found = self.line("if-none-match")
+        refuse(found not in (None, "*"), "NotImplemented")
+        return found is not None
 
     def source(self):
         """The bucket and the key that a copy is of, by their names alone."""
@@ -141,15 +150,21 @@ class Request:
 
     # Bodies.
 
+    def received(self):
+        """The body, which has to be the one that Content-MD5 tells, where that is there."""
+        told = self.line("content-md5")
+        refuse(told is not None and base64.b64decode(told) != hashlib.md5(self.body.bytes()).digest(), "BadDigest")
+        return self.body
+
     def versioning(self):
         """The versioning that a bucket gets."""
-        said = json_of(self.body.bytes())
+        said = json_of(self.received().bytes())
         refuse(not isinstance(said, dict) or said.get("Status") not in ("Enabled", "Suspended"), "MalformedBody")
         return said["Status"]
 
     def listed_parts(self):
         """The numbers and the tags of the parts that a completion lists."""
-        said = json_of(self.body.bytes())
+        said = json_of(self.received().bytes())
         parts = said.get("Parts") if isinstance(said, dict) else None
         refuse(not isinstance(parts, list) or not 1 <= len(parts) <= 10_000, "MalformedBody")
         for part in parts:
@@ -206,6 +221,9 @@ OPERATIONS = [
 def operation(request):
     """The operation that a request asks for: the first row that applies."""
     refuse(SUB_RESOURCES & set(request.asked), "NotImplemented")
+    if request.path == "/":
+        refuse(request.method != "GET", "MethodNotAllowed")
+        return "list_buckets"
     name = request.bucket
     refuse(not BUCKET_NAME.fullmatch(name) or b".." in name or FOUR_NUMBERS.fullmatch(name), "InvalidBucketName")
     text_of(request.key, "InvalidURI")

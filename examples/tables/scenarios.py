@@ -78,10 +78,10 @@ def connections(kind, lines):
     return made
 
 
-def files(source):
-    """The lines of each file, by its name: each with those behind it that begin with two spaces."""
+def files(*sources):
+    """The lines of each file that these say, by its name: each with those behind it that begin with two spaces."""
     found = {}
-    for line in source.read_text().split("\n"):
+    for line in "".join(source.read_text() for source in sources).split("\n"):
         if line.startswith("= "):
             last = found.setdefault(line[2:], [])
         elif line.startswith("  "):
@@ -91,9 +91,9 @@ def files(source):
     return found
 
 
-def make(kind, source, names):
+def make(kind, sources, names):
     """Writes the files of these names, or all."""
-    made = files(source)
+    made = files(*sources)
     for name in names or made:
         text = "\n==\n".join(connection.text() for connection in connections(kind, made[name]))
         (OUT / f"{name}.scenario").write_text(text + "\n", newline="\n")

@@ -14,6 +14,7 @@ REASONS = {
     206: "Partial Content",
     304: "Not Modified",
     400: "Bad Request",
+    403: "Forbidden",
     404: "Not Found",
     405: "Method Not Allowed",
     409: "Conflict",
@@ -23,6 +24,12 @@ REASONS = {
 }
 CODES = {
     "NotImplemented": (501, "This is not implemented."),
+    "AccessDenied": (403, "Access is denied."),
+    "InvalidAccessKeyId": (403, "The access key id is unknown."),
+    "SignatureDoesNotMatch": (403, "The signature does not match."),
+    "InvalidDigest": (400, "The Content-MD5 is not valid."),
+    "BadDigest": (400, "The body MD5 does not match."),
+    "AuthorizationQueryParametersError": (400, "The signing query is malformed."),
     "InvalidURI": (400, "The target cannot be read."),
     "InvalidArgument": (400, "An argument is invalid."),
     "InvalidBucketName": (400, "The bucket name is not valid."),
@@ -146,8 +153,8 @@ class Upload:
 class Bucket:
     """A bucket: the versions under its keys, newest first, and its uploads by their keys and ids."""
 
-    def __init__(self):
-        self.mode, self.keys, self.uploads = None, {}, {}
+    def __init__(self, moment=0):
+        self.moment, self.mode, self.keys, self.uploads = moment, None, {}, {}
 
     def current(self):
         """The objects that a get without an id finds, by their keys, in the order of bytes."""
@@ -182,9 +189,10 @@ class Store:
     def __init__(self, moment=1369353600):
         self.buckets, self.number, self.moment = {b"pail": Bucket()}, 0, moment
 
-    def answer(self, request):
-        """The lines of what a request is answered, and whether the connection ends with it."""
+    def answer(self, request, judge=lambda: None):
+        """The lines of what a request is answered, and whether the connection ends with it. Its head may be refused before that, by `judge`."""
         try:
+            judge()
             lines, is_over = getattr(self, operation(request))(request), False
         except Refused as refused:
             lines, is_over = self.refusal(str(refused), ["Connection: close"]), True
@@ -213,13 +221,17 @@ class Store:
 
     # Buckets.
 
+    def list_buckets(self, _request):
+        rows = [{"CreationDate": stamp(bucket.moment), "Name": name.decode()} for name, bucket in sorted(self.buckets.items())]
+        return self.told({"Buckets": rows})
+
     def bucket(self, request):
         deny(request.bucket not in self.buckets, "NoSuchBucket")
         return self.buckets[request.bucket]
 
     def create_bucket(self, request):
         deny(request.bucket in self.buckets, "BucketAlreadyOwnedByYou")
-        self.buckets[request.bucket] = Bucket()
+        self.buckets[request.bucket] = Bucket(self.moment)
         return self.reply(200, [f"Location: /{request.bucket.decode()}"])
 
     def head_bucket(self, request):
@@ -244,9 +256,10 @@ class Store:
     # Objects.
 
     def put_object(self, request):
-        description = request.description()
-        data = Data(hashlib.md5(request.body.bytes()).hexdigest(), description, request.body)
-        name = self.bucket(request).put(request.key, self.number, self.moment, data)
+        description, wants_none, body = request.description(), request.wants_none(), request.received()
+        data, bucket = Data(hashlib.md5(body.bytes()).hexdigest(), description, body), self.bucket(request)
+        deny(wants_none and request.key in bucket.current(), "PreconditionFailed")
+        name = bucket.put(request.key, self.number, self.moment, data)
         return self.reply(200, [*shown(name), f"ETag: {quoted(data.tag)}"])
 
     def copy_object(self, request):
@@ -297,13 +310,15 @@ class Store:
 
     def upload_part(self, request):
         number, name = request.part_number(), request.upload_id()
-        part = Part(request.body, self.moment)
+        part = Part(request.received(), self.moment)
         self.upload(request, name).parts[number] = part
         return self.reply(200, [f"ETag: {quoted(part.digest.hex())}"])
 
     def complete_multipart_upload(self, request):
-        name, listed = request.upload_id(), request.listed_parts()
-        data, bucket = self.upload(request, name).joined(listed), self.bucket(request)
+        name, wants_none, listed = request.upload_id(), request.wants_none(), request.listed_parts()
+        upload, bucket = self.upload(request, name), self.bucket(request)
+        deny(wants_none and request.key in bucket.current(), "PreconditionFailed")
+        data = upload.joined(listed)
         del bucket.uploads[request.key, name]
         version = bucket.put(request.key, self.number, self.moment, data)
         told = {"Bucket": request.bucket.decode(), "ETag": quoted(data.tag), "Key": request.key.decode()}

@@ -80,3 +80,9 @@ three_parts other = None
 -- the parts that a value says: it is cut at its commas
 unfoldable pub authorization_of : List ℕ → Option Parts
 authorization_of text = three_parts (parts_at comma text)
+
+-- the parts that a credential, the signed names and a signature say, each by itself: as the query of a presigned
+-- request has them. No comma stands in the credential, since none can in that of a header's value.
+unfoldable pub parts_with : List ℕ → List ℕ → List ℕ → Option Parts
+parts_with credential signed signature =
+    if list_any (λ b. b == comma) credential then None else with_credential signed signature (parts_at slash credential)

@@ -9,7 +9,7 @@ ghost use Rattle.s3_text.specs.Characters.{semicolon, slash};
 ghost use Rattle.s3_text.specs.Cut.{parts_at};
 ghost use Rattle.s3_text.specs.Order.{byte_order};
 ghost use Rattle.s3_authorization.specs.Spelling.{Spells};
-ghost use Rattle.s3_authorization.specs.Authorization.{Parts, authorization_of, behind, skip_spaces, are_signed_names, is_signed_name, with_credential, credential_at, signed_at, signature_at, three_parts};
+ghost use Rattle.s3_authorization.specs.Authorization.{Parts, authorization_of, behind, skip_spaces, are_signed_names, is_signed_name, parts_with, with_credential, credential_at, signed_at, signature_at, three_parts};
 
 use httparse::is_token;
 use s3_terms::Code;
@@ -64,6 +64,23 @@ impl<'a> Authorization<'a> {
         ensures { result ≡ ok_or (authorization_of text.now) Code.AuthorizationHeaderMalformed }
     {
         read_parts(text).ok_or(Code::AuthorizationHeaderMalformed)
+    }
+
+    /// The same parts, each from a text of its own, as the query of a presigned request has them: the credential
+    /// `id/date/region/service/aws4_request`, in which no comma may stand, the signed names, and the signature. `None`
+    /// where one has another form. Takes time by the length of the texts.
+    #[tactic(auto, unfolding(crate::specs::Authorization::parts_with))]
+    pub fn with_parts(
+        credential: &'a [u8],
+        signed: &'a [u8],
+        signature: &[u8],
+    ) -> Option<Authorization<'a>>
+        ensures { result ≡ parts_with credential.now signed.now signature.now }
+    {
+        if credential.contains(&b',') {
+            return None;
+        }
+        with_credential(signed, signature, credential)
     }
 
     /// The access key's id.

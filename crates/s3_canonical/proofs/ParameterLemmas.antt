@@ -1,6 +1,9 @@
 -- Parameters, sorted by the code, are the pairs in their order.
-use Rattle.std.proofs.Common.{◌≡◌, ℕ, ◌+◌, List, [], ◌∷◌, ◌++◌, Some, IsPermutation, map, take, slice_get, ap, ◌∙◌}
-use Rattle.std.proofs.lemmas.List.{take_more, map_push}
+use Rattle.std.proofs.Common.{◌≡◌, ℕ, ◌+◌, true, false, List, [], ◌∷◌, ◌++◌, Some, IsPermutation, map, filter, take, slice_get, refl, ap, ◌∙◌, append-nil}
+use Rattle.std.specs.Prelude.{codes}
+use Rattle.std.specs.Str.{bytes_eq}
+use Rattle.std.proofs.lemmas.List.{take_more, map-append}
+use Rattle.std.proofs.lemmas.List.Elements.{filter-append}
 use Rattle.std.proofs.lemmas.Option.{get_or_from_slice_get, slice_get_within}
 use Rattle.std.specs.Cmp.{IsTotalOrder}
 use Rattle.std.specs.List.Sorted.{IsSorted}
@@ -10,7 +13,7 @@ use Rattle.std.proofs.lemmas.Map.Lookups.{CmpEqualImpliesEq, exact_bytes, exact_
 use Rattle.s3_text.specs.Order.{byte_order}
 use Rattle.s3_canonical.specs.declared.parameter.Parameter.{Parameter}
 use Rattle.s3_canonical.specs.Parameter.{pair, pairs}
-use Rattle.s3_canonical.specs.CanonicalTarget.{encoded_pair, pair_cmp, sorted_pairs}
+use Rattle.s3_canonical.specs.CanonicalTarget.{encoded_pair, is_signed_parameter, pair_cmp, sorted_pairs}
 use Rattle.s3_text.proofs.SortingLemmas.{sorted_by-unique, IsSorted-map}
 
 -- the order of parameters is total, and tells any two apart
@@ -25,10 +28,23 @@ pub pairs-sorted : (xs ys : List Parameter) → IsPermutation xs ys → IsSorted
 pairs-sorted xs ys same up =
     sorted_by-unique pair_cmp pair_cmp_total pair_cmp_exact (pairs xs) (pairs ys) (IsPermutation-map pair xs ys same) (IsSorted-map pair pair_cmp ys up)
 
--- one parameter more
-pub encoded_push : (all : List (List ℕ × List ℕ)) (i : ℕ) (name value : List ℕ) → slice_get all i ≡ Some (name, value) → map encoded_pair (take (i + 1) all) ≡ map encoded_pair (take i all) ++ encoded_pair (name, value) ∷ []
-encoded_push all i name value is =
-    ap (map encoded_pair) (take_more all i (name, value) (slice_get_within all i (name, value) is) ∙ ap (λ pair. take i all ++ pair ∷ []) (get_or_from_slice_get all i (name, value) (name, value) is))
-    ∙ map_push encoded_pair (take i all) (name, value)
+-- the parameters that are signed, encoded, of those of a list
+abbrev pub signed_in : List (List ℕ × List ℕ) → List (List ℕ × List ℕ)
+signed_in all = map encoded_pair (filter is_signed_parameter all)
+
+one_more : (all : List (List ℕ × List ℕ)) (i : ℕ) (name value : List ℕ) → slice_get all i ≡ Some (name, value) → signed_in (take (i + 1) all) ≡ signed_in (take i all) ++ signed_in ((name, value) ∷ [])
+one_more all i name value is =
+    ap signed_in (take_more all i (name, value) (slice_get_within all i (name, value) is) ∙ ap (λ pair. take i all ++ pair ∷ []) (get_or_from_slice_get all i (name, value) (name, value) is))
+    ∙ ap (map encoded_pair) (filter-append is_signed_parameter (take i all) ((name, value) ∷ []))
+    ∙ map-append encoded_pair (filter is_signed_parameter (take i all)) (filter is_signed_parameter ((name, value) ∷ []))
+
+-- one parameter more, which is signed, or is not
+pub signed_more : (all : List (List ℕ × List ℕ)) (i : ℕ) (name value : List ℕ) → slice_get all i ≡ Some (name, value) → bytes_eq name (codes "X-Amz-Signature") ≡ false → signed_in (take (i + 1) all) ≡ signed_in (take i all) ++ encoded_pair (name, value) ∷ []
+signed_more all i name value is other =
+    one_more all i name value is ∙ ap (λ rest. signed_in (take i all) ++ rest) (rw other refl)
+
+pub signed_same : (all : List (List ℕ × List ℕ)) (i : ℕ) (name value : List ℕ) → slice_get all i ≡ Some (name, value) → bytes_eq name (codes "X-Amz-Signature") ≡ true → signed_in (take (i + 1) all) ≡ signed_in (take i all)
+signed_same all i name value is same =
+    one_more all i name value is ∙ ap (λ rest. signed_in (take i all) ++ rest) (rw same refl) ∙ append-nil (signed_in (take i all))
 
 pub ruleset sorting = (pairs-sorted)

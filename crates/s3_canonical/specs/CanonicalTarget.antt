@@ -1,7 +1,8 @@
 -- The canonical URI and the canonical query of what a target says (AWS Signature Version 4, "Create a
 -- canonical request").
-use Rattle.std.specs.Prelude.{ℕ, List, ◌∷◌, ◌++◌, map}
+use Rattle.std.specs.Prelude.{ℕ, Bool, not, List, ◌∷◌, ◌++◌, map, filter, codes}
 use Rattle.std.specs.List.{join_with_byte}
+use Rattle.std.specs.Str.{bytes_eq}
 use Rattle.std.specs.declared.cmp.Ordering.{Ordering}
 use Rattle.std.specs.Ordering.{ordering_then}
 use Rattle.s3_text.specs.Characters.{ampersand, equals_sign}
@@ -30,7 +31,12 @@ sorted_pairs pairs = sorted_by pair_cmp pairs
 abbrev pub print_pair : List ℕ × List ℕ → List ℕ
 print_pair pair = pair.0 ++ equals_sign ∷ pair.1
 
--- the canonical query: the encoded parameters in their order, joined by ampersands
+-- the parameter is one that is signed: any but the signature itself, which a presigned request has in its query (Amazon
+-- S3 API Reference, "Authenticating requests: using query parameters (AWS Signature Version 4)")
+abbrev pub is_signed_parameter : List ℕ × List ℕ → Bool
+is_signed_parameter parameter = not (bytes_eq parameter.0 (codes "X-Amz-Signature"))
+
+-- the canonical query: the encoded parameters but the signature, in their order, joined by ampersands
 unfoldable pub canonical_query : TargetParts → List ℕ
 canonical_query target =
-    join_with_byte ampersand (map print_pair (sorted_pairs (map encoded_pair target.parameters)))
+    join_with_byte ampersand (map print_pair (sorted_pairs (map encoded_pair (filter is_signed_parameter target.parameters))))

@@ -25,7 +25,8 @@ pub fn uri(alloc: Global, target: &Target) -> Result<Vec<u8>, Code>
 }
 
 /// The canonical query of a target: its parameters, their names and values encoded once, sorted by
-/// encoded name and then by encoded value, each as `name=value`, joined by `&`.
+/// encoded name and then by encoded value, each as `name=value`, joined by `&`. `X-Amz-Signature`, which a
+/// presigned query has, is left out (Amazon S3 API Reference, "Authenticating requests: using query parameters").
 ///
 /// `InternalError` where memory runs out, and no other error. Takes memory by the query's length, and time
 /// by it but for the sort, which compares each of the parameters with as many others as the logarithm of

@@ -35,8 +35,10 @@ pub(crate) fn encode_path(alloc: Global, path: &[u8]) -> Result<Vec<u8>, AllocEr
     encode(alloc, path, PATH_ESCAPES)
 }
 
-// A name or a value of the query, encoded.
-pub(crate) fn encode_query(alloc: Global, part: &[u8]) -> Result<Vec<u8>, AllocError>
+/// A name or a value of the query, encoded: letters, digits, `-`, `.`, `_` and `~` as they are, and each other byte as `%`
+/// and two upper-case digits (AWS Signature Version 4, "Create a canonical request", UriEncode). Takes time and memory by
+/// its length.
+pub fn encode_query(alloc: Global, part: &[u8]) -> Result<Vec<u8>, AllocError>
     ensures { IfOk result (λ text. text.items ≡ encode_query part.now) }
 {
     encode(alloc, part, QUERY_ESCAPES)

@@ -1,10 +1,10 @@
 //! The parameters of a query, encoded and in their order.
 
-ghost use Rattle.std.specs.Prelude.{◌≡◌, ◌++◌, IfOk, map};
+ghost use Rattle.std.specs.Prelude.{◌≡◌, ◌++◌, IfOk, filter, map};
 ghost use Rattle.std.specs.List.{join_with_byte};
 ghost use Rattle.s3_text.specs.Characters.{ampersand};
 ghost use Rattle.s3_canonical.specs.Parameter.{pair, pairs};
-ghost use Rattle.s3_canonical.specs.CanonicalTarget.{encoded_pair, print_pair, sorted_pairs};
+ghost use Rattle.s3_canonical.specs.CanonicalTarget.{encoded_pair, is_signed_parameter, print_pair, sorted_pairs};
 
 use crate::encoding::encode_query;
 use s3_http_heads::Target;
@@ -38,14 +38,17 @@ impl Parameter {
     }
 }
 
-// The parameters of a target, encoded, as they come.
+// The parameters of a target but the signature, encoded, as they come.
 fn encoded_all(alloc: Global, target: &Target) -> Result<Vec<Parameter>, AllocError>
-    ensures { IfOk result (λ all. pairs all.items ≡ map encoded_pair target.now.parameters) }
+    ensures { IfOk result (λ all. pairs all.items
+        ≡ map encoded_pair (filter is_signed_parameter target.now.parameters)) }
 {
     let mut all = Vec::new(alloc);
     for index in 0..target.parameter_count() {
         let (name, value) = target.parameter(index);
-        all.push(Parameter::encoded(alloc, name, value)?)?;
+        if name != b"X-Amz-Signature".as_slice() {
+            all.push(Parameter::encoded(alloc, name, value)?)?;
+        }
     }
     Ok(all)
 }
@@ -64,11 +67,11 @@ fn join(alloc: Global, all: &[Parameter]) -> Result<Vec<u8>, AllocError>
     Ok(text)
 }
 
-// The parameters of a target, encoded, sorted and joined.
+// The parameters of a target but the signature, encoded, sorted and joined.
 #[tactic(auto, using(crate::proofs::ParameterLemmas::sorting))]
 pub(crate) fn sorted_query(alloc: Global, target: &Target) -> Result<Vec<u8>, AllocError>
-    ensures { IfOk result (λ text. text.items
-        ≡ join_with_byte ampersand (map print_pair (sorted_pairs (map encoded_pair target.now.parameters)))) }
+    ensures { IfOk result (λ text. text.items ≡ join_with_byte ampersand
+        (map print_pair (sorted_pairs (map encoded_pair (filter is_signed_parameter target.now.parameters))))) }
 {
     let mut all = encoded_all(alloc, target)?;
     all.sort()?;

@@ -89,6 +89,6 @@ right_serve_words : AreServeWords (codes "s3d" ∷ codes "serve" ∷ codes "--ke
 unfolding clap_on_literals
 right_serve_words = (refl, refl)
 
-right_sign_words : AreSignWords (codes "s3d" ∷ codes "sign" ∷ codes "--keys" ∷ codes "keys" ∷ codes "--id" ∷ codes "id" ∷ codes "--moment" ∷ codes "0" ∷ codes "--method" ∷ codes "GET" ∷ codes "--target" ∷ codes "/" ∷ codes "--host" ∷ codes "h" ∷ codes "range:bytes=0-9" ∷ codes "a:b" ∷ [])
+right_sign_words : AreSignWords (codes "s3d" ∷ codes "sign" ∷ codes "--keys" ∷ codes "keys" ∷ codes "--id" ∷ codes "id" ∷ codes "--moment" ∷ codes "0" ∷ codes "--method" ∷ codes "GET" ∷ codes "--target" ∷ codes "/" ∷ codes "--host" ∷ codes "h" ∷ codes "--presign" ∷ codes "60" ∷ codes "--url" ∷ codes "range:bytes=0-9" ∷ codes "a:b" ∷ [])
 unfolding clap_on_literals
 right_sign_words = (refl, refl)

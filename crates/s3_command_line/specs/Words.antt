@@ -68,7 +68,7 @@ replay_app =
 -- `s3d sign`
 abbrev pub sign_app : App
 sign_app =
-    with_rule (with_rule (with_rule (with_rule (with_rule (with_rule (with_rule (with_rule (with_settings (new_app (codes "sign")))
+    with_rule (with_rule (with_rule (with_rule (with_rule (with_rule (with_rule (with_rule (with_rule (with_rule (with_settings (new_app (codes "sign")))
     (required_rule (codes "id")))
     (required_rule (codes "moment")))
     (required_rule (codes "method")))
@@ -76,6 +76,8 @@ sign_app =
     (required_rule (codes "host")))
     (option_rule (codes "body")))
     (option_rule (codes "chunk")))
+    (option_rule (codes "presign")))
+    (flag_rule (codes "url")))
     (words_rule (codes "header"))
 
 -- `s3d serve`
@@ -157,6 +159,8 @@ pub record HasSignOptions (rows : List Row) (o : SignOptions) : Type 0 where
   pub host : option_map (λ text. text.now) o.host ≡ first_of (codes "host") rows
   pub body : option_map (λ text. text.now) o.body ≡ first_of (codes "body") rows
   pub chunk : option_map (λ text. text.now) o.chunk ≡ first_of (codes "chunk") rows
+  pub presign : option_map (λ text. text.now) o.presign ≡ first_of (codes "presign") rows
+  pub url : o.url ≡ is_set (first_of (codes "url") rows)
   pub headers : map (λ text. text.now) o.headers.items ≡ unwrap_or (all_of (codes "header") rows) []
 
 -- the words are those of a subcommand, and this holds of the matches that they give it

@@ -103,7 +103,7 @@ static REPLAYING: [Argument; 2] = [
 ];
 
 // The further arguments of `s3d sign`.
-static SIGNING: [Argument; 8] = [
+static SIGNING: [Argument; 10] = [
     Argument {
         name: "id",
         value: "ID",
@@ -145,6 +145,18 @@ static SIGNING: [Argument; 8] = [
         value: "N",
         help: "Sends the body in signed chunks of so many bytes",
         kind: Kind::Optional,
+    },
+    Argument {
+        name: "presign",
+        value: "SECONDS",
+        help: "Signs in the target, for so many seconds from the moment, at most 604800",
+        kind: Kind::Optional,
+    },
+    Argument {
+        name: "url",
+        value: "",
+        help: "Writes the address of the presigned request alone",
+        kind: Kind::Flag,
     },
     Argument {
         name: "header",
@@ -208,7 +220,7 @@ fn bare_command<'a>(alloc: Global) -> Command<'a>
 fn with_signing<'a>(alloc: Global, command: Command<'a>) -> Result<Command<'a>, AllocError>
     ensures app { IfOk result (λ with. app_of with ≡ with_subcommand (app_of command.entry) sign_app.top) }
 {
-    let about = "Writes one signed request to standard output";
+    let about = "Writes one signed request, or its address, to standard output";
     let sign = subcommand(alloc, "sign", about, &SIGNING)?;
     command.subcommand(sign)
 }

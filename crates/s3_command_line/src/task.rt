@@ -24,7 +24,7 @@ pub enum Asked<'a> {
 pub enum Task<'a> {
     /// To answer one connection, or several.
     Replay(ReplayOptions<'a>),
-    /// To write one signed request.
+    /// To write one signed request, or its address.
     Sign(SignOptions<'a>),
 }
 
@@ -131,6 +131,8 @@ fn sign_options<'a>(alloc: Global, matches: &ArgMatches<'a>) -> Result<SignOptio
         host: matches.get_str("host"),
         body: matches.get_str("body"),
         chunk: matches.get_str("chunk"),
+        presign: matches.get_str("presign"),
+        url: is_set(matches.get_str("url")),
         headers,
     })
 }

@@ -24,25 +24,29 @@ Lines = List (List ℕ × List ℕ)
 abbrev pub values_in : List ℕ → Lines → List (List ℕ)
 values_in name lines = map (λ (line : List ℕ × List ℕ). line.1) (filter (is_named name) lines)
 
+-- how many of the first i pass the test
+abbrev pub count_passing : (List ℕ × List ℕ → Bool) → Lines → ℕ → ℕ
+count_passing passes lines i = length (filter passes (take i lines))
+
+pub passing_more : (passes : List ℕ × List ℕ → Bool) (lines : Lines) (i : ℕ) (line : List ℕ × List ℕ) → slice_get lines i ≡ Some line
+    → count_passing passes lines (i + 1) ≡ count_passing passes lines i + cond (passes line) 1 0
+passing_more passes lines i line is =
+    length-filter_more passes lines i line (slice_get_within lines i line is)
+    ∙ ap (λ x. count_passing passes lines i + cond (passes x) 1 0) (get_or_from_slice_get lines i line line is)
+
 -- how many of the first i lines have the name
 abbrev pub count_in : List ℕ → Lines → ℕ → ℕ
-count_in name lines i = length (filter (is_named name) (take i lines))
-
-count_more : (name : List ℕ) (lines : Lines) (i : ℕ) (line : List ℕ × List ℕ) → slice_get lines i ≡ Some line
-    → count_in name lines (i + 1) ≡ count_in name lines i + cond (is_named name line) 1 0
-count_more name lines i line is =
-    length-filter_more (is_named name) lines i line (slice_get_within lines i line is)
-    ∙ ap (λ x. count_in name lines i + cond (is_named name x) 1 0) (get_or_from_slice_get lines i line line is)
+count_in name lines i = count_passing (is_named name) lines i
 
 pub count_yes : (name : List ℕ) (lines : Lines) (i : ℕ) (sent value : List ℕ) → slice_get lines i ≡ Some (sent, value)
     → true ≡ bytes_eq (str_to_ascii_lowercase sent) name → count_in name lines (i + 1) ≡ count_in name lines i + 1
 count_yes name lines i sent value is same =
-    count_more name lines i (sent, value) is ∙ ap (λ b. count_in name lines i + cond b 1 0) (sym same)
+    passing_more (is_named name) lines i (sent, value) is ∙ ap (λ b. count_in name lines i + cond b 1 0) (sym same)
 
 pub count_no : (name : List ℕ) (lines : Lines) (i : ℕ) (sent value : List ℕ) → slice_get lines i ≡ Some (sent, value)
     → false ≡ bytes_eq (str_to_ascii_lowercase sent) name → count_in name lines (i + 1) ≡ count_in name lines i
 count_no name lines i sent value is other =
-    count_more name lines i (sent, value) is ∙ ap (λ b. count_in name lines i + cond b 1 0) (sym other) ∙ omega arith
+    passing_more (is_named name) lines i (sent, value) is ∙ ap (λ b. count_in name lines i + cond b 1 0) (sym other) ∙ omega arith
 
 pub count_all : (name : List ℕ) (parts : HeadParts) (i : ℕ) → length parts.headers ≤ i
     → count_in name parts.headers i ≡ length (values_of name parts)

@@ -1,5 +1,5 @@
 -- The parts of a path, decoded one by one; places in a text that grows; and the test of the escapes.
-use Rattle.std.proofs.Common.{◌≡◌, slice_get, Option, Some, None, option_map, ℕ, suc, ◌+◌, ◌*◌, ◌≤◌, ◌<◌, ◌⊎◌, inl, inr, Bool, true, false, not, ◌&&◌, ◌||◌, ◌==◌, nat_eq, List, [], ◌∷◌, ◌++◌, length, take, drop, get_or, refl, sym, ap, ◌∙◌, arith, cond, append-nil, take-append-drop}
+use Rattle.std.proofs.Common.{◌≡◌, slice_get, Option, Some, None, option_map, ℕ, suc, ◌+◌, ◌*◌, ◌≤◌, ◌<◌, ◌⊎◌, inl, inr, Bool, true, false, not, ◌&&◌, ◌||◌, ◌==◌, nat_eq, List, [], ◌∷◌, ◌++◌, length, take, drop, get_or, refl, sym, ap, ◌∙◌, arith, cond, append-nil, take-append-drop, map, filter}
 use Rattle.std.specs.List.{starts_with, before_first, after_first, position_or_len}
 use Rattle.std.specs.Char.{digit_value}
 use Rattle.std.proofs.lemmas.Bool.{cases_Bool, false≢true}
@@ -8,11 +8,13 @@ use Rattle.std.specs.List.{find, list_any}
 use Rattle.std.specs.Str.{bytes_eq}
 use Rattle.std.proofs.lemmas.Option.{get_or_from_slice_get, slice_get_within}
 use Rattle.std.proofs.lemmas.List.Folds.{length-prefix_len, list_any_at, list_any_more}
-use Rattle.std.proofs.lemmas.List.{at_drop_more, drop-drop, drop_all}
+use Rattle.std.proofs.lemmas.List.{at_drop_more, drop-drop, drop_all, length-map, take_all}
 use Rattle.s3_text.proofs.ListLemmas.{elements_from}
 use Rattle.percent_encoding.specs.Percent.{is_escape, percent_decode}
 use Rattle.percent_encoding.proofs.PercentLemmas.{percent_decode-nil, percent_decode_not_percent, KeepsFirst_from_no_escape}
-use Rattle.s3_http_heads.specs.Target.{begins_with_digits, has_bad_escape}
+use Rattle.s3_http_heads.specs.Head.{only}
+use Rattle.s3_http_heads.specs.Target.{TargetParts, begins_with_digits, first_parameter, has_bad_escape, values_under}
+use Rattle.s3_http_heads.proofs.NameLemmas.{count_passing, passing_more}
 
 -- ---- escapes
 
@@ -140,3 +142,47 @@ first_past name all i sent value is other = rw (elements_from all i (sent, value
 
 pub first_none : (name : List ℕ) (all : List (List ℕ × List ℕ)) (i : ℕ) → length all ≤ i → first_from name all i ≡ None
 first_none name all i past = rw (drop_all i all past) refl
+
+-- how many of the first i parameters have the name
+abbrev pub called_in : List ℕ → List (List ℕ × List ℕ) → ℕ → ℕ
+called_in name all i = count_passing (is_called name) all i
+
+pub called_yes : (name : List ℕ) (all : List (List ℕ × List ℕ)) (i : ℕ) (sent value : List ℕ) → slice_get all i ≡ Some (sent, value) → bytes_eq sent name ≡ true → called_in name all (i + 1) ≡ called_in name all i + 1
+called_yes name all i sent value is same =
+    passing_more (is_called name) all i (sent, value) is ∙ ap (λ b. called_in name all i + cond b 1 0) same
+
+pub called_no : (name : List ℕ) (all : List (List ℕ × List ℕ)) (i : ℕ) (sent value : List ℕ) → slice_get all i ≡ Some (sent, value) → bytes_eq sent name ≡ false → called_in name all (i + 1) ≡ called_in name all i
+called_no name all i sent value is other =
+    passing_more (is_called name) all i (sent, value) is ∙ ap (λ b. called_in name all i + cond b 1 0) other ∙ omega arith
+
+pub called_all : (name : List ℕ) (target : TargetParts) (i : ℕ) → length target.parameters ≤ i → called_in name target.parameters i ≡ length (values_under name target)
+called_all name target i past =
+    ap (λ all. length (filter (is_called name) all)) (take_all i target.parameters past)
+    ∙ sym (length-map (filter (is_called name) target.parameters) (λ (parameter : List ℕ × List ℕ). parameter.1))
+
+-- the first value of a name is the first of its values
+first_called : (name : List ℕ) (all : List (List ℕ × List ℕ)) → option_map (λ (parameter : List ℕ × List ℕ). parameter.1) (find (is_called name) all) ≡ slice_get (map (λ (parameter : List ℕ × List ℕ). parameter.1) (filter (is_called name) all)) 0
+first_called name [] = refl
+first_called name (parameter ∷ all) = elim (cases_Bool (is_called name parameter)) [
+  | inl same ↦ rw same refl
+  | inr other ↦ rw other (first_called name all)
+]
+
+one_only : (values : List (List ℕ)) → length values ≡ 1 → slice_get values 0 ≡ only values
+one_only [] one = absurd (omega arith)
+one_only (value ∷ []) one = refl
+one_only (value ∷ more ∷ values) one = absurd (omega arith)
+
+none_only : (values : List (List ℕ)) → (length values ≡ 1 → ⊥) → None ≡ only values
+none_only [] other = refl
+none_only (value ∷ []) other = absurd (other refl)
+none_only (value ∷ more ∷ values) other = refl
+
+-- it is the only one where there is one, and none is where there are more, or none
+pub only_first : (name : List ℕ) (target : TargetParts) → length (values_under name target) ≡ 1 → first_parameter name target ≡ only (values_under name target)
+only_first name target one = first_called name target.parameters ∙ one_only (values_under name target) one
+
+pub only_none : (name : List ℕ) (target : TargetParts) → (length (values_under name target) ≡ 1 → ⊥) → None ≡ only (values_under name target)
+only_none name target other = none_only (values_under name target) other
+
+pub ruleset only_one = (only_first, only_none)

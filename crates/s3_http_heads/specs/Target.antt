@@ -81,3 +81,9 @@ abbrev pub first_parameter : List ℕ → TargetParts → Option (List ℕ)
 first_parameter name target =
     option_map (λ (parameter : List ℕ × List ℕ). parameter.1)
     (find (λ (parameter : List ℕ × List ℕ). bytes_eq parameter.0 name) target.parameters)
+
+-- the values of the parameters of this name, in their order
+abbrev pub values_under : List ℕ → TargetParts → List (List ℕ)
+values_under name target =
+    map (λ (parameter : List ℕ × List ℕ). parameter.1)
+    (filter (λ (parameter : List ℕ × List ℕ). bytes_eq parameter.0 name) target.parameters)

@@ -4,6 +4,7 @@ ghost use Rattle.std.specs.List.{starts_with, before_first, after_first};
 ghost use Rattle.std.specs.Option.{option_copied};
 ghost use Rattle.percent_encoding.specs.Percent.{percent_decode};
 ghost use Rattle.s3_text.specs.Characters.{slash};
+ghost use Rattle.s3_http_heads.specs.Head.{only};
 ghost use Rattle.s3_http_heads.specs.Target as rules;
 
 use crate::parameters::Parameters;
@@ -126,6 +127,31 @@ impl Target {
             }
         }
         None
+    }
+
+    /// The value of the one parameter of this name; `None` where there are several, or none. The cost is linear in the
+    /// parameters.
+    #[tactic(auto, using(crate::proofs::TargetLemmas::only_one))]
+    pub fn only(&self, name: &[u8]) -> Option<&[u8]>
+        ensures { option_copied result ≡ only (rules.values_under name.now self.now) }
+    {
+        if self.count(name) != 1 {
+            return None;
+        }
+        self.first(name)
+    }
+
+    // How many parameters have this name.
+    fn count(&self, name: &[u8]) -> usize
+        ensures { result ≡ length (rules.values_under name.now self.now) }
+    {
+        let mut count = 0;
+        for index in 0..self.parameter_count() {
+            if self.parameter(index).0 == name {
+                count += 1;
+            }
+        }
+        count
     }
 
     /// Whether a parameter has this name. The cost is linear in the parameters.

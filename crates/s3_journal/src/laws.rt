@@ -1,13 +1,14 @@
 //! What is known of every book: laws, with nothing to run.
 ghost use Rattle.s3_machine.specs.Kept.{StoredIsKept, VersionsAreKept, StoredIsTold, StoredIsListed, OnlyStoredStands, OnlyStoredIsGiven, ListedIsStored, ListsTellWhatIsThere, VersionListsTellWhatIsThere, StoredWasBrought, ReadsGiveOrFail, ReadsAreJudged, MarkersHide, QuietEntriesChangeNothing, PutsAreKept, PutVersionsAreKept, CopiesAreKept, CopyVersionsAreKept, BodiesAreTagged};
+ghost use Rattle.s3_machine.specs.Conditional.{AcceptedFindsNone, RefusedFindsOne, StoredKeepsOthersOut, OneIsAccepted};
 ghost use Rattle.s3_machine.specs.UploadsKept.{UploadsAreOpenUntilEnded, PartsAreKept, OnlySentStands, PartsAreListedWhileStanding, BegunIsTold, SentIsTold, CompletedIsTold, CompletionsJoinWhatWasSent, CompletionsAreKept, CompletionVersionsAreKept, UploadListsTellWhatIsThere, PartListsTellWhatIsThere, UploadsAreListedWhileOpen, OnlyWritesChangeVersions};
 ghost use Rattle.s3_journal.specs.Laws.{EveryBook};
 
 use s3_machine::{
-    completions_are_kept, completions_join_what_was_sent, copies_are_kept, delete_markers_hide,
-    entries_change_nothing, lists_tell_what_is_there, only_stored_is_given,
-    only_writes_change_versions, parts_are_kept, puts_are_kept, stored_is_kept, stored_is_listed,
-    uploads_are_open_until_ended, uploads_are_told,
+    absent_puts_succeed_once, completions_are_kept, completions_join_what_was_sent,
+    copies_are_kept, delete_markers_hide, entries_change_nothing, lists_tell_what_is_there,
+    only_stored_is_given, only_writes_change_versions, parts_are_kept, puts_are_kept,
+    stored_is_kept, stored_is_listed, uploads_are_open_until_ended, uploads_are_told,
 };
 
 /// A law, with nothing to run: what the machine promises of legal histories holds of the history of every book. What was
@@ -72,4 +73,16 @@ pub fn books_keep_uploads()
     only_writes_change_versions();
     uploads_are_told();
     lists_tell_what_is_there();
+}
+
+/// A law, with nothing to run: and what it promises of writes that want no object under their key. One that succeeds finds none,
+/// and one that is refused for that finds one and changes nothing; so of two at most one succeeds, unless between them another
+/// entry takes the object away.
+pub fn books_keep_conditions()
+    ensures accepted { EveryBook AcceptedFindsNone }
+    ensures refused { EveryBook RefusedFindsOne }
+    ensures stored { EveryBook StoredKeepsOthersOut }
+    ensures once { EveryBook OneIsAccepted }
+{
+    absent_puts_succeed_once();
 }

@@ -8,5 +8,5 @@ mod laws;
 mod prefix;
 
 pub use book::Book;
-pub use laws::{books_keep_promises, books_keep_uploads};
+pub use laws::{books_keep_conditions, books_keep_promises, books_keep_uploads};
 pub use prefix::Prefix;

@@ -4,6 +4,8 @@
 mod bodies;
 mod chunks;
 mod heads;
+mod presigned;
+mod presigner;
 mod server;
 mod signer;
 mod signing;

@@ -227,28 +227,29 @@ copy_versions_are_kept tells law least s n entries legal before between later co
 -- ---- completions
 
 -- what a completion stores is what its upload's listed parts make
-made_of : (s : State) (n t : ℕ) (upload : UploadPlace) (listed : List ListedPart) (found : Option (Upload (List ℕ))) (object : Object)
+made_of : (s : State) (n t : ℕ) (upload : UploadPlace) (listed : List ListedPart) (if_absent : Bool) (found : Option (Upload (List ℕ)))
+    (object : Object)
     → open_at s upload ≡ found
-    → option_map (object_of s n t upload.address) (upload_stored found (upload_commands.Complete listed)) ≡ Some object
+    → option_map (object_of s n t upload.address) (upload_stored found (upload_commands.Complete listed if_absent)) ≡ Some object
     → (upload.address ≡ object.address) × WouldMake s upload listed object.stored
-made_of s n t upload listed (Some u) object there is =
+made_of s n t upload listed if_absent (Some u) object there is =
     let same : object_of s n t upload.address (joined_data u (parts_listed listed u.parts)) ≡ object = cc in (
       ap (λ (o : Object). o.address) same,
       record { found = u; there = there; makes = sym (ap (λ (o : Object). o.stored) same) },
     )
-made_of s n t upload listed None object there is = absurd (cc)
+made_of s n t upload listed if_absent None object there is = absurd (cc)
 
-parts_made : (s : State) (n t : ℕ) (upload : UploadPlace) (listed : List ListedPart) (object : Object)
-    → joined_at s n t upload (upload_commands.Complete listed) ≡ Some object
+parts_made : (s : State) (n t : ℕ) (upload : UploadPlace) (listed : List ListedPart) (if_absent : Bool) (object : Object)
+    → joined_at s n t upload (upload_commands.Complete listed if_absent) ≡ Some object
     → (upload.address ≡ object.address) × WouldMake s upload listed object.stored
-parts_made s n t upload listed object is = made_of s n t upload listed (open_at s upload) object refl is
+parts_made s n t upload listed if_absent object is = made_of s n t upload listed if_absent (open_at s upload) object refl is
 
 completion_stored : (s : State) (n t : ℕ) (command : Command) (upload : UploadPlace) (listed : List ListedPart) (object : Object)
     → completes command ≡ Some (upload, listed) → stored_by s n t command ≡ Some object → WouldMake s upload listed object.stored
-completion_stored s n t (commands.Upload bucket key id (upload_commands.Complete parts)) upload listed object asks is =
+completion_stored s n t (commands.Upload bucket key id (upload_commands.Complete parts if_absent)) upload listed object asks is =
     let same = same_Some (place_of bucket key id, parts) (upload, listed) asks in
     subst (λ (p : UploadPlace × List ListedPart). WouldMake s p.0 p.1 object.stored) same
-    (parts_made s n t (place_of bucket key id) parts object is).1
+    (parts_made s n t (place_of bucket key id) parts if_absent object is).1
 completion_stored s n t _ upload listed object asks is = absurd (cc)
 
 pub completions_store_their_parts : CompletionsStoreTheirParts
@@ -272,9 +273,9 @@ source_of s e (commands.Key bucket key (key_commands.Copy copy)) object same is 
     Copy (source_read copy.source)
     (record { written = ap writes same ∙ ap Some address; from = ap copies same; accepted = accepted })
     (source_gives s e.answer.number e.moment (record { bucket = bucket; key = key }) copy.source object is)
-source_of s e (commands.Upload bucket key id (upload_commands.Complete listed)) object same is accepted =
+source_of s e (commands.Upload bucket key id (upload_commands.Complete listed if_absent)) object same is accepted =
     let upload = place_of bucket key id in
-    let made = parts_made s e.answer.number e.moment upload listed object is in
+    let made = parts_made s e.answer.number e.moment upload listed if_absent object is in
     Completion upload listed made.0 (record { asks = ap completes same; accepted = accepted }) made.1
 source_of s e _ object same is accepted = absurd (cc)
 

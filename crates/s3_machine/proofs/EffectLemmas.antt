@@ -1,10 +1,10 @@
 -- What one step does: to the versions under keys, and that a refusal and a command that only reads do nothing.
-use Rattle.std.proofs.Common.{◌≡◌, refl, sym, ap, subst, ◌∙◌, arith, Bool, true, false, not, ℕ, ◌+◌, ◌<◌, ◌⊎◌, inl, inr, IsTrue, List, Option, Some, None, option_map, IfSome, Result, Ok, Err, ok_or}
+use Rattle.std.proofs.Common.{◌≡◌, refl, sym, ap, subst, ◌∙◌, arith, Bool, true, false, not, ◌&&◌, ℕ, ◌+◌, ◌<◌, ◌⊎◌, inl, inr, IsTrue, List, Option, Some, None, option_map, IfSome, Result, Ok, Err, ok_or}
 use Rattle.std.proofs.lemmas.Bool.{false≢true}
 use Rattle.std.specs.List.{list_all, list_any}
 use Rattle.std.specs.Result.{result_ok}
 use Rattle.s3_terms.specs.declared.code.Code.{Code}
-use Rattle.s3_terms.specs.declared.code.Code.TheVariants.{NoSuchBucket, BucketAlreadyOwnedByYou, BucketNotEmpty, NoSuchUpload, InvalidPartOrder, InvalidPart, EntityTooSmall}
+use Rattle.s3_terms.specs.declared.code.Code.TheVariants.{NoSuchBucket, BucketAlreadyOwnedByYou, BucketNotEmpty, NoSuchUpload, PreconditionFailed, InvalidPartOrder, InvalidPart, EntityTooSmall}
 use Rattle.s3_names.specs.declared.ids.VersionId.{VersionId}
 use Rattle.s3_conditions.specs.declared.conditions.Conditions.{Conditions}
 use Rattle.s3_conditions.specs.declared.conditions.Selection.{Selection}
@@ -42,7 +42,7 @@ use Rattle.s3_terms.specs.Fault as faults
 use Rattle.s3_terms.specs.Fault.{◌>>◌, ◌>>=◌}
 use Rattle.s3_machine.specs.Fault.{refuse, as_refusal}
 use Rattle.s3_machine.specs.Effects.{Address, writes, object_of, upload_stored, stored_by, acknowledged, touched, told, is_refused, succeeds, only_reads}
-use Rattle.s3_machine.specs.Step.{State, Stepped, copied, data_of, shown_in, found_in, shown_by, upload_begun, open_upload, bucket_done, key_done, upload_done, done, stepped, step}
+use Rattle.s3_machine.specs.Step.{State, Stepped, is_taken, copied, data_of, shown_in, found_in, shown_by, upload_begun, open_upload, bucket_done, key_done, upload_done, done, stepped, step}
 use Rattle.s3_machine.specs.Laws.{QuietStepsChangeNothing, StepsStayBelow}
 
 -- the command was refused, or only reads
@@ -295,7 +295,9 @@ module _ (places : ChangesAreByPlace (List ℕ)) (rules : Rules) where
   unfolding key_done copy_done
   key_does s n t name key (key_commands.Copy copy) there = key_copies s n t name key copy (copied s copy.source) refl there
   key_does s n t name key (key_commands.Put put) there =
-      puts s n t name key (commands.Key name key (key_commands.Put put)) (data_of put) _ there refl refl refl refl refl refl
+      after_line (Does s n t (commands.Key name key (key_commands.Put put))) s (put.if_absent && is_taken s name key) PreconditionFailed _
+      (untouched s n t (commands.Key name key (key_commands.Put put)) _ (λ a written. refl))
+      (λ free. puts s n t name key (commands.Key name key (key_commands.Put put)) (data_of put) _ there refl refl refl refl refl refl)
   key_does s n t name key (key_commands.Read asked) there =
       reading s n t (commands.Key name key (key_commands.Read asked)) (pick asked.version (versions_of s name key)) name asked.conditions refl
   key_does s n t name key (key_commands.Delete None) there =
@@ -323,19 +325,19 @@ module _ (places : ChangesAreByPlace (List ℕ)) (rules : Rules) where
       ] refl
 
   -- a completion stores what the listed parts make, or is refused
-  upload_completes : (least : ℕ) (s : State) (n t : ℕ) (name key : List ℕ) (id : ℕ) (listed : List ListedPart) (u : Upload (List ℕ))
-      (rule : Result (Data (List ℕ)) Code)
+  upload_completes : (least : ℕ) (s : State) (n t : ℕ) (name key : List ℕ) (id : ℕ) (listed : List ListedPart) (if_absent : Bool)
+      (u : Upload (List ℕ)) (rule : Result (Data (List ℕ)) Code)
       → completed least listed u ≡ rule → upload_at s name key id ≡ Some u → IsTrue (has_bucket s name)
-      → Does s n t (commands.Upload name key id (upload_commands.Complete listed)) (stepped s (as_refusal rule >>= completing s n t name key id))
-  upload_completes least s n t name key id listed u (Ok what) is found there =
+      → Does s n t (commands.Upload name key id (upload_commands.Complete listed if_absent)) (stepped s (as_refusal rule >>= completing s n t name key id))
+  upload_completes least s n t name key id listed if_absent u (Ok what) is found there =
       let change = UploadCompleted key id (VersionPut n t what) in
-      stores s n t name key (commands.Upload name key id (upload_commands.Complete listed)) change what _
+      stores s n t name key (commands.Upload name key id (upload_commands.Complete listed if_absent)) change what _
       (places s name change there) (rules.completions s name key id (VersionPut n t what) there) refl refl
-      (ap (λ (f : Option (Upload (List ℕ))). option_map (object_of s n t (record { bucket = name; key = key })) (upload_stored f (upload_commands.Complete listed))) found
+      (ap (λ (f : Option (Upload (List ℕ))). option_map (object_of s n t (record { bucket = name; key = key })) (upload_stored f (upload_commands.Complete listed if_absent))) found
       ∙ ap (λ (d : Data (List ℕ)). Some (object_of s n t (record { bucket = name; key = key }) d)) (completed_is least listed u what is))
       refl refl refl refl
-  upload_completes least s n t name key id listed u (Err code) is found there =
-      untouched s n t (commands.Upload name key id (upload_commands.Complete listed)) _ (λ a written. refl)
+  upload_completes least s n t name key id listed if_absent u (Err code) is found there =
+      untouched s n t (commands.Upload name key id (upload_commands.Complete listed if_absent)) _ (λ a written. refl)
 
   upload_does : (least : ℕ) (s : State) (n t : ℕ) (name key : List ℕ) (id : ℕ) (asked : UploadCommand) → IsTrue (has_bucket s name)
       → Does s n t (commands.Upload name key id asked) (stepped s (upload_done least s n t name key id asked))
@@ -344,9 +346,12 @@ module _ (places : ChangesAreByPlace (List ℕ)) (rules : Rules) where
       opened s n t name key id (upload_commands.PutPart number payload) _
       (λ u is. same_versions s (changed s name (PartPut key id number (part_sent t payload))) n t _ refl refl refl
       (places s name (PartPut key id number (part_sent t payload)) there))
-  upload_does least s n t name key id (upload_commands.Complete listed) there =
-      opened s n t name key id (upload_commands.Complete listed) _
-      (λ u is. upload_completes least s n t name key id listed u (completed least listed u) refl is there)
+  upload_does least s n t name key id (upload_commands.Complete listed if_absent) there =
+      opened s n t name key id (upload_commands.Complete listed if_absent) _
+      (λ u is. after_line (Does s n t (commands.Upload name key id (upload_commands.Complete listed if_absent)))
+      s (if_absent && is_taken s name key) PreconditionFailed _
+      (untouched s n t (commands.Upload name key id (upload_commands.Complete listed if_absent)) _ (λ a written. refl))
+      (λ free. upload_completes least s n t name key id listed if_absent u (completed least listed u) refl is there))
   upload_does least s n t name key id upload_commands.Abort there =
       opened s n t name key id upload_commands.Abort _
       (λ u is. same_versions s (changed s name (UploadDropped key id)) n t _ refl refl refl (places s name (UploadDropped key id) there))

@@ -1,5 +1,5 @@
 -- What a completion joins are the bytes that were sent last under each listed number.
-use Rattle.std.proofs.Common.{◌≡◌, refl, sym, ap, subst, ◌∙◌, true, false, not, ℕ, List, [], ◌∷◌, ◌++◌, append_assoc, length, Option, Some, None, option_map, unwrap_or, Result, Ok, Err, ok_or, map as each}
+use Rattle.std.proofs.Common.{◌≡◌, refl, sym, ap, subst, ◌∙◌, Bool, true, false, not, ◌&&◌, ℕ, List, [], ◌∷◌, ◌++◌, append_assoc, length, Option, Some, None, option_map, unwrap_or, Result, Ok, Err, ok_or, map as each}
 use Rattle.std.proofs.lemmas.Bool.{false≢true, and_parts}
 use Rattle.std.proofs.lemmas.List.Concat.{concat_is}
 use Rattle.std.proofs.lemmas.List.Folds.{flat_map-map}
@@ -10,8 +10,8 @@ use Rattle.std.specs.List.{AllZip, concat, flat_map, list_all}
 use Rattle.std.specs.Str.{bytes_eq}
 use Rattle.md5.specs.Md5.{md5}
 use Rattle.s3_terms.specs.declared.code.Code.{Code}
-use Rattle.s3_terms.specs.declared.code.Code.TheVariants.{NoSuchBucket, NoSuchUpload}
-use Rattle.s3_terms.specs.Fault.{◌>>=◌}
+use Rattle.s3_terms.specs.declared.code.Code.TheVariants.{NoSuchBucket, NoSuchUpload, PreconditionFailed}
+use Rattle.s3_terms.specs.Fault.{◌>>◌, ◌>>=◌}
 use Rattle.s3_names.specs.Tags.{joined_text}
 use Rattle.s3_names.specs.declared.ids.VersionId.{VersionId}
 use Rattle.s3_versions.specs.declared.version.Data.{Data}
@@ -29,10 +29,10 @@ use Rattle.s3_machine.specs.declared.command.Command.{Command}
 use Rattle.s3_machine.specs.declared.command.Command.TheVariants as commands
 use Rattle.s3_machine.specs.declared.command.UploadCommand.TheVariants as upload_commands
 use Rattle.s3_machine.specs.Effects.{UploadPlace, place_of, open_at, upload_stored, completes, object_of, stored_by, succeeds}
-use Rattle.s3_machine.specs.Fault.{as_refusal}
+use Rattle.s3_machine.specs.Fault.{refuse, as_refusal}
 use Rattle.s3_machine.specs.History.{Entry, Legal, after}
 use Rattle.s3_machine.specs.Kept.{SparesVersion, ReadsVersion, EveryHistory, StoredIsKept, VersionsAreKept, StoredIsTold}
-use Rattle.s3_machine.specs.Step.{State, upload_done, done, stepped, step}
+use Rattle.s3_machine.specs.Step.{State, is_taken, upload_done, done, stepped, step}
 use Rattle.s3_machine.specs.Uploads.{IsListedPart, AreJoined}
 use Rattle.s3_machine.specs.UploadsKept.{CompletionsJoinWhatWasSent, CompletionsAreKept, CompletionVersionsAreKept}
 use Rattle.s3_machine.proofs.CourseLemmas.{asked_of, part_of, SentSo, Course, courses}
@@ -130,48 +130,60 @@ pub record IsCompleted (least : ℕ) (s : State) (n t : ℕ) (command : Command)
   pub rule : completed least listed found ≡ Ok what
   pub by : stored_by s n t command ≡ Some (object_of s n t upload.address what)
 
-rule_ok : (least : ℕ) (s : State) (n t : ℕ) (name key : List ℕ) (id : ℕ) (listed : List ListedPart) (found : Upload (List ℕ))
+rule_ok : (least : ℕ) (s : State) (n t : ℕ) (name key : List ℕ) (id : ℕ) (listed : List ListedPart) (if_absent : Bool) (found : Upload (List ℕ))
     (rule : Result (Data (List ℕ)) Code)
     → upload_at s name key id ≡ Some found → completed least listed found ≡ rule
     → succeeds (stepped s (as_refusal rule >>= completing s n t name key id)).1 ≡ true
-    → IsCompleted least s n t (commands.Upload name key id (upload_commands.Complete listed)) (place_of name key id) listed
-rule_ok least s n t name key id listed found (Ok what) there is success = record {
+    → IsCompleted least s n t (commands.Upload name key id (upload_commands.Complete listed if_absent)) (place_of name key id) listed
+rule_ok least s n t name key id listed if_absent found (Ok what) there is success = record {
   found = found;
   there = there;
   what = what;
   rule = is;
-  by = ap (λ (u : Option (Upload (List ℕ))). option_map (object_of s n t (place_of name key id).address) (upload_stored u (upload_commands.Complete listed))) there
+  by = ap (λ (u : Option (Upload (List ℕ))). option_map (object_of s n t (place_of name key id).address) (upload_stored u (upload_commands.Complete listed if_absent))) there
       ∙ ap (λ (d : Data (List ℕ)). Some (object_of s n t (place_of name key id).address d)) (completed_is least listed found what is);
 }
-rule_ok least s n t name key id listed found (Err code) there is success = absurd (false≢true success)
+rule_ok least s n t name key id listed if_absent found (Err code) there is success = absurd (false≢true success)
 
-open_ok : (least : ℕ) (s : State) (n t : ℕ) (name key : List ℕ) (id : ℕ) (listed : List ListedPart) (found : Option (Upload (List ℕ)))
+-- behind its condition
+free_ok : (least : ℕ) (s : State) (n t : ℕ) (name key : List ℕ) (id : ℕ) (listed : List ListedPart) (if_absent : Bool) (found : Upload (List ℕ))
+    (taken : Bool)
+    → upload_at s name key id ≡ Some found
+    → succeeds (stepped s (refuse taken PreconditionFailed >> (as_refusal (completed least listed found) >>= completing s n t name key id))).1 ≡ true
+    → IsCompleted least s n t (commands.Upload name key id (upload_commands.Complete listed if_absent)) (place_of name key id) listed
+free_ok least s n t name key id listed if_absent found true there success = absurd (false≢true success)
+free_ok least s n t name key id listed if_absent found false there success =
+    rule_ok least s n t name key id listed if_absent found (completed least listed found) there refl success
+
+open_ok : (least : ℕ) (s : State) (n t : ℕ) (name key : List ℕ) (id : ℕ) (listed : List ListedPart) (if_absent : Bool)
+    (found : Option (Upload (List ℕ)))
     → upload_at s name key id ≡ found
     → succeeds (stepped s (as_refusal (ok_or found NoSuchUpload)
-    >>= (λ (u : Upload (List ℕ)). as_refusal (completed least listed u) >>= completing s n t name key id))).1 ≡ true
-    → IsCompleted least s n t (commands.Upload name key id (upload_commands.Complete listed)) (place_of name key id) listed
-open_ok least s n t name key id listed None is success = absurd (false≢true success)
-open_ok least s n t name key id listed (Some found) is success =
-    rule_ok least s n t name key id listed found (completed least listed found) is refl success
+    >>= (λ (u : Upload (List ℕ)). refuse (if_absent && is_taken s name key) PreconditionFailed
+    >> (as_refusal (completed least listed u) >>= completing s n t name key id)))).1 ≡ true
+    → IsCompleted least s n t (commands.Upload name key id (upload_commands.Complete listed if_absent)) (place_of name key id) listed
+open_ok least s n t name key id listed if_absent None is success = absurd (false≢true success)
+open_ok least s n t name key id listed if_absent (Some found) is success =
+    free_ok least s n t name key id listed if_absent found (if_absent && is_taken s name key) is success
 
-step_completed : (least : ℕ) (s : State) (n t : ℕ) (name key : List ℕ) (id : ℕ) (listed : List ListedPart)
-    → succeeds (step least s n t (commands.Upload name key id (upload_commands.Complete listed))).1 ≡ true
-    → IsCompleted least s n t (commands.Upload name key id (upload_commands.Complete listed)) (place_of name key id) listed
+step_completed : (least : ℕ) (s : State) (n t : ℕ) (name key : List ℕ) (id : ℕ) (listed : List ListedPart) (if_absent : Bool)
+    → succeeds (step least s n t (commands.Upload name key id (upload_commands.Complete listed if_absent))).1 ≡ true
+    → IsCompleted least s n t (commands.Upload name key id (upload_commands.Complete listed if_absent)) (place_of name key id) listed
 unfolding done upload_done
-step_completed least s n t name key id listed =
-    let command = commands.Upload name key id (upload_commands.Complete listed) in
+step_completed least s n t name key id listed if_absent =
+    let command = commands.Upload name key id (upload_commands.Complete listed if_absent) in
     after_line (λ st. succeeds st.1 ≡ true → IsCompleted least s n t command (place_of name key id) listed)
-    s (not (has_bucket s name)) NoSuchBucket (upload_done least s n t name key id (upload_commands.Complete listed))
+    s (not (has_bucket s name)) NoSuchBucket (upload_done least s n t name key id (upload_commands.Complete listed if_absent))
     (λ success. absurd (false≢true success))
-    (λ there success. open_ok least s n t name key id listed (upload_at s name key id) refl success)
+    (λ there success. open_ok least s n t name key id listed if_absent (upload_at s name key id) refl success)
 
-command_completed : (least : ℕ) (s : State) (n t : ℕ) (command : Command) (upload : UploadPlace) (listed : List ListedPart)
+pub command_completed : (least : ℕ) (s : State) (n t : ℕ) (command : Command) (upload : UploadPlace) (listed : List ListedPart)
     → completes command ≡ Some (upload, listed) → succeeds (step least s n t command).1 ≡ true
     → IsCompleted least s n t command upload listed
-command_completed least s n t (commands.Upload name key id (upload_commands.Complete parts)) upload listed asks success =
+command_completed least s n t (commands.Upload name key id (upload_commands.Complete parts if_absent)) upload listed asks success =
     let same = same_Some (place_of name key id, parts) (upload, listed) asks in
-    subst (λ (p : UploadPlace × List ListedPart). IsCompleted least s n t (commands.Upload name key id (upload_commands.Complete parts)) p.0 p.1) same
-    (step_completed least s n t name key id parts success)
+    subst (λ (p : UploadPlace × List ListedPart). IsCompleted least s n t (commands.Upload name key id (upload_commands.Complete parts if_absent)) p.0 p.1) same
+    (step_completed least s n t name key id parts if_absent success)
 command_completed least s n t _ upload listed asks success = absurd (cc)
 
 module _ (law : ChangesAreByUpload (List ℕ)) (puts : PutsAreUnderOneNumber (List ℕ)) (empty : OpeningIsEmpty (List ℕ))

@@ -1,5 +1,6 @@
 pub mod AnswerLemmas
 pub mod BroughtLemmas
+pub mod ConditionalLemmas
 pub mod CourseLemmas
 pub mod EffectLemmas
 pub mod HistoryLemmas

@@ -1,11 +1,12 @@
 -- What is told of uploads: by answers, and by lists.
-use Rattle.std.proofs.Common.{◌≡◌, ◌≢◌, refl, sym, ap, subst, ◌∙◌, ◌↔◌, arith, Bool, true, false, not, cond, ℕ, nat_eq, zero, suc, inl, inr, IsTrue, List, [], ◌∷◌, filter, Contains, Option, Some, None, option_map, Result, Ok, Err, ok_or}
+use Rattle.std.proofs.Common.{◌≡◌, ◌≢◌, refl, sym, ap, subst, ◌∙◌, ◌↔◌, arith, Bool, true, false, not, ◌&&◌, cond, ℕ, nat_eq, zero, suc, inl, inr, IsTrue, List, [], ◌∷◌, filter, Contains, Option, Some, None, option_map, Result, Ok, Err, ok_or}
 use Rattle.std.proofs.lemmas.Bool.{false≢true}
 use Rattle.std.proofs.lemmas.List.Elements.{All-filter, All-contains, All-contains_itself}
 use Rattle.std.proofs.lemmas.Option.{same_Some}
 use Rattle.std.specs.List.{starts_with}
 use Rattle.s3_terms.specs.declared.code.Code.{Code}
-use Rattle.s3_terms.specs.declared.code.Code.TheVariants.{NoSuchBucket, NoSuchUpload}
+use Rattle.s3_terms.specs.declared.code.Code.TheVariants.{NoSuchBucket, NoSuchUpload, PreconditionFailed}
+use Rattle.s3_terms.specs.Fault as faults
 use Rattle.s3_terms.specs.Fault.{◌>>◌, ◌>>=◌}
 use Rattle.s3_names.specs.declared.ids.VersionId.{VersionId}
 use Rattle.s3_bodies.specs.Payload.{tag_of}
@@ -42,8 +43,8 @@ use Rattle.s3_machine.specs.Effects.{Address, UploadPlace, PartPlace, place_of, 
 use Rattle.s3_machine.specs.Fault.{refuse, as_refusal}
 use Rattle.s3_machine.specs.History.{after}
 use Rattle.s3_machine.specs.Kept.{EveryHistory}
-use Rattle.s3_machine.specs.Laws.{asking, UploadListsAreTold, PartListsAreTold, ClosedUploadsAreRefused, IsByRule, CompletionsGoByTheRule}
-use Rattle.s3_machine.specs.Step.{State, Stepped, bucket_done, key_done, upload_done, done, stepped, step}
+use Rattle.s3_machine.specs.Laws.{asking, UploadListsAreTold, PartListsAreTold, ClosedUploadsAreRefused, IsByRule, completion_rule, CompletionsGoByTheRule}
+use Rattle.s3_machine.specs.Step.{State, Stepped, is_taken, bucket_done, key_done, upload_done, done, stepped, step}
 use Rattle.s3_machine.specs.UploadsKept.{all_uploads, UploadsAreOpenUntilEnded, BegunIsTold, SentIsTold, CompletedIsTold, UploadListsTellWhatIsThere, PartListsTellWhatIsThere, UploadsAreListedWhileOpen, OnlyWritesChangeVersions}
 use Rattle.s3_machine.proofs.CourseLemmas.{asked_of}
 use Rattle.s3_machine.proofs.EffectLemmas.{Rules, after_line, step_does, completing}
@@ -117,12 +118,13 @@ rule_told s n t name key id (Err code) success = absurd (false≢true success)
 complete_told : (least : ℕ) (s : State) (n t : ℕ) (command : Command) (upload : UploadPlace) (listed : List ListedPart)
     → completes command ≡ Some (upload, listed) → TellsWhere (TellsTag upload.address) (step least s n t command)
 unfolding done upload_done
-complete_told least s n t (commands.Upload name key id (upload_commands.Complete parts)) upload listed asks =
+complete_told least s n t (commands.Upload name key id (upload_commands.Complete parts if_absent)) upload listed asks =
     let same = same_Some (place_of name key id, parts) (upload, listed) asks in
     let P = TellsTag (record { bucket = name; key = key }) in
-    subst (λ (p : UploadPlace × List ListedPart). TellsWhere (TellsTag p.0.address) (step least s n t (commands.Upload name key id (upload_commands.Complete parts)))) same
-    (told_line P s (not (has_bucket s name)) NoSuchBucket (upload_done least s n t name key id (upload_commands.Complete parts))
-    (told_open P s (upload_at s name key id) _ (λ u is. rule_told s n t name key id (completed least parts u))))
+    subst (λ (p : UploadPlace × List ListedPart). TellsWhere (TellsTag p.0.address) (step least s n t (commands.Upload name key id (upload_commands.Complete parts if_absent)))) same
+    (told_line P s (not (has_bucket s name)) NoSuchBucket (upload_done least s n t name key id (upload_commands.Complete parts if_absent))
+    (told_open P s (upload_at s name key id) _
+    (λ u is. told_line P s (if_absent && is_taken s name key) PreconditionFailed _ (rule_told s n t name key id (completed least parts u)))))
 complete_told least s n t _ upload listed asks = absurd (cc)
 
 pub completed_is_told : EveryHistory CompletedIsTold
@@ -146,7 +148,7 @@ closed_done : (least : ℕ) (s : State) (n t : ℕ) (name key : List ℕ) (id : 
 unfolding upload_done
 closed_done least s n t name key id (upload_commands.PutPart number payload) none =
     rw none refl
-closed_done least s n t name key id (upload_commands.Complete listed) none = rw none refl
+closed_done least s n t name key id (upload_commands.Complete listed if_absent) none = rw none refl
 closed_done least s n t name key id upload_commands.Abort none = rw none refl
 closed_done least s n t name key id (upload_commands.ListParts asked) none = rw none refl
 
@@ -160,16 +162,27 @@ by_rule : (s : State) (n t : ℕ) (name key : List ℕ) (id : ℕ) (rule : Resul
 by_rule s n t name key id (Ok what) = refl
 by_rule s n t name key id (Err code) = refl
 
-completed_done : (least : ℕ) (s : State) (n t : ℕ) (name key : List ℕ) (id : ℕ) (listed : List ListedPart) (found : Upload (List ℕ))
+-- behind its condition
+by_condition : (s : State) (n t : ℕ) (name key : List ℕ) (id : ℕ) (taken : Bool) (rule : Result (Data (List ℕ)) Code)
+    → IsByRule (faults.refuse taken PreconditionFailed >> rule)
+    (stepped s (refuse taken PreconditionFailed >> (as_refusal rule >>= completing s n t name key id))).1
+by_condition s n t name key id true rule = refl
+by_condition s n t name key id false rule = by_rule s n t name key id rule
+
+completed_done : (least : ℕ) (s : State) (n t : ℕ) (name key : List ℕ) (id : ℕ) (listed : List ListedPart) (if_absent : Bool)
+    (found : Upload (List ℕ))
     → upload_at s name key id ≡ Some found
-    → IsByRule (completed least listed found) (stepped s (upload_done least s n t name key id (upload_commands.Complete listed))).1
+    → IsByRule (completion_rule least s (record { bucket = name; key = key }) listed if_absent found)
+    (stepped s (upload_done least s n t name key id (upload_commands.Complete listed if_absent))).1
 unfolding upload_done
-completed_done least s n t name key id listed found is = rw is (by_rule s n t name key id (completed least listed found))
+completed_done least s n t name key id listed if_absent found is =
+    rw is (by_condition s n t name key id (if_absent && is_taken s name key) (completed least listed found))
 
 pub completions_go_by_the_rule : CompletionsGoByTheRule
-completions_go_by_the_rule least s n t upload listed found there is =
-    subst (λ (st : Stepped). IsByRule (completed least listed found) st.1) (sym (past_bucket least s n t upload (upload_commands.Complete listed) there))
-    (completed_done least s n t upload.address.bucket upload.address.key upload.id listed found is)
+completions_go_by_the_rule least s n t upload listed if_absent found there is =
+    subst (λ (st : Stepped). IsByRule (completion_rule least s upload.address listed if_absent found) st.1)
+    (sym (past_bucket least s n t upload (upload_commands.Complete listed if_absent) there))
+    (completed_done least s n t upload.address.bucket upload.address.key upload.id listed if_absent found is)
 
 pub upload_lists_are_told : UploadListsAreTold
 unfolding done bucket_done

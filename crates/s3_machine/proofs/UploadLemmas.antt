@@ -1,10 +1,10 @@
 -- What one step does to an upload.
-use Rattle.std.proofs.Common.{◌≡◌, refl, sym, ap, ap₂, ◌∙◌, Bool, true, false, not, ℕ, ◌⊎◌, inl, inr, IsTrue, List, Option, Some, None, option_map, Result, Ok, Err, ok_or}
+use Rattle.std.proofs.Common.{◌≡◌, refl, sym, ap, ap₂, ◌∙◌, Bool, true, false, not, ◌&&◌, ℕ, ◌⊎◌, inl, inr, IsTrue, List, Option, Some, None, option_map, Result, Ok, Err, ok_or}
 use Rattle.std.proofs.lemmas.Bool.Decides.{eqb_tells}
 use Rattle.std.proofs.lemmas.Option.{same_Some}
 use Rattle.s3_text.proofs.MapLemmas.{same_or}
 use Rattle.s3_terms.specs.declared.code.Code.{Code}
-use Rattle.s3_terms.specs.declared.code.Code.TheVariants.{NoSuchBucket, BucketAlreadyOwnedByYou, BucketNotEmpty, NoSuchUpload}
+use Rattle.s3_terms.specs.declared.code.Code.TheVariants.{NoSuchBucket, BucketAlreadyOwnedByYou, BucketNotEmpty, NoSuchUpload, PreconditionFailed}
 use Rattle.s3_terms.specs.Fault.{◌>>◌, ◌>>=◌}
 use Rattle.s3_conditions.specs.declared.conditions.Conditions.{Conditions}
 use Rattle.s3_conditions.specs.declared.conditions.Selection.{Selection}
@@ -34,7 +34,7 @@ use Rattle.s3_machine.specs.declared.command.Outcome.{Outcome}
 use Rattle.s3_machine.specs.declared.command.Outcome.TheVariants as outcomes
 use Rattle.s3_machine.specs.Fault.{refuse, as_refusal}
 use Rattle.s3_machine.specs.Effects.{Address, UploadPlace, PartPlace, place_of, open_at, begins, sends, sent, ends, succeeds}
-use Rattle.s3_machine.specs.Step.{State, Stepped, copied, data_of, shown_by, found_in, upload_begun, open_upload, bucket_done, key_done, upload_done, done, stepped, step}
+use Rattle.s3_machine.specs.Step.{State, Stepped, is_taken, copied, data_of, shown_by, found_in, upload_begun, open_upload, bucket_done, key_done, upload_done, done, stepped, step}
 use Rattle.s3_machine.proofs.EffectLemmas.{after_line, not_false, copy_done, shown, completing}
 
 -- a step leaves an upload, or the place of one: what the command may be to do there it doesn't do
@@ -139,7 +139,7 @@ sent_there name key id _ upload number at = absurd (cc)
 
 ended_there : (name key : List ℕ) (id : ℕ) (asked : UploadCommand) (upload : UploadPlace)
     → ends (commands.Upload name key id asked) ≡ Some upload → SamePlace upload name key id
-ended_there name key id (upload_commands.Complete listed) upload at = parts_place name key id upload (cc)
+ended_there name key id (upload_commands.Complete listed if_absent) upload at = parts_place name key id upload (cc)
 ended_there name key id upload_commands.Abort upload at = parts_place name key id upload (cc)
 ended_there name key id _ upload at = absurd (cc)
 
@@ -238,7 +238,8 @@ module _ (law : ChangesAreByUpload (List ℕ)) where
       → Fate s n t (commands.Key name key asked) (stepped s (key_done s n t name key asked)) upload
   unfolding key_done copy_done
   key_fate s n t name key (key_commands.Put put) upload there =
-      key_changed s n t name key _ (VersionPut n t (data_of put)) _ upload there refl refl refl
+      fate_line s n t _ upload (put.if_absent && is_taken s name key) PreconditionFailed _
+      (λ free. key_changed s n t name key _ (VersionPut n t (data_of put)) _ upload there refl refl refl)
   key_fate s n t name key (key_commands.Copy copy) upload there = copy_fate s n t name key copy (copied s copy.source) upload there
   key_fate s n t name key (key_commands.Read asked) upload there =
       read_fate s n t _ (pick asked.version (versions_of s name key)) name asked.conditions upload refl refl refl
@@ -329,9 +330,10 @@ module _ (law : ChangesAreByUpload (List ℕ)) where
   upload_fate least s n t name key id (upload_commands.PutPart number payload) upload there =
       opened_fate s n t name key id (upload_commands.PutPart number payload) _ upload
       (λ u is. part_fate s n t name key id number payload _ upload u is there refl)
-  upload_fate least s n t name key id (upload_commands.Complete listed) upload there =
-      opened_fate s n t name key id (upload_commands.Complete listed) _ upload
-      (λ u is. completed_fate s n t name key id (upload_commands.Complete listed) (completed least listed u) upload refl there)
+  upload_fate least s n t name key id (upload_commands.Complete listed if_absent) upload there =
+      opened_fate s n t name key id (upload_commands.Complete listed if_absent) _ upload
+      (λ u is. fate_line s n t _ upload (if_absent && is_taken s name key) PreconditionFailed _
+      (λ free. completed_fate s n t name key id (upload_commands.Complete listed if_absent) (completed least listed u) upload refl there))
   upload_fate least s n t name key id upload_commands.Abort upload there =
       opened_fate s n t name key id upload_commands.Abort _ upload
       (λ u is. end_fate s n t name key id upload_commands.Abort (UploadDropped key id) _ upload (law s name (UploadDropped key id) there) refl refl)

@@ -71,13 +71,30 @@ key_written address (key_commands.Delete asked) = Some address
 key_written address other = None
 
 abbrev pub upload_written : Address → UploadCommand → Option Address
-upload_written address (upload_commands.Complete listed) = Some address
+upload_written address (upload_commands.Complete listed if_absent) = Some address
 upload_written address other = None
 
 abbrev pub writes : Command → Option Address
 writes (commands.Key bucket key asked) = key_written (record { bucket = bucket; key = key }) asked
 writes (commands.Upload bucket key id asked) = upload_written (record { bucket = bucket; key = key }) asked
 writes other = None
+
+-- the address under which a command stores only where no object is
+abbrev pub where_absent : Bool → Address → Option Address
+where_absent if_absent address = if if_absent then Some address else None
+
+abbrev pub key_absent : Address → KeyCommand (List ℕ) → Option Address
+key_absent address (key_commands.Put put) = where_absent put.if_absent address
+key_absent address other = None
+
+abbrev pub upload_absent : Address → UploadCommand → Option Address
+upload_absent address (upload_commands.Complete listed if_absent) = where_absent if_absent address
+upload_absent address other = None
+
+abbrev pub wants_absent : Command → Option Address
+wants_absent (commands.Key bucket key asked) = key_absent (record { bucket = bucket; key = key }) asked
+wants_absent (commands.Upload bucket key id asked) = upload_absent (record { bucket = bucket; key = key }) asked
+wants_absent other = None
 
 -- the data that a command brings along, to be stored as they are
 abbrev pub key_brought : KeyCommand (List ℕ) → Option (Data (List ℕ))
@@ -112,7 +129,7 @@ key_stored s address other = None
 
 -- the same of a command on this upload, if it is open
 abbrev pub upload_stored : Option (Upload (List ℕ)) → UploadCommand → Option (Data (List ℕ))
-upload_stored found (upload_commands.Complete listed) =
+upload_stored found (upload_commands.Complete listed if_absent) =
     option_map (λ (u : Upload (List ℕ)). joined_data u (parts_listed listed u.parts)) found
 upload_stored found other = None
 
@@ -157,7 +174,7 @@ sent other = None
 
 -- the upload that a command completes, and the parts that it lists
 abbrev pub upload_completes : UploadPlace → UploadCommand → Option (UploadPlace × List ListedPart)
-upload_completes upload (upload_commands.Complete listed) = Some (upload, listed)
+upload_completes upload (upload_commands.Complete listed if_absent) = Some (upload, listed)
 upload_completes upload other = None
 
 abbrev pub completes : Command → Option (UploadPlace × List ListedPart)
@@ -166,7 +183,7 @@ completes other = None
 
 -- the upload that it is to end
 abbrev pub upload_ends : UploadPlace → UploadCommand → Option UploadPlace
-upload_ends upload (upload_commands.Complete listed) = Some upload
+upload_ends upload (upload_commands.Complete listed if_absent) = Some upload
 upload_ends upload upload_commands.Abort = Some upload
 upload_ends upload other = None
 

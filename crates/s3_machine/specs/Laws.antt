@@ -1,8 +1,9 @@
 -- What holds of every step.
-use Rattle.std.specs.Prelude.{◌≡◌, ◌↔◌, ◌⊎◌, ℕ, ◌+◌, true, false, IsTrue, List, [], Option, Some, None, option_map, Result, Ok, Err}
+use Rattle.std.specs.Prelude.{◌≡◌, ◌↔◌, ◌⊎◌, ℕ, ◌+◌, Bool, true, false, ◌&&◌, IsTrue, List, [], Option, Some, None, option_map, Result, Ok, Err}
 use Rattle.std.specs.List.{Contains}
 use Rattle.s3_terms.specs.declared.code.Code.{Code}
-use Rattle.s3_terms.specs.declared.code.Code.TheVariants.{NoSuchUpload}
+use Rattle.s3_terms.specs.declared.code.Code.TheVariants.{NoSuchUpload, PreconditionFailed}
+use Rattle.s3_terms.specs.Fault.{refuse, ◌>>◌}
 use Rattle.s3_names.specs.declared.ids.VersionId.{VersionId}
 use Rattle.s3_conditions.specs.declared.conditions.Conditions.{Conditions}
 use Rattle.s3_conditions.specs.Conditions.{plain}
@@ -35,7 +36,7 @@ use Rattle.s3_machine.specs.declared.command.Outcome.TheVariants as outcomes
 use Rattle.s3_machine.specs.declared.command.UploadCommand.{UploadCommand}
 use Rattle.s3_machine.specs.declared.command.UploadCommand.TheVariants as upload_commands
 use Rattle.s3_machine.specs.Effects.{Address, UploadPlace, open_at, is_refused, only_reads, given_whole, acknowledged, facts_found, by_conditions}
-use Rattle.s3_machine.specs.Step.{State, step}
+use Rattle.s3_machine.specs.Step.{State, is_taken, step}
 
 -- a refusal leaves the state as it was, and so does a command that only reads
 abbrev pub QuietStepsChangeNothing : Type 0
@@ -124,11 +125,18 @@ abbrev pub IsByRule : Result (Data (List ℕ)) Code → Outcome → Type 0
 IsByRule (Ok what) outcome = acknowledged outcome ≡ Some what.tag
 IsByRule (Err code) outcome = outcome ≡ outcomes.Refused code false
 
--- The completion of one that is open goes by the rule of uploads: it is refused where that refuses, with its code, and stores what
--- that joins where it doesn't.
+-- the rules of a completion: its condition, and then the rule of uploads
+abbrev pub completion_rule : ℕ → State → Address → List ListedPart → Bool → Upload (List ℕ) → Result (Data (List ℕ)) Code
+completion_rule least s address listed if_absent found = do
+  refuse (if_absent && is_taken s address.bucket address.key) PreconditionFailed
+  completed least listed found
+
+-- The completion of one that is open goes by its condition and the rule of uploads: it is refused where one of them refuses, with
+-- its code, and stores what the rule joins where none does.
 abbrev pub CompletionsGoByTheRule : Type 0
 CompletionsGoByTheRule =
-    (least : ℕ) (s : State) (n t : ℕ) (upload : UploadPlace) (listed : List ListedPart) (found : Upload (List ℕ))
+    (least : ℕ) (s : State) (n t : ℕ) (upload : UploadPlace) (listed : List ListedPart) (if_absent : Bool) (found : Upload (List ℕ))
     → IsTrue (has_bucket s upload.address.bucket)
     → open_at s upload ≡ Some found
-    → IsByRule (completed least listed found) (step least s n t (asking upload (upload_commands.Complete listed))).1
+    → IsByRule (completion_rule least s upload.address listed if_absent found)
+    (step least s n t (asking upload (upload_commands.Complete listed if_absent))).1

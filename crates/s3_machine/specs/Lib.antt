@@ -1,3 +1,4 @@
+pub mod Conditional
 pub mod Effects
 pub mod Fault
 pub mod History

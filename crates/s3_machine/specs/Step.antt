@@ -1,10 +1,10 @@
 -- The state of a server, and one step of it (Amazon S3 API Reference, the operations that are named; Amazon S3 User
 -- Guide, "Using versioning in S3 buckets" and "Uploading and copying objects using multipart upload").
-use Rattle.std.specs.Prelude.{ℕ, Bool, true, false, not, List, [], length, Option, Some, None, find, Result, Ok, Err, ok_or}
+use Rattle.std.specs.Prelude.{ℕ, Bool, true, false, not, ◌&&◌, List, [], length, Option, Some, None, is_some, option_and_then, find, Result, Ok, Err, ok_or}
 use Rattle.std.specs.Option.{option_map, unwrap_or}
 use Rattle.s3_bodies.specs.Payload.{tag_of}
 use Rattle.s3_terms.specs.declared.code.Code.{Code}
-use Rattle.s3_terms.specs.declared.code.Code.TheVariants.{NoSuchBucket, BucketAlreadyOwnedByYou, BucketNotEmpty, InvalidRequest, MethodNotAllowed, NoSuchUpload}
+use Rattle.s3_terms.specs.declared.code.Code.TheVariants.{NoSuchBucket, BucketAlreadyOwnedByYou, BucketNotEmpty, InvalidRequest, MethodNotAllowed, NoSuchUpload, PreconditionFailed}
 use Rattle.s3_names.specs.declared.ids.VersionId.{VersionId}
 use Rattle.s3_conditions.specs.declared.conditions.Conditions.{Conditions}
 use Rattle.s3_conditions.specs.declared.conditions.Selection.{Selection}
@@ -15,7 +15,7 @@ use Rattle.s3_versions.specs.declared.version.Data.{Data}
 use Rattle.s3_versions.specs.declared.version.Version.{Version}
 use Rattle.s3_versions.specs.declared.version.Versioning.{Versioning}
 use Rattle.s3_versions.specs.declared.version.Versioning.TheVariants.{Unversioned, Enabled, Suspended}
-use Rattle.s3_versions.specs.Rules.{id_of, is_under, is_delete_marker, pick, facts_of, new_id, VersionPut, KeyDeleted, VersionDropped}
+use Rattle.s3_versions.specs.Rules.{id_of, is_under, stored, is_delete_marker, current, pick, facts_of, new_id, VersionPut, KeyDeleted, VersionDropped}
 use Rattle.s3_uploads.specs.Completion.{completed}
 use Rattle.s3_uploads.specs.Parts.{part_sent}
 use Rattle.s3_uploads.specs.declared.upload.Upload.{Upload}
@@ -73,6 +73,10 @@ makes_marker Suspended = true
 -- the version of an id is a delete marker
 abbrev pub is_marker_under : {B : Type 0} → VersionId → List (Version B) → Bool
 is_marker_under id vs = unwrap_or (option_map is_delete_marker (find (is_under id) vs)) false
+
+-- a key has an object: it has a current version, and that is no delete marker
+abbrev pub is_taken : State → List ℕ → List ℕ → Bool
+is_taken s name key = is_some (option_and_then stored (current (versions_of s name key)))
 
 -- what a put stores
 abbrev pub data_of : ObjectPut (List ℕ) → Data (List ℕ)
@@ -145,11 +149,12 @@ upload_begun t begin =
 
 -- what a command on a key does, as entry n at moment t, in a bucket that is there
 unfoldable pub key_done : State → ℕ → ℕ → List ℕ → List ℕ → KeyCommand (List ℕ) → Result Stepped Refusal
-key_done s n t name key (key_commands.Put put) =
-    Ok (
-      changed s name (KeyChanged key (VersionPut n t (data_of put))),
-      outcomes.Put (tag_of put.payload) (shown_in (versioning_of s name) (new_id (versioning_of s name) n)),
-    )
+key_done s n t name key (key_commands.Put put) = do
+  refuse (put.if_absent && is_taken s name key) PreconditionFailed
+  Ok (
+    changed s name (KeyChanged key (VersionPut n t (data_of put))),
+    outcomes.Put (tag_of put.payload) (shown_in (versioning_of s name) (new_id (versioning_of s name) n)),
+  )
 key_done s n t name key (key_commands.Copy copy) = do
   stored ← copied s copy.source
   Ok (
@@ -182,8 +187,9 @@ unfoldable pub upload_done : ℕ → State → ℕ → ℕ → List ℕ → List
 upload_done least s n t name key id (upload_commands.PutPart number payload) = do
   _ ← open_upload s name key id
   Ok (changed s name (PartPut key id number (part_sent t payload)), outcomes.PartPut (tag_of payload))
-upload_done least s n t name key id (upload_commands.Complete listed) = do
+upload_done least s n t name key id (upload_commands.Complete listed if_absent) = do
   upload ← open_upload s name key id
+  refuse (if_absent && is_taken s name key) PreconditionFailed
   stored ← as_refusal (completed least listed upload)
   Ok (
     changed s name (UploadCompleted key id (VersionPut n t stored)),

@@ -82,6 +82,8 @@ pub enum UploadCommand {
     /// Stores under its key the parts that are listed, joined in this order, and ends it (CompleteMultipartUpload).
     Complete {
         listed: ListedParts,
+        /// Whether only where the key has no object.
+        if_absent: bool,
     },
     /// Drops it with its parts (AbortMultipartUpload).
     Abort,
@@ -94,6 +96,8 @@ pub enum UploadCommand {
 pub struct ObjectPut<B> {
     pub content_type: ContentType,
     pub metadata: Metadata,
+    /// Whether it is to be stored only where the key has no object.
+    pub if_absent: bool,
     pub payload: B,
 }
 

@@ -3,6 +3,7 @@ ghost use Rattle.std.specs.Prelude.{◌≡◌, ℕ, ◌+◌, List, [], ◌∷◌
 ghost use Rattle.s3_machine.specs.Step.{State};
 ghost use Rattle.s3_machine.specs.History.{Entry, IsAnswer, Legal, after, after_entry};
 ghost use Rattle.s3_machine.specs.Kept.{EveryHistory, StoredIsKept, VersionsAreKept, StoredIsTold, StoredIsListed, OnlyStoredStands, OnlyStoredIsGiven, ListedIsStored, ListsTellWhatIsThere, VersionListsTellWhatIsThere, StoredWasBrought, ReadsGiveOrFail, ReadsAreJudged, PutsStoreTheirContents, StoredHasSource, PutsAreKept, PutVersionsAreKept, CopiesStoreTheirSource, CopiesAreKept, CopyVersionsAreKept, BodiesAreTagged, CompletionsStoreTheirParts, MarkersHide, QuietEntriesChangeNothing};
+ghost use Rattle.s3_machine.specs.Conditional.{AcceptedFindsNone, RefusedFindsOne, StoredKeepsOthersOut, OneIsAccepted};
 ghost use Rattle.s3_machine.specs.UploadsKept.{UploadsAreOpenUntilEnded, PartsAreKept, OnlySentStands, BegunIsTold, SentIsTold, CompletedIsTold, CompletionsJoinWhatWasSent, CompletionsAreKept, CompletionVersionsAreKept, UploadListsTellWhatIsThere, PartListsTellWhatIsThere, UploadsAreListedWhileOpen, PartsAreListedWhileStanding, OnlyWritesChangeVersions};
 
 use crate::laws::steps_keep;
@@ -181,6 +182,21 @@ pub fn delete_markers_hide()
     changes_are_by_place::<Body>();
     changes_follow_rules::<Body>();
     s3_versions::markers_hide::<Body>();
+}
+
+/// A law, with nothing to run: in a legal history a write that wants no object under its key finds none where it succeeds, and one
+/// where it is refused for that, which changes nothing. So once an entry has stored an object, none that wants no object there
+/// succeeds before another took it away: of two that race at most one is told that it stored.
+pub fn absent_puts_succeed_once()
+    ensures accepted { EveryHistory AcceptedFindsNone }
+    ensures refused { EveryHistory RefusedFindsOne }
+    ensures stored { EveryHistory StoredKeepsOthersOut }
+    ensures once { EveryHistory OneIsAccepted }
+{
+    changes_are_by_place::<Body>();
+    changes_follow_rules::<Body>();
+    puts_are_current::<Body>();
+    steps_keep();
 }
 
 /// A law, with nothing to run: an entry that is refused leaves the state as it was, and so does one that only reads.

@@ -61,6 +61,10 @@ pub struct SignOptions<'a> {
     pub body: Option<&'a str>,
     /// How many bytes of the body a signed chunk has, where it is sent in such.
     pub chunk: Option<&'a str>,
+    /// For how many seconds it holds, where its target carries its signature.
+    pub presign: Option<&'a str>,
+    /// Whether its address is written, and nothing else of it.
+    pub url: bool,
     /// Its further header lines, each as `NAME:VALUE`.
     pub headers: Vec<&'a str>,
 }

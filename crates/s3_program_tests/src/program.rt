@@ -4,6 +4,7 @@
 mod devices;
 mod events;
 mod faults;
+mod presigning;
 mod runs;
 mod serving;
 mod signing;

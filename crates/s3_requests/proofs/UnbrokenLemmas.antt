@@ -34,12 +34,13 @@ use Rattle.s3_names.specs.Names.{object_key}
 use Rattle.s3_names.specs.declared.ids.VersionId.{VersionId}
 use Rattle.s3_requests.specs.Arguments.{version_argument}
 use Rattle.s3_requests.specs.ReadConditions.{conditions_of}
+use Rattle.s3_requests.specs.WriteCondition.{absence_of}
 use Rattle.s3_requests.specs.Operations.{service_operation, key_operation}
 use Rattle.s3_requests.specs.CopySource.{source_of}
 use Rattle.s3_requests.specs.Description.{type_sent, content_type_of, front, name_in, names_of, entry_of, metadata_of, description_of}
 use Rattle.s3_requests.specs.ListArguments.{parts_asked_of}
 use Rattle.s3_requests.specs.UploadArguments.{upload_argument, part_argument}
-use Rattle.s3_requests.specs.Routing.{KeyPlan, is_service, address_at, service_plan_for, service_plan, bucket_named, bucket_plan, put_plan, read_plan, delete_plan, key_plan_for, upload_plan, parts_plan, asked_for, key_plan, plan_of_bucket, plan_under, plan_of_key, named_plan, route_of}
+use Rattle.s3_requests.specs.Routing.{KeyPlan, is_service, address_at, service_plan_for, service_plan, bucket_named, bucket_plan, putting, put_plan, read_plan, delete_plan, key_plan_for, complete_plan, upload_plan, parts_plan, asked_for, key_plan, plan_of_bucket, plan_under, plan_of_key, named_plan, route_of}
 use Rattle.s3_requests.specs.Laws.{is_unbroken_entry, AreUnbroken, IsUnbrokenAsk, IsUnbrokenPlan, PlansAreUnbroken}
 
 both : (a b : Bool) → (a && b) ≡ true → (a ≡ true) × (b ≡ true)
@@ -258,7 +259,10 @@ module _ (head : HeadParts) (lines : list_all is_whole_line head.headers ≡ tru
   put_unbroken : (asked : KeyPlan) → put_plan head ≡ Ok asked → IsUnbrokenAsk asked
   unfolding put_plan
   put_unbroken asked is =
-      described (λ (said : UploadBegin). key_commands.Put (record { content_type = said.content_type; metadata = said.metadata; payload = tt })) asked (λ said unbroken. unbroken) is
+      let one = bound (description_of head) (λ (said : UploadBegin). absence_of head >>= (λ (if_absent : Bool). Ok (putting said if_absent))) asked is in
+      let two = bound (absence_of head) (λ (if_absent : Bool). Ok (putting one.0 if_absent)) asked one.2 in
+      let same : putting one.0 two.0 ≡ asked = cc in
+      subst IsUnbrokenAsk same (description_unbroken one.0 one.1)
 
   planned_unbroken : (operation : Operation) (target : TargetParts) (asked : KeyPlan) → key_plan_for operation head target ≡ Ok asked → IsUnbrokenAsk asked
   unfolding key_plan_for
@@ -271,14 +275,16 @@ module _ (head : HeadParts) (lines : list_all is_whole_line head.headers ≡ tru
   planned_unbroken _ target asked is = absurd (cc)
 
   asked_unbroken_for : (operation : Operation) (target : TargetParts) (asked : KeyAsked) → asked_for operation head target ≡ Ok asked → IsUnbrokenUnder asked
-  unfolding parts_plan
+  unfolding parts_plan complete_plan
   asked_unbroken_for operations.UploadPart target asked is =
       of_upload (part_argument target) (λ (part : ℕ × ℕ). key_asked.Upload part.0 (upload_plans.PutPart part.1)) asked (λ part. tt) is
   asked_unbroken_for operations.ListParts target asked is =
       let one = bound (parts_asked_of target) (λ (listed : PartsAsked). upload_plan (upload_plans.ListParts listed) target) asked is in
       of_upload (upload_argument target) (λ (id : ℕ). key_asked.Upload id (upload_plans.ListParts one.0)) asked (λ id. tt) one.2
   asked_unbroken_for operations.CompleteMultipartUpload target asked is =
-      of_upload (upload_argument target) (λ (id : ℕ). key_asked.Upload id upload_plans.Complete) asked (λ id. tt) is
+      let one = bound (upload_argument target)
+      (λ (id : ℕ). absence_of head >>= (λ (if_absent : Bool). Ok (key_asked.Upload id (upload_plans.Complete if_absent)))) asked is in
+      of_upload (absence_of head) (λ (if_absent : Bool). key_asked.Upload one.0 (upload_plans.Complete if_absent)) asked (λ if_absent. tt) one.2
   asked_unbroken_for operations.AbortMultipartUpload target asked is =
       of_upload (upload_argument target) (λ (id : ℕ). key_asked.Upload id upload_plans.Abort) asked (λ id. tt) is
   asked_unbroken_for operation target asked is =

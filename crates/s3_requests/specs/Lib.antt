@@ -8,6 +8,7 @@ pub mod Operations
 pub mod ReadConditions
 pub mod Routing
 pub mod UploadArguments
+pub mod WriteCondition
 pub use Rattle.s3_http_heads.specs.Head
 pub use Rattle.s3_http_heads.specs.Target
 pub use Rattle.s3_conditions.specs.Conditions

@@ -29,6 +29,7 @@ use Rattle.s3_machine.specs.declared.command.BucketCommand.TheVariants as bucket
 use Rattle.s3_machine.specs.declared.command.KeyCommand.{KeyCommand}
 use Rattle.s3_machine.specs.declared.command.KeyCommand.TheVariants as key_commands
 use Rattle.s3_machine.specs.declared.command.ObjectPut.{ObjectPut}
+use Rattle.s3_machine.specs.declared.command.UploadBegin.{UploadBegin}
 use Rattle.s3_machine.specs.declared.command.UploadCommand.{UploadCommand}
 use Rattle.s3_machine.specs.declared.command.UploadCommand.TheVariants as upload_commands
 use Rattle.s3_documents.specs.Completion.{completion_read}
@@ -38,6 +39,7 @@ use Rattle.s3_requests.specs.ListArguments.{objects_asked_of, versions_asked_of,
 use Rattle.s3_requests.specs.UploadArguments.{upload_argument, part_argument}
 use Rattle.s3_requests.specs.CopySource.{source_of}
 use Rattle.s3_requests.specs.ReadConditions.{conditions_of}
+use Rattle.s3_requests.specs.WriteCondition.{absence_of}
 use Rattle.s3_requests.specs.Description.{description_of}
 use Rattle.s3_requests.specs.Operations.{service_operation, bucket_operation, key_operation}
 
@@ -116,11 +118,18 @@ bucket_plan head target = do
 abbrev pub KeyPlan : Type 0
 KeyPlan = KeyCommand (Unit {0})
 
--- PutObject, with what the head says of the object
+-- what is to be stored, before the body is read
+abbrev pub putting : UploadBegin → Bool → KeyPlan
+putting said if_absent =
+    key_commands.Put
+    (record { content_type = said.content_type; metadata = said.metadata; if_absent = if_absent; payload = tt })
+
+-- PutObject, with what the head says of the object, and its condition
 unfoldable pub put_plan : HeadParts → Result KeyPlan Code
 put_plan head = do
   said ← description_of head
-  Ok (key_commands.Put (record { content_type = said.content_type; metadata = said.metadata; payload = tt }))
+  if_absent ← absence_of head
+  Ok (putting said if_absent)
 
 -- CreateMultipartUpload, with what the head says of the object
 abbrev pub begin_plan : HeadParts → Result KeyPlan Code
@@ -156,7 +165,14 @@ key_plan_for operations.DeleteObject head target = delete_plan target
 key_plan_for operations.CreateMultipartUpload head target = begin_plan head
 key_plan_for other head target = Err NotImplemented
 
--- CompleteMultipartUpload and AbortMultipartUpload, with their upload
+-- CompleteMultipartUpload, with its upload and its condition
+unfoldable pub complete_plan : HeadParts → TargetParts → Result KeyAsked Code
+complete_plan head target = do
+  id ← upload_argument target
+  if_absent ← absence_of head
+  Ok (key_asked.Upload id (upload_plans.Complete if_absent))
+
+-- AbortMultipartUpload and ListParts, with their upload
 abbrev pub upload_plan : UploadPlan → TargetParts → Result KeyAsked Code
 upload_plan asked target = do
   id ← upload_argument target
@@ -184,7 +200,7 @@ of_key plan = do
 abbrev pub asked_for : Operation → HeadParts → TargetParts → Result KeyAsked Code
 asked_for operations.UploadPart head target = part_plan target
 asked_for operations.ListParts head target = parts_plan target
-asked_for operations.CompleteMultipartUpload head target = upload_plan upload_plans.Complete target
+asked_for operations.CompleteMultipartUpload head target = complete_plan head target
 asked_for operations.AbortMultipartUpload head target = upload_plan upload_plans.Abort target
 asked_for other head target = of_key (key_plan_for other head target)
 
@@ -249,7 +265,8 @@ bucket_command_of (bucket_plans.ListUploads asked) body = Ok (bucket_commands.Li
 
 -- what is to be stored, with its body
 abbrev pub put_with : ObjectPut (Unit {0}) → List ℕ → ObjectPut (List ℕ)
-put_with put body = record { content_type = put.content_type; metadata = put.metadata; payload = body }
+put_with put body =
+    record { content_type = put.content_type; metadata = put.metadata; if_absent = put.if_absent; payload = body }
 
 -- the same of a key
 abbrev pub key_command_of : KeyPlan → List ℕ → KeyCommand (List ℕ)
@@ -260,15 +277,15 @@ key_command_of (key_commands.Delete version) body = key_commands.Delete version
 key_command_of (key_commands.Begin begin) body = key_commands.Begin begin
 
 -- CompleteMultipartUpload, with the parts that the body lists
-abbrev pub completion_command_of : List ℕ → Result UploadCommand Code
-completion_command_of body = do
+abbrev pub completion_command_of : Bool → List ℕ → Result UploadCommand Code
+completion_command_of if_absent body = do
   listed ← completion_read body
-  Ok (upload_commands.Complete listed)
+  Ok (upload_commands.Complete listed if_absent)
 
 -- the same of an upload
 abbrev pub upload_command_of : UploadPlan → List ℕ → Result UploadCommand Code
 upload_command_of (upload_plans.PutPart number) body = Ok (upload_commands.PutPart number body)
-upload_command_of upload_plans.Complete body = completion_command_of body
+upload_command_of (upload_plans.Complete if_absent) body = completion_command_of if_absent body
 upload_command_of upload_plans.Abort body = Ok upload_commands.Abort
 upload_command_of (upload_plans.ListParts asked) body = Ok (upload_commands.ListParts asked)
 
@@ -290,7 +307,7 @@ is_versioning_set other = false
 
 -- the upload is to be completed
 abbrev pub is_completion : UploadPlan → Bool
-is_completion upload_plans.Complete = true
+is_completion (upload_plans.Complete if_absent) = true
 is_completion other = false
 
 -- the operation reads a document from its body: a PutBucketVersioning, or a CompleteMultipartUpload

@@ -11,6 +11,7 @@ mod operations;
 mod read_conditions;
 mod routing;
 mod upload_arguments;
+mod write_condition;
 
 pub use laws::{plans_are_unbroken, tokens_are_read_back};
 pub use routing::{BucketPlan, Plan, UploadPlan, command, route};

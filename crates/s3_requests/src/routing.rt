@@ -14,6 +14,7 @@ use crate::list_arguments::{objects_asked, parts_asked, uploads_asked, versions_
 use crate::operations::{Operation, bucket_operation, key_operation, service_operation};
 use crate::read_conditions::conditions_of;
 use crate::upload_arguments::{part_argument, upload_argument};
+use crate::write_condition::absence_of;
 use s3_bodies::Payload;
 use s3_documents::{read_completion, read_versioning};
 use s3_http_heads::{Head, Target};
@@ -75,9 +76,14 @@ pub enum BucketPlan {
 #[derive(Drop)]
 pub enum UploadPlan {
     /// Keep the body as its part of this number (UploadPart).
-    PutPart { number: PartNumber },
+    PutPart {
+        number: PartNumber,
+    },
     /// Store the parts that the body lists as one object (CompleteMultipartUpload).
-    Complete,
+    Complete {
+        /// Whether only where the key has no object.
+        if_absent: bool,
+    },
     /// Drop it (AbortMultipartUpload).
     Abort,
     /// List its parts (ListParts).
@@ -208,6 +214,7 @@ fn put_with(put: ObjectPut<()>, payload: Payload) -> ObjectPut<Payload>
     ObjectPut {
         content_type: put.content_type,
         metadata: put.metadata,
+        if_absent: put.if_absent,
         payload,
     }
 }
@@ -220,20 +227,24 @@ fn upload_command(alloc: Global, asked: UploadPlan, payload: Payload) -> Result<
 {
     match asked {
         UploadPlan::PutPart { number } => Ok(UploadCommand::PutPart { number, payload }),
-        UploadPlan::Complete => completion_command(alloc, payload),
+        UploadPlan::Complete { if_absent } => completion_command(alloc, if_absent, payload),
         UploadPlan::Abort => Ok(UploadCommand::Abort),
         UploadPlan::ListParts(asked) => Ok(UploadCommand::ListParts(asked)),
     }
 }
 
 // CompleteMultipartUpload, with the parts that the body lists.
-fn completion_command(alloc: Global, payload: Payload) -> Result<UploadCommand, Code>
-    ensures rule { Follows result (rules.completion_command_of payload) }
+fn completion_command(
+    alloc: Global,
+    if_absent: bool,
+    payload: Payload,
+) -> Result<UploadCommand, Code>
+    ensures rule { Follows result (rules.completion_command_of if_absent payload) }
     ensures memory { IfErr result (λ code. code ≡ Code.InternalError → 0 < length payload) }
 {
     let text = text_of(alloc, payload)?;
     match read_completion(alloc, text.as_slice()) {
-        Ok(listed) => Ok(UploadCommand::Complete { listed }),
+        Ok(listed) => Ok(UploadCommand::Complete { listed, if_absent }),
         Err(code) => Err(code),
     }
 }
@@ -367,7 +378,7 @@ fn key_plan(alloc: Global, head: &Head, target: &Target) -> Result<KeyAsked, Cod
     match key_operation(head.method(), head, target) {
         Some(Operation::UploadPart) => part_plan(target),
         Some(Operation::ListParts) => parts_plan(target),
-        Some(Operation::CompleteMultipartUpload) => upload_plan(target, UploadPlan::Complete),
+        Some(Operation::CompleteMultipartUpload) => complete_plan(head, target),
         Some(Operation::AbortMultipartUpload) => upload_plan(target, UploadPlan::Abort),
         Some(operation) => match key_plan_for(alloc, head, target, operation) {
             Ok(asked) => Ok(KeyAsked::Key(asked)),
@@ -397,7 +408,20 @@ fn parts_plan(target: &Target) -> Result<KeyAsked, Code>
     upload_plan(target, UploadPlan::ListParts(asked))
 }
 
-// CompleteMultipartUpload and AbortMultipartUpload, with their upload.
+// CompleteMultipartUpload, with its upload and its condition.
+#[tactic(auto, unfolding(crate::specs::Routing::complete_plan))]
+fn complete_plan(head: &Head, target: &Target) -> Result<KeyAsked, Code>
+    ensures { result ≡ rules.complete_plan head.now target.now }
+{
+    let id = upload_argument(target)?;
+    let if_absent = absence_of(head)?;
+    Ok(KeyAsked::Upload {
+        id,
+        asked: UploadPlan::Complete { if_absent },
+    })
+}
+
+// AbortMultipartUpload and ListParts, with their upload.
 fn upload_plan(target: &Target, asked: UploadPlan) -> Result<KeyAsked, Code>
     ensures { result ≡ rules.upload_plan asked target.now }
 {
@@ -425,15 +449,17 @@ fn key_plan_for(
     }
 }
 
-// PutObject, with what the head says of the object.
+// PutObject, with what the head says of the object, and its condition.
 #[tactic(auto, unfolding(crate::specs::Routing::put_plan))]
 fn put_plan(alloc: Global, head: &Head) -> Result<KeyCommand<()>, Code>
     ensures { Follows result (rules.put_plan head.now) }
 {
     let said = description_of(alloc, head)?;
+    let if_absent = absence_of(head)?;
     Ok(KeyCommand::Put(ObjectPut {
         content_type: said.content_type,
         metadata: said.metadata,
+        if_absent,
         payload: (),
     }))
 }

@@ -1,5 +1,5 @@
 -- What is read back over one connection is what was stored.
-use Rattle.std.proofs.Common.{◌≡◌, ◌⊎◌, inl, inr, ℕ, true, false, List, [], ◌∷◌, ◌++◌, append_assoc, length, map, Option, Some, None, option_map, is_some, Result, Ok, Err, refl, sym, ap, subst, ◌∙◌}
+use Rattle.std.proofs.Common.{◌≡◌, ◌⊎◌, inl, inr, ℕ, Bool, true, false, List, [], ◌∷◌, ◌++◌, append_assoc, length, map, Option, Some, None, option_map, is_some, Result, Ok, Err, refl, sym, ap, subst, ◌∙◌}
 use Rattle.std.specs.List.{AllByRecursion, list_all}
 use Rattle.std.proofs.lemmas.List.{map-append}
 use Rattle.s3_config.specs.Settings.{Settings}
@@ -403,18 +403,18 @@ came_brought (plans.Upload bucket key id asked) came taken command made is =
 came_brought (plans.Key bucket key (key_commands.Put put)) came taken command made is = cc
 came_brought _ came taken command made is = absurd (cc)
 
-completion_came : (listed : Result (List ListedPart) Code) (came taken : List ℕ) (asked : UploadCommand)
-    → (listed >>= (λ (parts : List ListedPart). Ok (upload_commands.Complete parts))) ≡ Ok asked → upload_sent asked ≡ Some taken → taken ≡ came
-completion_came (Ok parts) came taken asked made is =
-    let same : upload_commands.Complete parts ≡ asked = cc in
+completion_came : (listed : Result (List ListedPart) Code) (if_absent : Bool) (came taken : List ℕ) (asked : UploadCommand)
+    → (listed >>= (λ (parts : List ListedPart). Ok (upload_commands.Complete parts if_absent))) ≡ Ok asked → upload_sent asked ≡ Some taken → taken ≡ came
+completion_came (Ok parts) if_absent came taken asked made is =
+    let same : upload_commands.Complete parts if_absent ≡ asked = cc in
     let none : None ≡ Some taken = ap upload_sent same ∙ is in absurd (cc)
-completion_came (Err code) came taken asked made is = absurd (cc)
+completion_came (Err code) if_absent came taken asked made is = absurd (cc)
 
 -- the bytes that a command on an upload sends
 part_came : (plan : UploadPlan) (came taken : List ℕ) (asked : UploadCommand) → upload_command_of plan came ≡ Ok asked
     → upload_sent asked ≡ Some taken → taken ≡ came
 part_came (upload_plans.PutPart number) came taken asked made is = cc
-part_came upload_plans.Complete came taken asked made is = completion_came _ came taken asked made is
+part_came (upload_plans.Complete if_absent) came taken asked made is = completion_came _ if_absent came taken asked made is
 part_came _ came taken asked made is = absurd (cc)
 
 came_sent : CameAs sent

@@ -1,6 +1,6 @@
 -- What a head says is of the grammar, and so is a head of the first of its lines.
-use Rattle.std.proofs.Common.{◌≡◌, ℕ, ◌<◌, ◌≤◌, Bool, true, not, ◌||◌, List, [], ◌∷◌, ◌++◌, map, length, reverse, append-nil, length-append, refl, sym, ap, ap₂, ◌∙◌, subst, arith, ⊎_elim}
-use Rattle.std.specs.Prelude.{◌&&◌, ◌==◌, All, IsUtf8, nat_lt}
+use Rattle.std.proofs.Common.{◌≡◌, ℕ, zero, suc, ◌<◌, ◌≤◌, Bool, true, not, ◌||◌, List, [], ◌∷◌, ◌++◌, map, length, reverse, append-nil, length-append, refl, sym, ap, ap₂, ◌∙◌, subst, arith, ⊎_elim}
+use Rattle.std.specs.Prelude.{◌&&◌, ◌==◌, All, IsAscii, IsUtf8, nat_lt}
 use Rattle.std.specs.Char.{to_ascii_lowercase}
 use Rattle.std.specs.List.{list_all}
 use Rattle.std.proofs.Math.Bool.{and_comm, and-true}
@@ -9,15 +9,16 @@ use Rattle.std.proofs.lemmas.List.{length-map, map-append, reverse-append}
 use Rattle.std.proofs.lemmas.List.Elements.{All-weaker}
 use Rattle.std.proofs.lemmas.List.Folds.{list_all-append, list_all-map}
 use Rattle.std.proofs.lemmas.List.Sums.{AllPass-from_list_all, list_all-from_AllPass}
+use Rattle.std.proofs.lemmas.Str.{IsUtf8-from_ascii}
 use Rattle.std.proofs.lemmas.Str.Ascii.{lowercase_is}
 use Rattle.httparse.specs.Grammar.{Field, IsField, IsRequestHead, IsToken, RequestHead, is_ows, is_token, is_token_byte, is_uri_byte, is_value_byte, print_request, skip_ows, trim_ows}
 use Rattle.httparse.specs.Spans.{name_and_value}
+use Rattle.s3_text.specs.Characters.{slash}
 use Rattle.s3_http_heads.specs.Head.{HeadParts, Says, parts_of}
 use Rattle.s3_signing.specs.Cover.{lower_name, sent_names}
 use Rattle.s3_text.proofs.SortingLemmas.{length-sorted_by}
 use Rattle.s3_text.proofs.ListLemmas.{all_weaker}
-use Rattle.s3_signer.specs.Line.{ReadsBack}
-use Rattle.s3_signer.specs.Request.{CanBeSent, HeaderLine, Told, added_lines, authorization_line, field_of, head_of, line_cmp, lower_line, unsigned_head, unsigned_lines}
+use Rattle.s3_signer.specs.Request.{CanBeSent, HeaderLine, ReadsBack, Told, added_lines, authorization_line, field_of, head_of, line_cmp, lower_line, unsigned_head, unsigned_lines}
 
 -- ---- values: the white space around one is of the grammar's bytes
 
@@ -127,6 +128,25 @@ module _ (method target : List ℕ) (lines more : List HeaderLine) where
         fields = fields_of_lines (map field_of lines) both.0;
       } in
       (first, ((head, sym (append-nil (print_request first))), omega (arith, few_lines method target (lines ++ more) text says, length-map lines field_of, length-append lines more)), refl)
+
+-- ---- a head of the same lines at the root
+
+slash_ascii : IsAscii (slash ∷ [])
+slash_ascii zero = omega arith
+slash_ascii (suc i) = omega arith
+
+-- where the text of one says it, that of the other does
+pub says_at_root : (method target : List ℕ) (lines : List HeaderLine) (text : List ℕ) → Says text (parts_of (head_of method target lines)) → ReadsBack (head_of method (slash ∷ []) lines)
+says_at_root method target lines text says =
+    let root = head_of method (slash ∷ []) lines in
+    let head : IsRequestHead root = record {
+      method = subst IsToken (sym (ap (λ (p : HeadParts). p.method) says.2)) says.1.0.0.method;
+      target = (omega arith, AllPass-from_list_all is_uri_byte (slash ∷ []) refl);
+      target_text = IsUtf8-from_ascii (slash ∷ []) slash_ascii;
+      minor = omega arith;
+      fields = fields_of_lines (map field_of lines) (said_lines text (parts_of (head_of method target lines)) says);
+    } in
+    (root, ((head, sym (append-nil (print_request root))), omega (arith, few_lines method target lines text says, length-map lines field_of)), refl)
 
 -- ---- names
 

@@ -4,3 +4,4 @@ pub mod GrammarLemmas
 pub mod VerifiedLemmas
 pub mod NumberLemmas
 pub mod ChunkedLemmas
+pub mod PresignedLemmas

@@ -89,3 +89,11 @@ each_from P headers i d within =
 -- one more line at the end
 pub pairs_more : (lines : List Line) (line : Line) → pairs (lines ++ line ∷ []) ≡ pairs lines ++ pair line ∷ []
 pairs_more lines line = map-append pair lines (line ∷ [])
+
+-- one more line is given
+pub given_more : (headers : List (Bor (List ℕ) × Bor (List ℕ))) (one : Bor (List ℕ) × Bor (List ℕ)) → given_lines (headers ++ one ∷ []) ≡ given_lines headers ++ (one.0.now, one.1.now) ∷ []
+given_more headers one = map-append given_line headers (one ∷ [])
+
+-- or none
+pub given_alone : (headers : List (Bor (List ℕ) × Bor (List ℕ))) → given_lines headers ++ [] ≡ given_lines headers
+given_alone headers = append-nil (given_lines headers)

@@ -13,11 +13,12 @@ use Rattle.s3_http_heads.specs.Message.{IsMessage}
 use Rattle.s3_text.specs.Digest.{is_hex_digest}
 use Rattle.s3_text.proofs.ListLemmas.{is_some-first_kept}
 use Rattle.s3_signing.specs.Accepted.{IsReady, IsVerifiedWith, Knows, other_lines, proved_by}
-use Rattle.s3_signing.specs.Verdict.{checked_stamp, head_verdict, is_near, is_presigned, is_word, sent_word}
+use Rattle.s3_signing.specs.Presigned.{is_presigned}
+use Rattle.s3_signing.specs.Verdict.{checked_stamp, head_verdict, is_near, is_word, sent_word}
 use Rattle.s3_signer.specs.declared.signed.SignedLines.{SignedLines}
 use Rattle.s3_signer.specs.declared.unsigned.Unsigned.{Unsigned}
-use Rattle.s3_signer.specs.Line.{AreLinesOf, IsMessageOf, ReadsBack, head_with}
-use Rattle.s3_signer.specs.Request.{CanBeSent, HasOne, HeaderLine, IsReadyFor, Told, authorization_line, authorization_of, field_of, hashed, head_of, proved_of, signed_head, text_with, unsigned_head, unsigned_lines}
+use Rattle.s3_signer.specs.Line.{AreLinesOf, IsMessageOf, head_with}
+use Rattle.s3_signer.specs.Request.{CanBeSent, HasOne, HeaderLine, IsReadyFor, ReadsBack, Told, authorization_line, authorization_of, field_of, hashed, head_of, proved_of, signed_head, text_with, unsigned_head, unsigned_lines}
 use Rattle.s3_signer.specs.Verified.{AtEachServer, IsVerifiedMessage, IsVerifiedRequest}
 use Rattle.s3_signer.proofs.GrammarLemmas.{headers_more, said_names}
 

@@ -1,10 +1,12 @@
 pub mod Request
+pub mod Presigned
 pub mod Line
 pub use Rattle.s3_calendar.specs.Moment
 pub use Rattle.s3_http_heads.specs.Head
 pub use Rattle.s3_http_heads.specs.Message
 pub use Rattle.s3_text.specs.Sorting
 pub use Rattle.s3_signing.specs.Authorize
+pub use Rattle.s3_signing.specs.Presigning
 pub mod Verified
 pub mod Chunked
 pub use Rattle.s3_aws_chunked.specs.Verdict

@@ -4,13 +4,13 @@
 use Rattle.std.specs.Prelude.{◌≡◌, ℕ, true, List, [], ◌++◌, map}
 use Rattle.httparse.specs.Grammar.{RequestHead, print_request}
 use Rattle.s3_http_heads.specs.Message.{IsMessage}
-use Rattle.s3_http_heads.specs.Head.{Says, parts_of}
+use Rattle.s3_http_heads.specs.Head.{parts_of}
 use Rattle.s3_calendar.specs.Moment.{is_stamp}
 use Rattle.s3_signing.specs.Accepted.{IsVerifiedWith}
 use Rattle.s3_signer.specs.declared.line.Line.{Line}
 use Rattle.s3_signer.specs.declared.signed.SignedLines.{SignedLines}
 use Rattle.s3_signer.specs.declared.telling.Telling.{Telling}
-use Rattle.s3_signer.specs.Request.{HeaderLine, IsReadyFor, Told, authorization_of, given_lines, head_of, signed_head, unsigned_head}
+use Rattle.s3_signer.specs.Request.{HeaderLine, IsReadyFor, ReadsBack, Told, authorization_of, given_lines, head_of, signed_head, unsigned_head}
 
 abbrev pub pair : Line → List ℕ × List ℕ
 pair line = (line.name.items, line.value.items)
@@ -21,10 +21,6 @@ pairs lines = map pair lines
 -- the head of these lines
 abbrev pub head_with : List ℕ → List ℕ → List Line → RequestHead
 head_with method target lines = head_of method target (pairs lines)
-
--- its text says it
-abbrev pub ReadsBack : RequestHead → Type 0
-ReadsBack h = Says (print_request h) (parts_of h)
 
 -- its text and this body are one message that says it
 abbrev pub IsMessageOf : RequestHead → List ℕ → Type 0

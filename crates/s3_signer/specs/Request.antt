@@ -11,7 +11,7 @@ use Rattle.sha2.specs.Sha256.{sha256}
 use Rattle.httparse.specs.Grammar.{Field, RequestHead, crlf, print_request}
 use Rattle.s3_text.specs.Characters.{space}
 use Rattle.s3_text.specs.Order.{byte_order}
-use Rattle.s3_http_heads.specs.Head.{HeadParts, parts_of, values_of}
+use Rattle.s3_http_heads.specs.Head.{HeadParts, Says, parts_of, values_of}
 use Rattle.s3_http_heads.specs.BodyLength.{length_lines}
 use Rattle.s3_http_heads.specs.Message.{IsMessage}
 use Rattle.s3_text.specs.Sorting.{sorted_by}
@@ -95,6 +95,10 @@ head_of method target lines = record {
   fields = map field_of lines;
   last = crlf;
 }
+
+-- the text of a head says what the head was meant to say
+abbrev pub ReadsBack : RequestHead → Type 0
+ReadsBack head = Says (print_request head) (parts_of head)
 
 -- what is signed
 abbrev pub unsigned_head : List ℕ → List ℕ → List HeaderLine → Told → List ℕ → RequestHead

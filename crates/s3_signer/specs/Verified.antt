@@ -9,7 +9,8 @@ use Rattle.s3_http_heads.specs.Head.{HeadParts}
 use Rattle.s3_http_heads.specs.Target.{target_parts}
 use Rattle.s3_http_heads.specs.Message.{IsMessage}
 use Rattle.s3_signing.specs.Accepted.{Knows}
-use Rattle.s3_signing.specs.Verdict.{Proved, head_verdict, is_near, is_presigned}
+use Rattle.s3_signing.specs.Presigned.{is_presigned}
+use Rattle.s3_signing.specs.Verdict.{Proved, head_verdict, is_near}
 use Rattle.s3_signer.specs.Request.{HeaderLine, hashed, proved_of}
 
 -- this holds at every server that knows the signer, within the limits of its clock, unless the target carries a

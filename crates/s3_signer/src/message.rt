@@ -5,8 +5,8 @@ ghost use Rattle.httparse.specs.Grammar.{print_request};
 ghost use Rattle.httparse.specs.Spans.{name_and_value};
 ghost use Rattle.s3_http_heads.specs.Head.{HasNoHead, Says, parts_of};
 ghost use Rattle.s3_http_heads.specs.Message.{IsMessage};
-ghost use Rattle.s3_signer.specs.Line.{IsMessageOf, ReadsBack, head_with, pairs};
-ghost use Rattle.s3_signer.specs.Request.{field_of};
+ghost use Rattle.s3_signer.specs.Line.{IsMessageOf, head_with, pairs};
+ghost use Rattle.s3_signer.specs.Request.{ReadsBack, field_of};
 
 use crate::head_text::head_text;
 use crate::line::Line;
@@ -56,7 +56,7 @@ fn read(alloc: Global, text: &[u8]) -> Result<Head, Unsigned>
 }
 
 // What a text says, if it is a head of this request line and these lines.
-fn read_head(
+pub(crate) fn read_head(
     alloc: Global,
     text: &[u8],
     method: &[u8],

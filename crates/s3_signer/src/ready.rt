@@ -34,7 +34,7 @@ fn has_each(head: &Head, lines: &[(&[u8], &[u8])]) -> bool
 
 // Whether the target can be read.
 #[tactic(auto, unfolding(s3_http_heads::specs::Target::target_of))]
-fn is_readable(head: &Head) -> bool
+pub(crate) fn is_readable(head: &Head) -> bool
     ensures { result ≡ not (is_unreadable head.now.target) }
 {
     head.decoded_target().is_ok()

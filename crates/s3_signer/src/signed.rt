@@ -5,8 +5,8 @@ ghost use Rattle.httparse.specs.Grammar.{print_request};
 ghost use Rattle.s3_http_heads.specs.Head.{parts_of};
 ghost use Rattle.s3_signing.specs.Accepted.{IsVerifiedWith};
 ghost use Rattle.s3_signing.specs.Authorize.{authorization_text};
-ghost use Rattle.s3_signer.specs.Line.{AreLinesOf, IsMessageOf, ReadsBack, head_with, pairs, told_by};
-ghost use Rattle.s3_signer.specs.Request.{CanBeSent, HasOne, IsReadyFor, authorization_of, given_lines};
+ghost use Rattle.s3_signer.specs.Line.{AreLinesOf, IsMessageOf, head_with, pairs, told_by};
+ghost use Rattle.s3_signer.specs.Request.{CanBeSent, HasOne, IsReadyFor, ReadsBack, authorization_of, given_lines};
 
 use crate::line::Line;
 use crate::lines::unsigned_lines;

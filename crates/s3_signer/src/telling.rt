@@ -4,6 +4,7 @@ ghost use Rattle.std.specs.Prelude.{◌≡◌, ◌||◌, true, nat_lt, length};
 ghost use Rattle.hex.specs.Hex.{encode_lower};
 ghost use Rattle.sha2.specs.Sha256.{sha256};
 ghost use Rattle.s3_text.specs.Digest.{is_hex_digest};
+ghost use Rattle.s3_signer.specs.Presigned.{told_size};
 ghost use Rattle.s3_signer.specs.Request.{tells_length};
 
 use s3_text::hex_digest;
@@ -35,4 +36,15 @@ pub(crate) fn tells_length(method: &[u8], body: &[u8]) -> bool
     ensures { result ≡ tells_length method.now body.now }
 {
     method == b"PUT".as_slice() || method == b"POST".as_slice() || !body.is_empty()
+}
+
+// The size of this body, where a request of this method tells it.
+pub(crate) fn told_size(method: &[u8], body: &[u8]) -> Option<usize>
+    ensures { result ≡ told_size method.now body.now }
+{
+    if tells_length(method, body) {
+        Some(body.len())
+    } else {
+        None
+    }
 }

@@ -25,7 +25,7 @@ use Rattle.s3_signing.specs.Authorize.{authorization_text, credential_text, sign
 use Rattle.s3_signing.specs.Key.{signing_key}
 use Rattle.s3_signing.specs.Names.{IsOrdered, cover_of, names_to_cover}
 use Rattle.s3_signing.specs.Signature.{signature_of}
-use Rattle.s3_signing.specs.Verdict.{Checked, authorization_at, check_target, checked_head, checked_stamp, head_verdict, is_near, is_presigned, is_word, key_proved, secret_at, sent_authorization, sent_stamp, sent_word, stamp_at, word_at, word_line, word_lines, word_of}
+use Rattle.s3_signing.specs.Verdict.{Checked, authorization_at, checked_head, checked_lines, checked_stamp, head_verdict, is_near, is_word, key_proved, secret_at, sent_authorization, sent_stamp, sent_word, stamp_at, word_at, word_line, word_lines, word_of}
 use Rattle.s3_signing.proofs.CoverLemmas.{AreCut, cover_enough, cover_form, cover_others}
 use Rattle.s3_signing.proofs.OtherLineLemmas.{signature_same, values_of_other}
 
@@ -130,9 +130,9 @@ module _ (head signed : HeadParts) (value : List ℕ) (carries : Carries head va
 
   -- ---- each stage of the verdict gives what the signer meant
 
-  target_passes : is_unreadable head.target ≡ false → is_presigned (target_parts head.target) ≡ false → check_target signed ≡ Ok tt
-  unfolding check_target target_of
-  target_passes readable unsigned = rw (carries.target, readable, unsigned) refl
+  target_passes : is_unreadable head.target ≡ false → target_of signed.target ≡ Ok (target_parts head.target)
+  unfolding target_of
+  target_passes readable = rw (carries.target, readable) refl
 
   own_authorization : (parts : Parts) → authorization_of value ≡ Some parts → authorization_at signed ≡ Ok parts
   unfolding authorization_at
@@ -174,9 +174,9 @@ module _ (head signed : HeadParts) (value : List ℕ) (carries : Carries head va
     found = record { sent = meant; stamp = stamp; secret = secret; word = sent_word head }
 
     own_checked : (moment : ℕ) → is_near (stamp_seconds stamp) moment ≡ true → authorization_of value ≡ Some meant → checked_head settings signed moment ≡ Ok found
-    unfolding checked_head
+    unfolding checked_head checked_lines
     own_checked moment near is =
-        rw (target_passes ready.readable ready.unsigned_query, own_authorization meant is, own_stamp stamp ready.stamped, own_secret moment near, own_word ready.one_word ready.word, cover_enough head ready.names ready.host ordered cut signed carries.lines) refl
+        rw (target_passes ready.readable, ready.unsigned_query, own_authorization meant is, own_stamp stamp ready.stamped, own_secret moment near, own_word ready.one_word ready.word, cover_enough head ready.names ready.host ordered cut signed carries.lines) refl
 
     -- and the signature is the formula
     own_key : key_proved settings signed found ≡ Ok (signing_key secret (stamp_date stamp) region)

@@ -5,5 +5,7 @@ pub mod CoverLemmas
 pub mod NameLemmas
 pub mod OrderLemmas
 pub mod OtherLineLemmas
+pub mod PresigningLemmas
 pub mod VerdictLemmas
+pub mod WordLemmas
 pub mod WritingLemmas

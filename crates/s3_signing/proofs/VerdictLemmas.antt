@@ -1,16 +1,19 @@
 -- The word of a verified head is one of the three forms.
-use Rattle.std.proofs.Common.{◌≡◌, ℕ, true, List, Ok, sym, ap, ◌∙◌}
+use Rattle.std.proofs.Common.{◌≡◌, ℕ, true, List, Ok, refl, sym, ap, ◌∙◌, inl, inr}
 use Rattle.std.specs.Prelude.{not, ◌&&◌, nat_eq, codes}
 use Rattle.std.specs.List.{starts_with}
-use Rattle.std.proofs.lemmas.Bool.{not-false}
+use Rattle.std.proofs.lemmas.Bool.{cases_Bool, not-false}
 use Rattle.std.proofs.Math.Bool.{Bool-set}
 use Rattle.std.proofs.Math.Logic.{∥∥₁_elim}
 use Rattle.s3_terms.specs.declared.code.Code.TheVariants.{AccessDenied, NotImplemented, InvalidArgument}
 use Rattle.s3_config.specs.Settings.{Settings}
-use Rattle.s3_http_heads.specs.Head.{HeadParts}
+use Rattle.s3_http_heads.specs.Head.{HeadParts, is_sent}
+use Rattle.s3_http_heads.specs.Target.{TargetParts, target_of}
 use Rattle.s3_signing.specs.Cover.{covers_enough}
-use Rattle.s3_signing.specs.Verdict.{Checked, Proved, WasVerified, authorization_at, check_target, checked_head, head_verdict, is_word, key_proved, secret_at, stamp_at, word_at, word_line, word_of}
-use Rattle.s3_terms.proofs.FaultLemmas.{one_value, stage_ok, test_ok, then_ok}
+use Rattle.s3_signing.specs.Verdict.{Checked, Proved, WasVerified, authorization_at, checked_head, checked_lines, checked_query, head_verdict, is_word, key_proved, names_other_word, presigned_secret_at, secret_at, stamp_at, word_at, word_line, word_of}
+use Rattle.s3_signing.specs.Presigned.{is_presigned, presigned_at}
+use Rattle.s3_signing.specs.Word.{unsigned_payload}
+use Rattle.s3_terms.proofs.FaultLemmas.{one_value, stage_ok, test_ok}
 
 -- a text that is read as a word is one
 word_of_is : (text word : List ℕ) → word_of text ≡ Ok word → is_word word ≡ true
@@ -20,18 +23,43 @@ word_of_is text word is =
     let form = test_ok (not (is_word text)) InvalidArgument _ word other.1 in
     ap is_word (sym (one_value text word form.1)) ∙ not-false (is_word text) form.0
 
+-- the word of a body that is not signed is one
+unsigned_is : is_word unsigned_payload ≡ true
+unsigned_is = refl
+
 module _ (settings : Settings) (head : HeadParts) (moment : ℕ) where
-  -- the word that was found in a head is one
-  word_found : (checked : Checked) → checked_head settings head moment ≡ Ok checked → is_word checked.word ≡ true
-  unfolding checked_head word_at
-  word_found checked is =
-      let sent = stage_ok (authorization_at head) _ checked (then_ok (check_target head) _ checked is) in
+  -- the word that was found in the lines of a head is one
+  word_in_lines : (checked : Checked) → checked_lines settings head moment ≡ Ok checked → is_word checked.word ≡ true
+  unfolding checked_lines word_at
+  word_in_lines checked is =
+      let sent = stage_ok (authorization_at head) _ checked is in
       let stamp = stage_ok (stamp_at head) _ checked sent.2 in
       let secret = stage_ok (secret_at settings moment sent.0 stamp.0) _ checked stamp.2 in
       let word = stage_ok (word_at head) _ checked secret.2 in
       let text = stage_ok (word_line head) _ word.0 word.1 in
       let covered = test_ok (not (covers_enough head sent.0.signed)) AccessDenied _ checked word.2 in
       ap (λ (c : Checked). is_word c.word) (sym (one_value _ checked covered.1)) ∙ word_of_is text.0 word.0 text.2
+
+  -- that of a presigned head is the word of a body that is not signed
+  word_in_query : (target : TargetParts) (checked : Checked) → checked_query settings head target moment ≡ Ok checked → is_word checked.word ≡ true
+  unfolding checked_query
+  word_in_query target checked is =
+      let alone = test_ok (is_sent (codes "authorization") head) InvalidArgument _ checked is in
+      let asked = stage_ok (presigned_at target) _ checked alone.1 in
+      let secret = stage_ok (presigned_secret_at settings moment asked.0) _ checked asked.2 in
+      let word = test_ok (names_other_word head) NotImplemented _ checked secret.2 in
+      let covered = test_ok (not (covers_enough head asked.0.sent.signed)) AccessDenied _ checked word.1 in
+      ap (λ (c : Checked). is_word c.word) (sym (one_value _ checked covered.1)) ∙ unsigned_is
+
+  -- so the word that was found in a head is one
+  word_found : (checked : Checked) → checked_head settings head moment ≡ Ok checked → is_word checked.word ≡ true
+  unfolding checked_head
+  word_found checked is =
+      let target = stage_ok (target_of head.target) _ checked is in
+      elim (cases_Bool (is_presigned target.0)) [
+        | inl presigned ↦ word_in_query target.0 checked (rw presigned at target.2)
+        | inr other ↦ word_in_lines checked (rw other at target.2)
+      ]
 
   -- so is that of a head that is verified
   is_word_verified : (proved : Proved) → head_verdict settings head moment ≡ Ok proved → is_word proved.word ≡ true

@@ -10,7 +10,8 @@ use Rattle.s3_http_heads.specs.Target.{is_unreadable, target_parts}
 use Rattle.s3_signing.specs.Key.{signing_key}
 use Rattle.s3_signing.specs.Authorize.{signature_to_write}
 use Rattle.s3_signing.specs.Cover.{sent_names}
-use Rattle.s3_signing.specs.Verdict.{Proved, is_near, is_presigned, is_word, sent_stamp, sent_word, word_lines, head_verdict}
+use Rattle.s3_signing.specs.Presigned.{is_presigned}
+use Rattle.s3_signing.specs.Verdict.{Proved, is_near, is_word, sent_stamp, sent_word, word_lines, head_verdict}
 
 -- a server of these settings has this access key, and stands in this region
 pub record Knows (settings : Settings) (id secret region : List ℕ) : Type 0 where

@@ -2,10 +2,12 @@ pub mod Key
 pub mod Signature
 pub mod Word
 pub mod Cover
+pub mod Presigned
 pub mod Verdict
 pub mod Names
 pub mod Authorize
 pub mod Accepted
+pub mod Presigning
 pub mod Chain
 pub use Rattle.s3_terms.specs.Code
 pub use Rattle.s3_config.specs.Settings

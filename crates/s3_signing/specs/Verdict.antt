@@ -1,26 +1,23 @@
--- Whether a head is verified, and otherwise which fault comes first (AWS Signature Version 4; Amazon
--- S3 API Reference, "Authenticating requests (AWS Signature Version 4)" and "Error responses").
-use Rattle.std.specs.Prelude.{◌≡◌, ℕ, ◌+◌, ◌≤◌, Bool, true, not, ◌&&◌, ◌||◌, ◌==◌, nat_le, nat_eq, if◌then◌else◌, List, [], length, codes, Option, Some, None, option_and_then, ok_or, unwrap_or, Result, Ok, ⊤}
-use Rattle.std.specs.List.{starts_with}
+-- Whether a head is verified, by its Authorization or by its query, and otherwise which fault comes first (AWS Signature
+-- Version 4; Amazon S3 API Reference, "Authenticating requests (AWS Signature Version 4)" and "Error responses").
+use Rattle.std.specs.Prelude.{◌≡◌, ℕ, ◌+◌, ◌≤◌, Bool, true, not, ◌&&◌, ◌||◌, ◌==◌, nat_le, nat_eq, if◌then◌else◌, List, [], length, codes, Option, Some, None, option_and_then, ok_or, unwrap_or, Result, Ok}
+use Rattle.std.specs.List.{list_any, starts_with}
 use Rattle.std.specs.Str.{bytes_eq}
 use Rattle.s3_text.specs.Digest.{is_hex_digest}
 use Rattle.s3_terms.specs.Fault.{refuse, ◌>>◌, ◌>>=◌}
 use Rattle.s3_config.specs.Settings.{Settings, are_settings, secret_of}
 use Rattle.s3_calendar.specs.Moment.{last_moment, is_stamp, stamp_seconds, stamp_date}
 use Rattle.s3_terms.specs.declared.code.Code.{Code}
-use Rattle.s3_terms.specs.declared.code.Code.TheVariants.{AccessDenied, AuthorizationHeaderMalformed, InvalidAccessKeyId, RequestTimeTooSkewed, InvalidRequest, InvalidArgument, NotImplemented, SignatureDoesNotMatch}
+use Rattle.s3_terms.specs.declared.code.Code.TheVariants.{AccessDenied, AuthorizationHeaderMalformed, AuthorizationQueryParametersError, InvalidAccessKeyId, RequestTimeTooSkewed, InvalidRequest, InvalidArgument, NotImplemented, SignatureDoesNotMatch}
 use Rattle.s3_http_heads.specs.Head.{HeadParts, values_of, first_value, is_sent, only}
-use Rattle.s3_http_heads.specs.Target.{TargetParts, target_of, has_parameter}
+use Rattle.s3_http_heads.specs.Target.{TargetParts, target_of}
 use Rattle.s3_authorization.specs.Authorization.{authorization_of}
 use Rattle.s3_authorization.specs.Authorization as authorization
 use Rattle.s3_signing.specs.Cover.{covers_enough}
 use Rattle.s3_signing.specs.Key.{signing_key}
+use Rattle.s3_signing.specs.Presigned.{Presigned, is_presigned, presigned_at}
 use Rattle.s3_signing.specs.Signature.{signature_of}
 use Rattle.s3_signing.specs.Word.{signed_chunks, unsigned_payload}
-
--- the query has the signature of a presigned request: a form that is not accepted
-abbrev pub is_presigned : TargetParts → Bool
-is_presigned target = has_parameter (codes "X-Amz-Signature") target
 
 -- the parts of the one Authorization line, if it has the form
 abbrev pub sent_authorization : HeadParts → Option authorization.Parts
@@ -59,12 +56,6 @@ sent_word head = unwrap_or (first_value (codes "x-amz-content-sha256") head) []
 abbrev pub is_word : List ℕ → Bool
 is_word word =
     is_hex_digest word || bytes_eq word unsigned_payload || bytes_eq word signed_chunks
-
--- a target that can be read, and that carries no signature
-unfoldable pub check_target : HeadParts → Result ⊤ Code
-check_target head = do
-  target ← target_of head.target
-  refuse (is_presigned target) AccessDenied
 
 -- the parts of the one Authorization line
 unfoldable pub authorization_at : HeadParts → Result authorization.Parts Code
@@ -112,16 +103,47 @@ pub record Checked : Type 0 where
   pub secret : List ℕ
   pub word : List ℕ
 
--- what is found in a head with which nothing is wrong before its signature is computed, or the first fault
-unfoldable pub checked_head : Settings → HeadParts → ℕ → Result Checked Code
-checked_head settings head moment = do
-  check_target head
+-- what is found in the lines of a head that is signed by its Authorization, or the first fault
+unfoldable pub checked_lines : Settings → HeadParts → ℕ → Result Checked Code
+checked_lines settings head moment = do
   sent ← authorization_at head
   stamp ← stamp_at head
   secret ← secret_at settings moment sent stamp
   word ← word_at head
   refuse (not (covers_enough head sent.signed)) AccessDenied
   Ok (record { sent = sent; stamp = stamp; secret = secret; word = word })
+
+-- what is presigned holds from so long before its stamp as clocks may differ to so many seconds behind it
+abbrev pub is_current : ℕ → ℕ → ℕ → Bool
+is_current stamped expires moment = nat_le stamped (moment + skew_limit) && nat_le moment (stamped + expires)
+
+-- the secret behind a presigned query of the server's scope, at a moment at which it holds
+unfoldable pub presigned_secret_at : Settings → ℕ → Presigned → Result (List ℕ) Code
+presigned_secret_at settings moment asked = do
+  refuse (is_other_scope settings asked.sent asked.stamp) AuthorizationQueryParametersError
+  secret ← ok_or (secret_of settings.keys asked.sent.id) InvalidAccessKeyId
+  refuse (not (is_current (stamp_seconds asked.stamp) asked.expires moment)) AccessDenied
+  Ok secret
+
+-- a line names another word than that of a body that is not signed
+abbrev pub names_other_word : HeadParts → Bool
+names_other_word head = list_any (λ word. not (bytes_eq word unsigned_payload)) (word_lines head)
+
+-- what is found in a head that is signed by its query, or the first fault: nothing is said of its body
+unfoldable pub checked_query : Settings → HeadParts → TargetParts → ℕ → Result Checked Code
+checked_query settings head target moment = do
+  refuse (is_sent (codes "authorization") head) InvalidArgument
+  asked ← presigned_at target
+  secret ← presigned_secret_at settings moment asked
+  refuse (names_other_word head) NotImplemented
+  refuse (not (covers_enough head asked.sent.signed)) AccessDenied
+  Ok (record { sent = asked.sent; stamp = asked.stamp; secret = secret; word = unsigned_payload })
+
+-- what is found in a head with which nothing is wrong before its signature is computed, or the first fault
+unfoldable pub checked_head : Settings → HeadParts → ℕ → Result Checked Code
+checked_head settings head moment = do
+  target ← target_of head.target
+  if is_presigned target then checked_query settings head target moment else checked_lines settings head moment
 
 -- the signature that the head has to have
 abbrev pub signature_due : Settings → HeadParts → Checked → List ℕ

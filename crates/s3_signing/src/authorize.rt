@@ -3,7 +3,6 @@
 ghost use Rattle.std.specs.Prelude.{◌≡◌, ◌++◌, ◌∷◌, true, false, codes, length, IfOk, IfErr};
 ghost use Rattle.std.specs.List.{flat_map};
 ghost use Rattle.s3_text.specs.Digest.{is_hex_digest};
-ghost use Rattle.s3_canonical.specs.Request.{canonical_request};
 ghost use Rattle.s3_http_heads.specs.Target.{is_unreadable};
 ghost use Rattle.s3_calendar.specs.Moment.{stamp_date};
 ghost use Rattle.s3_signing.specs.Signature.{scope_text, signature_of};
@@ -12,12 +11,10 @@ ghost use Rattle.s3_signing.specs.Authorize.{authorization_text, credential_text
 ghost use Rattle.s3_signing.specs.Names.{cover_of};
 ghost use Rattle.s3_signing.specs.Verdict.{sent_word, word_lines};
 
-use crate::key::SigningKey;
 use crate::names::cover_of;
-use crate::signature::signature;
+use crate::signature::signature_of;
 use s3_authorization::{authorizations_are_spelled, signed_names_are_cut};
 use s3_calendar::Stamp;
-use s3_canonical::request_hash;
 use s3_http_heads::Head;
 use s3_terms::NoMemory;
 use std::alloc::{AllocError, Global};
@@ -60,7 +57,6 @@ fn authorization(
 }
 
 // The signature of a head that covers these names.
-#[tactic(auto, unfolding(crate::specs::Signature::signature_of))]
 fn head_signature(
     alloc: Global,
     secret: &[u8],
@@ -75,11 +71,7 @@ fn head_signature(
     ensures form { IfOk result (λ digits. is_hex_digest digits ≡ true) }
 {
     let word = head.first(b"x-amz-content-sha256").unwrap();
-    let key = SigningKey::new(secret, stamp.date(), region);
-    match request_hash(alloc, head, signed, word) {
-        Ok(hash) => Ok(signature(&key, stamp, region, &hash)),
-        Err(_) => Err(NoMemory),
-    }
+    signature_of(alloc, secret, stamp, region, head, signed, word)
 }
 
 /// The value of the Authorization header that signs a head (AWS Signature Version 4, "Add the

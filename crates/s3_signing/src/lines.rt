@@ -1,15 +1,16 @@
 //! The header lines that a signed request has to have: what they say, or what is wrong with them.
 
-ghost use Rattle.std.specs.Prelude.{◌≡◌, Ok, Err, IfOk, IfErr};
+ghost use Rattle.std.specs.Prelude.{◌≡◌, ◌&&◌, not, codes, Ok, Err, IfOk, IfErr};
 ghost use Rattle.std.specs.Option.{option_copied};
+ghost use Rattle.std.specs.Str.{bytes_eq, str_to_ascii_lowercase};
 ghost use Rattle.s3_http_heads.specs.Head.{only, values_of};
 ghost use Rattle.s3_signing.specs.Verdict as rules;
-ghost use Rattle.s3_signing.specs.Word.{word_text};
+ghost use Rattle.s3_signing.specs.Word.{unsigned_payload, word_text};
 
 use crate::word::Word;
 use s3_authorization::Authorization;
 use s3_calendar::Stamp;
-use s3_http_heads::Head;
+use s3_http_heads::{Head, is_named};
 use s3_terms::Code;
 
 const WORD_NAME: &[u8] = b"x-amz-content-sha256";
@@ -83,4 +84,25 @@ pub(crate) fn word_at(head: &Head) -> Result<Word, Code>
 {
     let text = word_line(head)?;
     word_of(text)
+}
+
+// Whether the line names another word than that of a body that is not signed.
+fn is_other_word_line(sent: &[u8], value: &[u8]) -> bool
+    ensures { result ≡ (bytes_eq (str_to_ascii_lowercase sent.now) (codes "x-amz-content-sha256")
+        && not (bytes_eq value.now unsigned_payload)) }
+{
+    is_named(sent, WORD_NAME) && value != Word::Unsigned.text()
+}
+
+// Whether a line does.
+pub(crate) fn names_other_word(head: &Head) -> bool
+    ensures { result ≡ rules.names_other_word head.now }
+{
+    for index in 0..head.header_count() {
+        let (sent, value) = head.header(index);
+        if is_other_word_line(sent, value) {
+            return true;
+        }
+    }
+    false
 }

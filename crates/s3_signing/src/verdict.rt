@@ -15,22 +15,22 @@ use crate::compare::same_digits;
 use crate::cover::covers_enough;
 use crate::kept_key::KeptKey;
 use crate::key::SigningKey;
-use crate::lines::{authorization_at, stamp_at, word_at};
+use crate::lines::{authorization_at, names_other_word, stamp_at, word_at};
+use crate::presigned::{Presigned, is_presigned, presigned_at};
 use crate::region::{REGION_MAX, Region};
 use crate::signature::signature;
-use crate::target::check_target;
 use crate::word::Word;
 use s3_authorization::Authorization;
 use s3_calendar::{Moment, Stamp};
 use s3_canonical::request_hash;
 use s3_config::Config;
-use s3_http_heads::Head;
+use s3_http_heads::{Head, Target};
 use s3_terms::Code;
 use std::alloc::Global;
 use std::marker::Model;
 
 /// How far a stamp and the moment of its message may lie apart, in seconds.
-const SKEW_LIMIT: u64 = 900;
+pub(crate) const SKEW_LIMIT: u64 = 900;
 
 /// What a verified head has proved: its stamp, the region of its scope, the key of that day, the
 /// signature that was sent, and the word that stands for its body. It takes no memory.
@@ -177,13 +177,16 @@ impl<'a> Model for Checked<'a> {
     } };
 }
 
-// What is found in a head, or what is wrong with it before its signature is computed.
-#[tactic(auto, unfolding(crate::specs::Verdict::checked_head))]
-fn checked_head<'a>(config: &'a Config, head: &'a Head, moment: Moment) -> Result<Checked<'a>, Code>
-    ensures value { result ≡ rules.checked_head config.now head.now moment }
+// What is found in the lines of a head that is signed by its Authorization, or what is wrong with them.
+#[tactic(auto, unfolding(crate::specs::Verdict::checked_lines))]
+fn checked_lines<'a>(
+    config: &'a Config,
+    head: &'a Head,
+    moment: Moment,
+) -> Result<Checked<'a>, Code>
+    ensures value { result ≡ rules.checked_lines config.now head.now moment }
     ensures within { IfOk result (λ _. moment ≤ last_moment) }
 {
-    check_target(head)?;
     let sent = authorization_at(head)?;
     let stamp = stamp_at(head)?;
     let secret = secret_at(config, moment, &sent, &stamp)?;
@@ -197,6 +200,72 @@ fn checked_head<'a>(config: &'a Config, head: &'a Head, moment: Moment) -> Resul
         secret,
         word,
     })
+}
+
+// The secret that a presigned query asks for, where nothing is wrong with its scope and its time.
+#[tactic(auto, unfolding(crate::specs::Verdict::presigned_secret_at))]
+fn presigned_secret_at<'a>(
+    config: &'a Config,
+    moment: Moment,
+    asked: &Presigned,
+) -> Result<&'a [u8], Code>
+    ensures ok { IfOk result (λ secret. rules.presigned_secret_at config.now moment asked.now ≡ Ok secret.now) }
+    ensures err { IfErr result (λ code. rules.presigned_secret_at config.now moment asked.now ≡ Err code) }
+    ensures within { IfOk result (λ _. moment ≤ last_moment) }
+{
+    if !is_own_scope(config, &asked.sent, &asked.stamp) {
+        return Err(Code::AuthorizationQueryParametersError);
+    }
+    let secret = config
+        .secret_of(asked.sent.id())
+        .ok_or(Code::InvalidAccessKeyId)?;
+    if !asked.is_current(moment) {
+        return Err(Code::AccessDenied);
+    }
+    Ok(secret)
+}
+
+// What is found in a head that is signed by its query, which its target has, or what is wrong with it.
+#[tactic(auto, unfolding(crate::specs::Verdict::checked_query))]
+fn checked_query<'a>(
+    config: &'a Config,
+    head: &Head,
+    target: &'a Target,
+    moment: Moment,
+) -> Result<Checked<'a>, Code>
+    ensures value { result ≡ rules.checked_query config.now head.now target.now moment }
+    ensures within { IfOk result (λ _. moment ≤ last_moment) }
+{
+    if head.is_sent(b"authorization") {
+        return Err(Code::InvalidArgument);
+    }
+    let asked = presigned_at(target)?;
+    let secret = presigned_secret_at(config, moment, &asked)?;
+    if names_other_word(head) {
+        return Err(Code::NotImplemented);
+    }
+    if !covers_enough(head, asked.sent.signed()) {
+        return Err(Code::AccessDenied);
+    }
+    Ok(Checked {
+        sent: asked.sent,
+        stamp: asked.stamp,
+        secret,
+        word: Word::Unsigned,
+    })
+}
+
+// What is found in a head, or what is wrong with it before its signature is computed.
+#[tactic(auto, unfolding(crate::specs::Verdict::checked_head))]
+fn checked_head<'a>(config: &'a Config, head: &'a Head, moment: Moment) -> Result<Checked<'a>, Code>
+    ensures value { result ≡ rules.checked_head config.now head.now moment }
+    ensures within { IfOk result (λ _. moment ≤ last_moment) }
+{
+    let target = head.decoded_target()?;
+    if is_presigned(target) {
+        return checked_query(config, head, target, moment);
+    }
+    checked_lines(config, head, moment)
 }
 
 // The signature that the head has to have under this key.
@@ -259,6 +328,10 @@ fn proved_with(checked: &Checked, region: &[u8], key: [u8; 32]) -> Verified
 /// key's id, the time, the payload word, the names that are signed and the signature are judged in
 /// this order, and the first fault is the refusal.
 ///
+/// A head whose query names `X-Amz-Signature` is presigned: no Authorization may be sent, the six parameters of
+/// the query stand for that line and for `x-amz-date`, what it says holds from 900 seconds before its stamp to
+/// `X-Amz-Expires` seconds behind it, and its body isn't signed. The order is the same.
+///
 /// The signing key is taken from `kept`, where it keeps the one of this secret, day and region, and is computed
 /// otherwise; the verdict is the same. It is kept from then on, once the signature was verified, so that
 /// nobody without a secret changes what is kept.
@@ -271,8 +344,10 @@ fn proved_with(checked: &Checked, region: &[u8], key: [u8; 32]) -> Verified
 ///
 /// `InvalidURI`, `AccessDenied`, `AuthorizationHeaderMalformed`, `InvalidAccessKeyId`,
 /// `RequestTimeTooSkewed`, `InvalidRequest`, `InvalidArgument`, `NotImplemented` and
-/// `SignatureDoesNotMatch` by that order, and `InternalError` where memory runs out. The key that is kept stays
-/// then.
+/// `SignatureDoesNotMatch` by that order; for a presigned head `InvalidURI`, `InvalidArgument` (an Authorization),
+/// `AuthorizationQueryParametersError` (a parameter or the scope), `InvalidAccessKeyId`, `AccessDenied` (the time),
+/// `NotImplemented` (another payload word), `AccessDenied` (the names) and `SignatureDoesNotMatch`; and
+/// `InternalError` where memory runs out. The key that is kept stays then.
 #[tactic(auto, unfolding(crate::specs::Verdict::head_verdict, s3_config::specs::Settings::are_settings, s3_config::specs::Settings::is_region))]
 pub fn verify_head(
     alloc: Global,

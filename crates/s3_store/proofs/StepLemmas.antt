@@ -1,8 +1,8 @@
 -- What comes of commands, from what is told of the records.
 use Rattle.std.proofs.Common.{◌≡◌, refl, ap, ◌∙◌, sym, ℕ, Bool, true, false, not, List, Option, Some, None, Result, Ok, Err, option_map, option_and_then}
-use Rattle.std.specs.Prelude.{is_ok}
+use Rattle.std.specs.Prelude.{◌&&◌, is_ok, is_some}
 use Rattle.std.specs.FinMap as map
-use Rattle.s3_terms.specs.declared.code.Code.TheVariants.{NoSuchBucket}
+use Rattle.s3_terms.specs.declared.code.Code.TheVariants.{NoSuchBucket, PreconditionFailed}
 use Rattle.s3_names.specs.declared.ids.VersionId.{VersionId}
 use Rattle.s3_conditions.specs.declared.conditions.Conditions.{Conditions}
 use Rattle.s3_conditions.specs.declared.conditions.Selection.{Selection}
@@ -13,7 +13,7 @@ use Rattle.s3_versions.specs.declared.version.Data.{Data}
 use Rattle.s3_versions.specs.declared.version.Version.{Version}
 use Rattle.s3_versions.specs.declared.version.Versioning.{Versioning}
 use Rattle.s3_versions.specs.declared.version.Versioning.TheVariants.{Unversioned}
-use Rattle.s3_versions.specs.Rules.{stored, stored_in, asked_for, judged, pick, facts_of as version_facts, facts_read, read_as}
+use Rattle.s3_versions.specs.Rules.{stored, stored_in, current, asked_for, judged, pick, facts_of as version_facts, facts_read, read_as}
 use Rattle.s3_records.specs.declared.records.BucketFacts.{BucketFacts}
 use Rattle.s3_records.specs.Catalogue.{Bucket, facts_of, facts_in, has_bucket, listed_buckets, versions_of, versioning_in, versioning_of}
 use Rattle.s3_documents.specs.Buckets.{buckets_text}
@@ -23,13 +23,14 @@ use Rattle.s3_machine.specs.declared.command.Command.TheVariants as commands
 use Rattle.s3_machine.specs.declared.command.Found.{Found}
 use Rattle.s3_machine.specs.declared.command.KeyCommand.TheVariants as key_commands
 use Rattle.s3_machine.specs.declared.command.ObjectCopy.{ObjectCopy}
+use Rattle.s3_machine.specs.declared.command.ObjectPut.{ObjectPut}
 use Rattle.s3_machine.specs.declared.command.ObjectRead.{ObjectRead}
 use Rattle.s3_machine.specs.declared.command.Source.{Source}
 use Rattle.s3_machine.specs.declared.command.Outcome.TheVariants as outcomes
 use Rattle.s3_terms.specs.Fault.{◌>>◌, ◌>>=◌}
 use Rattle.s3_machine.specs.Fault.{refuse}
-use Rattle.s3_machine.specs.Step.{State, step, copied, data_read, key_done, done, Stepped, stepped, found_in, shown_by}
-use Rattle.s3_store.specs.Steps.{bucket_step, key_step, copy_step, copied_as, data_found, read_as_found, selected_by, got_of}
+use Rattle.s3_machine.specs.Step.{State, step, is_taken, data_of, copied, data_read, key_done, done, Stepped, stepped, found_in, shown_by}
+use Rattle.s3_store.specs.Steps.{bucket_step, key_step, put_step, copy_step, copied_as, data_found, read_as_found, selected_by, got_of}
 
 -- a bucket that is there tells its versioning
 abbrev told_versioning : Option BucketFacts → Versioning
@@ -126,6 +127,47 @@ told_of versioning None None read f reads told = absurd (cc)
 told_of versioning None (Some v) read f reads told = told_as versioning _ v v.content read f refl reads told
 told_of versioning (Some id) None read f reads told = absurd (cc)
 told_of versioning (Some id) (Some v) read f reads told = told_as versioning _ v v.content read f refl reads told
+
+-- ---- puts
+
+-- what comes behind a condition that holds, and one that fails
+freed : (s : State) (barred : Bool) (after : Stepped) → barred ≡ false → stepped s (refuse barred PreconditionFailed >> Ok after) ≡ after
+freed s true after is = absurd (cc)
+freed s false after is = refl
+
+pub barred_by : (s : State) (barred : Bool) (next : Result Stepped Refusal) → barred ≡ true
+    → stepped s (refuse barred PreconditionFailed >> next) ≡ (s, outcomes.Refused PreconditionFailed false)
+barred_by s true next is = refl
+barred_by s false next is = absurd (cc)
+
+module _ (s : State) (n t : ℕ) (name key : List ℕ) (put : ObjectPut (List ℕ)) where
+  pub put_stored : (put.if_absent && is_taken s name key) ≡ false
+      → key_step s n t name key (key_commands.Put put) ≡ put_step s n t name key (data_of put)
+  unfolding key_done
+  put_stored = freed s (put.if_absent && is_taken s name key) (put_step s n t name key (data_of put))
+
+  pub put_accepted : (put.if_absent && is_taken s name key) ≡ false
+      → is_refused (key_step s n t name key (key_commands.Put put)).1 ≡ false
+  put_accepted free = ap (λ (st : Stepped). is_refused st.1) (put_stored free)
+
+  pub put_barred : (put.if_absent && is_taken s name key) ≡ true
+      → key_step s n t name key (key_commands.Put put) ≡ (s, outcomes.Refused PreconditionFailed false)
+  unfolding key_done
+  put_barred = barred_by s (put.if_absent && is_taken s name key) _
+
+-- a read of the current version is given what is known of an object, where there is one
+content_read : (v : Version (List ℕ)) (c : Content (List ℕ)) (refusal : Refusal) → is_ok (facts_read (read_as refusal v c)) ≡ is_some (stored_in c)
+content_read v DeleteMarker refusal = refl
+content_read v (Stored d) refusal = refl
+
+current_read : (found : Option (Version (List ℕ))) → is_ok (facts_read (judged None found)) ≡ is_some (option_and_then stored found)
+current_read None = refl
+current_read (Some v) = content_read v v.content _
+
+pub taken_read : (s : State) (name key : List ℕ) → is_ok (facts_read (pick None (versions_of s name key))) ≡ is_taken s name key
+taken_read s name key = current_read (current (versions_of s name key))
+
+pub ruleset put_steps = (put_stored, put_accepted, put_barred)
 
 -- ---- copies
 

@@ -1,9 +1,9 @@
 -- What comes of commands on uploads, from what is told of the records.
-use Rattle.std.proofs.Common.{◌≡◌, refl, ℕ, true, false, List, Option, Some, None, Result, Ok, Err}
+use Rattle.std.proofs.Common.{◌≡◌, refl, ℕ, Bool, true, false, ◌&&◌, List, Option, Some, None, Result, Ok, Err}
 use Rattle.std.specs.Prelude.{is_some, is_ok, ok_or}
-use Rattle.s3_terms.specs.Fault.{◌>>=◌}
+use Rattle.s3_terms.specs.Fault.{◌>>◌, ◌>>=◌}
 use Rattle.s3_terms.specs.declared.code.Code.{Code}
-use Rattle.s3_terms.specs.declared.code.Code.TheVariants.{NoSuchUpload}
+use Rattle.s3_terms.specs.declared.code.Code.TheVariants.{NoSuchUpload, PreconditionFailed}
 use Rattle.s3_bodies.specs.Payload.{tag_of}
 use Rattle.s3_versions.specs.declared.picking.Refusal.{Refusal}
 use Rattle.s3_versions.specs.declared.version.Data.{Data}
@@ -17,12 +17,13 @@ use Rattle.s3_listings.specs.declared.asked.PartsAsked.{PartsAsked}
 use Rattle.s3_listings.specs.Parts.{parts_page}
 use Rattle.s3_documents.specs.PartList.{parts_text}
 use Rattle.s3_machine.specs.Effects.{is_refused}
-use Rattle.s3_machine.specs.Fault.{as_refusal}
+use Rattle.s3_machine.specs.Fault.{refuse, as_refusal}
 use Rattle.s3_machine.specs.declared.command.Outcome.TheVariants as outcomes
 use Rattle.s3_machine.specs.declared.command.UploadCommand.{UploadCommand}
 use Rattle.s3_machine.specs.declared.command.UploadCommand.TheVariants as upload_commands
-use Rattle.s3_machine.specs.Step.{State, Stepped, stepped, upload_done}
-use Rattle.s3_store.specs.Steps.{upload_step, completion_step, completed_as}
+use Rattle.s3_machine.specs.Step.{State, Stepped, is_taken, stepped, upload_done}
+use Rattle.s3_store.specs.Steps.{upload_step, completion_step, completed_as, barred_code}
+use Rattle.s3_store.proofs.StepLemmas.{barred_by}
 
 -- what is asked for, if it is open
 abbrev opened : Option (Upload (List ℕ)) → Result (Upload (List ℕ)) Refusal
@@ -50,7 +51,7 @@ module _ (least : ℕ) (s : State) (n t : ℕ) (name key : List ℕ) (id : ℕ) 
       → upload_step least s n t name key id asked ≡ (s, outcomes.Refused NoSuchUpload false)
   unfolding upload_done
   upload_lost (upload_commands.PutPart number payload) is = missed s (upload_at s name key id) _ is
-  upload_lost (upload_commands.Complete listed) is = missed s (upload_at s name key id) _ is
+  upload_lost (upload_commands.Complete listed if_absent) is = missed s (upload_at s name key id) _ is
   upload_lost upload_commands.Abort is = missed s (upload_at s name key id) _ is
   upload_lost (upload_commands.ListParts asked) is = missed s (upload_at s name key id) _ is
 
@@ -78,22 +79,48 @@ module _ (least : ℕ) (s : State) (n t : ℕ) (name key : List ℕ) (id : ℕ) 
   completes_as (Ok stored) = refl
   completes_as (Err code) = refl
 
-  completes_found : (listed : List ListedPart) (found : Option (Upload (List ℕ)))
-      → stepped s (opened found >>= (λ u. as_refusal (completed least listed u) >>= (λ stored. Ok (completion_step s n t name key id stored))))
+  -- behind a condition that holds
+  completes_found : (listed : List ListedPart) (barred : Bool) (found : Option (Upload (List ℕ))) → barred ≡ false
+      → stepped s (opened found >>= (λ u. refuse barred PreconditionFailed
+      >> (as_refusal (completed least listed u) >>= (λ stored. Ok (completion_step s n t name key id stored)))))
       ≡ completed_as s n t name key id (completed_at least listed found)
-  completes_found listed None = refl
-  completes_found listed (Some u) = completes_as (completed least listed u)
+  completes_found listed true found free = absurd (cc)
+  completes_found listed false None free = refl
+  completes_found listed false (Some u) free = completes_as (completed least listed u)
 
-  pub completes : (listed : List ListedPart)
-      → upload_step least s n t name key id (upload_commands.Complete listed)
+  pub completes : (listed : List ListedPart) (if_absent : Bool) → (if_absent && is_taken s name key) ≡ false
+      → upload_step least s n t name key id (upload_commands.Complete listed if_absent)
       ≡ completed_as s n t name key id (completed_at least listed (upload_at s name key id))
   unfolding upload_done
-  completes listed = completes_found listed (upload_at s name key id)
+  completes listed if_absent = completes_found listed (if_absent && is_taken s name key) (upload_at s name key id)
+
+  -- and behind one that fails
+  barred_found : (barred : Bool) (found : Option (Upload (List ℕ))) (rule : Upload (List ℕ) → Result Stepped Refusal) → barred ≡ true
+      → stepped s (opened found >>= (λ u. refuse barred PreconditionFailed >> rule u)) ≡ (s, outcomes.Refused (barred_code found) false)
+  barred_found barred None rule is = refl
+  barred_found barred (Some u) rule is = barred_by s barred (rule u) is
+
+  pub completion_barred : (listed : List ListedPart) (if_absent : Bool) → (if_absent && is_taken s name key) ≡ true
+      → upload_step least s n t name key id (upload_commands.Complete listed if_absent)
+      ≡ (s, outcomes.Refused (barred_code (upload_at s name key id)) false)
+  unfolding upload_done
+  completion_barred listed if_absent = barred_found (if_absent && is_taken s name key) (upload_at s name key id) _
 
   pub completion_accepted : (r : Result (Data (List ℕ)) Code) → is_ok r ≡ true → is_refused (completed_as s n t name key id r).1 ≡ false
   completion_accepted (Ok stored) is = refl
   completion_accepted (Err code) is = absurd (cc)
 
+-- how it is refused, by whether its upload is open
+pub open_code : (found : Option (Upload (List ℕ))) → is_some found ≡ true → barred_code found ≡ PreconditionFailed
+open_code None is = absurd (cc)
+open_code (Some u) is = refl
+
+pub closed_code : (found : Option (Upload (List ℕ))) → is_some found ≡ false → barred_code found ≡ NoSuchUpload
+closed_code None is = refl
+closed_code (Some u) is = absurd (cc)
+
+pub ruleset barred_codes = (open_code, closed_code)
+
 pub ruleset upload_steps = (upload_lost, part_put, upload_dropped, parts_told)
 
-pub ruleset completion_steps = (completes, completion_accepted)
+pub ruleset completion_steps = (completes, completion_barred)

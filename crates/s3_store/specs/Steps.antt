@@ -1,7 +1,8 @@
 -- One step of a store.
-use Rattle.std.specs.Prelude.{◌≡◌, refl, ℕ, ◌+◌, false, IsTrue, List, Result, Ok, Err}
+use Rattle.std.specs.Prelude.{◌≡◌, refl, ℕ, ◌+◌, false, IsTrue, List, Option, Some, None, Result, Ok, Err}
 use Rattle.std.specs.Coded.{Coded, code_by, coded×, coded_ℕ}
 use Rattle.s3_terms.specs.declared.code.Code.{Code}
+use Rattle.s3_terms.specs.declared.code.Code.TheVariants.{NoSuchUpload, PreconditionFailed}
 use Rattle.s3_versions.specs.Codes.{coded_bytes}
 use Rattle.s3_conditions.specs.declared.conditions.Conditions.{Conditions}
 use Rattle.s3_conditions.specs.declared.conditions.Selection.{Selection}
@@ -11,6 +12,7 @@ use Rattle.s3_versions.specs.declared.version.Data.{Data}
 use Rattle.s3_versions.specs.declared.version.Version.{Version}
 use Rattle.s3_versions.specs.declared.version.Versioning.{Versioning}
 use Rattle.s3_versions.specs.Rules.{new_id, VersionPut}
+use Rattle.s3_uploads.specs.declared.upload.Upload.{Upload}
 use Rattle.s3_records.specs.Catalogue.{has_bucket, versioning_of}
 use Rattle.s3_records.specs.Changes.{KeyChanged, UploadCompleted, changed}
 use Rattle.s3_records.specs.Codes.{coded_catalogue}
@@ -73,6 +75,13 @@ abbrev pub got_of : Selection → Result (Found (List ℕ)) Refusal → Outcome
 got_of selection (Ok found) = outcomes.Got found selection
 got_of selection (Err refusal) = outcomes.Refused refusal.code refusal.is_delete_marker
 
+-- what a put does whose condition holds
+abbrev pub put_step : State → ℕ → ℕ → List ℕ → List ℕ → Data (List ℕ) → Stepped
+put_step s n t name key stored = (
+  changed s name (KeyChanged key (VersionPut n t stored)),
+  outcomes.Put stored.tag (shown_in (versioning_of s name) (new_id (versioning_of s name) n)),
+)
+
 -- what a copy does once it is known what its source has
 abbrev pub copy_step : State → ℕ → ℕ → List ℕ → List ℕ → Data (List ℕ) → Stepped
 copy_step s n t name key stored = (
@@ -100,6 +109,11 @@ completion_step s n t name key id stored = (
 abbrev pub completed_as : State → ℕ → ℕ → List ℕ → List ℕ → ℕ → Result (Data (List ℕ)) Code → Stepped
 completed_as s n t name key id (Ok stored) = completion_step s n t name key id stored
 completed_as s n t name key id (Err code) = (s, outcomes.Refused code false)
+
+-- how a completion is refused whose condition fails
+abbrev pub barred_code : Option (Upload (List ℕ)) → Code
+barred_code None = NoSuchUpload
+barred_code (Some u) = PreconditionFailed
 
 -- how std numbers it
 abbrev pub coded_standing : Coded Standing

@@ -1,9 +1,11 @@
 //! What the completion of an upload does.
 ghost use Rattle.std.specs.Prelude.{◌≡◌, true, false, IfOk, OnErr};
+ghost use Rattle.s3_records.specs.OpenUploads.{completed_at, upload_at};
 ghost use Rattle.s3_machine.specs.Effects.{is_refused};
-ghost use Rattle.s3_store.specs.Steps.{upload_step, completion_step, MayEnter};
+ghost use Rattle.s3_store.specs.Steps.{upload_step, completion_step, completed_as, barred_code, MayEnter};
 
 use crate::bucket_steps::refused;
+use crate::conditions::is_barred;
 use crate::reading::shown;
 use s3_bodies::Body;
 use s3_calendar::Moment;
@@ -11,15 +13,70 @@ use s3_documents::Document;
 use s3_machine::{Outcome, UploadCommand};
 use s3_names::{BucketName, Key, UploadId};
 use s3_records::Records;
-use s3_terms::NoMemory;
+use s3_terms::{Code, NoMemory};
 use s3_uploads::ListedParts;
 use s3_versions::{Data, Versioning};
 use std::alloc::Global;
 
 /// CompleteMultipartUpload. The bytes of the parts are shared, and none is copied. `NoMemory` leaves the records as they
-/// were, and so does a refusal: the upload is still open.
+/// were, and so does a refusal: the upload is still open. Whether its condition holds is judged before it takes room.
 #[tactic(auto, using(crate::proofs::UploadLemmas::completion_steps))]
 pub(crate) fn complete<R: Records>(
+    records: &mut R,
+    alloc: Global,
+    least_part: u64,
+    bucket: &BucketName,
+    versioning: Versioning,
+    key: Key,
+    id: UploadId,
+    listed: &ListedParts,
+    if_absent: bool,
+    number: u64,
+    moment: Moment,
+) -> Result<Outcome, NoMemory>
+    requires { MayEnter (R.catalogue records.old) number bucket.now versioning }
+    ensures ok { IfOk result (λ outcome.
+        upload_step least_part (R.catalogue records.old) number moment bucket.now key id (UploadCommand.Complete listed.now if_absent)
+        ≡ (R.catalogue records.new, outcome)) }
+    ensures err { OnErr result (R.catalogue records.new ≡ R.catalogue records.old) }
+    ensures memory { OnErr result (R.is_in_memory ≡ true
+        → is_refused
+        (upload_step least_part (R.catalogue records.old) number moment bucket.now key id (UploadCommand.Complete listed.now if_absent)).1
+        ≡ false) }
+{
+    match is_barred(records, alloc, bucket, &key, if_absent) {
+        Ok(false) => join(
+            records, alloc, least_part, bucket, versioning, key, id, listed, number, moment,
+        ),
+        Ok(true) => refuse_barred(records, alloc, bucket, &key, id),
+        Err(no_memory) => Err(no_memory),
+    }
+}
+
+// The refusal of a completion whose condition fails: `NoSuchUpload` comes first.
+#[tactic(auto, using(crate::proofs::UploadLemmas::barred_codes))]
+fn refuse_barred<R: Records>(
+    records: &mut R,
+    alloc: Global,
+    bucket: &BucketName,
+    key: &Key,
+    id: UploadId,
+) -> Result<Outcome, NoMemory>
+    ensures ok { IfOk result (λ outcome. outcome
+        ≡ Outcome.Refused (barred_code (upload_at (R.catalogue records.old) bucket.now key.now id)) false) }
+    ensures same { R.catalogue records.new ≡ R.catalogue records.old }
+    ensures memory { OnErr result (R.is_in_memory ≡ false) }
+{
+    if records.has_upload(alloc, bucket, key, id)? {
+        Ok(refused(Code::PreconditionFailed))
+    } else {
+        Ok(refused(Code::NoSuchUpload))
+    }
+}
+
+// A completion whose condition holds, or that has none.
+#[tactic(auto, using(crate::proofs::UploadLemmas::completion_accepted))]
+fn join<R: Records>(
     records: &mut R,
     alloc: Global,
     least_part: u64,
@@ -33,11 +90,13 @@ pub(crate) fn complete<R: Records>(
 ) -> Result<Outcome, NoMemory>
     requires { MayEnter (R.catalogue records.old) number bucket.now versioning }
     ensures ok { IfOk result (λ outcome.
-        upload_step least_part (R.catalogue records.old) number moment bucket.now key id (UploadCommand.Complete listed.now)
+        completed_as (R.catalogue records.old) number moment bucket.now key id
+        (completed_at least_part listed.now (upload_at (R.catalogue records.old) bucket.now key id))
         ≡ (R.catalogue records.new, outcome)) }
     ensures err { OnErr result (R.catalogue records.new ≡ R.catalogue records.old) }
     ensures memory { OnErr result (R.is_in_memory ≡ true
-        → is_refused (upload_step least_part (R.catalogue records.old) number moment bucket.now key id (UploadCommand.Complete listed.now)).1
+        → is_refused (completed_as (R.catalogue records.old) number moment bucket.now key id
+        (completed_at least_part listed.now (upload_at (R.catalogue records.old) bucket.now key id))).1
         ≡ false) }
 {
     match records.completed(alloc, bucket, &key, id, least_part, listed.as_slice())? {

@@ -6,9 +6,10 @@ ghost use Rattle.s3_records.specs.Catalogue.{has_bucket, versioning_of};
 ghost use Rattle.s3_records.specs.Places.{AreBelow};
 ghost use Rattle.s3_machine.specs.Effects.{is_refused, takes_room, takes_room_at_key};
 ghost use Rattle.s3_machine.specs.Step.{step, data_of, makes_marker};
-ghost use Rattle.s3_store.specs.Steps.{key_step, got_of, selected_by, MayEnter};
+ghost use Rattle.s3_store.specs.Steps.{key_step, put_step, got_of, selected_by, MayEnter};
 
 use crate::bucket_steps::refused;
+use crate::conditions::is_barred;
 use crate::copying::copy;
 use crate::reading::{look, shown};
 use crate::upload_steps::begin;
@@ -108,8 +109,8 @@ fn take_in_bucket<R: Records>(
     }
 }
 
-// PutObject.
-#[tactic(auto, unfolding(s3_machine::specs::Step::key_done))]
+// PutObject. Whether its condition holds is judged before it takes room.
+#[tactic(auto, using(crate::proofs::StepLemmas::put_steps))]
 fn put<R: Records>(
     records: &mut R,
     alloc: Global,
@@ -127,6 +128,40 @@ fn put<R: Records>(
     ensures err { OnErr result (R.catalogue records.new ≡ R.catalogue records.old) }
     ensures memory { OnErr result (R.is_in_memory ≡ true
         → is_refused (key_step (R.catalogue records.old) number moment bucket.now key (KeyCommand.Put asked)).1 ≡ false) }
+{
+    match is_barred(records, alloc, bucket, &key, asked.if_absent) {
+        Ok(false) => store(
+            records, alloc, bucket, versioning, key, asked, number, moment,
+        ),
+        Ok(true) => {
+            let_go_of_put(key, asked);
+            Ok(refused(Code::PreconditionFailed))
+        }
+        Err(no_memory) => {
+            let_go_of_put(key, asked);
+            Err(no_memory)
+        }
+    }
+}
+
+// Drops a put that stores nothing.
+fn let_go_of_put(_key: Key, _asked: ObjectPut<Payload>) {}
+
+// A put whose condition holds, or that has none.
+fn store<R: Records>(
+    records: &mut R,
+    alloc: Global,
+    bucket: &BucketName,
+    versioning: Versioning,
+    key: Key,
+    asked: ObjectPut<Payload>,
+    number: u64,
+    moment: Moment,
+) -> Result<Outcome, NoMemory>
+    requires { MayEnter (R.catalogue records.old) number bucket.now versioning }
+    ensures ok { IfOk result (λ outcome.
+        put_step (R.catalogue records.old) number moment bucket.now key (data_of asked) ≡ (R.catalogue records.new, outcome)) }
+    ensures err { OnErr result (R.catalogue records.new ≡ R.catalogue records.old) }
 {
     let tag = asked.payload.tag();
     let stored = stored_of(asked)?;

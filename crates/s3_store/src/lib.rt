@@ -4,6 +4,7 @@
 
 mod bucket_steps;
 mod completing;
+mod conditions;
 mod copying;
 mod key_steps;
 mod list_steps;

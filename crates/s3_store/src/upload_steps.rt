@@ -132,8 +132,9 @@ fn take_in_bucket<R: Records>(
             number: part,
             payload,
         } => put_part(records, alloc, bucket, &key, id, part, payload, moment),
-        UploadCommand::Complete { listed } => complete(
-            records, alloc, least_part, bucket, versioning, key, id, &listed, number, moment,
+        UploadCommand::Complete { listed, if_absent } => complete(
+            records, alloc, least_part, bucket, versioning, key, id, &listed, if_absent, number,
+            moment,
         ),
         UploadCommand::Abort => abort(records, alloc, bucket, &key, id),
         UploadCommand::ListParts(asked) => tell_parts(records, alloc, bucket, key, id, asked),

@@ -1,19 +1,24 @@
 -- What `s3d sign` writes, over the bytes that its files tell: `None` stands for those of a file that
 -- tells none.
-use Rattle.std.specs.Prelude.{◌≡◌, ◌⊎◌, ℕ, Bool, true, false, IsTrue, ◌&&◌, ◌==◌, nat_le, if◌then◌else◌, List, [], ◌∷◌, map, codes, Option, Some, None, is_some, IfSome, option_map, position}
+use Rattle.std.specs.Prelude.{◌≡◌, ◌⊎◌, ℕ, Bool, true, false, IsTrue, ◌&&◌, ◌==◌, List, [], ◌∷◌, ◌++◌, map, codes, Option, Some, None, is_some, IfSome, option_map, position}
 use Rattle.std.specs.List.{list_all, before_first, after_first}
 use Rattle.std.specs.Borrow.{Bor}
 use Rattle.s3_calendar.specs.Moment.{is_stamp, stamp_seconds}
+use Rattle.s3_text.specs.Characters.{line_feed}
 use Rattle.s3_config.specs.Settings.{Settings, secret_of}
 use Rattle.s3_signer.specs.Request.{HeaderLine, IsSignable, given_lines, request_text}
-use Rattle.s3_signer.specs.Chunked.{IsChunkedText, IsSignableInChunks, greatest_chunk}
+use Rattle.s3_signer.specs.Chunked.{IsChunkedText, IsSignableInChunks}
+use Rattle.s3_signer.specs.Presigned.{IsPresignable, IsPresignableWith, presigned_request_text, presigned_target_text}
 use Rattle.s3_settings.specs.declared.fault.Fault.{Fault}
 use Rattle.s3_settings.specs.declared.fault.Fault.TheVariants.{CannotRead, BadKeysLine, BadEventLine, BadSetting, CannotListen, InputFailed, OutputFailed, OutOfMemory}
 use Rattle.s3_settings.specs.declared.settings.Setup.{Setup}
+use Rattle.s3_tasks.specs.declared.mode.SignMode.{SignMode}
+use Rattle.s3_tasks.specs.declared.mode.SignMode.TheVariants.{Hashed, Chunked, Presigned, Address}
 use Rattle.s3_tasks.specs.declared.sign.Draft.{Draft}
+use Rattle.s3_tasks.specs.Mode.{sign_mode}
 use Rattle.s3_options.specs.declared.options.SignOptions.{SignOptions}
 use Rattle.s3_settings.specs.Fault.{IsReadFault}
-use Rattle.s3_settings.specs.Settings.{option_number, option_moment, are_options, IsSetupOf, IsConfigured, IsConfigFault, HasConfigFault}
+use Rattle.s3_settings.specs.Settings.{option_moment, are_options, IsSetupOf, IsConfigured, IsConfigFault, HasConfigFault}
 
 -- the texts behind references
 abbrev pub texts_of : List (Bor (List ℕ)) → List (List ℕ)
@@ -38,16 +43,6 @@ line_of_word word = (before_first is_colon word, after_first is_colon word)
 abbrev pub header_lines : List ℕ → List (List ℕ) → List HeaderLine
 header_lines host words = (codes "host", host) ∷ map line_of_word words
 
--- the number, if it is a size of chunks
-abbrev pub chunk_of : Option ℕ → Option ℕ
-chunk_of None = None
-chunk_of (Some bytes) = if nat_le 1 bytes && nat_le bytes greatest_chunk then Some bytes else None
-
--- the size of the chunks that an option asks for, if it says one; without the option the body is sent as it is
-abbrev pub chunk_asked : Option (List ℕ) → Option (Option ℕ)
-chunk_asked None = Some None
-chunk_asked (Some text) = option_map Some (chunk_of (option_number text))
-
 -- the moment at which the options say that the request is signed
 abbrev pub moment_of_signing : SignOptions → Option ℕ
 moment_of_signing o = option_moment (option_map (λ text. text.now) o.moment)
@@ -56,12 +51,12 @@ moment_of_signing o = option_moment (option_map (λ text. text.now) o.moment)
 abbrev pub are_first_options : SignOptions → Bool
 are_first_options o = is_some (moment_of_signing o) && are_options o.common
 
--- the options that a request needs are there, that of the chunks says a size of theirs, and each further word is
--- a header line
+-- the options that a request needs are there, those on how it is signed ask for one way of it, and each further word
+-- is a header line
 unfoldable pub are_sign_options : SignOptions → Bool
 are_sign_options o =
     is_some o.id && is_some o.method && is_some o.target && is_some o.host
-    && is_some (chunk_asked (option_map (λ text. text.now) o.chunk))
+    && is_some (sign_mode o)
     && list_all has_colon (texts_of o.headers.items)
 
 -- a draft has what the options say
@@ -69,10 +64,11 @@ pub record IsDraftOf (o : SignOptions) (d : Draft) : Type 0 where
   pub id : option_map (λ text. text.now) o.id ≡ Some d.id.now
   pub method : option_map (λ text. text.now) o.method ≡ Some d.method.now
   pub target : option_map (λ text. text.now) o.target ≡ Some d.target.now
+  pub host : option_map (λ text. text.now) o.host ≡ Some d.host.now
   pub headers : option_map (λ host. header_lines host.now (texts_of o.headers.items)) o.host ≡ Some (given_lines d.headers.items)
   pub words : list_all has_colon (texts_of o.headers.items) ≡ true
   pub body : option_map (λ path. path.now) o.body ≡ option_map (λ path. path.now) d.body
-  pub chunk : chunk_asked (option_map (λ text. text.now) o.chunk) ≡ Some d.chunk
+  pub mode : sign_mode o ≡ Some d.mode
 
 -- the bytes are those of the file at the path, where they are known; without a path there are none
 abbrev pub IsBodyOf : (List ℕ → Option (List ℕ)) → Option (Bor (List ℕ)) → List ℕ → Type 0
@@ -84,32 +80,45 @@ abbrev pub IsBodyFault : (List ℕ → Option (List ℕ)) → Option (Bor (List 
 IsBodyFault known None fault = ⊥
 IsBodyFault known (Some path) fault = IsReadFault (known path.now) path.now fault
 
--- the request can be signed whose body is sent as it is, or in signed chunks of so many bytes
-abbrev pub IsSignableIn : Option ℕ → List ℕ → List ℕ → List ℕ → List ℕ → List ℕ → List HeaderLine → List ℕ → List ℕ → Type 0
-IsSignableIn None id secret region method target headers body stamp =
+-- what is written of a request in this mode can be signed
+abbrev pub IsSignableIn : SignMode → List ℕ → List ℕ → List ℕ → List ℕ → List ℕ → List HeaderLine → List ℕ → List ℕ → Type 0
+IsSignableIn Hashed id secret region method target headers body stamp =
     IsSignable id secret region method target headers body stamp
-IsSignableIn (Some size) id secret region method target headers body stamp =
+IsSignableIn (Chunked size) id secret region method target headers body stamp =
     IsSignableInChunks id secret region method target headers body size stamp
+IsSignableIn (Presigned expires) id secret region method target headers body stamp =
+    IsPresignableWith id secret region method target headers body stamp expires
+IsSignableIn (Address expires) id secret region method target headers body stamp =
+    IsPresignable id secret region method target headers stamp expires
 
--- the text is that request
-abbrev pub IsTextIn : Option ℕ → List ℕ → List ℕ → List ℕ → List ℕ → List ℕ → List HeaderLine → List ℕ → List ℕ → List ℕ → Type 0
-IsTextIn None id secret region method target headers body stamp text =
+-- the address of a target at a host, by plain HTTP, and a line feed
+abbrev pub address_line : List ℕ → List ℕ → List ℕ
+address_line host target = codes "http://" ++ host ++ target ++ line_feed ∷ []
+
+-- the text is what is written in this mode of a request to this host: the request, with its body as it is, in signed
+-- chunks, or under a target that carries its signature; or the address of such a target
+abbrev pub IsTextIn : SignMode → List ℕ → List ℕ → List ℕ → List ℕ → List ℕ → List ℕ → List HeaderLine → List ℕ → List ℕ → List ℕ → Type 0
+IsTextIn Hashed host id secret region method target headers body stamp text =
     text ≡ request_text id secret region method target headers body stamp
-IsTextIn (Some size) id secret region method target headers body stamp text =
+IsTextIn (Chunked size) host id secret region method target headers body stamp text =
     IsChunkedText id secret region method target headers body size stamp text
+IsTextIn (Presigned expires) host id secret region method target headers body stamp text =
+    text ≡ presigned_request_text id secret region method target headers body stamp expires
+IsTextIn (Address expires) host id secret region method target headers body stamp text =
+    text ≡ address_line host (presigned_target_text id secret region method target headers stamp expires)
 
--- a request of the draft with this body, at this stamp, can be signed by this secret for a server of these
--- settings
+-- what is written of a request of the draft with this body, at this stamp, can be signed by this secret for a server of
+-- these settings
 abbrev pub IsSignableDraft : Settings → List ℕ → Draft → List ℕ → List ℕ → Type 0
 IsSignableDraft settings secret draft body stamp =
-    IsSignableIn draft.chunk draft.id.now secret settings.region draft.method.now draft.target.now (given_lines draft.headers.items) body stamp
+    IsSignableIn draft.mode draft.id.now secret settings.region draft.method.now draft.target.now (given_lines draft.headers.items) body stamp
 
--- the text is that request
+-- the text is what is written of it
 abbrev pub IsSignedDraft : Settings → List ℕ → Draft → List ℕ → List ℕ → List ℕ → Type 0
 IsSignedDraft settings secret draft body stamp text =
-    IsTextIn draft.chunk draft.id.now secret settings.region draft.method.now draft.target.now (given_lines draft.headers.items) body stamp text
+    IsTextIn draft.mode draft.host.now draft.id.now secret settings.region draft.method.now draft.target.now (given_lines draft.headers.items) body stamp text
 
--- the text is the signed request of the draft: by the secret that the settings have for its id, with
+-- the text is what is written of the draft: signed by the secret that the settings have for its id, with
 -- the bytes of its body's file
 pub record IsRequestOf (known : List ℕ → Option (List ℕ)) (settings : Settings) (draft : Draft) (stamp text : List ℕ) : Type 0 where
   pub secret : List ℕ
@@ -143,7 +152,7 @@ pub record IsPrepared (known : List ℕ → Option (List ℕ)) (o : SignOptions)
   pub configured : IsConfigured (known setup.keys.now) setup settings
   pub stamped : IsStampOf moment stamp
 
--- the text is the signed request that the options describe
+-- the text is what the options ask for: the signed request that they describe, or its address
 pub record IsTextOf (known : List ℕ → Option (List ℕ)) (o : SignOptions) (text : List ℕ) : Type 0 where
   pub draft : Draft
   pub settings : Settings
@@ -184,7 +193,7 @@ pub record IsReady (known : List ℕ → Option (List ℕ)) (setup : Setup) (mom
   pub configured : IsConfigured (known setup.keys.now) setup settings
   pub stamped : IsStampOf moment stamp
 
--- the text is the signed request of a draft under a setup, at a moment
+-- the text is what is written of a draft under a setup, at a moment
 abbrev pub IsDraftText : (List ℕ → Option (List ℕ)) → Setup → ℕ → Draft → List ℕ → Type 0
 IsDraftText known setup moment draft text =
     (settings : Settings) × (stamp : List ℕ)

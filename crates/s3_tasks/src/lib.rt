@@ -3,6 +3,7 @@
 #![tactic(auto)]
 
 mod events;
+mod mode;
 mod run;
 mod sign;
 

@@ -1,18 +1,20 @@
-//! The signed request that the options of `s3d sign` describe.
+//! The signed request that the options of `s3d sign` describe, or its address.
 
-ghost use Rattle.std.specs.Prelude.{◌≡◌, ◌++◌, [], ◌∷◌, Some, None, IfOk, OnOk, IfErr, IsErrOf, MatchOption, option_map, position, false, true};
+ghost use Rattle.std.specs.Prelude.{◌≡◌, ◌++◌, [], ◌∷◌, IfOk, OnOk, IfErr, IsErrOf, MatchOption, position, false, true};
 ghost use Rattle.std.specs.List.{list_all};
+ghost use Rattle.s3_signer.specs.Presigned.{IsPresignable, presigned_target_text};
 ghost use Rattle.s3_signer.specs.Request.{given_lines};
 ghost use Rattle.s3_settings.specs.Fault.{MemoryOr};
-ghost use Rattle.s3_settings.specs.Settings.{option_number};
-ghost use Rattle.s3_tasks.specs.Sign.{texts_of, is_colon, has_colon, line_of_word, header_lines, are_sign_options, chunk_asked, chunk_of, IsSignableDraft, IsSignedDraft, IsDraftOf, IsBodyOf, IsBodyFault, IsRequestOf, IsRequestFault, IsTextOf, IsSignFault, IsDraftText, IsDraftFault};
+ghost use Rattle.s3_tasks.specs.Sign.{texts_of, is_colon, has_colon, line_of_word, header_lines, are_sign_options, address_line, IsSignableDraft, IsSignedDraft, IsDraftOf, IsBodyOf, IsBodyFault, IsRequestOf, IsRequestFault, IsTextOf, IsSignFault, IsDraftText, IsDraftFault};
 
+use crate::mode::SignMode;
+use s3_authorization::Expires;
 use s3_calendar::{Moment, Stamp};
 use s3_config::Config;
 use s3_options::SignOptions;
-use s3_settings::{Fault, Files, Setup, configure, option_moment, option_number, read_file};
-use s3_signer::{ChunkSize, Unsigned, chunked_request, signed_request};
-use std::alloc::Global;
+use s3_settings::{Fault, Files, Setup, configure, option_moment, read_file};
+use s3_signer::{Unsigned, chunked_request, presigned_request, presigned_target, signed_request};
+use std::alloc::{AllocError, Global};
 
 /// A request that is to be signed.
 #[derive(Drop)]
@@ -23,17 +25,19 @@ pub struct Draft<'a> {
     pub method: &'a str,
     /// The target.
     pub target: &'a str,
+    /// The value of its host line.
+    pub host: &'a str,
     /// The names and values of its header lines, that of the host first.
     pub headers: Vec<(&'a [u8], &'a [u8])>,
     /// The path of the file that has its body; without one the body is empty.
     pub body: Option<&'a str>,
-    /// How many bytes of it each signed chunk has; without one it is sent as it is.
-    pub chunk: Option<ChunkSize>,
+    /// Where it carries its signature, and what of it is written.
+    pub mode: SignMode,
 }
 
 impl<'a> Draft<'a> {
     /// The request that the options describe; `BadSetting` where one that it needs isn't there, a header line has
-    /// no `:`, or the size of chunks isn't one from 1 to 67,108,864 in 1 to 12 decimal digits.
+    /// no `:`, or they ask for no way of signing ([`SignMode::read`]).
     #[tactic(auto, unfolding(crate::specs::Sign::are_sign_options))]
     pub fn read(alloc: Global, options: &SignOptions<'a>) -> Result<Draft<'a>, Fault<'a>>
         ensures value { IfOk result (IsDraftOf options.now) }
@@ -47,39 +51,18 @@ impl<'a> Draft<'a> {
         ) else {
             return Err(Fault::BadSetting);
         };
-        let chunk = chunk_asked(options.chunk)?;
+        let mode = SignMode::read(options)?;
         let headers = header_lines(alloc, host, options.headers.as_slice())?;
         Ok(Draft {
             id,
             method,
             target,
+            host,
             headers,
             body: options.body,
-            chunk,
+            mode,
         })
     }
-}
-
-// The size of chunks that an option asks for, where it is there.
-fn chunk_asked<'a>(option: Option<&str>) -> Result<Option<ChunkSize>, Fault<'a>>
-    ensures value { IfOk result (λ size. chunk_asked (option_map (λ text. text.now) option.entry) ≡ Some size) }
-    ensures refused { IfErr result (λ fault. (fault ≡ Fault.BadSetting)
-        × (chunk_asked (option_map (λ text. text.now) option.entry) ≡ None)) }
-{
-    let Some(text) = option else {
-        return Ok(None);
-    };
-    match chunk_size(text) {
-        Some(size) => Ok(Some(size)),
-        None => Err(Fault::BadSetting),
-    }
-}
-
-// The size of chunks that a text says.
-fn chunk_size(text: &str) -> Option<ChunkSize>
-    ensures { result ≡ chunk_of (option_number text.now) }
-{
-    ChunkSize::new(option_number(text)?)
 }
 
 // The header lines that the host and the words say.
@@ -132,7 +115,7 @@ fn first_colon(text: &[u8]) -> Option<usize>
     text.iter().position(|byte| *byte == b':')
 }
 
-/// The signed request that the options describe.
+/// The signed request that the options describe, or its address where they ask for that.
 pub fn signed_text<'a, F: Files>(
     alloc: Global,
     options: &SignOptions<'a>,
@@ -149,7 +132,7 @@ pub fn signed_text<'a, F: Files>(
     signed_draft(alloc, setup, moment, &draft, files)
 }
 
-// The signed request of a draft, by the settings of a setup and at a moment.
+// What is written of a draft, by the settings of a setup and at a moment.
 fn signed_draft<'a, F: Files>(
     alloc: Global,
     setup: Setup<'a>,
@@ -165,7 +148,7 @@ fn signed_draft<'a, F: Files>(
     request(alloc, &config, draft, files, stamp)
 }
 
-// The signed request of a draft, in a server's region and by the secret that it has for the id.
+// What is written of a draft, in a server's region and by the secret that it has for the id.
 fn request<'a, F: Files>(
     alloc: Global,
     config: &Config,
@@ -183,7 +166,7 @@ fn request<'a, F: Files>(
     signed(alloc, config, secret, draft, body.as_slice(), stamp)
 }
 
-// The request of a draft with this body, signed in a server's region by a secret; `BadSetting` where it
+// What is written of a draft with this body, signed in a server's region by a secret; `BadSetting` where it
 // cannot be signed.
 fn signed<'a>(
     alloc: Global,
@@ -204,7 +187,7 @@ fn signed<'a>(
     }
 }
 
-// The same, with its body as it is or in signed chunks, as the draft says.
+// The same: the request, or its address, as the draft's mode says.
 fn written(
     alloc: Global,
     config: &Config,
@@ -220,14 +203,54 @@ fn written(
     let (id, region) = (draft.id.as_bytes(), config.region());
     let (method, target) = (draft.method.as_bytes(), draft.target.as_bytes());
     let headers = draft.headers.as_slice();
-    match draft.chunk {
-        Some(size) => chunked_request(
-            alloc, id, secret, region, method, target, headers, body, size, stamp,
-        ),
-        None => signed_request(
+    match draft.mode {
+        SignMode::Hashed => signed_request(
             alloc, id, secret, region, method, target, headers, body, stamp,
         ),
+        SignMode::Chunked(size) => chunked_request(
+            alloc, id, secret, region, method, target, headers, body, size, stamp,
+        ),
+        SignMode::Presigned(expires) => presigned_request(
+            alloc, id, secret, region, method, target, headers, body, stamp, expires,
+        ),
+        SignMode::Address(expires) => address(alloc, config, secret, draft, stamp, expires),
     }
+}
+
+// The address of a draft, whose target carries its signature and holds for so many seconds.
+fn address(
+    alloc: Global,
+    config: &Config,
+    secret: &[u8],
+    draft: &Draft<'_>,
+    stamp: Stamp,
+    expires: Expires,
+) -> Result<Vec<u8>, Unsigned>
+    ensures value { IfOk result (λ text. text.items ≡ address_line draft.now.host.now (presigned_target_text draft.now.id.now secret.now config.now.region
+        draft.now.method.now draft.now.target.now (given_lines draft.now.headers.items) stamp expires)) }
+    ensures signable { OnOk result (IsPresignable draft.now.id.now secret.now config.now.region
+        draft.now.method.now draft.now.target.now (given_lines draft.now.headers.items) stamp expires) }
+    ensures refused { IsErrOf result Unsigned.NotSignable → ¬ (IsPresignable draft.now.id.now secret.now config.now.region
+        draft.now.method.now draft.now.target.now (given_lines draft.now.headers.items) stamp expires) }
+{
+    let (id, region) = (draft.id.as_bytes(), config.region());
+    let (method, target) = (draft.method.as_bytes(), draft.target.as_bytes());
+    let headers = draft.headers.as_slice();
+    let target = presigned_target(
+        alloc, id, secret, region, method, target, headers, stamp, expires,
+    )?;
+    Ok(address_line(alloc, draft.host.as_bytes(), &target)?)
+}
+
+// The address of a target at a host, in a line.
+fn address_line(alloc: Global, host: &[u8], target: &[u8]) -> Result<Vec<u8>, AllocError>
+    ensures { IfOk result (λ text. text.items ≡ address_line host.now target.now) }
+{
+    let mut text = Vec::from_slice(alloc, b"http://")?;
+    text.extend_from_slice(host)?;
+    text.extend_from_slice(target)?;
+    text.push(b'\n')?;
+    Ok(text)
 }
 
 // The bytes of the file at the path; none without one.

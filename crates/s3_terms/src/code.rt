@@ -43,6 +43,7 @@ pub enum Code {
     InvalidPart = 32,
     EntityTooSmall = 33,
     InternalError = 34,
+    AuthorizationQueryParametersError = 35,
 }
 
 impl Code {
@@ -91,7 +92,8 @@ impl Code {
             | Code::MalformedBody
             | Code::InvalidPartOrder
             | Code::InvalidPart
-            | Code::EntityTooSmall => Status::BadRequest,
+            | Code::EntityTooSmall
+            | Code::AuthorizationQueryParametersError => Status::BadRequest,
         }
     }
 
@@ -134,6 +136,7 @@ impl Code {
             Code::InvalidPart => "InvalidPart",
             Code::EntityTooSmall => "EntityTooSmall",
             Code::InternalError => "InternalError",
+            Code::AuthorizationQueryParametersError => "AuthorizationQueryParametersError",
         }
     }
 
@@ -177,6 +180,7 @@ impl Code {
             Code::InvalidPart => "A listed part is not there.",
             Code::EntityTooSmall => "A part is too small.",
             Code::InternalError => "",
+            Code::AuthorizationQueryParametersError => "The signing query is malformed.",
         }
     }
 }

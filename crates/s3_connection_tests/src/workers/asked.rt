@@ -7,8 +7,9 @@ use s3_names::{BucketName, Key};
 use s3_versions::{ContentType, Metadata};
 use std::alloc::Global;
 
-// What stores these bytes as a plain text without metadata, or reads where there are none.
-fn asked(alloc: Global, bytes: Option<&[u8]>) -> Option<KeyCommand<Payload>> {
+// What stores these bytes as a plain text without metadata, and only where the key has no object if so wanted; or reads where
+// there are none.
+fn asked(alloc: Global, bytes: Option<&[u8]>, if_absent: bool) -> Option<KeyCommand<Payload>> {
     let Some(bytes) = bytes else {
         return Some(KeyCommand::Read(ObjectRead {
             version: None,
@@ -25,14 +26,21 @@ fn asked(alloc: Global, bytes: Option<&[u8]>) -> Option<KeyCommand<Payload>> {
         Ok(content_type) => Some(KeyCommand::Put(ObjectPut {
             content_type,
             metadata,
+            if_absent,
             payload,
         })),
         Err(_) => None,
     }
 }
 
-/// A turn that stores these bytes under a key, or reads what stands there where there are none.
-pub(crate) fn turn(alloc: Global, key: &[u8], bytes: Option<&[u8]>) -> Option<Turn> {
+/// A turn that stores these bytes under a key, and only where it has no object if so wanted; or reads what stands there where
+/// there are none.
+pub(crate) fn turn(
+    alloc: Global,
+    key: &[u8],
+    bytes: Option<&[u8]>,
+    if_absent: bool,
+) -> Option<Turn> {
     let moment = Moment::new(7)?;
     let Ok(bucket) = BucketName::read(alloc, b"pail") else {
         return None;
@@ -40,7 +48,7 @@ pub(crate) fn turn(alloc: Global, key: &[u8], bytes: Option<&[u8]>) -> Option<Tu
     let Ok(key) = Key::read(alloc, key) else {
         return None;
     };
-    let asked = asked(alloc, bytes)?;
+    let asked = asked(alloc, bytes, if_absent)?;
     let command = Command::Key { bucket, key, asked };
     Some(Turn { command, moment })
 }

@@ -1,8 +1,8 @@
-//! A book with a bucket, and three turns of two seats.
+//! A book with a bucket, and four turns of two seats.
 use crate::workers::asked::{is_body, turn};
 use crate::workers::served::book;
 use s3_config::Config;
-use s3_journal::{Book, books_keep_promises};
+use s3_journal::{Book, books_keep_conditions, books_keep_promises};
 use s3_machine::Outcome;
 use s3_records::MapRecords;
 use std::alloc::Global;
@@ -26,7 +26,8 @@ fn word_of(alloc: Global, outcome: &Outcome) -> Option<&'static str> {
     }
 }
 
-/// A turn: its seat, its key, what it stores if it doesn't read, its number, and what comes of it.
+/// A turn: its seat, its key, what it stores if it doesn't read, which it does only where the key has no object, its number, and
+/// what comes of it.
 type Row = (
     u64,
     &'static [u8],
@@ -35,16 +36,17 @@ type Row = (
     Option<&'static str>,
 );
 
-// One seat stores `hello`, another reads it, and the first finds nothing under another key.
-static TURNS: [Row; 3] = [
+// One seat stores `hello`, another reads it and doesn't replace it, and the first finds nothing under another key.
+static TURNS: [Row; 4] = [
     (0, b"a", Some(b"hello"), 0, Some("stored")),
     (1, b"a", None, 1, Some("hello")),
-    (0, b"b", None, 2, Some("NoSuchKey")),
+    (1, b"a", Some(b"hello"), 2, Some("PreconditionFailed")),
+    (0, b"b", None, 3, Some("NoSuchKey")),
 ];
 
 // Whether a turn has its number, and what has to come of it does.
 fn is_answered(alloc: Global, book: &mut Book<MapRecords>, row: &Row) -> bool {
-    match turn(alloc, row.1, row.2) {
+    match turn(alloc, row.1, row.2, true) {
         Some(turn) => match book.apply(row.0, turn) {
             Ok(answer) => {
                 let came = (answer.number, word_of(alloc, &answer.outcome));
@@ -67,12 +69,13 @@ fn are_answered(alloc: Global, book: &mut Book<MapRecords>, entries: u64) -> boo
     book.entries() == entries && book.store().number() == entries
 }
 
-/// Whether two seats of a new book are answered as they have to be, with three entries.
+/// Whether two seats of a new book are answered as they have to be, with four entries.
 pub(crate) fn two_seats_are_answered(alloc: Global, config: &Config) -> bool {
     books_keep_promises();
+    books_keep_conditions();
     match book(alloc, config) {
         Some(mut book) => {
-            let are_answered = are_answered(alloc, &mut book, 3);
+            let are_answered = are_answered(alloc, &mut book, 4);
             drop(book);
             are_answered
         }

@@ -42,7 +42,7 @@ fn has<J: Ground>(
     put: Option<&[u8]>,
     bytes: &[u8],
 ) -> bool {
-    match turn(alloc, &key_of(whose), put) {
+    match turn(alloc, &key_of(whose), put, false) {
         Some(turn) => match desk.submit(rt, seat, turn) {
             Ok(answer) => {
                 let is_wanted = is_outcome(alloc, &answer.outcome, put, bytes);

@@ -8,12 +8,13 @@ use s3_requests::{Command, Plan, command, route};
 use s3_terms::Code;
 use std::alloc::Global;
 
-// The lines of a head behind its first one.
-const LINES: &[u8] = b" HTTP/1.1\r\ncontent-type: text/plain\r\nx-amz-meta-colour: red\r\n\r\n";
+// The version behind a method and a target, and the lines that every head has.
+const LINES: &[u8] = b" HTTP/1.1\r\ncontent-type: text/plain\r\nx-amz-meta-colour: red\r\n";
 
-// What a request of this method and target asks for.
+// What a request of this method and target asks for, whose head has also the lines that stand behind a line feed.
 fn plan_of(alloc: Global, line: &str) -> Result<Plan, Code> {
-    let text = [line.as_bytes(), LINES].concat(alloc)?;
+    let (line, more) = line.split_once('\n').unwrap_or((line, ""));
+    let text = [line.as_bytes(), LINES, more.as_bytes(), b"\r\n"].concat(alloc)?;
     let head = Head::read(alloc, &text)?;
     let plan = route(alloc, &head);
     drop(head);
@@ -33,7 +34,7 @@ fn planned(alloc: Global, plan: Plan, body: &[u8]) -> Result<Command, Code> {
 }
 
 /// The command of a request with this method and target, and this body. It says that its body is text, and has one name of
-/// metadata, `colour`, with the value `red`.
+/// metadata, `colour`, with the value `red`, and the lines that stand behind a line feed.
 pub(crate) fn command_of(alloc: Global, line: &str, body: &[u8]) -> Result<Command, Code> {
     planned(alloc, plan_of(alloc, line)?, body)
 }

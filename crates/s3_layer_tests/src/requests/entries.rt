@@ -1,12 +1,12 @@
 //! Requests whose commands stores apply, and what they are answered.
 //!
 //! Each table is of one store with the empty buckets `pail` and `vat`, and has the entry of number n at the second n of
-//! 1970. A row has a method and a target, the body behind a `<`, a bar, and what is answered. A semicolon stands between two
-//! rows: one text costs less to prove than a table.
+//! 1970. A row has a method and a target, a line feed and more lines of the head, if there are more, the body behind a `<`, a
+//! bar, and what is answered. A semicolon stands between two rows: one text costs less to prove than a table.
 //!
 //! Answered are words and `-` where no id is shown: `stored`, the id and the tag; `got` and `head`, the id, the number of
-//! the put, the tag, and the bytes or their count; `deleted` and the id, or a refusal, and `marker` where it tells of a
-//! delete marker. Tags are those of md5sum.
+//! the put, the tag, and the bytes or their count; `part` and the tag; `completed`, the id, the tag and the document; `deleted`
+//! and the id, or a refusal, and `marker` where it tells of a delete marker. Tags are those of md5sum.
 
 // A bucket that was never versioned ("How S3 Versioning works"): each put replaces its key alone, and a delete leaves
 // nothing.
@@ -110,3 +110,48 @@ pub(crate) const BUCKETS: &str = "\
     DELETE /vat/k|NoSuchBucket;\
     PUT /vat|made vat;\
     GET /vat?versioning|Unversioned";
+
+// Puts that want no object under their key (Amazon S3 User Guide, "How to prevent object overwrites with conditional writes"):
+// a delete marker is none.
+pub(crate) const ABSENT: &str = "\
+    PUT /pail/k\nif-none-match: *\r\n<one|stored - f97c5d29941bfb1b2fdab0874906ab82;\
+    PUT /pail/k\nif-none-match: *\r\n<two|PreconditionFailed;\
+    GET /pail/k|got - 0 f97c5d29941bfb1b2fdab0874906ab82 one;\
+    PUT /pail/k<two|stored - b8a9f715dbb64fd5c56e7783c6820a61;\
+    PUT /tub/k\nif-none-match: *\r\n<one|NoSuchBucket;\
+    DELETE /pail/k|deleted -;\
+    PUT /pail/k\nif-none-match: *\r\n<hello|stored - 5d41402abc4b2a76b9719d911017c592;\
+    PUT /pail?versioning<{\"Status\":\"Enabled\"}|set;\
+    PUT /pail/k\nif-none-match: *\r\n<one|PreconditionFailed;\
+    DELETE /pail/k|deleted v0000000000000009 marker;\
+    PUT /pail/k\nif-none-match: *\r\n<one|stored v000000000000000a f97c5d29941bfb1b2fdab0874906ab82;\
+    PUT /pail/k\nif-none-match: *\r\n<two|PreconditionFailed;\
+    DELETE /pail/k?versionId=v000000000000000a|deleted v000000000000000a;\
+    PUT /pail/k\nif-none-match: *\r\n<two|stored v000000000000000d b8a9f715dbb64fd5c56e7783c6820a61;\
+    PUT /pail?versioning<{\"Status\":\"Suspended\"}|set;\
+    PUT /pail/k\nif-none-match: *\r\n<one|PreconditionFailed;\
+    DELETE /pail/k|deleted null marker;\
+    PUT /pail/k\nif-none-match: *\r\n<one|stored null f97c5d29941bfb1b2fdab0874906ab82;\
+    PUT /pail/k\nif-none-match: *\r\n<two|PreconditionFailed;\
+    GET /pail/k|got null 17 f97c5d29941bfb1b2fdab0874906ab82 one";
+
+// The same of completions: an upload stays whose completion is refused so. That is told behind `NoSuchUpload`, and before the
+// parts are judged.
+pub(crate) const COMPLETED_ABSENT: &str = "\
+    POST /pail/k?uploads|{\"Bucket\":\"pail\",\"Key\":\"k\",\"UploadId\":\"u0000000000000000\"};\
+    PUT /pail/k?partNumber=1&uploadId=u0000000000000000<hello|part 5d41402abc4b2a76b9719d911017c592;\
+    PUT /pail/k<one|stored - f97c5d29941bfb1b2fdab0874906ab82;\
+    POST /pail/k?uploadId=u0000000000000000\nif-none-match: *\r\n<{\"Parts\":[{\"ETag\":\"5d41402abc4b2a76b9719d911017c592\",\"PartNumber\":1}]}|PreconditionFailed;\
+    POST /pail/k?uploadId=u0000000000000000\nif-none-match: *\r\n<{\"Parts\":[{\"ETag\":\"a\",\"PartNumber\":2},{\"ETag\":\"a\",\"PartNumber\":1}]}|PreconditionFailed;\
+    POST /pail/k?uploadId=u0000000000000000<{\"Parts\":[{\"ETag\":\"a\",\"PartNumber\":2},{\"ETag\":\"a\",\"PartNumber\":1}]}|InvalidPartOrder;\
+    POST /pail/k?uploadId=u00000000000000ff\nif-none-match: *\r\n<{\"Parts\":[{\"ETag\":\"a\",\"PartNumber\":2},{\"ETag\":\"a\",\"PartNumber\":1}]}|NoSuchUpload;\
+    POST /tub/k?uploadId=u0000000000000000\nif-none-match: *\r\n<{\"Parts\":[{\"ETag\":\"a\",\"PartNumber\":2},{\"ETag\":\"a\",\"PartNumber\":1}]}|NoSuchBucket;\
+    DELETE /pail/k|deleted -;\
+    POST /pail/k?uploadId=u0000000000000000\nif-none-match: *\r\n<{\"Parts\":[{\"ETag\":\"a\",\"PartNumber\":2},{\"ETag\":\"a\",\"PartNumber\":1}]}|InvalidPartOrder;\
+    POST /pail/k?uploadId=u0000000000000000\nif-none-match: *\r\n<{\"Parts\":[{\"ETag\":\"5d41402abc4b2a76b9719d911017c592\",\"PartNumber\":1}]}|completed - 62109206880d38a4010a98e11243924a-1 {\"Bucket\":\"pail\",\"ETag\":\"\\\"62109206880d38a4010a98e11243924a-1\\\"\",\"Key\":\"k\"};\
+    POST /pail/k?uploadId=u0000000000000000\nif-none-match: *\r\n<{\"Parts\":[{\"ETag\":\"5d41402abc4b2a76b9719d911017c592\",\"PartNumber\":1}]}|NoSuchUpload;\
+    POST /pail/k?uploads|{\"Bucket\":\"pail\",\"Key\":\"k\",\"UploadId\":\"u000000000000000c\"};\
+    PUT /pail/k?partNumber=1&uploadId=u000000000000000c<hello|part 5d41402abc4b2a76b9719d911017c592;\
+    POST /pail/k?uploadId=u000000000000000c\nif-none-match: *\r\n<{\"Parts\":[{\"ETag\":\"5d41402abc4b2a76b9719d911017c592\",\"PartNumber\":1}]}|PreconditionFailed;\
+    PUT /pail/k\nif-none-match: *\r\n<one|PreconditionFailed;\
+    POST /pail/k?uploadId=u000000000000000c<{\"Parts\":[{\"ETag\":\"5d41402abc4b2a76b9719d911017c592\",\"PartNumber\":1}]}|completed - 62109206880d38a4010a98e11243924a-1 {\"Bucket\":\"pail\",\"ETag\":\"\\\"62109206880d38a4010a98e11243924a-1\\\"\",\"Key\":\"k\"}";

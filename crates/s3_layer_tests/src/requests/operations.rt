@@ -43,7 +43,7 @@ fn key_operation<B>(asked: &KeyCommand<B>) -> (&'static str, Option<VersionId>) 
 fn upload_operation(asked: &UploadPlan) -> &'static str {
     match asked {
         UploadPlan::PutPart { .. } => "UploadPart",
-        UploadPlan::Complete => "CompleteMultipartUpload",
+        UploadPlan::Complete { .. } => "CompleteMultipartUpload",
         UploadPlan::Abort => "AbortMultipartUpload",
         UploadPlan::ListParts(_) => "ListParts",
     }
@@ -118,9 +118,19 @@ fn with_source(alloc: Global, text: Vec<u8>, source: &Source) -> Told {
     Ok([text.as_slice(), &from].concat(alloc)?)
 }
 
+// That text, and whether the key is to have no object.
+fn with_absence(alloc: Global, text: &[u8], if_absent: bool) -> Told {
+    let mut told = Vec::from_slice(alloc, text)?;
+    if if_absent {
+        told.extend_from_slice(b" absent")?;
+    }
+    Ok(told)
+}
+
 // That text, and what is asked beside the version.
 fn with_asked<B>(alloc: Global, text: Vec<u8>, asked: &KeyCommand<B>) -> Told {
     match asked {
+        KeyCommand::Put(asked) => with_absence(alloc, &text, asked.if_absent),
         KeyCommand::Copy(asked) => with_source(alloc, text, &asked.source),
         KeyCommand::Read(asked) => with_conditions(alloc, text, &asked.conditions),
         _ => Ok(text),
@@ -132,7 +142,8 @@ fn with_number(alloc: Global, text: &[u8], behind: u64) -> Told {
     Ok([text, b" ", &number(alloc, behind)?].concat(alloc)?)
 }
 
-// That text, and what is asked of an upload: the number of a part, or behind which number how many are listed.
+// That text, and what is asked of an upload: the number of a part, whether its key is to have no object, or behind which
+// number how many are listed.
 fn with_part(alloc: Global, text: &[u8], asked: &UploadPlan) -> Told {
     match asked {
         UploadPlan::PutPart { number } => with_number(alloc, text, u64::from(number.get())),
@@ -140,6 +151,7 @@ fn with_part(alloc: Global, text: &[u8], asked: &UploadPlan) -> Told {
             let text = with_number(alloc, text, asked.marker)?;
             with_number(alloc, &text, u64::from(asked.max_parts))
         }
+        UploadPlan::Complete { if_absent } => with_absence(alloc, text, *if_absent),
         _ => Ok(Vec::from_slice(alloc, text)?),
     }
 }
@@ -227,7 +239,7 @@ fn upload_text(asked: &UploadCommand) -> &'static str {
     match asked {
         UploadCommand::PutPart { payload, .. } if is_hello(payload) => "UploadPart hello",
         UploadCommand::PutPart { .. } => "UploadPart",
-        UploadCommand::Complete { listed } => match listed.as_slice() {
+        UploadCommand::Complete { listed, .. } => match listed.as_slice() {
             [part] if part.number.get() == 1 && is_same(part.tag.as_bytes(), HELLO_TAG) => {
                 "CompleteMultipartUpload hello"
             }

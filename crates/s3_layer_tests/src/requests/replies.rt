@@ -405,6 +405,7 @@ static STATUSES: [(&str, &[Code]); 10] = [
             Code::InvalidPartOrder,
             Code::InvalidPart,
             Code::EntityTooSmall,
+            Code::AuthorizationQueryParametersError,
         ],
     ),
     (

@@ -321,7 +321,36 @@ const CONDITIONS: Table = Table {
     end: "\r\n\r\n",
 };
 
-static LIMITS: [Table; 4] = [LONG_KEY, LONG_KEYS, LONG_LINES, CONDITIONS];
+// What a put and a completion ask of their key (Amazon S3 API Reference, PutObject, `If-None-Match`): the first line counts, and
+// says `*`; what else it says isn't implemented, which is told last. Other writes ignore it.
+const ABSENCE: Table = Table {
+    question: Question::Route,
+    front: "",
+    rows: "\
+        PUT /pail/k HTTP/1.1\r\nIf-None-Match: *|PutObject pail k absent^\
+        PUT /pail/k?versionId=v HTTP/1.1\r\nif-none-match:*\r\nif-none-match: a|PutObject pail k absent^\
+        PUT /pail/k HTTP/1.1\r\nif-none-match: a\r\nif-none-match: *|NotImplemented^\
+        PUT /pail/k HTTP/1.1\r\nif-none-match:|NotImplemented^\
+        PUT /pail/k HTTP/1.1\r\nif-none-match: \"*\"|NotImplemented^\
+        PUT /pail/k HTTP/1.1\r\nif-none-match: **|NotImplemented^\
+        PUT /pail/k HTTP/1.1\r\nif-none-match: *, *|NotImplemented^\
+        PUT /pail/k HTTP/1.1\r\nif-match: *|PutObject pail k^\
+        PUT /pail/k HTTP/1.1\r\nif-none-match: a\r\ncontent-type: {t*256}|InvalidArgument^\
+        PUT /pail/k HTTP/1.1\r\nif-none-match: a\r\nx-amz-meta-a: {v*2048}|MetadataTooLarge^\
+        PUT /pail/k HTTP/1.1\r\nif-none-match: a\r\nx-amz-copy-source: /pail/j|CopyObject pail k from pail j^\
+        PUT /pail/k?partNumber=1&uploadId=u0000000000000000 HTTP/1.1\r\nif-none-match: a|UploadPart pail k u0000000000000000 1^\
+        POST /pail/k?uploads HTTP/1.1\r\nif-none-match: a|CreateMultipartUpload pail k^\
+        POST /pail/k?uploadId=u0000000000000000 HTTP/1.1\r\nif-none-match: *|CompleteMultipartUpload pail k u0000000000000000 absent^\
+        POST /pail/k?uploadId=u0000000000000000 HTTP/1.1\r\nif-none-match: a|NotImplemented^\
+        POST /pail/k?uploadId= HTTP/1.1\r\nif-none-match: a|NoSuchUpload^\
+        DELETE /pail/k?uploadId=u0000000000000000 HTTP/1.1\r\nif-none-match: a|AbortMultipartUpload pail k u0000000000000000^\
+        DELETE /pail/k HTTP/1.1\r\nif-none-match: a|DeleteObject pail k^\
+        PUT /pail HTTP/1.1\r\nif-none-match: a|CreateBucket pail^\
+        PUT /Pail/k HTTP/1.1\r\nif-none-match: a|InvalidBucketName",
+    end: "\r\n\r\n",
+};
+
+static LIMITS: [Table; 5] = [LONG_KEY, LONG_KEYS, LONG_LINES, CONDITIONS, ABSENCE];
 
 #[test]
 fn limits(rt: HostRuntime) {

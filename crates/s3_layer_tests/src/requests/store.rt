@@ -2,7 +2,9 @@
 use crate::checks::check_none;
 use crate::requests::asked::is_told;
 use crate::requests::commands::{command_of, cut};
-use crate::requests::entries::{BUCKETS, ENABLED, SUSPENDED, UNVERSIONED};
+use crate::requests::entries::{
+    ABSENT, BUCKETS, COMPLETED_ABSENT, ENABLED, SUSPENDED, UNVERSIONED,
+};
 use crate::requests::operations::outcome_text;
 use s3_calendar::Moment;
 use s3_machine::Answer;
@@ -76,7 +78,14 @@ fn first_other(alloc: Global, rows: &'static str) -> Option<&'static str> {
 
 #[test]
 fn entries_are_answered(rt: HostRuntime) {
-    for rows in [UNVERSIONED, ENABLED, SUSPENDED, BUCKETS] {
+    for rows in [
+        UNVERSIONED,
+        ENABLED,
+        SUSPENDED,
+        BUCKETS,
+        ABSENT,
+        COMPLETED_ABSENT,
+    ] {
         let other = first_other(rt.alloc(), rows);
         check_none(&rt, other);
     }

@@ -52,7 +52,7 @@ const JUDGED_BEFORE_THE_MOMENT: Table = Table {
     seconds: 0,
     rows: "\
         GET /%4 HTTP/1.1\r\n+HOST+AUTHORIZATION+WORD+DATE|InvalidURI^\
-        GET /?%58-Amz-Signature=1 HTTP/1.1\r\n+HOST+WORD+DATE|AccessDenied^\
+        GET /?%58-Amz-Signature=1 HTTP/1.1\r\n+HOST+WORD+DATE|AuthorizationQueryParametersError^\
         GET_TEST+HOST+WORD+DATE|AccessDenied^\
         GET_TEST+HOST+AUTHORIZATION+AUTHORIZATION+WORD|AuthorizationHeaderMalformed^\
         GET_TEST+HOST+Authorization: Basic QQ==\r\n+WORD|AuthorizationHeaderMalformed^\

@@ -93,6 +93,25 @@ const FAULTS: &str = "\
     s3d sign --keys shelf --id id --moment 0 --method GET --target / --host h --chunk 0000000000003|bad setting;\
     s3d sign --keys shelf --id id --moment 0 --method GET --target / --host h --chunk 67108864|cannot read shelf;\
     s3d sign --keys keys --id id --moment 0 --method GET --target / --host h --chunk 3 content-encoding:gzip|bad setting;\
+    s3d sign --keys shelf --id id --moment 0 --method GET --target / --host h --presign 0|bad setting;\
+    s3d sign --keys shelf --id id --moment 0 --method GET --target / --host h --presign 604801|bad setting;\
+    s3d sign --keys shelf --id id --moment 0 --method GET --target / --host h --presign 4294967297|bad setting;\
+    s3d sign --keys shelf --id id --moment 0 --method GET --target / --host h --presign +60|bad setting;\
+    s3d sign --keys shelf --id id --moment 0 --method GET --target / --host h --presign 0000000000060|bad setting;\
+    s3d sign --keys shelf --id id --moment 0 --method GET --target / --host h --presign 000000000060|cannot read shelf;\
+    s3d sign --keys shelf --id id --moment 0 --method GET --target / --host h --presign 604800|cannot read shelf;\
+    s3d sign --keys shelf --id id --moment 0 --method GET --target / --host h --presign 60 --chunk 3|bad setting;\
+    s3d sign --keys shelf --id id --moment 0 --method GET --target / --host h --presign 60 --chunk 3 --url|bad setting;\
+    s3d sign --keys shelf --id id --moment 0 --method GET --target / --host h --url|bad setting;\
+    s3d sign --keys shelf --id id --moment 0 --method GET --target / --host h --chunk 3 --url|bad setting;\
+    s3d sign --keys shelf --id id --moment 0 --method GET --target / --host h --presign 604801 --url|bad setting;\
+    s3d sign --keys shelf --id id --moment 0 --method GET --target / --host h --presign 1 --url|cannot read shelf;\
+    s3d sign --keys keys --id id --moment 0 --method GET --target k --host h --presign 60|bad setting;\
+    s3d sign --keys keys --id id --moment 0 --method GET --target k --host h --presign 60 --url|bad setting;\
+    s3d sign --keys keys --id id --moment 0 --method GET --target / --host h --presign 60 Authorization:a|bad setting;\
+    s3d sign --keys keys --id id --moment 0 --method GET --target /?X-Amz-Expires=60 --host h --presign 60|bad setting;\
+    s3d sign --keys keys --id id --moment 0 --method G/T --target / --host h --presign 60 --body body|cannot read body;\
+    s3d sign --keys keys --id id --moment 0 --method GET --target / --host h --presign 60 --url --body body|cannot read body;\
     s3d sign --keys keys --id id --moment 0 --method GET --target / --host h --chunk 3 --body body content-encoding:gzip|cannot read body";
 
 #[test]

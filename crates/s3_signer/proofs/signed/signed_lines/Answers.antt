@@ -1,8 +1,8 @@
 use Rattle.std.proofs.Common.{◌≡◌, [], ◌∷◌, ◌∙◌, ap, rules, subst, sym}
 use Rattle.std.specs.Prelude.{IsErrOf}
 use Rattle.s3_signer.specs.declared.unsigned.Unsigned.TheVariants.{NotSignable}
-use Rattle.s3_signer.specs.Line.{ReadsBack, head_with, pairs, told_by}
-use Rattle.s3_signer.specs.Request.{authorization_line, given_lines, head_of, unsigned_head, unsigned_lines}
+use Rattle.s3_signer.specs.Line.{head_with, pairs, told_by}
+use Rattle.s3_signer.specs.Request.{ReadsBack, authorization_line, given_lines, head_of, unsigned_head, unsigned_lines}
 use Rattle.s3_signer.proofs.GrammarLemmas.{says_first}
 use Rattle.s3_signer.proofs.VerifiedLemmas.{ready_along}
 use Rattle.s3_signer.proofs.signed.signed_lines.Goals as goal
