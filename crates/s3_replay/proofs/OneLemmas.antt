@@ -9,9 +9,9 @@ use Rattle.s3_journal.specs.Recorded.{Recorded, entries_of_seat, history_of}
 use Rattle.s3_session.specs.Output.{is_dead, is_waiting}
 use Rattle.s3_session.specs.Replay.{Replays, entries_of}
 use Rattle.s3_events.specs.declared.event.Event.{Event}
-use Rattle.s3_buffered_session.specs.Buffered.{Buffered}
-use Rattle.s3_buffered_session.specs.Moments.{handed, handed_after}
-use Rattle.s3_buffered_session.specs.Output.{Input, answer_of, answered_turn, past_of}
+use Rattle.s3_connection.specs.Output.{Input, answer_of, answered_turn, past_of}
+use Rattle.s3_world.specs.Moments.{handed, handed_after}
+use Rattle.s3_world.specs.Played.{Playing}
 use Rattle.s3_world.specs.Events.{TurnAt, received, turns_given}
 use Rattle.s3_world.specs.StandsAfter.{WorldsRun, StandsAfter}
 use Rattle.s3_world.specs.Run.{AreTaken, Runs, output_of}
@@ -68,18 +68,18 @@ run_replays settings moment bytes out happened entries run came idle =
       run.standing 0,
       idle,
       record {
-        past = past_of (moment ∷ []) (received 0 happened) wrote.count own (run.waiting 0);
+        past = past_of (received 0 happened).bytes (received 0 happened).ended (handed (moment ∷ []) wrote.count) own (run.waiting 0);
         came = ap (λ (i : Input). i.bytes) came;
         ended = ap (λ (i : Input). i.ended) came;
         moments = all_handed moment wrote.count;
-        writes = wrote.writes;
+        writes = wrote.output.writes;
         legal = subst (Legal settings.min_part (opening settings.buckets) 0) (sym (answered_entries own (run.waiting 0) ∙ all)) run.legal;
       },
     )
 
 -- ---- so what a world of one wrote is
 
-only_output : (connections : List Buffered) → length connections ≡ 1 → (c : ℕ) → c < length connections
+only_output : (connections : List Playing) → length connections ≡ 1 → (c : ℕ) → c < length connections
     → output_of c (unsent_at connections 0 ∷ []) ≡ nothing_sent c ++ unsent_at connections c
 only_output connections one zero less = refl
 only_output connections one (suc c) less = absurd (omega (arith, one, less))

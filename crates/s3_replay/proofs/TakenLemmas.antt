@@ -7,7 +7,7 @@ use Rattle.s3_http_heads.specs.declared.find.Found.TheVariants as found
 use Rattle.s3_session.specs.Output.{is_waiting}
 use Rattle.s3_session.specs.Replay.{Replays}
 use Rattle.s3_events.specs.declared.event.Event.TheVariants as events
-use Rattle.s3_buffered_session.specs.Output.{Input}
+use Rattle.s3_connection.specs.Output.{Input}
 use Rattle.s3_world.specs.Events.{received}
 use Rattle.s3_world.specs.Laws.{EventsBring}
 use Rattle.s3_world.specs.StandsAfter.{WorldsRun, StandsAfter}

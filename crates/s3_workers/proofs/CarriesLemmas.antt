@@ -11,7 +11,7 @@ use Rattle.s3_session.specs.declared.session.Need.{Need}
 use Rattle.s3_session.specs.declared.session.Need.TheVariants as needs
 use Rattle.s3_session.specs.Session.{Connection, IsAnsweredTo, IsClockAsked, Needs, answered, fed, gave_between, standing_of, turns_of}
 use Rattle.s3_session.specs.Stands.{Stands}
-use Rattle.s3_buffered_session.specs.Output.{answer_of, answered_turn, HasWaiting}
+use Rattle.s3_connection.specs.Output.{answer_of, answered_turn, HasWaiting}
 use Rattle.s3_workers.specs.Around.{Around, GivesAll}
 use Rattle.s3_workers.specs.Counter.{entry_of, with_entry}
 use Rattle.s3_workers.specs.Connection.{Carries, IsAnswered, Leaves, Took}

@@ -9,7 +9,7 @@ use Rattle.s3_session.specs.Session as sessions
 use Rattle.s3_session.specs.Session.{standing_of}
 use Rattle.s3_session.specs.Laws.{OutputsStay}
 use Rattle.s3_session.specs.Stands.{SessionsWrite}
-use Rattle.s3_buffered_session.specs.Output.{answer_of, answered_turn}
+use Rattle.s3_connection.specs.Output.{answer_of, answered_turn}
 use Rattle.s3_devices.specs.Device.{Traffic}
 use Rattle.s3_workers.specs.Around.{Around, Ends, Fails, HasClosed, HasFailedToRead, HasWritten, Outputs, past_of}
 use Rattle.s3_workers.specs.Connection.{HasMet, Held, IsFit, IsServed, Leaves, StopsAt, unsent_of}

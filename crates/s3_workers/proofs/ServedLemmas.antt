@@ -6,7 +6,7 @@ use Rattle.s3_machine.specs.declared.turn.Turn.{Turn}
 use Rattle.s3_session.specs.Output.{Standing, is_waiting, nothing_yet, is_closed}
 use Rattle.s3_session.specs.Session.{Connection, standing_of}
 use Rattle.s3_session.specs.Stands.{Stands}
-use Rattle.s3_buffered_session.specs.Output.{answer_of, answered_turn, HasWaiting}
+use Rattle.s3_connection.specs.Output.{answer_of, answered_turn, HasWaiting}
 use Rattle.s3_devices.specs.Device.{Traffic, with_received}
 use Rattle.s3_workers.specs.Around.{Around, Own, around, nothing_own, since}
 use Rattle.s3_workers.specs.Connection.{Carries, HasSent, Held, IsFit, IsHeld, IsNew, IsServed, Leaves, MayRest, Took, held}

@@ -6,7 +6,7 @@ use Rattle.s3_machine.specs.History.{Entry}
 use Rattle.s3_machine.specs.declared.turn.Turn.{Turn}
 use Rattle.s3_session.specs.Output.{Past, Standing, Writes, is_waiting, is_closed}
 use Rattle.s3_session.specs.Output as standings
-use Rattle.s3_buffered_session.specs.Output.{answer_of, answered_turn, HasWaiting}
+use Rattle.s3_connection.specs.Output.{answer_of, answered_turn, HasWaiting}
 use Rattle.s3_devices.specs.Device.{Traffic}
 use Rattle.s3_workers.specs.declared.outcome.Outcome.{Outcome}
 use Rattle.s3_workers.specs.declared.outcome.Outcome.TheVariants as outcomes

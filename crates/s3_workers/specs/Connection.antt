@@ -10,7 +10,7 @@ use Rattle.s3_session.specs.Output as standings
 use Rattle.s3_session.specs.Session as sessions
 use Rattle.s3_session.specs.Session.{Connection}
 use Rattle.s3_session.specs.Stands.{Stands}
-use Rattle.s3_buffered_session.specs.Output.{answer_of, answered_turn, HasWaiting}
+use Rattle.s3_connection.specs.Output.{answer_of, answered_turn, HasWaiting}
 use Rattle.s3_devices.specs.Device.{Traffic}
 use Rattle.s3_workers.specs.Around.{Around, Fails, GivesAll, Own, with_own}
 use Rattle.s3_devices.specs.declared.device.Wanted.{Wanted}

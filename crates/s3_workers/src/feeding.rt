@@ -11,8 +11,8 @@ ghost use Rattle.s3_workers.specs.Connection.{Carries, IsAnswered, IsFit, Leaves
 use crate::counter::Counter;
 use crate::stage::Stage;
 use crate::worker::Worker;
-use s3_buffered_session::Kept;
 use s3_config::Config;
+use s3_connection::Kept;
 use s3_machine::Turn;
 use s3_session::{Clock, Need, Next, Session};
 use std::alloc::Global;

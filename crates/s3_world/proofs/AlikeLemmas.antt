@@ -5,7 +5,7 @@ use Rattle.std.proofs.lemmas.Bool.{cases_Bool}
 use Rattle.std.proofs.lemmas.Bool.Decides.{eqb_tells}
 use Rattle.s3_events.specs.declared.event.Event.{Event}
 use Rattle.s3_events.specs.declared.event.Event.TheVariants as events
-use Rattle.s3_buffered_session.specs.Output.{Input}
+use Rattle.s3_connection.specs.Output.{Input}
 use Rattle.s3_world.specs.Events.{TurnAt, brought, is_end, received, turn_given, turns_given, turns_given_after}
 use Rattle.s3_world.specs.Laws.{AreAlike}
 use Rattle.s3_world.specs.Alike.{CutsAreAlike, MovesAreAlike, connection_of, is_turn}

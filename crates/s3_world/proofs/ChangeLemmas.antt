@@ -15,9 +15,9 @@ use Rattle.s3_store.specs.Steps.{outcome_of}
 use Rattle.s3_journal.specs.Book.{Journal}
 use Rattle.s3_session.specs.Output.{Standing, is_dead, is_waiting, is_closed}
 use Rattle.s3_session.specs.Output as standings
-use Rattle.s3_buffered_session.specs.Output.{Input}
-use Rattle.s3_buffered_session.specs.Buffered.{Buffered, entries_with, is_handed_out, standing_of, turn_of, unanswered}
-use Rattle.s3_buffered_session.specs.Holds.{Holds}
+use Rattle.s3_connection.specs.Connection.{entries_with}
+use Rattle.s3_connection.specs.Output.{Input}
+use Rattle.s3_world.specs.Played.{IsIdle, Playing, Plays, standing_of, turn_of}
 use Rattle.s3_world.specs.World.{IsEntered}
 use Rattle.s3_world.specs.Shown.{standing_at}
 use Rattle.s3_world.specs.StandsAfter.{HasTaken, IsChangedAt, IsChangedIn, IsFedWith, IsRecorded, IsTurnTaken}
@@ -37,7 +37,7 @@ get_set_same (x ∷ xs) zero d less = refl
 get_set_same (x ∷ xs) (suc c) d less = get_set_same xs c d (omega arith)
 
 -- where the one that changed waits as it did, each does
-pub waiting_set : (old : List Buffered) (c : ℕ) (b d : Buffered) → c < length old → is_waiting (standing_of d) ≡ is_waiting (standing_of (get_or old c b))
+pub waiting_set : (old : List Playing) (c : ℕ) (b d : Playing) → c < length old → is_waiting (standing_of d) ≡ is_waiting (standing_of (get_or old c b))
     → (k : ℕ) → is_waiting (standing_at (set old c d) k) ≡ is_waiting (standing_at old k)
 waiting_set [] c b d less same k = refl
 waiting_set (x ∷ old) zero b d less same zero = same
@@ -45,20 +45,20 @@ waiting_set (x ∷ old) zero b d less same (suc k) = refl
 waiting_set (x ∷ old) (suc c) b d less same zero = refl
 waiting_set (x ∷ old) (suc c) b d less same (suc k) = waiting_set old c b d (omega arith) same k
 
-module _ (old : List Buffered) (c : ℕ) (Stays : Type 0) (Change : Buffered → Buffered → Type 0) where
-  pub changed_set : (b d : Buffered) → c < length old → Change (get_or old c b) d → IsChangedAt c old (set old c d) Stays Change
+module _ (old : List Playing) (c : ℕ) (Stays : Type 0) (Change : Playing → Playing → Type 0) where
+  pub changed_set : (b d : Playing) → c < length old → Change (get_or old c b) d → IsChangedAt c old (set old c d) Stays Change
   changed_set b d less change = record {
     count = length-set old c d;
     others = λ k differ. get_set_other old c k d differ;
-    one = subst (λ (x : Option Buffered). IsChangedIn Stays Change x (slice_get (set old c d) c)) (sym (slice_get-get_or old c b less))
-        (subst (λ (y : Option Buffered). IsChangedIn Stays Change (Some (get_or old c b)) y) (sym (get_set_same old c d less)) change);
+    one = subst (λ (x : Option Playing). IsChangedIn Stays Change x (slice_get (set old c d) c)) (sym (slice_get-get_or old c b less))
+        (subst (λ (y : Option Playing). IsChangedIn Stays Change (Some (get_or old c b)) y) (sym (get_set_same old c d less)) change);
   }
 
   pub changed_nowhere : length old ≤ c → Stays → IsChangedAt c old old Stays Change
   changed_nowhere past stays = record {
     count = refl;
     others = λ k differ. refl;
-    one = subst (λ (x : Option Buffered). IsChangedIn Stays Change x x) (sym (slice_get_past old c past)) stays;
+    one = subst (λ (x : Option Playing). IsChangedIn Stays Change x x) (sym (slice_get_past old c past)) stays;
   }
 
 -- ---- a piece, or the end
@@ -69,65 +69,58 @@ dead_closed standings.Waiting dead = absurd (cc)
 dead_closed standings.Over dead = absurd (cc)
 dead_closed standings.Dead dead = refl
 
-module _ (settings : Settings) (more : Input → Input) (b d : Buffered)
-    (closed : is_closed (standing_of b) ≡ true → standing_of d ≡ standing_of b) (handed : is_handed_out d ≡ is_handed_out b) where
-  pub fed_with : ((moments : List ℕ) (input : Input) (entries : List Entry) (pending : List Turn) (sent : List ℕ)
-      → Holds b settings moments input entries pending sent → Holds d settings moments (more input) entries pending sent)
+module _ (settings : Settings) (more : Input → Input) (b d : Playing)
+    (closed : is_closed (standing_of b) ≡ true → standing_of d ≡ standing_of b) (stays : IsIdle b → IsIdle d) where
+  pub fed_with : ((moments : List ℕ) (input : Input) (entries : List Entry) (sent : List ℕ)
+      → Plays b settings moments input entries sent → Plays d settings moments (more input) entries sent)
       → IsFedWith settings more b d
   fed_with holds = record {
     holds = holds;
     dead = λ dead. ap is_dead (closed (dead_closed (standing_of b) dead)) ∙ dead;
-    idle = λ idle. handed ∙ idle;
+    idle = stays;
   }
 
   pub fed_or_not : (result : Result (Unit {0}) NoMemory)
-      → ((moments : List ℕ) (input : Input) (entries : List Entry) (pending : List Turn) (sent : List ℕ)
-      → Holds b settings moments input entries pending sent → OnOk result (Holds d settings moments (more input) entries pending sent))
+      → ((moments : List ℕ) (input : Input) (entries : List Entry) (sent : List ℕ)
+      → Plays b settings moments input entries sent → OnOk result (Plays d settings moments (more input) entries sent))
       → OnOk result (IsFedWith settings more b d)
   fed_or_not (Ok done) holds = fed_with holds
   fed_or_not (Err e) holds = tt
 
-pub fed_set : (settings : Settings) (more : Input → Input) (old : List Buffered) (c : ℕ) (b d : Buffered) (result : Result (Unit {0}) NoMemory) → c < length old
+pub fed_set : (settings : Settings) (more : Input → Input) (old : List Playing) (c : ℕ) (b d : Playing) (result : Result (Unit {0}) NoMemory) → c < length old
     → OnOk result (IsFedWith settings more (get_or old c b) d) → OnOk result (IsChangedAt c old (set old c d) (Unit {0}) (IsFedWith settings more))
 fed_set settings more old c b d (Ok done) less fed = changed_set old c (Unit {0}) (IsFedWith settings more) b d less fed
 fed_set settings more old c b d (Err e) less fed = tt
 
 -- ---- a turn
 
-recorded_by : (seat : ℕ) (d : Buffered) (old new : Journal) (turn : Turn) (answered : Result Answer NoMemory)
+recorded_by : (seat : ℕ) (d : Playing) (old new : Journal) (turn : Turn) (answered : Result Answer NoMemory)
     → IfOk answered (λ answer. new.entries ≡ old.entries ++ record { seat = seat; entry = record { command = turn.command; moment = turn.moment; answer = answer } } ∷ [])
     → OnErr answered (new ≡ old) → OnErr answered (standing_of d ≡ standings.Dead) → IsRecorded seat d old new turn answered
 recorded_by seat d old new turn (Ok answer) entry same dies = entry
 recorded_by seat d old new turn (Err e) entry same dies = (ap (λ (j : Journal). j.entries) same, ap is_dead dies)
 
--- a turn is handed out where a command waits
-some_waits : (waits handed : Bool) → true ≡ (waits && not handed) → waits ≡ true
-some_waits true handed is = refl
-some_waits false handed is = absurd (cc)
-
-pub had_turn : (settings : Settings) (seat : ℕ) (b mid d : Buffered) (old new : Journal) (turn : Turn) (told : Option Turn) (answered : Result Answer NoMemory)
-    → told ≡ turn_of b → told ≡ Some turn → is_some told ≡ (is_waiting (standing_of b) && not (is_handed_out b))
+pub had_turn : (settings : Settings) (seat : ℕ) (b d : Playing) (old new : Journal) (turn : Turn) (told : Option Turn) (answered : Result Answer NoMemory)
+    → told ≡ turn_of b → told ≡ Some turn → is_waiting (standing_of b) ≡ true
     → IfOk answered (λ answer. new.entries ≡ old.entries ++ record { seat = seat; entry = record { command = turn.command; moment = turn.moment; answer = answer } } ∷ [])
     → OnErr answered (new ≡ old) → OnErr answered (standing_of d ≡ standings.Dead)
-    → ((settings : Settings) (moments : List ℕ) (input : Input) (entries : List Entry) (sent : List ℕ)
-    → Holds b settings moments input entries [] sent → Holds mid settings moments input entries (turn ∷ []) sent)
-    → ((moments : List ℕ) (input : Input) (entries : List Entry) (turn : Turn) (sent : List ℕ)
-    → Holds mid settings moments input entries (turn ∷ []) sent → Holds d settings moments input (entries_with entries turn answered) (unanswered turn answered) sent)
-    → is_handed_out d ≡ false → HasTaken settings seat old new b d
-had_turn settings seat b mid d old new turn told answered value is waits entry same dies hands holds idle =
+    → ((moments : List ℕ) (input : Input) (entries : List Entry) (sent : List ℕ)
+    → Plays b settings moments input entries sent → Plays d settings moments input (entries_with entries turn answered) sent)
+    → IsIdle d → HasTaken settings seat old new b d
+had_turn settings seat b d old new turn told answered value is waits entry same dies holds idle =
     subst (λ (t : Option Turn). IsTurnTaken settings seat b d old new t) (sym is ∙ value)
     (record {
       answered = answered;
-      waited = some_waits (is_waiting (standing_of b)) (is_handed_out b) (sym (ap is_some is) ∙ waits);
+      waited = waits;
       recorded = recorded_by seat d old new turn answered entry same dies;
-      holds = λ moments input entries sent h. holds moments input entries turn sent (hands settings moments input entries sent h);
+      holds = holds;
       idle = idle;
     })
 
 -- ---- a vector of connections, through a slice of it
 
 -- it has the elements that the slice was left with
-pub written_back : (v : Vec Buffered) (now left : List Buffered) (c : ℕ) (Stays : Type 0) (Change : Buffered → Buffered → Type 0) → now ≡ v.items
+pub written_back : (v : Vec Playing) (now left : List Playing) (c : ℕ) (Stays : Type 0) (Change : Playing → Playing → Type 0) → now ≡ v.items
     → IsChangedAt c now left Stays Change → (with_items v left).items ≡ left
 written_back v now left c Stays Change is at = with_items_is v left (at.count ∙ ap length is ∙ sym v.ok.0)
 

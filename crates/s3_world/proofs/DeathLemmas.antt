@@ -30,4 +30,4 @@ dead_writes standings.Dead settings past out dead writes =
 pub deaths_show : DeathsShow
 deaths_show settings moments happened outs entries run c there dead =
     let wrote = run.outputs c there in
-    dead_writes (run.standing c) settings _ (output_of c outs) dead wrote.writes
+    dead_writes (run.standing c) settings _ (output_of c outs) dead wrote.output.writes

@@ -8,7 +8,7 @@ use Rattle.std.proofs.lemmas.List.Sums.{take_while-cons}
 use Rattle.std.proofs.lemmas.List.Folds.{list_any-append}
 use Rattle.s3_events.specs.declared.event.Event.{Event}
 use Rattle.s3_events.specs.declared.event.Event.TheVariants as events
-use Rattle.s3_buffered_session.specs.Output.{Input}
+use Rattle.s3_connection.specs.Output.{Input}
 use Rattle.s3_world.specs.Events.{TurnAt, brought, is_end, received, turn_given, turns_given, turns_given_after}
 
 -- ---- lists: what stands before the first element that passes a test

@@ -4,7 +4,7 @@ use Rattle.std.proofs.lemmas.List.{length_push}
 use Rattle.std.specs.Global.{Vec}
 use Rattle.std.specs.List.{slice_get}
 use Rattle.s3_session.specs.Output.{Reading}
-use Rattle.s3_buffered_session.specs.Buffered.{Buffered, standing_of, unsent_of}
+use Rattle.s3_world.specs.Played.{Playing, standing_of, unsent_of}
 use Rattle.s3_world.specs.Run.{moments_of, each_moments}
 use Rattle.s3_world.specs.Shown.{standing_at, standing_in, unsent_at, unsent_in}
 use Rattle.s3_world.specs.StandsAfter.{AreFresh, IsFresh}
@@ -28,7 +28,7 @@ pub fresh_none : (moments : List (List ℕ)) → AreFresh [] moments 0
 fresh_none moments = record { count = refl; fresh = λ c b is. absurd (cc) }
 
 -- one more
-pub fresh_more : (made : List Buffered) (moments : List (List ℕ)) (n : ℕ) (b : Buffered) → AreFresh made moments n → IsFresh b (moments_of n moments)
+pub fresh_more : (made : List Playing) (moments : List (List ℕ)) (n : ℕ) (b : Playing) → AreFresh made moments n → IsFresh b (moments_of n moments)
     → AreFresh (made ++ b ∷ []) moments (n + 1)
 fresh_more made moments n b before one = record {
   count = length_push made b ∙ ap (λ (k : ℕ). k + 1) before.count;
@@ -37,34 +37,34 @@ fresh_more made moments n b before one = record {
         | inl earlier ↦ before.fresh c d earlier
         | inr last ↦
             (let place : c ≡ n = last.0 ∙ before.count in
-            subst (λ (x : Buffered). IsFresh x (moments_of c moments)) (sym last.1) (subst (λ (k : ℕ). IsFresh b (moments_of k moments)) (sym place) one))
+            subst (λ (x : Playing). IsFresh x (moments_of c moments)) (sym last.1) (subst (λ (k : ℕ). IsFresh b (moments_of k moments)) (sym place) one))
       ];
 }
 
 -- nothing is unsent of it
-abbrev pub IsSilent : List Buffered → Type 0
-IsSilent made = (c : ℕ) (b : Buffered) → slice_get made c ≡ Some b → unsent_of b ≡ []
+abbrev pub IsSilent : List Playing → Type 0
+IsSilent made = (c : ℕ) (b : Playing) → slice_get made c ≡ Some b → unsent_of b ≡ []
 
 pub silent_none : IsSilent []
 silent_none c b is = absurd (cc)
 
-pub silent_more : (made : List Buffered) (b : Buffered) → IsSilent made → unsent_of b ≡ [] → IsSilent (made ++ b ∷ [])
+pub silent_more : (made : List Playing) (b : Playing) → IsSilent made → unsent_of b ≡ [] → IsSilent (made ++ b ∷ [])
 silent_more made b before one c d is = elim (get_push made b d c is) [
   | inl earlier ↦ before c d earlier
   | inr last ↦ ap unsent_of last.1 ∙ one
 ]
 
-silent_in : (x : Option Buffered) → ((b : Buffered) → x ≡ Some b → unsent_of b ≡ []) → unsent_in x ≡ []
+silent_in : (x : Option Playing) → ((b : Playing) → x ≡ Some b → unsent_of b ≡ []) → unsent_in x ≡ []
 silent_in None silent = refl
 silent_in (Some b) silent = silent b refl
 
-pub silent_all : (made : List Buffered) → IsSilent made → (c : ℕ) → unsent_at made c ≡ []
+pub silent_all : (made : List Playing) → IsSilent made → (c : ℕ) → unsent_at made c ≡ []
 silent_all made silent c = silent_in (slice_get made c) (silent c)
 
 -- it reads
-reads_in : (x : Option Buffered) → ((b : Buffered) → x ≡ Some b → standing_of b ≡ Reading) → standing_in x ≡ Reading
+reads_in : (x : Option Playing) → ((b : Playing) → x ≡ Some b → standing_of b ≡ Reading) → standing_in x ≡ Reading
 reads_in None reads = refl
 reads_in (Some b) reads = reads b refl
 
-pub reads_all : (made : List Buffered) (moments : List (List ℕ)) (n : ℕ) → AreFresh made moments n → (c : ℕ) → standing_at made c ≡ Reading
+pub reads_all : (made : List Playing) (moments : List (List ℕ)) (n : ℕ) → AreFresh made moments n → (c : ℕ) → standing_at made c ≡ Reading
 reads_all made moments n fresh c = reads_in (slice_get made c) (λ b is. (fresh.fresh c b is).reads)

@@ -4,6 +4,8 @@ pub mod DeathLemmas
 pub mod EntryLemmas
 pub mod EventLemmas
 pub mod FreshLemmas
+pub mod MomentsLemmas
+pub mod PlayedLemmas
 pub mod OneRunLemmas
 pub mod RunLemmas
 pub mod TakenLemmas

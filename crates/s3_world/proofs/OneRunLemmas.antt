@@ -10,10 +10,12 @@ use Rattle.s3_machine.specs.declared.turn.Turn.{Turn}
 use Rattle.s3_journal.specs.Recorded.{Recorded, entries_of_seat, history_of}
 use Rattle.s3_session.specs.Output.{is_dead}
 use Rattle.s3_session.specs.Output as standings
-use Rattle.s3_buffered_session.specs.Output.{Input, OneOutput, Outputs, answered_turn}
+use Rattle.s3_connection.specs.Output.{Input, OneOutput, answered_turn}
 use Rattle.s3_world.specs.Events.{TurnAt, received, turns_given}
 use Rattle.s3_world.specs.Run.{AreTaken, HasNoEntry, WaitsAt, moments_of, output_of}
 use Rattle.s3_world.specs.Laws.{OneRun}
+use Rattle.s3_world.specs.Timed.{TimedOutputs}
+use Rattle.s3_world.proofs.PlayedLemmas.{OneTimedOutput, timed_one}
 use Rattle.s3_world.proofs.EntryLemmas.{answer_there, history_more}
 
 -- an entry of these
@@ -27,7 +29,7 @@ given least s n turn = record { number = n; outcome = (step least s n turn.momen
 first_same : {A : Type 0} (x y : A) (xs ys : List A) → x ∷ xs ≡ y ∷ ys → x ≡ y
 first_same x y xs ys same = cc
 
-module _ (one : OneOutput) (settings : Settings) (moments : List (List ℕ)) where
+module _ (one : OneTimedOutput) (settings : Settings) (moments : List (List ℕ)) where
   abbrev IsLegal : List Recorded → Type 0
   IsLegal entries = Legal settings.min_part (opening settings.buckets) 0 (history_of entries)
 
@@ -101,15 +103,15 @@ one_run one settings moments happened other outs outs' entries entries' run run'
     let taken' : AreTaken settings moments (λ c. is_dead (run'.standing c)) [] (turns_given happened) entries' =
     subst (λ (turns : List TurnAt). AreTaken settings moments (λ c. is_dead (run'.standing c)) [] turns entries') (sym alike.turns) run'.taken in
     let same : entries ≡ entries' =
-    one_taking one settings moments (λ c. is_dead (run.standing c)) (λ c. is_dead (run'.standing c)) whole whole' [] (turns_given happened) entries entries' run.taken taken' run.legal run'.legal in (
+    one_taking (timed_one one) settings moments (λ c. is_dead (run.standing c)) (λ c. is_dead (run'.standing c)) whole whole' [] (turns_given happened) entries entries' run.taken taken' run.legal run'.legal in (
       same,
       outs_same outs outs' (run.each ∙ sym run'.each)
           (λ c less.
           let there : c < length moments = omega (arith, run.each) in
           let ours = run.outputs c there in
-          let theirs : Outputs (run'.standing c) settings (moments_of c moments) (received c happened) (entries_of_seat c entries) (run'.waiting c) (output_of c outs') =
-          subst (λ (es : List Recorded). Outputs (run'.standing c) settings (moments_of c moments) (received c happened) (entries_of_seat c es) (run'.waiting c) (output_of c outs')) (sym same)
-          (subst (λ (input : Input). Outputs (run'.standing c) settings (moments_of c moments) input (entries_of_seat c entries') (run'.waiting c) (output_of c outs')) (sym (alike.inputs c)) (run'.outputs c there)) in
-          (one settings (moments_of c moments) (received c happened) (entries_of_seat c entries) (run.standing c) (run'.standing c) (run.waiting c) (run'.waiting c) (output_of c outs) (output_of c outs')
+          let theirs : TimedOutputs (run'.standing c) settings (moments_of c moments) (received c happened) (entries_of_seat c entries) (run'.waiting c) (output_of c outs') =
+          subst (λ (es : List Recorded). TimedOutputs (run'.standing c) settings (moments_of c moments) (received c happened) (entries_of_seat c es) (run'.waiting c) (output_of c outs')) (sym same)
+          (subst (λ (input : Input). TimedOutputs (run'.standing c) settings (moments_of c moments) input (entries_of_seat c entries') (run'.waiting c) (output_of c outs')) (sym (alike.inputs c)) (run'.outputs c there)) in
+          (timed_one one settings (moments_of c moments) (received c happened) (entries_of_seat c entries) (run.standing c) (run'.standing c) (run.waiting c) (run'.waiting c) (output_of c outs) (output_of c outs')
           (whole c there) (whole' c there) ours theirs).0),
     )

@@ -14,20 +14,22 @@ use Rattle.s3_journal.specs.Book.{Journal}
 use Rattle.s3_journal.specs.Recorded.{entries_of_seat, history_of}
 use Rattle.s3_session.specs.Output.{is_dead}
 use Rattle.s3_events.specs.declared.event.Event.{Event}
-use Rattle.s3_buffered_session.specs.Output.{Input, Outputs}
-use Rattle.s3_buffered_session.specs.Buffered.{Buffered, listed, turn_of, unsent_of}
-use Rattle.s3_buffered_session.specs.Holds.{BufferedSessionsWrite}
+use Rattle.s3_connection.specs.Output.{Input}
+use Rattle.s3_connection.specs.Holds.{ConnectionsWrite}
+use Rattle.s3_world.specs.Played.{IsIdle, Playing, Plays, unsent_of}
+use Rattle.s3_world.specs.Timed.{TimedOutputs}
+use Rattle.s3_world.proofs.PlayedLemmas.{plays_write}
 use Rattle.s3_world.specs.Events.{received, turns_given}
 use Rattle.s3_world.specs.Run.{moments_of, output_of, each_moments}
 use Rattle.s3_world.specs.Shown.{AreOutputs, nothing_sent, sent_more, standing_at, standing_in, unsent_at, unsent_in, unsent_of_all}
-use Rattle.s3_world.specs.StandsAfter.{AreFresh, Held, IsChangedAt, IsSentOn, StandsAfter, is_lost_in, WorldsRun}
+use Rattle.s3_world.specs.StandsAfter.{AreFresh, IsChangedAt, IsSentOn, StandsAfter, is_lost_in, WorldsRun}
 use Rattle.s3_world.proofs.TakenLemmas.{taken_lost}
 use Rattle.s3_world.proofs.WorldLemmas.{lost_grows, one_was, same_or_not, there}
 
 -- ---- the beginning
 
 -- connections of which nothing came
-pub begins : (settings : Settings) (connections : List Buffered) (book : Journal) (given : List (Vec ℕ))
+pub begins : (settings : Settings) (connections : List Playing) (book : Journal) (given : List (Vec ℕ))
     → AreFresh connections (each_moments given) (length given)
     → book ≡ record { origin = book.origin; least = settings.min_part; opening = opened (opening settings.buckets); entries = []; store = opened (opening settings.buckets) }
     → StandsAfter (record { settings = settings; connections = connections; book = book }) (each_moments given) [] nothing_sent
@@ -35,7 +37,7 @@ begins settings connections book given fresh is =
     subst (λ (j : Journal). StandsAfter (record { settings = settings; connections = connections; book = j }) (each_moments given) [] nothing_sent) (sym is)
     (record {
       each = fresh.count ∙ sym (length-map given (λ (v : Vec ℕ). v.items));
-      holds = λ c b at. ([], (fresh.fresh c b at).holds settings);
+      holds = λ c b at. (fresh.fresh c b at).holds settings;
       idle = λ c b at. (fresh.fresh c b at).idle;
       least = refl;
       opens = refl;
@@ -54,7 +56,7 @@ sent_others sent c k bytes differ = elim (eqb_tells c k) [
   | inr other ↦ ap (λ (b : Bool). cond b (sent k ++ bytes) (sent k)) other.0
 ]
 
-pub sent_stands : (settings : Settings) (old new : List Buffered) (book : Journal) (moments : List (List ℕ)) (happened : List Event) (sent : ℕ → List ℕ) (c count : ℕ)
+pub sent_stands : (settings : Settings) (old new : List Playing) (book : Journal) (moments : List (List ℕ)) (happened : List Event) (sent : ℕ → List ℕ) (c count : ℕ)
     → IsChangedAt c old new (Unit {0}) (IsSentOn count)
     → StandsAfter (record { settings = settings; connections = old; book = book }) moments happened sent
     → StandsAfter (record { settings = settings; connections = new; book = book }) moments happened (sent_more sent c (take count (unsent_at old c)))
@@ -64,23 +66,22 @@ sent_stands settings old new book moments happened sent c count at s =
     record {
       each = at.count ∙ s.each;
       holds = λ k d is.
-          elim (same_or_not k c) as (λ _. Held d settings (moments_of k moments) (received k happened) (entries_of_seat k book.entries) (sent_more sent c bytes k)) [
+          elim (same_or_not k c) as (λ _. Plays d settings (moments_of k moments) (received k happened) (entries_of_seat k book.entries) (sent_more sent c bytes k)) [
             | inl same ↦
                 let b = was d (subst (λ (j : ℕ). slice_get new j ≡ Some d) same is) in
-                let held = s.holds c b.0 b.1 in
-                subst (λ (j : ℕ). Held d settings (moments_of j moments) (received j happened) (entries_of_seat j book.entries) (sent_more sent c bytes j)) (sym same)
-                (subst (λ (out : List ℕ). Held d settings (moments_of c moments) (received c happened) (entries_of_seat c book.entries) out)
-                (ap (λ (x : Option Buffered). sent c ++ take count (unsent_in x)) (sym b.1) ∙ sym (sent_own sent c bytes))
-                (held.0, b.2.holds settings (moments_of c moments) (received c happened) (entries_of_seat c book.entries) held.0 (sent c) held.1))
+                subst (λ (j : ℕ). Plays d settings (moments_of j moments) (received j happened) (entries_of_seat j book.entries) (sent_more sent c bytes j)) (sym same)
+                (subst (λ (out : List ℕ). Plays d settings (moments_of c moments) (received c happened) (entries_of_seat c book.entries) out)
+                (ap (λ (x : Option Playing). sent c ++ take count (unsent_in x)) (sym b.1) ∙ sym (sent_own sent c bytes))
+                (b.2.holds settings (moments_of c moments) (received c happened) (entries_of_seat c book.entries) (sent c) (s.holds c b.0 b.1)))
             | inr differ ↦
-                subst (λ (out : List ℕ). Held d settings (moments_of k moments) (received k happened) (entries_of_seat k book.entries) out) (sym (sent_others sent c k bytes differ))
+                subst (λ (out : List ℕ). Plays d settings (moments_of k moments) (received k happened) (entries_of_seat k book.entries) out) (sym (sent_others sent c k bytes differ))
                 (s.holds k d (sym (at.others k differ) ∙ is))
           ];
       idle = λ k d is.
           elim (same_or_not k c) [
             | inl same ↦
                 (let b = was d (subst (λ (j : ℕ). slice_get new j ≡ Some d) same is) in
-                b.2.idle ∙ s.idle c b.0 b.1)
+                b.2.idle (s.idle c b.0 b.1))
             | inr differ ↦ s.idle k d (sym (at.others k differ) ∙ is)
           ];
       least = s.least;
@@ -92,34 +93,41 @@ sent_stands settings old new book moments happened sent c count at s =
 
 -- ---- the run
 
-module _ (write : BufferedSessionsWrite) (settings : Settings) (moments : List ℕ) (input : Input) (entries : List Entry) (sent : List ℕ) where
+module _ (write : ConnectionsWrite) (settings : Settings) (moments : List ℕ) (input : Input) (entries : List Entry) (sent : List ℕ) where
+  -- a connection of which nothing is under way, and what it writes
+  Rests : Option Playing → Type 0
+  Rests x = (b : Playing) → x ≡ Some b → Plays b settings moments input entries sent × IsIdle b
+
   -- the turns of a connection that have no answer
-  waiting_in : (x : Option Buffered) → ((b : Buffered) → x ≡ Some b → Held b settings moments input entries sent) → List Turn
-  waiting_in None held = []
-  waiting_in (Some b) held = listed (turn_of b) ++ (held b refl).0
+  waiting_in : (x : Option Playing) → Rests x → List Turn
+  unfolding Rests
+  waiting_in None rests = []
+  waiting_in (Some b) rests = let r = rests b refl in (plays_write write b settings moments input entries sent r.0 r.1).0
 
-  outputs_in : (x : Option Buffered) (held : (b : Buffered) → x ≡ Some b → Held b settings moments input entries sent) → x ≢ None
-      → Outputs (standing_in x) settings moments input entries (waiting_in x held) (sent ++ unsent_in x)
+  outputs_in : (x : Option Playing) (rests : Rests x) → x ≢ None
+      → TimedOutputs (standing_in x) settings moments input entries (waiting_in x rests) (sent ++ unsent_in x)
   unfolding waiting_in
-  outputs_in None held some = absurd (some refl)
-  outputs_in (Some b) held some = let h = held b refl in write b settings moments input entries h.0 sent h.1
+  outputs_in None rests some = absurd (some refl)
+  outputs_in (Some b) rests some = let r = rests b refl in (plays_write write b settings moments input entries sent r.0 r.1).1
 
-pub worlds_run : BufferedSessionsWrite → WorldsRun
+pub worlds_run : ConnectionsWrite → WorldsRun
+unfolding Rests
 worlds_run write world moments happened sent outs s are =
     let settings = world.settings in
-    let held = λ (c : ℕ). s.holds c in (
+    let rests : (c : ℕ) → Rests write settings (moments_of c moments) (received c happened) (entries_of_seat c world.book.entries) (sent c) (slice_get world.connections c) =
+    λ c b at. (s.holds c b at, s.idle c b at) in (
       record {
         standing = λ c. standing_at world.connections c;
-        waiting = λ c. waiting_in write settings (moments_of c moments) (received c happened) (entries_of_seat c world.book.entries) (sent c) (slice_get world.connections c) (s.holds c);
+        waiting = λ c. waiting_in write settings (moments_of c moments) (received c happened) (entries_of_seat c world.book.entries) (sent c) (slice_get world.connections c) (rests c);
         legal = subst (λ (n : ℕ). Legal n (opening settings.buckets) 0 (history_of world.book.entries)) s.least
             (subst (λ (t : stores.Standing). Legal world.book.least t.state t.number (history_of world.book.entries)) s.opens s.keeps.legal);
         taken = s.taken;
         outputs = λ c less.
             (let count : c < length world.connections = subst (λ (n : ℕ). c < n) (sym s.each) less in
-            subst (λ (out : List ℕ). Outputs (standing_at world.connections c) settings (moments_of c moments) (received c happened) (entries_of_seat c world.book.entries)
-            (waiting_in write settings (moments_of c moments) (received c happened) (entries_of_seat c world.book.entries) (sent c) (slice_get world.connections c) (s.holds c)) out)
+            subst (λ (out : List ℕ). TimedOutputs (standing_at world.connections c) settings (moments_of c moments) (received c happened) (entries_of_seat c world.book.entries)
+            (waiting_in write settings (moments_of c moments) (received c happened) (entries_of_seat c world.book.entries) (sent c) (slice_get world.connections c) (rests c)) out)
             (sym (are.1 c count))
-            (outputs_in write settings (moments_of c moments) (received c happened) (entries_of_seat c world.book.entries) (sent c) (slice_get world.connections c) (s.holds c)
+            (outputs_in write settings (moments_of c moments) (received c happened) (entries_of_seat c world.book.entries) (sent c) (slice_get world.connections c) (rests c)
             (λ none. there world.connections c count none)));
         each = are.0 ∙ s.each;
       },
@@ -128,11 +136,11 @@ worlds_run write world moments happened sent outs s are =
 
 -- ---- where nothing was sent
 
-unsent_there : (connections : List Buffered) (c : ℕ) → c < length connections → output_of c (unsent_of_all connections) ≡ unsent_at connections c
+unsent_there : (connections : List Playing) (c : ℕ) → c < length connections → output_of c (unsent_of_all connections) ≡ unsent_at connections c
 unsent_there [] c less = absurd (omega arith)
 unsent_there (b ∷ connections) zero less = refl
 unsent_there (b ∷ connections) (suc c) less = unsent_there connections c (omega arith)
 
 -- all that the connections wrote is unsent
-pub unsent_outputs : (connections : List Buffered) → AreOutputs connections nothing_sent (unsent_of_all connections)
+pub unsent_outputs : (connections : List Playing) → AreOutputs connections nothing_sent (unsent_of_all connections)
 unsent_outputs connections = (length-map connections unsent_of, unsent_there connections)

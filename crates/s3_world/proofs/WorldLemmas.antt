@@ -16,14 +16,17 @@ use Rattle.s3_session.specs.Output.{Standing, Reading, Waiting, Over, Dead, is_d
 use Rattle.s3_session.specs.Output as standings
 use Rattle.s3_events.specs.declared.event.Event.{Event}
 use Rattle.s3_events.specs.declared.event.Event.TheVariants as events
-use Rattle.s3_buffered_session.specs.Output.{Input, OneOutput, Outputs, HasWaiting}
-use Rattle.s3_buffered_session.specs.Buffered as sessions
-use Rattle.s3_buffered_session.specs.Buffered.{Buffered, entries_with, is_handed_out, listed, standing_of, turn_of, unanswered, unsent_of}
-use Rattle.s3_buffered_session.specs.Holds.{BufferedSessionsWrite, Holds, TurnsWait}
+use Rattle.s3_connection.specs.Output.{Input}
+use Rattle.s3_connection.specs.Connection as sessions
+use Rattle.s3_connection.specs.Connection.{entries_with}
+use Rattle.s3_connection.specs.Holds.{ConnectionsWrite}
+use Rattle.s3_world.specs.Played.{IsIdle, Playing, Plays, standing_of, turn_of, unsent_of}
+use Rattle.s3_world.specs.Timed.{TimedOutputs}
+use Rattle.s3_world.proofs.PlayedLemmas.{OneTimedOutput, asks_one, plays_write}
 use Rattle.s3_world.specs.Events.{TurnAt, received, turn_given, turns_given}
 use Rattle.s3_world.specs.Run.{AreTaken, HasNoEntry, WaitsAt, moments_of}
 use Rattle.s3_world.specs.Shown.{standing_in}
-use Rattle.s3_world.specs.StandsAfter.{HadTurn, HasTaken, Held, IsChangedAt, IsChangedIn, IsFedWith, IsRecorded, IsTurnTaken, StandsAfter, is_lost_in}
+use Rattle.s3_world.specs.StandsAfter.{HadTurn, HasTaken, IsChangedAt, IsChangedIn, IsFedWith, IsRecorded, IsTurnTaken, StandsAfter, is_lost_in}
 use Rattle.s3_world.proofs.EntryLemmas.{seat_others, seat_own}
 use Rattle.s3_world.proofs.EventLemmas.{received_end, received_ended, received_others_end, received_others_piece, received_piece, received_turn, turns_more}
 use Rattle.s3_world.proofs.TakenLemmas.{taken_lost, taken_none, taken_one}
@@ -36,31 +39,31 @@ same_or_not k c = elim (eqb_tells k c) [
 ]
 
 -- a list of connections where only one changed
-module _ (c : ℕ) (old new : List Buffered) (Stays : Type 0) (Change : Buffered → Buffered → Type 0) (at : IsChangedAt c old new Stays Change) where
+module _ (c : ℕ) (old new : List Playing) (Stays : Type 0) (Change : Playing → Playing → Type 0) (at : IsChangedAt c old new Stays Change) where
   -- what it was
-  one_in : (x y : Option Buffered) (d : Buffered) → y ≡ Some d → IsChangedIn Stays Change x y → (b : Buffered) × (x ≡ Some b) × Change b d
+  one_in : (x y : Option Playing) (d : Playing) → y ≡ Some d → IsChangedIn Stays Change x y → (b : Playing) × (x ≡ Some b) × Change b d
   one_in None None d is change = absurd (cc)
   one_in None (Some e) d is change = absurd change
   one_in (Some b) None d is change = absurd change
-  one_in (Some b) (Some e) d is change = let same : e ≡ d = cc in (b, refl, subst (λ (f : Buffered). Change b f) same change)
+  one_in (Some b) (Some e) d is change = let same : e ≡ d = cc in (b, refl, subst (λ (f : Playing). Change b f) same change)
 
-  pub one_was : (d : Buffered) → slice_get new c ≡ Some d → (b : Buffered) × (slice_get old c ≡ Some b) × Change b d
+  pub one_was : (d : Playing) → slice_get new c ≡ Some d → (b : Playing) × (slice_get old c ≡ Some b) × Change b d
   one_was d is = one_in (slice_get old c) (slice_get new c) d is at.one
 
   -- dead connections stay dead, where this one does
-  lost_in : (x y : Option Buffered) → ((b d : Buffered) → Change b d → is_dead (standing_of b) ≡ true → is_dead (standing_of d) ≡ true)
+  lost_in : (x y : Option Playing) → ((b d : Playing) → Change b d → is_dead (standing_of b) ≡ true → is_dead (standing_of d) ≡ true)
       → IsChangedIn Stays Change x y → is_dead (standing_in x) ≡ true → is_dead (standing_in y) ≡ true
   lost_in None y stays change lost = absurd (cc)
   lost_in (Some b) None stays change lost = absurd change
   lost_in (Some b) (Some d) stays change lost = stays b d change lost
 
-  pub lost_grows : ((b d : Buffered) → Change b d → is_dead (standing_of b) ≡ true → is_dead (standing_of d) ≡ true)
+  pub lost_grows : ((b d : Playing) → Change b d → is_dead (standing_of b) ≡ true → is_dead (standing_of d) ≡ true)
       → (k : ℕ) → is_lost_in old k ≡ true → is_lost_in new k ≡ true
   lost_grows stays k lost =
       elim (same_or_not k c) [
         | inl same ↦ subst (λ (j : ℕ). is_lost_in new j ≡ true) (sym same)
             (lost_in (slice_get old c) (slice_get new c) stays at.one (subst (λ (j : ℕ). is_lost_in old j ≡ true) same lost))
-        | inr differ ↦ ap (λ (x : Option Buffered). is_dead (standing_in x)) (at.others k differ) ∙ lost
+        | inr differ ↦ ap (λ (x : Option Playing). is_dead (standing_in x)) (at.others k differ) ∙ lost
       ]
 
 -- ---- a piece, or an end
@@ -68,7 +71,7 @@ module _ (c : ℕ) (old new : List Buffered) (Stays : Type 0) (Change : Buffered
 abbrev input_with : List ℕ → Bool → Input
 input_with bytes ended = record { bytes = bytes; ended = ended }
 
-pub fed_stands : (settings : Settings) (old new : List Buffered) (book : Journal) (moments : List (List ℕ)) (happened : List Event) (sent : ℕ → List ℕ)
+pub fed_stands : (settings : Settings) (old new : List Playing) (book : Journal) (moments : List (List ℕ)) (happened : List Event) (sent : ℕ → List ℕ)
     (c : ℕ) (more : Input → Input) (e : Event)
     → IsChangedAt c old new (Unit {0}) (IsFedWith settings more)
     → turn_given happened e ≡ [] → ((k : ℕ) → k ≢ c → received k (happened ++ e ∷ []) ≡ received k happened)
@@ -80,15 +83,14 @@ fed_stands settings old new book moments happened sent c more e at no_turn other
     record {
       each = at.count ∙ s.each;
       holds = λ k d is.
-          elim (same_or_not k c) as (λ _. Held d settings (moments_of k moments) (received k (happened ++ e ∷ [])) (entries_of_seat k book.entries) (sent k)) [
+          elim (same_or_not k c) as (λ _. Plays d settings (moments_of k moments) (received k (happened ++ e ∷ [])) (entries_of_seat k book.entries) (sent k)) [
             | inl same ↦
                 let b = was d (subst (λ (j : ℕ). slice_get new j ≡ Some d) same is) in
-                let held = s.holds c b.0 b.1 in
-                subst (λ (j : ℕ). Held d settings (moments_of j moments) (received j (happened ++ e ∷ [])) (entries_of_seat j book.entries) (sent j)) (sym same)
-                (subst (λ (input : Input). Held d settings (moments_of c moments) input (entries_of_seat c book.entries) (sent c)) (sym own)
-                (held.0, b.2.holds (moments_of c moments) (received c happened) (entries_of_seat c book.entries) held.0 (sent c) held.1))
+                subst (λ (j : ℕ). Plays d settings (moments_of j moments) (received j (happened ++ e ∷ [])) (entries_of_seat j book.entries) (sent j)) (sym same)
+                (subst (λ (input : Input). Plays d settings (moments_of c moments) input (entries_of_seat c book.entries) (sent c)) (sym own)
+                (b.2.holds (moments_of c moments) (received c happened) (entries_of_seat c book.entries) (sent c) (s.holds c b.0 b.1)))
             | inr differ ↦
-                subst (λ (input : Input). Held d settings (moments_of k moments) input (entries_of_seat k book.entries) (sent k)) (sym (others k differ))
+                subst (λ (input : Input). Plays d settings (moments_of k moments) input (entries_of_seat k book.entries) (sent k)) (sym (others k differ))
                 (s.holds k d (sym (at.others k differ) ∙ is))
           ];
       idle = λ k d is.
@@ -118,7 +120,7 @@ given_piece c happened piece =
           ∙ ap (λ (b : Bool). cond b (received c happened) (record { bytes = (received c happened).bytes ++ piece.items; ended = (received c happened).ended })) (sym on)
     ]
 
-pub piece_stands : (settings : Settings) (old new : List Buffered) (book : Journal) (moments : List (List ℕ)) (happened : List Event) (sent : ℕ → List ℕ)
+pub piece_stands : (settings : Settings) (old new : List Playing) (book : Journal) (moments : List (List ℕ)) (happened : List Event) (sent : ℕ → List ℕ)
     (c : ℕ) (piece : Vec ℕ) (bytes : List ℕ) → piece.items ≡ bytes
     → IsChangedAt c old new (Unit {0}) (IsFedWith settings (λ input. sessions.received input bytes))
     → StandsAfter (record { settings = settings; connections = old; book = book }) moments happened sent
@@ -129,7 +131,7 @@ piece_stands settings old new book moments happened sent c piece bytes is at s =
     (given_piece c happened piece ∙ ap (sessions.received (received c happened)) is) s
 
 -- its end
-pub end_stands : (settings : Settings) (old new : List Buffered) (book : Journal) (moments : List (List ℕ)) (happened : List Event) (sent : ℕ → List ℕ) (c : ℕ)
+pub end_stands : (settings : Settings) (old new : List Playing) (book : Journal) (moments : List (List ℕ)) (happened : List Event) (sent : ℕ → List ℕ) (c : ℕ)
     → IsChangedAt c old new (Unit {0}) (IsFedWith settings (λ input. record { bytes = input.bytes; ended = true }))
     → StandsAfter (record { settings = settings; connections = old; book = book }) moments happened sent
     → StandsAfter (record { settings = settings; connections = new; book = book }) moments (happened ++ events.End c ∷ []) sent
@@ -139,13 +141,6 @@ end_stands settings old new book moments happened sent c at s =
     (received_end c happened) s
 
 -- ---- a turn
-
--- the turn that waits is the only one
-waits_alone : (standing : Standing) (turn : Turn) (pending : List Turn) → is_waiting standing ≡ true → HasWaiting standing (turn ∷ pending) → pending ≡ []
-waits_alone standings.Reading turn pending waits has = absurd (cc)
-waits_alone standings.Waiting turn pending waits has = let same = has.1 in cc
-waits_alone standings.Over turn pending waits has = absurd (cc)
-waits_alone standings.Dead turn pending waits has = absurd (cc)
 
 is_standing : (standing : Standing) → is_waiting standing ≡ true → standing ≡ standings.Waiting
 is_standing standings.Reading waits = absurd (cc)
@@ -157,9 +152,9 @@ lives_waiting : (standing : Standing) → is_waiting standing ≡ true → is_de
 lives_waiting standing waits = ap is_dead (is_standing standing waits)
 
 -- where a turn is taken, dead connections stay dead
-taken_dead : (settings : Settings) (c : ℕ) (before after : Journal) (b d : Buffered) (t : Option Turn) → IsTurnTaken settings c b d before after t
+taken_dead : (settings : Settings) (c : ℕ) (before after : Journal) (b d : Playing) (t : Option Turn) → IsTurnTaken settings c b d before after t
     → is_dead (standing_of b) ≡ true → is_dead (standing_of d) ≡ true
-taken_dead settings c before after b d None taken dead = ap (λ (x : Buffered). is_dead (standing_of x)) taken.0 ∙ dead
+taken_dead settings c before after b d None taken dead = ap (λ (x : Playing). is_dead (standing_of x)) taken.0 ∙ dead
 taken_dead settings c before after b d (Some turn) had dead = absurd (true≢false (sym dead ∙ lives_waiting (standing_of b) had.waited))
 
 -- a number below the length has an element
@@ -174,8 +169,8 @@ same_some x y z p q = cc
 none_some : {X : Type 0} (x : Option X) (y : X) → x ≡ None → x ≡ Some y → ⊥
 none_some x y p q = cc
 
-module _ (one : OneOutput) (write : BufferedSessionsWrite) (wait : TurnsWait)
-    (settings : Settings) (old new : List Buffered) (before after : Journal) (moments : List (List ℕ)) (happened : List Event) (sent : ℕ → List ℕ) (c : ℕ)
+module _ (one : OneTimedOutput) (write : ConnectionsWrite)
+    (settings : Settings) (old new : List Playing) (before after : Journal) (moments : List (List ℕ)) (happened : List Event) (sent : ℕ → List ℕ) (c : ℕ)
     (s : StandsAfter (record { settings = settings; connections = old; book = before }) moments happened sent)
     (at : IsChangedAt c old new (after.entries ≡ before.entries) (HasTaken settings c before after))
     (least : after.least ≡ before.least) (opens : after.opening ≡ before.opening) (keeps : KeepsHistory after) where
@@ -186,10 +181,10 @@ module _ (one : OneOutput) (write : BufferedSessionsWrite) (wait : TurnsWait)
   Later = StandsAfter (record { settings = settings; connections = new; book = after }) moments (happened ++ events.Turn c ∷ []) sent
 
   abbrev OwnHolds : Type 0
-  OwnHolds = (d : Buffered) → slice_get new c ≡ Some d → Held d settings (moments_of c moments) (received c happened) (entries_of_seat c after.entries) (sent c)
+  OwnHolds = (d : Playing) → slice_get new c ≡ Some d → Plays d settings (moments_of c moments) (received c happened) (entries_of_seat c after.entries) (sent c)
 
   abbrev OwnIdle : Type 0
-  OwnIdle = (d : Buffered) → slice_get new c ≡ Some d → is_handed_out d ≡ false
+  OwnIdle = (d : Playing) → slice_get new c ≡ Some d → IsIdle d
 
   abbrev OthersSame : Type 0
   OthersSame = (k : ℕ) → k ≢ c → entries_of_seat k after.entries ≡ entries_of_seat k before.entries
@@ -200,13 +195,13 @@ module _ (one : OneOutput) (write : BufferedSessionsWrite) (wait : TurnsWait)
   stands_then own idle others taken = record {
     each = at.count ∙ s.each;
     holds = λ k d is.
-        subst (λ (input : Input). Held d settings (moments_of k moments) input (entries_of_seat k after.entries) (sent k)) (sym (received_turn k c happened))
+        subst (λ (input : Input). Plays d settings (moments_of k moments) input (entries_of_seat k after.entries) (sent k)) (sym (received_turn k c happened))
         (elim (same_or_not k c) [
           | inl same ↦
-              subst (λ (j : ℕ). Held d settings (moments_of j moments) (received j happened) (entries_of_seat j after.entries) (sent j)) (sym same)
+              subst (λ (j : ℕ). Plays d settings (moments_of j moments) (received j happened) (entries_of_seat j after.entries) (sent j)) (sym same)
               (own d (subst (λ (j : ℕ). slice_get new j ≡ Some d) same is))
           | inr differ ↦
-              subst (λ (es : List Entry). Held d settings (moments_of k moments) (received k happened) es (sent k)) (sym (others k differ))
+              subst (λ (es : List Entry). Plays d settings (moments_of k moments) (received k happened) es (sent k)) (sym (others k differ))
               (s.holds k d (sym (at.others k differ) ∙ is))
         ]);
     idle = λ k d is.
@@ -243,9 +238,9 @@ module _ (one : OneOutput) (write : BufferedSessionsWrite) (wait : TurnsWait)
       (λ k differ. ap (entries_of_seat k) same)
       (taken_without same (inl (λ turn waits. there old c (subst (λ (n : ℕ). c < n) (sym s.each) waits.0) gone)))
 
-  module _ (b d : Buffered) (was : slice_get old c ≡ Some b) (is : slice_get new c ≡ Some d) where
+  module _ (b d : Playing) (was : slice_get old c ≡ Some b) (is : slice_get new c ≡ Some d) where
     lost_now : is_dead (standing_of d) ≡ true → is_lost_in new c ≡ true
-    lost_now dead = ap (λ (x : Option Buffered). is_dead (standing_in x)) is ∙ dead
+    lost_now dead = ap (λ (x : Option Playing). is_dead (standing_in x)) is ∙ dead
 
     count_there : c < length moments
     count_there = subst (λ (n : ℕ). c < n) s.each (slice_get_within old c b was)
@@ -255,58 +250,46 @@ module _ (one : OneOutput) (write : BufferedSessionsWrite) (wait : TurnsWait)
     turn_idle stays same idle =
         let held = s.holds c b was in
         stands_then
-        (λ e at_e. subst (λ (x : Buffered). Held x settings (moments_of c moments) (received c happened) (entries_of_seat c after.entries) (sent c))
+        (λ e at_e. subst (λ (x : Playing). Plays x settings (moments_of c moments) (received c happened) (entries_of_seat c after.entries) (sent c))
         (sym stays ∙ same_some (slice_get new c) d e is at_e)
-        (subst (λ (es : List Recorded). Held b settings (moments_of c moments) (received c happened) (entries_of_seat c es) (sent c)) (sym same) held))
-        (λ e at_e. ap is_handed_out (sym (same_some (slice_get new c) d e is at_e) ∙ stays) ∙ s.idle c b was)
+        (subst (λ (es : List Recorded). Plays b settings (moments_of c moments) (received c happened) (entries_of_seat c es) (sent c)) (sym same) held))
+        (λ e at_e. subst IsIdle (sym stays ∙ same_some (slice_get new c) d e is at_e) (s.idle c b was))
         (λ k differ. ap (entries_of_seat k) same)
         (taken_without same
         (elim (cases_Bool (is_dead (standing_of b))) [
-          | inl dead ↦ inr (lost_now (ap (λ (x : Buffered). is_dead (standing_of x)) stays ∙ dead), refl)
+          | inl dead ↦ inr (lost_now (ap (λ (x : Playing). is_dead (standing_of x)) stays ∙ dead), refl)
           | inr lives ↦ inl (λ turn waits.
-              let outputs = write b settings (moments_of c moments) (received c happened) (entries_of_seat c before.entries) held.0 (sent c) held.1 in
-              let stand = (one settings (moments_of c moments) (received c happened) (entries_of_seat c before.entries) (standing_of b) standings.Waiting (listed (turn_of b) ++ held.0) (turn ∷ [])
-              (sent c ++ unsent_of b) waits.1.0 lives refl outputs waits.1.1).2 in
+              let wrote = plays_write write b settings (moments_of c moments) (received c happened) (entries_of_seat c before.entries) (sent c) held (s.idle c b was) in
+              let stand = (one settings (moments_of c moments) (received c happened) (entries_of_seat c before.entries) (standing_of b) standings.Waiting wrote.0 (turn ∷ [])
+              (sent c ++ unsent_of b) waits.1.0 lives refl wrote.1 waits.1.1).2 in
               true≢false (sym (ap is_waiting stand) ∙ idle))
         ]))
 
     module _ (turn : Turn) (asks : turn_of b ≡ Some turn) (had : HadTurn settings c b d before after turn) where
-      -- it holds the turn alone
-      pending_none : (s.holds c b was).0 ≡ []
-      pending_none =
-          let held = s.holds c b was in
-          waits_alone (standing_of b) turn held.0 had.waited
-          (subst (λ (t : Option Turn). HasWaiting (standing_of b) (listed t ++ held.0)) asks
-          (wait b settings (moments_of c moments) (received c happened) (entries_of_seat c before.entries) held.0 (sent c) held.1))
-
-      held_alone : Holds b settings (moments_of c moments) (received c happened) (entries_of_seat c before.entries) [] (sent c)
-      held_alone =
-          let held = s.holds c b was in
-          subst (λ (pending : List Turn). Holds b settings (moments_of c moments) (received c happened) (entries_of_seat c before.entries) pending (sent c)) pending_none held.1
-
       -- its command waited
       waited : WaitsAt settings moments before.entries turn_now turn
-      waited = (
-        count_there,
-        (
-          sent c ++ unsent_of b,
-          subst (λ (standing : Standing). Outputs standing settings (moments_of c moments) (received c happened) (entries_of_seat c before.entries) (turn ∷ []) (sent c ++ unsent_of b))
-              (is_standing (standing_of b) had.waited)
-              (subst (λ (t : Option Turn). Outputs (standing_of b) settings (moments_of c moments) (received c happened) (entries_of_seat c before.entries) (listed t ++ []) (sent c ++ unsent_of b)) asks
-              (write b settings (moments_of c moments) (received c happened) (entries_of_seat c before.entries) [] (sent c) held_alone)),
-        ),
-      )
+      waited =
+          let wrote = plays_write write b settings (moments_of c moments) (received c happened) (entries_of_seat c before.entries) (sent c) (s.holds c b was) (s.idle c b was) in (
+            count_there,
+            (
+              sent c ++ unsent_of b,
+              subst (λ (standing : Standing). TimedOutputs standing settings (moments_of c moments) (received c happened) (entries_of_seat c before.entries) (turn ∷ []) (sent c ++ unsent_of b))
+                  (is_standing (standing_of b) had.waited)
+                  (subst (λ (ts : List Turn). TimedOutputs (standing_of b) settings (moments_of c moments) (received c happened) (entries_of_seat c before.entries) ts (sent c ++ unsent_of b))
+                  (asks_one b.connection.stage turn wrote.0 asks wrote.2) wrote.1),
+            ),
+          )
 
       idle_then : OwnIdle
-      idle_then e at_e = ap is_handed_out (sym (same_some (slice_get new c) d e is at_e)) ∙ had.idle
+      idle_then e at_e = subst IsIdle (same_some (slice_get new c) d e is at_e) had.idle
 
       -- memory ran out at it
       turn_failed : (e : NoMemory) → after.entries ≡ before.entries → is_dead (standing_of d) ≡ true
-          → Holds d settings (moments_of c moments) (received c happened) (entries_of_seat c before.entries) (turn ∷ []) (sent c) → Later
+          → Plays d settings (moments_of c moments) (received c happened) (entries_of_seat c before.entries) (sent c) → Later
       turn_failed e same dead holds =
           stands_then
-          (λ x at_x. subst (λ (y : Buffered). Held y settings (moments_of c moments) (received c happened) (entries_of_seat c after.entries) (sent c)) (same_some (slice_get new c) d x is at_x)
-          (subst (λ (es : List Recorded). Held d settings (moments_of c moments) (received c happened) (entries_of_seat c es) (sent c)) (sym same) (turn ∷ [], holds)))
+          (λ x at_x. subst (λ (y : Playing). Plays y settings (moments_of c moments) (received c happened) (entries_of_seat c after.entries) (sent c)) (same_some (slice_get new c) d x is at_x)
+          (subst (λ (es : List Recorded). Plays d settings (moments_of c moments) (received c happened) (entries_of_seat c es) (sent c)) (sym same) holds))
           idle_then
           (λ k differ. ap (entries_of_seat k) same)
           (taken_without same (inr (lost_now dead, refl)))
@@ -317,13 +300,13 @@ module _ (one : OneOutput) (write : BufferedSessionsWrite) (wait : TurnsWait)
         entry_now = record { seat = c; entry = record { command = turn.command; moment = turn.moment; answer = answer } }
 
         turn_answered : after.entries ≡ before.entries ++ entry_now ∷ []
-            → Holds d settings (moments_of c moments) (received c happened) (entries_of_seat c before.entries ++ entry_now.entry ∷ []) [] (sent c) → Later
+            → Plays d settings (moments_of c moments) (received c happened) (entries_of_seat c before.entries ++ entry_now.entry ∷ []) (sent c) → Later
         turn_answered more holds =
             let own : entries_of_seat c after.entries ≡ entries_of_seat c before.entries ++ entry_now.entry ∷ [] =
             ap (entries_of_seat c) more ∙ seat_own c before.entries entry_now refl in
             stands_then
-            (λ x at_x. subst (λ (y : Buffered). Held y settings (moments_of c moments) (received c happened) (entries_of_seat c after.entries) (sent c)) (same_some (slice_get new c) d x is at_x)
-            (subst (λ (es : List Entry). Held d settings (moments_of c moments) (received c happened) es (sent c)) (sym own) ([], holds)))
+            (λ x at_x. subst (λ (y : Playing). Plays y settings (moments_of c moments) (received c happened) (entries_of_seat c after.entries) (sent c)) (same_some (slice_get new c) d x is at_x)
+            (subst (λ (es : List Entry). Plays d settings (moments_of c moments) (received c happened) es (sent c)) (sym own) holds))
             idle_then
             (λ k differ. ap (entries_of_seat k) more ∙ seat_others k before.entries entry_now (λ same. differ (sym same)))
             (subst (λ (es : List Recorded). AreTaken settings moments (is_lost_in new) [] (turns_given happened ++ turn_now ∷ []) es) (sym more)
@@ -331,10 +314,10 @@ module _ (one : OneOutput) (write : BufferedSessionsWrite) (wait : TurnsWait)
             (lost_grows c old new (after.entries ≡ before.entries) (HasTaken settings c before after) at
             (λ x y taken. taken_dead settings c before after x y (turn_of x) taken)) [] (turns_given happened ++ turn_now ∷ []) (before.entries ++ entry_now ∷ [])
             (taken_one settings moments (is_lost_in old) [] (turns_given happened) before.entries turn_now entry_now s.taken (refl, waited)
-            (ap (λ (x : Option Buffered). is_dead (standing_in x)) was ∙ lives_waiting (standing_of b) had.waited))))
+            (ap (λ (x : Option Playing). is_dead (standing_in x)) was ∙ lives_waiting (standing_of b) had.waited))))
 
       turn_had : (answered : Result Answer NoMemory) → IsRecorded c d before after turn answered
-          → Holds d settings (moments_of c moments) (received c happened) (entries_with (entries_of_seat c before.entries) turn answered) (unanswered turn answered) (sent c) → Later
+          → Plays d settings (moments_of c moments) (received c happened) (entries_with (entries_of_seat c before.entries) turn answered) (sent c) → Later
       turn_had (Ok answer) recorded holds = turn_answered answer recorded holds
       turn_had (Err e) recorded holds = turn_failed e recorded.0 recorded.1 holds
 
@@ -342,9 +325,9 @@ module _ (one : OneOutput) (write : BufferedSessionsWrite) (wait : TurnsWait)
     turn_here None asks taken = turn_idle taken.0 taken.1 (taken.2 (s.idle c b was))
     turn_here (Some turn) asks had =
         turn_had turn asks had had.answered had.recorded
-        (had.holds (moments_of c moments) (received c happened) (entries_of_seat c before.entries) (sent c) (held_alone turn asks had))
+        (had.holds (moments_of c moments) (received c happened) (entries_of_seat c before.entries) (sent c) (s.holds c b was))
 
-  turn_in : (x y : Option Buffered) → slice_get old c ≡ x → slice_get new c ≡ y → IsChangedIn (after.entries ≡ before.entries) (HasTaken settings c before after) x y → Later
+  turn_in : (x y : Option Playing) → slice_get old c ≡ x → slice_get new c ≡ y → IsChangedIn (after.entries ≡ before.entries) (HasTaken settings c before after) x y → Later
   turn_in None None was is change = turn_nowhere was is change
   turn_in None (Some d) was is change = absurd change
   turn_in (Some b) None was is change = absurd change

@@ -1,9 +1,12 @@
 pub mod Alike
 pub mod Events
 pub mod Laws
+pub mod Moments
+pub mod Played
 pub mod Run
 pub mod Shown
 pub mod StandsAfter
+pub mod Timed
 pub mod World
-pub use Rattle.s3_buffered_session.specs.Output
+pub use Rattle.s3_connection.specs.Output
 pub use Rattle.s3_journal.specs.Book

@@ -9,8 +9,9 @@ use Rattle.s3_machine.specs.declared.turn.Turn.{Turn}
 use Rattle.s3_journal.specs.Recorded.{Recorded, history_of, entries_of_seat}
 use Rattle.s3_session.specs.Output.{Standing, is_dead}
 use Rattle.s3_events.specs.declared.event.Event.{Event}
-use Rattle.s3_buffered_session.specs.Output.{Outputs, Waits, answered_turn}
+use Rattle.s3_connection.specs.Output.{answered_turn}
 use Rattle.s3_world.specs.Events.{TurnAt, received, turns_given}
+use Rattle.s3_world.specs.Timed.{TimedOutputs, Waits}
 
 -- the moments of each connection, as they are given
 abbrev pub each_moments : List (Vec ℕ) → List (List ℕ)
@@ -61,5 +62,5 @@ pub record Runs (settings : Settings) (moments : List (List ℕ)) (happened : Li
   pub legal : Legal settings.min_part (opening settings.buckets) 0 (history_of entries)
   pub taken : AreTaken settings moments (λ c. is_dead (standing c)) [] (turns_given happened) entries
   pub outputs : (c : ℕ) → c < length moments
-      → Outputs (standing c) settings (moments_of c moments) (received c happened) (entries_of_seat c entries) (waiting c) (output_of c outs)
+      → TimedOutputs (standing c) settings (moments_of c moments) (received c happened) (entries_of_seat c entries) (waiting c) (output_of c outs)
   pub each : length outs ≡ length moments

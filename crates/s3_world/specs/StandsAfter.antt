@@ -15,96 +15,91 @@ use Rattle.s3_session.specs.Output.{Reading, is_dead, is_waiting}
 use Rattle.s3_journal.specs.Book.{Journal, KeepsHistory}
 use Rattle.s3_journal.specs.Recorded.{entries_of_seat}
 use Rattle.s3_events.specs.declared.event.Event.{Event}
-use Rattle.s3_buffered_session.specs.Buffered as sessions
-use Rattle.s3_buffered_session.specs.Buffered.{Buffered, entries_with, is_handed_out, nothing_received, turn_of, unanswered}
-use Rattle.s3_buffered_session.specs.Holds.{Holds}
-use Rattle.s3_buffered_session.specs.Output.{Input}
+use Rattle.s3_connection.specs.Connection.{entries_with, nothing_received}
+use Rattle.s3_connection.specs.Output.{Input}
 use Rattle.s3_world.specs.Events.{received, turns_given}
+use Rattle.s3_world.specs.Played.{IsIdle, Playing, Plays, standing_of, turn_of, unsent_of}
 use Rattle.s3_world.specs.Run.{AreTaken, Runs, moments_of}
 use Rattle.s3_world.specs.Shown.{AreOutputs, standing_at}
 use Rattle.s3_world.specs.World.{Serving}
 
 -- memory ran out in a connection
-abbrev pub is_lost_in : List Buffered → ℕ → Bool
+abbrev pub is_lost_in : List Playing → ℕ → Bool
 is_lost_in connections c = is_dead (standing_at connections c)
-
--- a connection stands so after this input and these entries, with so much sent, and with some turn handed out or none
-abbrev pub Held : Buffered → Settings → List ℕ → Input → List Entry → List ℕ → Type 0
-Held b settings moments input entries sent = (pending : List Turn) × Holds b settings moments input entries pending sent
 
 -- a world stands so after these events, with so much sent
 pub record StandsAfter (world : Serving) (moments : List (List ℕ)) (happened : List Event) (sent : ℕ → List ℕ) : Type 0 where
   pub each : length world.connections ≡ length moments
-  pub holds : (c : ℕ) (b : Buffered) → slice_get world.connections c ≡ Some b
-      → Held b world.settings (moments_of c moments) (received c happened) (entries_of_seat c world.book.entries) (sent c)
-  pub idle : (c : ℕ) (b : Buffered) → slice_get world.connections c ≡ Some b → is_handed_out b ≡ false
+  pub holds : (c : ℕ) (b : Playing) → slice_get world.connections c ≡ Some b
+      → Plays b world.settings (moments_of c moments) (received c happened) (entries_of_seat c world.book.entries) (sent c)
+  pub idle : (c : ℕ) (b : Playing) → slice_get world.connections c ≡ Some b → IsIdle b
   pub least : world.book.least ≡ world.settings.min_part
   pub opens : world.book.opening ≡ opened (opening world.settings.buckets)
   pub keeps : KeepsHistory world.book
   pub taken : AreTaken world.settings moments (is_lost_in world.connections) [] (turns_given happened) world.book.entries
 
 -- nothing came of a connection whose messages have these moments
-pub record IsFresh (b : Buffered) (moments : List ℕ) : Type 0 where
-  pub holds : (settings : Settings) → Holds b settings moments nothing_received [] [] []
-  pub idle : is_handed_out b ≡ false
-  pub reads : sessions.standing_of b ≡ Reading
+pub record IsFresh (b : Playing) (moments : List ℕ) : Type 0 where
+  pub holds : (settings : Settings) → Plays b settings moments nothing_received [] []
+  pub idle : IsIdle b
+  pub reads : standing_of b ≡ Reading
 
 -- so many of these connections were made, each for its list of moments
-pub record AreFresh (connections : List Buffered) (moments : List (List ℕ)) (made : ℕ) : Type 0 where
+pub record AreFresh (connections : List Playing) (moments : List (List ℕ)) (made : ℕ) : Type 0 where
   pub count : length connections ≡ made
-  pub fresh : (c : ℕ) (b : Buffered) → slice_get connections c ≡ Some b → IsFresh b (moments_of c moments)
+  pub fresh : (c : ℕ) (b : Playing) → slice_get connections c ≡ Some b → IsFresh b (moments_of c moments)
 
 -- what became of the connection of a number: where there is none, this holds
-abbrev pub IsChangedIn : Type 0 → (Buffered → Buffered → Type 0) → Option Buffered → Option Buffered → Type 0
+abbrev pub IsChangedIn : Type 0 → (Playing → Playing → Type 0) → Option Playing → Option Playing → Type 0
 IsChangedIn Stays Change None None = Stays
 IsChangedIn Stays Change None (Some d) = ⊥
 IsChangedIn Stays Change (Some b) None = ⊥
 IsChangedIn Stays Change (Some b) (Some d) = Change b d
 
 -- connections, of which only that of this number changed
-pub record IsChangedAt (c : ℕ) (old new : List Buffered) (Stays : Type 0) (Change : Buffered → Buffered → Type 0) : Type 0 where
+pub record IsChangedAt (c : ℕ) (old new : List Playing) (Stays : Type 0) (Change : Playing → Playing → Type 0) : Type 0 where
   pub count : length new ≡ length old
   pub others : (k : ℕ) → k ≢ c → slice_get new k ≡ slice_get old k
   pub one : IsChangedIn Stays Change (slice_get old c) (slice_get new c)
 
 -- a connection received more
-pub record IsFedWith (settings : Settings) (more : Input → Input) (b d : Buffered) : Type 0 where
-  pub holds : (moments : List ℕ) (input : Input) (entries : List Entry) (pending : List Turn) (sent : List ℕ)
-      → Holds b settings moments input entries pending sent → Holds d settings moments (more input) entries pending sent
-  pub dead : is_dead (sessions.standing_of b) ≡ true → is_dead (sessions.standing_of d) ≡ true
-  pub idle : is_handed_out b ≡ false → is_handed_out d ≡ false
+pub record IsFedWith (settings : Settings) (more : Input → Input) (b d : Playing) : Type 0 where
+  pub holds : (moments : List ℕ) (input : Input) (entries : List Entry) (sent : List ℕ)
+      → Plays b settings moments input entries sent → Plays d settings moments (more input) entries sent
+  pub dead : is_dead (standing_of b) ≡ true → is_dead (standing_of d) ≡ true
+  pub idle : IsIdle b → IsIdle d
 
 -- so many of the bytes that a connection wrote were sent
-pub record IsSentOn (count : ℕ) (b d : Buffered) : Type 0 where
-  pub holds : (settings : Settings) (moments : List ℕ) (input : Input) (entries : List Entry) (pending : List Turn) (sent : List ℕ)
-      → Holds b settings moments input entries pending sent
-      → Holds d settings moments input entries pending (sent ++ take count (sessions.unsent_of b))
-  pub standing : sessions.standing_of d ≡ sessions.standing_of b
-  pub idle : is_handed_out d ≡ is_handed_out b
+pub record IsSentOn (count : ℕ) (b d : Playing) : Type 0 where
+  pub holds : (settings : Settings) (moments : List ℕ) (input : Input) (entries : List Entry) (sent : List ℕ)
+      → Plays b settings moments input entries sent
+      → Plays d settings moments input entries (sent ++ take count (unsent_of b))
+  pub standing : standing_of d ≡ standing_of b
+  pub idle : IsIdle b → IsIdle d
 
 -- the entry of a turn that was answered, or none where memory ran out at it, and then the connection is dead
-abbrev pub IsRecorded : ℕ → Buffered → Journal → Journal → Turn → Result Answer NoMemory → Type 0
+abbrev pub IsRecorded : ℕ → Playing → Journal → Journal → Turn → Result Answer NoMemory → Type 0
 IsRecorded seat d old new turn (Ok answer) =
     new.entries ≡ old.entries ++ record { seat = seat; entry = record { command = turn.command; moment = turn.moment; answer = answer } } ∷ []
-IsRecorded seat d old new turn (Err e) = (new.entries ≡ old.entries) × (is_dead (sessions.standing_of d) ≡ true)
+IsRecorded seat d old new turn (Err e) = (new.entries ≡ old.entries) × (is_dead (standing_of d) ≡ true)
 
 -- the command of a connection that waited had its turn
-pub record HadTurn (settings : Settings) (seat : ℕ) (b d : Buffered) (old new : Journal) (turn : Turn) : Type 0 where
+pub record HadTurn (settings : Settings) (seat : ℕ) (b d : Playing) (old new : Journal) (turn : Turn) : Type 0 where
   pub answered : Result Answer NoMemory
-  pub waited : is_waiting (sessions.standing_of b) ≡ true
+  pub waited : is_waiting (standing_of b) ≡ true
   pub recorded : IsRecorded seat d old new turn answered
   pub holds : (moments : List ℕ) (input : Input) (entries : List Entry) (sent : List ℕ)
-      → Holds b settings moments input entries [] sent
-      → Holds d settings moments input (entries_with entries turn answered) (unanswered turn answered) sent
-  pub idle : is_handed_out d ≡ false
+      → Plays b settings moments input entries sent
+      → Plays d settings moments input (entries_with entries turn answered) sent
+  pub idle : IsIdle d
 
 -- or none waited, and nothing changed
-abbrev pub IsTurnTaken : Settings → ℕ → Buffered → Buffered → Journal → Journal → Option Turn → Type 0
-IsTurnTaken settings seat b d old new None = (d ≡ b) × (new.entries ≡ old.entries) × (is_handed_out b ≡ false → is_waiting (sessions.standing_of b) ≡ false)
+abbrev pub IsTurnTaken : Settings → ℕ → Playing → Playing → Journal → Journal → Option Turn → Type 0
+IsTurnTaken settings seat b d old new None = (d ≡ b) × (new.entries ≡ old.entries) × (IsIdle b → is_waiting (standing_of b) ≡ false)
 IsTurnTaken settings seat b d old new (Some turn) = HadTurn settings seat b d old new turn
 
 -- the command of a connection, if one waits, had its turn
-abbrev pub HasTaken : Settings → ℕ → Journal → Journal → Buffered → Buffered → Type 0
+abbrev pub HasTaken : Settings → ℕ → Journal → Journal → Playing → Playing → Type 0
 HasTaken settings seat old new b d = IsTurnTaken settings seat b d old new (turn_of b)
 
 -- a world that stands after some events has made a run of them: its connections stand as in the run, and what they wrote is

@@ -8,13 +8,13 @@ use Rattle.s3_store.specs.Steps.{outcome_of}
 use Rattle.s3_journal.specs.Book.{Journal}
 use Rattle.s3_events.specs.declared.event.Event.{Event}
 use Rattle.s3_events.specs.declared.event.Event.TheVariants as events
-use Rattle.s3_buffered_session.specs.Buffered.{Buffered}
+use Rattle.s3_world.specs.Played.{Playing}
 use Rattle.s3_world.specs.Shown.{waiting_at}
 
 -- a world: the settings, the connections by their numbers, and the book of the store
 pub record Serving : Type 0 where
   pub settings : Settings
-  pub connections : List Buffered
+  pub connections : List Playing
   pub book : Journal
 
 -- memory may be lacking for a turn: where the rows of the store are in memory and its numbers are not used up, only for a
@@ -30,7 +30,7 @@ IsEntered in_memory old new None = Unit {0}
 IsEntered in_memory old new (Some turn) = (length new.entries ≡ length old.entries + 1) ⊎ MayLack in_memory old turn
 
 -- the turn that an event gives, if it gives one and a command waits for it
-abbrev pub turn_of_event : List Buffered → Event → Option Turn
+abbrev pub turn_of_event : List Playing → Event → Option Turn
 turn_of_event connections (events.Piece c bytes) = None
 turn_of_event connections (events.End c) = None
 turn_of_event connections (events.Turn c) = waiting_at connections c

@@ -3,13 +3,13 @@
 ghost use Rattle.std.specs.Prelude.{◌≡◌, ◌≢◌, ◌<◌, ◌≤◌, ℕ, true, [], length, take, IfOk, OnOk, OnErr};
 ghost use Rattle.s3_config.specs.Settings.{Settings};
 ghost use Rattle.s3_session.specs.Output.{Reading, is_waiting};
-ghost use Rattle.s3_buffered_session.specs.Buffered as sessions;
+ghost use Rattle.s3_connection.specs.Connection as sessions;
 ghost use Rattle.s3_world.specs.World.{IsEntered};
 ghost use Rattle.s3_world.specs.Run.{each_moments};
 ghost use Rattle.s3_world.specs.Shown.{standing_at, unsent_at, waiting_at};
 ghost use Rattle.s3_world.specs.StandsAfter.{AreFresh, HasTaken, IsChangedAt, IsFedWith, IsSentOn};
 
-use s3_buffered_session::BufferedSession;
+use crate::played::Played;
 use s3_calendar::Moment;
 use s3_config::Config;
 use s3_journal::Book;
@@ -25,27 +25,27 @@ use std::alloc::Global;
 pub(crate) fn fresh<'a>(
     alloc: Global,
     moments: &'a [Vec<Moment>],
-) -> Result<Vec<BufferedSession<'a>>, NoMemory>
+) -> Result<Vec<Played<'a>>, NoMemory>
     ensures fresh { IfOk result (λ made. AreFresh made.items (each_moments moments.now) (length moments.now)) }
     ensures nothing { IfOk result (λ made. (c : ℕ) → unsent_at made.items c ≡ []) }
     ensures reads { IfOk result (λ made. (c : ℕ) → standing_at made.items c ≡ Reading) }
 {
     let mut made = Vec::new(alloc);
     for number in 0..moments.len() {
-        made.push(BufferedSession::new(alloc, moments[number].as_slice()))?;
+        made.push(Played::new(alloc, moments[number].as_slice()))?;
     }
     Ok(made)
 }
 
 /// Whether a command of the connection of this number waits for its turn.
-pub(crate) fn is_one_waiting(connections: &[BufferedSession<'_>], number: usize) -> bool
+pub(crate) fn is_one_waiting(connections: &[Played<'_>], number: usize) -> bool
     ensures { result ≡ is_waiting (standing_at connections.now number) }
 {
     number < connections.len() && connections[number].is_waiting()
 }
 
 /// A beginning of what the connection of this number wrote and has not sent.
-pub(crate) fn unsent_of_one<'a>(connections: &'a [BufferedSession<'_>], number: usize) -> &'a [u8]
+pub(crate) fn unsent_of_one<'a>(connections: &'a [Played<'_>], number: usize) -> &'a [u8]
     ensures beginning { take (length result.now) (unsent_at connections.now number) ≡ result.now }
     ensures within { length result.now ≤ length (unsent_at connections.now number) }
     ensures empty { result.now ≡ [] → unsent_at connections.now number ≡ [] }
@@ -64,7 +64,7 @@ pub(crate) fn unsent_of_one<'a>(connections: &'a [BufferedSession<'_>], number: 
 /// `NoMemory` where something is unsent and memory runs out.
 pub(crate) fn all_of_one(
     alloc: Global,
-    connections: &[BufferedSession<'_>],
+    connections: &[Played<'_>],
     number: usize,
 ) -> Result<Vec<u8>, NoMemory>
     ensures all { IfOk result (λ all. all.items ≡ unsent_at connections.now number) }
@@ -81,7 +81,7 @@ pub(crate) fn all_of_one(
 pub(crate) fn feed_one(
     alloc: Global,
     config: &Config,
-    connections: &mut [BufferedSession<'_>],
+    connections: &mut [Played<'_>],
     number: usize,
     piece: &[u8],
 ) -> Result<(), NoMemory>
@@ -99,7 +99,7 @@ pub(crate) fn feed_one(
 }
 
 /// Says to the connection of this number, if it is there, that no more bytes come.
-pub(crate) fn end_one(connections: &mut [BufferedSession<'_>], number: usize)
+pub(crate) fn end_one(connections: &mut [Played<'_>], number: usize)
     ensures ended { (settings : Settings) → IsChangedAt number connections.old connections.new (Unit {0})
         (IsFedWith settings (λ input. record input { ended = true })) }
     ensures waits { (c : ℕ) → is_waiting (standing_at connections.new c) ≡ is_waiting (standing_at connections.old c) }
@@ -110,7 +110,7 @@ pub(crate) fn end_one(connections: &mut [BufferedSession<'_>], number: usize)
 }
 
 /// Says that so many bytes in front of what the connection of this number wrote were sent.
-pub(crate) fn sent_one(connections: &mut [BufferedSession<'_>], number: usize, count: usize)
+pub(crate) fn sent_one(connections: &mut [Played<'_>], number: usize, count: usize)
     requires within { count ≤ length (unsent_at connections.old number) }
     ensures sent { IsChangedAt number connections.old connections.new (Unit {0}) (IsSentOn count) }
 {
@@ -119,31 +119,11 @@ pub(crate) fn sent_one(connections: &mut [BufferedSession<'_>], number: usize, c
     }
 }
 
-/// Gives the command of a connection, if one waits, its turn at the book: it is answered as an entry of this seat, or,
-/// where memory runs out at it, as the connection says so.
-pub(crate) fn take_turn<R: Records + Drop>(
-    alloc: Global,
-    config: &Config,
-    connection: &mut BufferedSession<'_>,
-    book: &mut Book<R>,
-    seat: u64,
-)
-    ensures taken { HasTaken config.now seat book.old book.new connection.old connection.new }
-    ensures entered { IsEntered R.is_in_memory book.old book.new (sessions.turn_of connection.old) }
-    ensures least { book.new.least ≡ book.old.least }
-    ensures opening { book.new.opening ≡ book.old.opening }
-{
-    if let Some(turn) = connection.take_turn() {
-        let answered = book.apply(seat, turn);
-        connection.answer(alloc, config, answered);
-    }
-}
-
 /// Gives the command of the connection of this number, if it is there and one waits, its turn at the book.
 pub(crate) fn turn_one<R: Records + Drop>(
     alloc: Global,
     config: &Config,
-    connections: &mut [BufferedSession<'_>],
+    connections: &mut [Played<'_>],
     book: &mut Book<R>,
     number: u32,
 )
@@ -155,12 +135,6 @@ pub(crate) fn turn_one<R: Records + Drop>(
 {
     let place = number as usize;
     if place < connections.len() {
-        take_turn(
-            alloc,
-            config,
-            &mut connections[place],
-            book,
-            u64::from(number),
-        );
+        connections[place].take_turn(alloc, config, book, u64::from(number));
     }
 }

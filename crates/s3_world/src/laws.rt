@@ -3,14 +3,14 @@
 ghost use Rattle.s3_world.specs.Laws.{EventsBring, OneRun};
 ghost use Rattle.s3_world.specs.StandsAfter.{WorldsRun};
 
-use s3_buffered_session::{buffered_sessions_write, outputs_are_one};
+use s3_connection::{connections_write, outputs_are_one};
 
 /// A law: a world that stands after some events, with so much sent, has made a run of them, whose outputs are what was sent
 /// and what is unsent. There is nothing to run.
 pub fn worlds_run()
     ensures { WorldsRun }
 {
-    buffered_sessions_write();
+    connections_write();
 }
 
 /// A law: settings, moments and events fix each entry of a run and each output, as long as memory does not run out in a

@@ -5,6 +5,8 @@
 mod alike;
 mod connections;
 mod laws;
+mod moments;
+mod played;
 mod running;
 mod world;
 

@@ -22,7 +22,7 @@ use std::alloc::Global;
 ///
 /// # Errors
 ///
-/// `NoMemory` where there is no memory for the connections, or for bytes that may have to be kept.
+/// `NoMemory` where there is no memory for the connections, or for bytes that come while a command waits.
 pub fn run<'a, R: Records + Drop>(
     alloc: Global,
     config: &'a Config,

@@ -15,9 +15,10 @@ ghost use Rattle.s3_world.specs.StandsAfter.{StandsAfter};
 use crate::connections::{
     all_of_one, end_one, feed_one, fresh, is_one_waiting, sent_one, turn_one, unsent_of_one,
 };
-use s3_buffered_session::{BufferedSession, buffered_sessions_write, outputs_are_one};
+use crate::played::Played;
 use s3_calendar::Moment;
 use s3_config::Config;
+use s3_connection::{connections_write, outputs_are_one};
 use s3_events::Event;
 use s3_journal::Book;
 use s3_records::Records;
@@ -35,7 +36,7 @@ use std::marker::Model;
 pub struct World<'a, R: Records + Drop> {
     alloc: Global,
     config: &'a Config,
-    connections: Vec<BufferedSession<'a>>,
+    connections: Vec<Played<'a>>,
     book: Book<R>,
 }
 
@@ -83,11 +84,12 @@ impl<'a, R: Records + Drop> World<'a, R> {
     }
 
     /// Gives a piece to a connection. It is kept while a command of the connection waits, and dropped behind its end; a
-    /// connection that isn't there has none. It costs what `BufferedSession::feed` does.
+    /// connection that isn't there has none. It costs what `Connection::piece` of `s3_connection` does; where there is no memory
+    /// for what stands behind a message whose command waits, the connection ends as where memory runs out at its turn.
     ///
     /// # Errors
     ///
-    /// `NoMemory` where there is no memory for the bytes that may have to be kept; nothing has changed then.
+    /// `NoMemory` where there is no memory for a piece that comes while a command waits; nothing has changed then.
     pub fn piece(&mut self, connection: u32, bytes: &[u8]) -> Result<(), NoMemory>
         ensures stands { (moments : List (List ℕ)) (happened : List Happening) (sent : ℕ → List ℕ) (piece : Bytes ℕ) → piece.items ≡ bytes.now
             → StandsAfter self.old moments happened sent
@@ -129,7 +131,7 @@ impl<'a, R: Records + Drop> World<'a, R> {
         ensures entered { IsEntered R.is_in_memory self.old.book self.new.book (waiting_at self.old.connections connection) }
         ensures settings { self.new.settings ≡ self.old.settings }
     {
-        buffered_sessions_write();
+        connections_write();
         outputs_are_one();
         turn_one(
             self.alloc,
@@ -145,8 +147,7 @@ impl<'a, R: Records + Drop> World<'a, R> {
     ///
     /// # Errors
     ///
-    /// `NoMemory` for a piece that isn't empty, where there is no memory for the bytes that may have to be kept; nothing has
-    /// changed then.
+    /// `NoMemory` for a piece that isn't empty, where there is no memory for it while a command waits; nothing has changed then.
     pub fn step(&mut self, event: &Event) -> Result<(), NoMemory>
         ensures stands { (moments : List (List ℕ)) (happened : List Happening) (sent : ℕ → List ℕ)
             → StandsAfter self.old moments happened sent

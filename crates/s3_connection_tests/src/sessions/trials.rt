@@ -1,9 +1,9 @@
 //! What is tried, and with which connections.
 use crate::checks::check_none;
-use crate::sessions::buffered;
 use crate::sessions::clock::Counting;
 use crate::sessions::connections::{CONNECTIONS, CUT_SHORT, LONG};
 use crate::sessions::cuts::{CUTS, Cut, writes};
+use crate::sessions::kept;
 use crate::sessions::line::Line;
 use crate::sessions::parts::{bytes_of, joined};
 use crate::sessions::scripts::{
@@ -75,7 +75,7 @@ fn passes(alloc: Global, config: &Config, trial: Trial) -> bool {
     let goes = match trial {
         Trial::Paced(pace, deed) => does_over(alloc, config, &mut store, pace, deed),
         Trial::Kept(is_timed, script) => {
-            buffered::holds(alloc, config, &mut store, is_timed, script)
+            kept::holds(alloc, config, &mut store, is_timed, script)
         }
     };
     drop(store);

@@ -1,6 +1,6 @@
 use Rattle.std.proofs.Common.{true}
 use Rattle.s3_world.specs.StandsAfter.{IsFedWith}
-use Rattle.s3_buffered_session.specs.Output.{Input}
+use Rattle.s3_connection.specs.Output.{Input}
 use Rattle.s3_world.proofs.ChangeLemmas.{changed_set, fed_with, waiting_set}
 use Rattle.s3_world.proofs.connections.end_one.Goals as goal
 
@@ -12,6 +12,6 @@ returns-then-number-connections c = record {
   ended = λ settings.
       changed_set c.args.connections.now c.args.number (Unit {0}) (IsFedWith settings ended)
       c.index-connections-number.result c.end.new.self c.if-number-connections.true
-      (fed_with settings ended _ c.end.new.self c.end.ensures.closed c.end.ensures.handed (c.end.ensures.holds settings));
+      (fed_with settings ended _ c.end.new.self c.end.ensures.closed c.end.ensures.idle (c.end.ensures.holds settings));
   waits = waiting_set c.args.connections.now c.args.number c.index-connections-number.result c.end.new.self c.if-number-connections.true c.end.ensures.waits;
 }

@@ -1,3 +1,0 @@
-pub mod HoldsLemmas
-pub mod MomentsLemmas
-pub mod OutputsLemmas

@@ -1,6 +1,0 @@
-pub mod Buffered
-pub mod Holds
-pub mod Moments
-pub mod Output
-pub use Rattle.s3_session.specs.Output as Session
-pub use Rattle.s3_machine.specs.History

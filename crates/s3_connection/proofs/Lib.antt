@@ -1,0 +1,3 @@
+pub mod FeedingLemmas
+pub mod HoldsLemmas
+pub mod OutputLemmas

@@ -1,0 +1,300 @@
+//! A connection.
+
+ghost use Rattle.std.specs.Prelude.{◌≡◌, ◌≢◌, ◌↔◌, ◌⊎◌, ◌<◌, ◌≤◌, ℕ, true, false, List, [], ◌++◌, length, take, drop, IfOk, OnOk, OnErr, IfSome, Some, None};
+ghost use Rattle.std.specs.Io.Slices.{io_slices_bytes};
+ghost use Rattle.s3_config.specs.Settings.{Settings};
+ghost use Rattle.s3_machine.specs.History.{Entry};
+ghost use Rattle.s3_machine.specs.declared.turn.Turn.{Turn};
+ghost use Rattle.s3_session.specs.Output.{Reading, Dead, is_closed, is_waiting};
+ghost use Rattle.s3_connection.specs.Holds.{Holds};
+ghost use Rattle.s3_connection.specs.Output.{Input};
+
+use crate::feeding::{conclude, take_kept, take_piece};
+use crate::kept::Kept;
+use crate::stage::{Stage, Wants};
+use s3_calendar::Moment;
+use s3_config::Config;
+use s3_machine::{Answer, Turn};
+use s3_session::{Next, Session};
+use s3_terms::NoMemory;
+use std::alloc::Global;
+use std::io::IoSlice;
+use std::marker::Model;
+use std::mem;
+use std::snapshot::Snapshot;
+
+/// A connection: it takes bytes at any time, and keeps those that come while a command waits.
+///
+/// It makes no call of the system: the caller moves the bytes, says at which moment they come, takes the turns of its commands,
+/// gives their answers, and has it go on behind each. At rest it is small.
+#[derive(Drop)]
+pub struct Connection {
+    session: Session,
+    kept: Kept,
+    stage: Stage,
+    is_ended: bool,
+}
+
+impl Model for Connection {
+    ghost use Rattle.s3_connection.specs.Connection.{Connected, IsFit};
+
+    ghost Value = { Connected };
+
+    ghost view = { λ c. record { session = c.session; kept = c.kept; stage = c.stage; is_ended = c.is_ended } };
+
+    ghost invariant = { λ c. IsFit c.stage c.session c.kept c.is_ended };
+}
+
+impl Connection {
+    ghost use Rattle.s3_connection.specs.Connection as rules;
+
+    /// A connection of which nothing has come. It takes no memory.
+    pub fn new(alloc: Global) -> Connection
+        ensures begins { (settings : Settings) → Holds result settings rules.nothing_received [] [] [] }
+        ensures standing { rules.standing_of result ≡ Reading }
+        ensures wants { rules.wants_of result ≡ Wants.Input }
+        ensures end { result.is_ended ≡ false }
+        ensures nothing { rules.unsent_of result ≡ [] }
+    {
+        Connection {
+            session: Session::new(alloc),
+            kept: Kept::new(alloc),
+            stage: Stage::Reading,
+            is_ended: false,
+        }
+    }
+
+    /// Takes a piece of what the peer sent, and answers whether a message of it has this moment: the one whose head became whole,
+    /// or too large, with it. While a command waits, and until the connection has gone on behind its answer, the piece is kept.
+    /// Where no more is read, and where the end has come, it is dropped. Otherwise it goes through the session, up to the message
+    /// whose command waits; what is behind that is kept, and where there is no memory for it the connection ends as where
+    /// memory runs out at the message's turn.
+    ///
+    /// The settings have to be the same at every call for a connection: its promises are about one.
+    ///
+    /// Takes time and memory as `Session::feed` does, and memory for what is kept.
+    ///
+    /// # Errors
+    ///
+    /// `NoMemory` where there is no memory for a piece that has to be kept whole; nothing has changed then.
+    pub fn piece(
+        &mut self,
+        alloc: Global,
+        config: &Config,
+        now: Moment,
+        piece: &[u8],
+    ) -> Result<bool, NoMemory>
+        ensures holds { (input : Input) (moments : List ℕ) (entries : List Entry) (sent : List ℕ)
+            → Holds self.old config.now input moments entries sent
+            → IfOk result (λ has_moment. Holds self.new config.now (rules.received input piece.now) (moments ++ rules.moment_if has_moment now) entries sent) }
+        ensures same { OnErr result (self.new ≡ self.old) }
+        ensures memory { OnErr result ((piece.now ≢ []) × (self.old.is_ended ≡ false) × (is_closed (rules.standing_of self.old) ≡ false)
+            × (rules.wants_of self.old ≢ Wants.Input)) }
+        ensures end { self.new.is_ended ≡ self.old.is_ended }
+        ensures next { rules.IsNext self.old.stage → rules.IsNext self.new.stage }
+        ensures closed { is_closed (rules.standing_of self.old) ≡ true → rules.standing_of self.new ≡ rules.standing_of self.old }
+    {
+        if piece.is_empty() || self.is_ended {
+            return Ok(false);
+        }
+        match self.stage.wants() {
+            Wants::Input => Ok(self.read(alloc, config, now, piece)),
+            Wants::Answer | Wants::ToGoOn => {
+                self.keep(piece)?;
+                Ok(false)
+            }
+            Wants::Nothing => Ok(false),
+        }
+    }
+
+    // Keeps a piece that comes while a command waits, or before the connection has gone on behind its answer.
+    fn keep(&mut self, piece: &[u8]) -> Result<(), NoMemory>
+        requires waits { (rules.wants_of self.old ≡ Wants.Answer) ⊎ (rules.wants_of self.old ≡ Wants.ToGoOn) }
+        ensures kept { OnOk result (self.new ≡ record self.old { kept = self.old.kept ++ piece.now }) }
+        ensures same { OnErr result (self.new ≡ self.old) }
+    {
+        self.kept.add(piece)
+    }
+
+    // Takes a piece where it reads.
+    fn read(&mut self, alloc: Global, config: &Config, now: Moment, piece: &[u8]) -> bool
+        requires reads { self.old.stage ≡ Stage.Reading }
+        ensures holds { (input : Input) (moments : List ℕ) (entries : List Entry) (sent : List ℕ)
+            → Holds self.old config.now input moments entries sent
+            → Holds self.new config.now (rules.received input piece.now) (moments ++ rules.moment_if result now) entries sent }
+        ensures end { self.new.is_ended ≡ self.old.is_ended }
+        ensures next { rules.IsNext self.new.stage }
+    {
+        let (stage, has_moment) = take_piece(
+            alloc,
+            config,
+            &mut self.session,
+            &mut self.kept,
+            now,
+            piece,
+        );
+        self.stage.become_next(stage);
+        has_moment
+    }
+
+    /// Says that no more bytes come. While a command waits, and until the connection has gone on behind its answer, this is kept in
+    /// mind. A second end does nothing. It takes no memory.
+    pub fn end(&mut self)
+        ensures holds { (settings : Settings) (input : Input) (moments : List ℕ) (entries : List Entry) (sent : List ℕ)
+            → Holds self.old settings input moments entries sent
+            → Holds self.new settings (record input { ended = true }) moments entries sent }
+        ensures again { self.old.is_ended ≡ true → self.new ≡ self.old }
+        ensures turn { rules.turn_of self.new ≡ rules.turn_of self.old }
+        ensures next { rules.IsNext self.old.stage → rules.IsNext self.new.stage }
+        ensures waits { is_waiting (rules.standing_of self.new) ≡ is_waiting (rules.standing_of self.old) }
+        ensures closed { is_closed (rules.standing_of self.old) ≡ true → rules.standing_of self.new ≡ rules.standing_of self.old }
+        ensures end { self.new.is_ended ≡ true }
+    {
+        self.is_ended = true;
+        if self.stage.is_reading() {
+            self.session.end();
+            self.stage.become_next(Stage::Done);
+        }
+    }
+
+    /// What it wants, once all that it wrote is out. It takes no memory.
+    pub fn wants(&self) -> Wants
+        ensures value { result ≡ rules.wants_of self.now }
+        ensures waits { (result ≡ Wants.Answer) ↔ (is_waiting (rules.standing_of self.now) ≡ true) }
+    {
+        self.stage.wants()
+    }
+
+    /// Hands out the turn that waits, which has to be answered then; `None` where none waits or it was taken before. It takes no
+    /// memory.
+    pub fn take_turn(&mut self) -> Option<Turn>
+        ensures value { result ≡ rules.turn_of self.old }
+        ensures taken { rules.turn_of self.old ≢ None → rules.taken_of self.new ≡ result }
+        ensures holds { (settings : Settings) (input : Input) (moments : List ℕ) (entries : List Entry) (sent : List ℕ)
+            → Holds self.old settings input moments entries sent → Holds self.new settings input moments entries sent }
+        ensures none { result ≡ None → self.new ≡ self.old }
+        ensures waits { IfSome result (λ _. is_waiting (rules.standing_of self.old) ≡ true) }
+        ensures rests { result ≡ None → rules.IsNext self.old.stage → is_waiting (rules.standing_of self.old) ≡ false }
+        ensures standing { rules.standing_of self.new ≡ rules.standing_of self.old }
+        ensures unsent { rules.unsent_of self.new ≡ rules.unsent_of self.old }
+        ensures end { self.new.is_ended ≡ self.old.is_ended }
+    {
+        if !self.stage.has_turn() {
+            return None;
+        }
+        let Stage::Waiting(turn) = mem::replace(&mut self.stage, Stage::Done) else {
+            unreachable!()
+        };
+        self.stage
+            .become_next(Stage::HandedOut(Snapshot::of(&turn)));
+        Some(turn)
+    }
+
+    /// Answers the turn that was taken: the reply is written, or, where memory ran out at the turn, what stands for one, and
+    /// nothing more is read. It takes no memory.
+    pub fn answer(&mut self, alloc: Global, answered: Result<Answer, NoMemory>)
+        requires taken { rules.taken_of self.old ≢ None }
+        ensures holds { (settings : Settings) (input : Input) (moments : List ℕ) (entries : List Entry) (turn : Turn) (sent : List ℕ)
+            → rules.taken_of self.old ≡ Some turn → Holds self.old settings input moments entries sent
+            → Holds self.new settings input moments (rules.entries_with entries turn answered) sent }
+        ensures dies { OnErr answered (rules.standing_of self.new ≡ Dead) }
+        ensures taken { rules.taken_of self.new ≡ None }
+        ensures turn { rules.turn_of self.new ≡ None }
+        ensures end { self.new.is_ended ≡ self.old.is_ended }
+    {
+        let next = self.session.answer(answered);
+        match next {
+            Next::More => self.stage.become_next(Stage::Answered),
+            Next::Close => {
+                self.kept = Kept::new(alloc);
+                self.stage.become_next(Stage::Done);
+            }
+        }
+    }
+
+    /// Goes on behind an answer: what is kept goes through the session, up to the next message whose command waits, and behind all of
+    /// it the end, if that has come. Answers whether a message has this moment. Where nothing was answered it does nothing.
+    ///
+    /// Takes time and memory as `Session::feed` does for what it takes.
+    pub fn go_on(&mut self, alloc: Global, config: &Config, now: Moment) -> bool
+        ensures holds { (input : Input) (moments : List ℕ) (entries : List Entry) (sent : List ℕ)
+            → Holds self.old config.now input moments entries sent
+            → Holds self.new config.now input (moments ++ rules.moment_if result now) entries sent }
+        ensures next { rules.taken_of self.old ≡ None → rules.IsNext self.new.stage }
+        ensures closed { is_closed (rules.standing_of self.old) ≡ true → self.new ≡ self.old }
+        ensures same { rules.wants_of self.old ≢ Wants.ToGoOn → (self.new ≡ self.old) × (result ≡ false) }
+        ensures end { self.new.is_ended ≡ self.old.is_ended }
+    {
+        match self.stage.wants() {
+            Wants::ToGoOn => self.take_on(alloc, config, now),
+            Wants::Input | Wants::Answer | Wants::Nothing => false,
+        }
+    }
+
+    // Takes what is kept behind an answer.
+    fn take_on(&mut self, alloc: Global, config: &Config, now: Moment) -> bool
+        requires answered { self.old.stage ≡ Stage.Answered }
+        ensures holds { (input : Input) (moments : List ℕ) (entries : List Entry) (sent : List ℕ)
+            → Holds self.old config.now input moments entries sent
+            → Holds self.new config.now input (moments ++ rules.moment_if result now) entries sent }
+        ensures next { rules.IsNext self.new.stage }
+        ensures end { self.new.is_ended ≡ self.old.is_ended }
+    {
+        let (stage, has_moment) = take_kept(alloc, config, &mut self.session, &mut self.kept, now);
+        let stage = conclude(&mut self.session, stage, self.is_ended);
+        self.stage.become_next(stage);
+        has_moment
+    }
+
+    /// Whether the head of a message was admitted and its body isn't whole: for the time that its caller gives it. It takes no
+    /// memory.
+    pub fn is_in_body(&self) -> bool {
+        self.session.in_body()
+    }
+
+    /// A beginning of what it has written and not sent, as long as it stands together; it is empty only where all is
+    /// sent. It takes no memory.
+    pub fn out(&self) -> &[u8]
+        ensures beginning { take (length result.now) (rules.unsent_of self.now) ≡ result.now }
+        ensures within { length result.now ≤ length (rules.unsent_of self.now) }
+        ensures empty { result.now ≡ [] → rules.unsent_of self.now ≡ [] }
+    {
+        self.session.out()
+    }
+
+    /// The same in the parts in which it lies, for one write.
+    pub fn parts(&self) -> [IoSlice<'_>; 4]
+        ensures beginning { take (length (io_slices_bytes result)) (rules.unsent_of self.now) ≡ io_slices_bytes result }
+        ensures within { length (io_slices_bytes result) ≤ length (rules.unsent_of self.now) }
+        ensures empty { io_slices_bytes result ≡ [] → rules.unsent_of self.now ≡ [] }
+    {
+        self.session.parts()
+    }
+
+    /// Says that so many bytes in front were sent. They are dropped, and a body goes with its last byte. It takes no
+    /// memory.
+    pub fn sent(&mut self, count: usize)
+        requires within { count ≤ length (rules.unsent_of self.old) }
+        ensures holds { (settings : Settings) (input : Input) (moments : List ℕ) (entries : List Entry) (sent : List ℕ)
+            → Holds self.old settings input moments entries sent
+            → Holds self.new settings input moments entries (sent ++ take count (rules.unsent_of self.old)) }
+        ensures left { rules.unsent_of self.new ≡ drop count (rules.unsent_of self.old) }
+        ensures standing { rules.standing_of self.new ≡ rules.standing_of self.old }
+        ensures stage { self.new.stage ≡ self.old.stage }
+        ensures end { self.new.is_ended ≡ self.old.is_ended }
+    {
+        self.session.sent(count);
+    }
+
+    /// A copy of all that it has written and not sent.
+    ///
+    /// # Errors
+    ///
+    /// `NoMemory` where something is unsent and memory runs out.
+    pub fn all(&self, alloc: Global) -> Result<Vec<u8>, NoMemory>
+        ensures all { IfOk result (λ all. all.items ≡ rules.unsent_of self.now) }
+        ensures memory { OnErr result (0 < length (rules.unsent_of self.now)) }
+    {
+        self.session.all(alloc)
+    }
+}

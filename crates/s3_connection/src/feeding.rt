@@ -1,0 +1,200 @@
+//! What a session takes of bytes, and what becomes of the others.
+
+ghost use Rattle.std.specs.Prelude.{◌≡◌, ◌≤◌, ℕ, true, false, List, [], ◌∷◌, ◌++◌, length, take, drop};
+ghost use Rattle.s3_config.specs.Settings.{Settings};
+ghost use Rattle.s3_machine.specs.History.{Entry};
+ghost use Rattle.s3_session.specs.Output.{Past, Reading, is_waiting};
+ghost use Rattle.s3_session.specs.Session as rules;
+ghost use Rattle.s3_session.specs.Session.{Needs, fed, standing_of, turns_of};
+ghost use Rattle.s3_session.specs.Stands.{Stands};
+ghost use Rattle.s3_connection.specs.Connection.{IsFit, IsNext, moment_if};
+ghost use Rattle.s3_connection.specs.Holds.{IsBehind, IsTurn, Took, Went};
+ghost use Rattle.s3_connection.specs.Output.{HasWaiting, past_of};
+
+use crate::kept::Kept;
+use crate::once::Once;
+use crate::stage::Stage;
+use s3_calendar::Moment;
+use s3_config::Config;
+use s3_machine::Turn;
+use s3_session::{Need, Session};
+use std::alloc::Global;
+
+// What a session made of a piece: how many bytes it took, what it needs, and whether its message has the moment.
+#[derive(Drop)]
+struct Fed {
+    len: usize,
+    need: Need,
+    has_moment: bool,
+}
+
+// Feeds a session at a moment.
+fn feed_session(
+    alloc: Global,
+    config: &Config,
+    session: &mut Session,
+    now: Moment,
+    piece: &[u8],
+) -> Fed
+    requires answered { is_waiting (standing_of session.old) ≡ false }
+    requires goes_on { session.old.is_ended ≡ false }
+    ensures within { result.len ≤ length piece.now }
+    ensures stands { (past : Past) (sent : List ℕ) → Stands session.old config.now past sent
+        → Stands session.new config.now (fed past (take result.len piece.now) (moment_if result.has_moment now) (turns_of result.need)) sent }
+    ensures all { (past : Past) (sent : List ℕ) → Stands session.old config.now past sent
+        → result.need ≡ Need.More → result.len ≡ length piece.now }
+    ensures needs { Needs result.need (standing_of session.new) }
+    ensures goes_on { session.new.is_ended ≡ false }
+{
+    let mut clock = Once::new(now);
+    let (len, need) = session.feed(alloc, config, &mut clock, piece);
+    Fed {
+        len,
+        need,
+        has_moment: clock.is_asked(),
+    }
+}
+
+// Feeds a session that reads with a piece, up to the end of the next message, and keeps what is behind that: what comes next, and
+// whether a message has this moment.
+pub(crate) fn take_piece(
+    alloc: Global,
+    config: &Config,
+    session: &mut Session,
+    kept: &mut Kept,
+    now: Moment,
+    piece: &[u8],
+) -> (Stage, bool)
+    requires reads { standing_of session.old ≡ Reading }
+    requires goes_on { session.old.is_ended ≡ false }
+    requires none { kept.old ≡ [] }
+    ensures took { (taken moments : List ℕ) (entries : List Entry) (sent : List ℕ)
+        → Stands session.old config.now (past_of taken false moments entries []) sent
+        → Took session.new kept.new result.0 config.now taken piece.now (moments ++ moment_if result.1 now) entries sent }
+    ensures fit { IsFit result.0 session.new kept.new false }
+    ensures next { IsNext result.0 }
+    ensures goes_on { session.new.is_ended ≡ false }
+{
+    let Fed {
+        len,
+        need,
+        has_moment,
+    } = feed_session(alloc, config, session, now, piece);
+    (stage_before(session, kept, need, &piece[len..]), has_moment)
+}
+
+// What comes next before these bytes, which are kept where a command waits.
+fn stage_before(session: &mut Session, kept: &mut Kept, need: Need, behind: &[u8]) -> Stage
+    requires needs { Needs need (standing_of session.old) }
+    requires goes_on { session.old.is_ended ≡ false }
+    requires none { kept.old ≡ [] }
+    ensures stays { (settings : Settings) (past : Past) (sent : List ℕ) → Stands session.old settings past sent
+        → Stands session.new settings past sent }
+    ensures waits { HasWaiting (standing_of session.new) (turns_of need) }
+    ensures turn { IsTurn result (turns_of need) }
+    ensures left { (need ≡ Need.More → behind.now ≡ []) → IsBehind result false kept.new behind.now false }
+    ensures fit { IsFit result session.new kept.new false }
+    ensures next { IsNext result }
+    ensures goes_on { session.new.is_ended ≡ false }
+{
+    match need {
+        Need::More => Stage::Reading,
+        Need::Turn(turn) => keep_behind(session, kept, turn, behind),
+        Need::Close => Stage::Done,
+    }
+}
+
+// Keeps these bytes while a turn waits; where there is no memory for them, memory has run out at the turn.
+fn keep_behind(session: &mut Session, kept: &mut Kept, turn: Turn, behind: &[u8]) -> Stage
+    requires waits { is_waiting (standing_of session.old) ≡ true }
+    requires goes_on { session.old.is_ended ≡ false }
+    requires none { kept.old ≡ [] }
+    ensures stays { (settings : Settings) (past : Past) (sent : List ℕ) → Stands session.old settings past sent
+        → Stands session.new settings past sent }
+    ensures waits { HasWaiting (standing_of session.new) (turn ∷ []) }
+    ensures turn { IsTurn result (turn ∷ []) }
+    ensures left { IsBehind result false kept.new behind.now false }
+    ensures fit { IsFit result session.new kept.new false }
+    ensures next { IsNext result }
+    ensures goes_on { session.new.is_ended ≡ false }
+{
+    match kept.add(behind) {
+        Ok(()) => Stage::Waiting(turn),
+        Err(e) => {
+            drop(turn);
+            session.answer(Err(e));
+            Stage::Done
+        }
+    }
+}
+
+// Feeds a session that reads with what is kept, if something is, up to the end of the next message; what is behind that stays.
+pub(crate) fn take_kept(
+    alloc: Global,
+    config: &Config,
+    session: &mut Session,
+    kept: &mut Kept,
+    now: Moment,
+) -> (Stage, bool)
+    requires reads { standing_of session.old ≡ Reading }
+    requires goes_on { session.old.is_ended ≡ false }
+    ensures took { (taken moments : List ℕ) (entries : List Entry) (sent : List ℕ)
+        → Stands session.old config.now (past_of taken false moments entries []) sent
+        → Took session.new kept.new result.0 config.now taken kept.old (moments ++ moment_if result.1 now) entries sent }
+    ensures fit { IsFit result.0 session.new kept.new false }
+    ensures next { IsNext result.0 }
+    ensures goes_on { session.new.is_ended ≡ false }
+{
+    if kept.is_empty() {
+        return (Stage::Reading, false);
+    }
+    let Fed {
+        len,
+        need,
+        has_moment,
+    } = feed_session(alloc, config, session, now, kept.as_slice());
+    (stage_behind(alloc, kept, need, len), has_moment)
+}
+
+// What comes next behind so many bytes of those that are kept, which are dropped; where no command waits, all are.
+fn stage_behind(alloc: Global, kept: &mut Kept, need: Need, len: usize) -> Stage
+    requires within { len ≤ length kept.old }
+    ensures turn { IsTurn result (turns_of need) }
+    ensures left { (need ≡ Need.More → drop len kept.old ≡ []) → IsBehind result false kept.new (drop len kept.old) false }
+    ensures fit { (session : rules.Connection) → Needs need (standing_of session) → session.is_ended ≡ false
+        → IsFit result session kept.new false }
+    ensures next { IsNext result }
+{
+    match need {
+        Need::More => {
+            *kept = Kept::new(alloc);
+            Stage::Reading
+        }
+        Need::Turn(turn) => {
+            kept.skip(alloc, len);
+            Stage::Waiting(turn)
+        }
+        Need::Close => {
+            *kept = Kept::new(alloc);
+            Stage::Done
+        }
+    }
+}
+
+// Tells a session that reads the end, if it has come.
+pub(crate) fn conclude(session: &mut Session, stage: Stage, is_ended: bool) -> Stage
+    requires goes_on { session.old.is_ended ≡ false }
+    ensures went { (settings : Settings) (kept taken offered moments : List ℕ) (entries : List Entry) (sent : List ℕ)
+        → Took session.old kept stage settings taken offered moments entries sent
+        → IsFit stage session.old kept false
+        → Went session.new kept result settings taken offered moments entries sent is_ended }
+    ensures fit { (kept : List ℕ) → IsFit stage session.old kept false → IsFit result session.new kept is_ended }
+    ensures next { IsNext stage → IsNext result }
+{
+    if is_ended && stage.is_reading() {
+        session.end();
+        drop(stage);
+        return Stage::Done;
+    }
+    stage
+}
