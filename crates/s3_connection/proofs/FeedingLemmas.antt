@@ -1,5 +1,5 @@
 -- What a session made of some bytes.
-use Rattle.std.proofs.Common.{◌≡◌, ◌≢◌, ℕ, Bool, true, false, List, [], ◌∷◌, ◌++◌, map, take, drop, length, refl, sym, ap, subst, ◌∙◌, arith, append-nil}
+use Rattle.std.proofs.Common.{◌≡◌, ℕ, Bool, true, false, List, [], ◌∷◌, ◌++◌, map, take, drop, length, refl, sym, ap, subst, ◌∙◌, arith, append-nil}
 use Rattle.std.proofs.lemmas.List.{drop_all, take-append-drop}
 use Rattle.s3_config.specs.Settings.{Settings}
 use Rattle.s3_machine.specs.History.{Entry}
@@ -15,7 +15,7 @@ use Rattle.s3_connection.specs.declared.stage.Stage.{Stage}
 use Rattle.s3_connection.specs.declared.stage.Stage.TheVariants as stages
 use Rattle.s3_connection.specs.Connection.{IsFit, is_reading_at, moment_if}
 use Rattle.s3_connection.specs.Holds.{IsBehind, IsTurn, Took, Went}
-use Rattle.s3_connection.specs.Output.{HasWaiting, answer_of, answered_turn, past_of}
+use Rattle.s3_connection.specs.Output.{HasWaiting, answered_turn, past_of}
 
 -- the moment that a clock gave which has one
 pub asked_once : (old new : Once) (gave : List ℕ)

@@ -1,5 +1,5 @@
 -- How a connection stands after each call.
-use Rattle.std.proofs.Common.{◌≡◌, ◌≢◌, ◌⊎◌, inl, inr, ℕ, Bool, true, false, List, [], ◌∷◌, ◌++◌, map, refl, sym, ap, subst, ◌∙◌, append-nil, append_assoc, Option, Some, None, Result, Ok, Err}
+use Rattle.std.proofs.Common.{◌≡◌, ◌⊎◌, inl, inr, ℕ, Bool, true, false, List, [], ◌∷◌, ◌++◌, map, refl, sym, ap, subst, ◌∙◌, append-nil, append_assoc, Some, Result, Ok, Err}
 use Rattle.std.proofs.lemmas.Bool.{cases_Bool}
 use Rattle.std.proofs.lemmas.List.{map_push}
 use Rattle.s3_config.specs.Settings.{Settings}
@@ -16,10 +16,10 @@ use Rattle.s3_session.specs.Stands.{Stands}
 use Rattle.s3_connection.specs.declared.stage.Stage.{Stage}
 use Rattle.s3_connection.specs.declared.stage.Stage.TheVariants as stages
 use Rattle.s3_connection.specs.declared.stage.Wants.TheVariants as wants
-use Rattle.s3_connection.specs.Connection.{Connected, IsFit, entries_with, is_reading_at, moment_if, nothing_received, received, taken_at, wants_at}
+use Rattle.s3_connection.specs.Connection.{Connected, IsFit, entries_with, is_reading_at, nothing_received, received, taken_at, wants_at}
 use Rattle.s3_connection.specs.Holds.{Holds, IsBehind, IsTurn, Took, Went}
 use Rattle.s3_connection.specs.Output.{HasWaiting, Input, answer_of, answered_turn, past_of}
-use Rattle.s3_connection.proofs.FeedingLemmas.{fit_done, fit_reading, none_waits, reading_at}
+use Rattle.s3_connection.proofs.FeedingLemmas.{fit_done, fit_reading, none_waits}
 
 pub holds_new : (settings : Settings) (session : Connection) → Stands session settings nothing_yet [] → sessions.standing_of session ≡ Reading → session.is_ended ≡ false
     → Holds (record { session = session; kept = []; stage = stages.Reading; is_ended = false }) settings nothing_received [] [] []

@@ -1,19 +1,17 @@
 -- What a connection has written.
 use Rattle.std.proofs.Common.{◌≡◌, ◌≢◌, ℕ, Bool, true, false, List, [], ◌∷◌, ◌++◌, map, refl, sym, ap, subst, ◌∙◌, append-nil, inl, inr}
 use Rattle.std.proofs.lemmas.Bool.{cases_Bool}
-use mathlib.Core.List.{IsPrefix}
 use Rattle.s3_config.specs.Settings.{Settings}
 use Rattle.s3_machine.specs.History.{Entry}
 use Rattle.s3_machine.specs.declared.turn.Turn.{Turn}
-use Rattle.s3_session.specs.Output.{Standing, Writes, Reading, is_closed, is_dead}
-use Rattle.s3_session.specs.Session as sessions
+use Rattle.s3_session.specs.Output.{Writes, Reading, is_closed}
 use Rattle.s3_session.specs.Stands.{SessionsWrite}
 use Rattle.s3_session.specs.Laws.{OneWriting, OutputsStay}
 use Rattle.s3_connection.specs.declared.stage.Stage.{Stage}
 use Rattle.s3_connection.specs.declared.stage.Stage.TheVariants as stages
 use Rattle.s3_connection.specs.Connection.{Connected, IsFit, is_answered_at, standing_of, unsent_of}
 use Rattle.s3_connection.specs.Holds.{ConnectionsWrite, Holds, IsBehind}
-use Rattle.s3_connection.specs.Output.{HasWaiting, Input, OneOutput, Outputs, answered_turn, past_of}
+use Rattle.s3_connection.specs.Output.{Input, OneOutput, answered_turn, past_of}
 
 module _ (write : SessionsWrite) (stay : OutputsStay) (c : Connected) (settings : Settings) (input : Input) (moments : List ℕ) (entries : List Entry) (sent : List ℕ)
     (h : Holds c settings input moments entries sent) where

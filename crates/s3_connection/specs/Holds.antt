@@ -2,7 +2,7 @@
 -- `Holds` is what the clauses of a connection carry along. What it comes to is a law, `connections_write`: its output. So its
 -- inside need not be believed. A reader believes the laws at the end; the others serve `Holds` and the clauses of private
 -- functions alone.
-use Rattle.std.specs.Prelude.{◌≡◌, ◌≢◌, ℕ, Bool, true, false, List, [], ◌∷◌, ◌++◌}
+use Rattle.std.specs.Prelude.{◌≡◌, ℕ, Bool, true, false, List, [], ◌∷◌, ◌++◌}
 use Rattle.s3_config.specs.Settings.{Settings}
 use Rattle.s3_machine.specs.History.{Entry}
 use Rattle.s3_machine.specs.declared.turn.Turn.{Turn}

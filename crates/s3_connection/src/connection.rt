@@ -145,6 +145,7 @@ impl Connection {
             → Holds self.new settings (record input { ended = true }) moments entries sent }
         ensures again { self.old.is_ended ≡ true → self.new ≡ self.old }
         ensures turn { rules.turn_of self.new ≡ rules.turn_of self.old }
+        ensures wants { rules.wants_of self.old ≡ Wants.Input → rules.wants_of self.new ≡ Wants.Nothing }
         ensures next { rules.IsNext self.old.stage → rules.IsNext self.new.stage }
         ensures waits { is_waiting (rules.standing_of self.new) ≡ is_waiting (rules.standing_of self.old) }
         ensures closed { is_closed (rules.standing_of self.old) ≡ true → rules.standing_of self.new ≡ rules.standing_of self.old }
@@ -198,6 +199,7 @@ impl Connection {
             → rules.taken_of self.old ≡ Some turn → Holds self.old settings input moments entries sent
             → Holds self.new settings input moments (rules.entries_with entries turn answered) sent }
         ensures dies { OnErr answered (rules.standing_of self.new ≡ Dead) }
+        ensures over { OnErr answered (rules.wants_of self.new ≡ Wants.Nothing) }
         ensures taken { rules.taken_of self.new ≡ None }
         ensures turn { rules.turn_of self.new ≡ None }
         ensures end { self.new.is_ended ≡ self.old.is_ended }

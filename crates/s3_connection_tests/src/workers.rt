@@ -1,5 +1,5 @@
-//! Tests of `s3_workers`: connections over a stream that gives and takes in pieces, would block, and fails; two connections of one
-//! worker, in turns; and two workers at one desk, one of which is held inside a body. What is written is compared to
+//! Tests of `s3_pump`: connections over a stream that gives and takes in pieces, would block, and fails; two connections that share a
+//! book, in turns; and two at one desk, one of which is held inside a body. What is written is compared to
 //! `s3_replay::replay_one`'s, or is as `docs/PROTOCOL.md` says. Tests of `s3_journal` and `s3_desk`: a book that answers turns, and
 //! eight threads at one desk; and of `s3_world`: events of two connections that share one store, and what is written for each.
 
@@ -10,7 +10,6 @@ mod connections;
 mod gate_overlap;
 mod journal;
 mod old_bytes;
-mod places;
 mod play;
 mod seats;
 mod served;

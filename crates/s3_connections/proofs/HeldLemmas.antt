@@ -1,52 +1,47 @@
--- What a connection has of its own after a step.
-use Rattle.std.proofs.Common.{◌≡◌, ℕ, List, [], ◌∷◌, ◌++◌, drop, length, refl, sym, ap, subst, ◌∙◌, append_assoc, append-nil}
-use Rattle.std.proofs.Math.Seq.{drop-append_seam}
+-- How a connection stands in the hands of its worker after a step.
+use Rattle.std.proofs.Common.{◌≡◌, ℕ, suc, List, [], Option, None, Some, refl, sym, ap, ◌∙◌, append-nil}
+use mathlib.Core.List.{IsPrefix}
 use Rattle.s3_config.specs.Settings.{Settings}
 use Rattle.s3_machine.specs.History.{Entry}
-use Rattle.s3_workers.specs.Around.{GivesAll, Own, around, nothing_own, since, with_own}
-use Rattle.s3_workers.specs.Connection as workers
-use Rattle.s3_workers.specs.Connection.{IsHeld, MayRest}
+use Rattle.s3_connection.specs.Connection.{Connected}
 use Rattle.s3_devices.specs.Device.{Traffic}
 use Rattle.s3_devices.specs.Recorded.{no_traffic}
-use Rattle.s3_connections.specs.Clock.{Tells}
-use Rattle.s3_connections.specs.Held.{added, own_behind, own_of}
+use Rattle.s3_pump.specs.declared.outcome.Outcome.{Outcome}
+use Rattle.s3_pump.specs.declared.outcome.Outcome.TheVariants as outcomes
+use Rattle.s3_pump.specs.declared.outcome.Step.{Step}
+use Rattle.s3_pump.specs.declared.outcome.Step.TheVariants as steps
+use Rattle.s3_pump.specs.Ended.{Fails}
+use Rattle.s3_pump.specs.Served.{ConnectionsEnd, ConnectionsHaveWritten, HasMet, HaveMore, IsServed, StopsAt}
+use Rattle.s3_connections.specs.Account.{EndsSo, Fits}
+use Rattle.s3_connections.specs.Held.{HasGoneOn, Held, Stands, account_of, outcome_of}
 
--- what was added is what was added
-added_is : {A : Type 0} → (old new more : List A) → new ≡ old ++ more → added old new ≡ more
-added_is old new more is = ap (drop (length old)) is ∙ drop-append_seam old more
+-- failures where there was none before
+fails_first : (outcome : Outcome) (before after : Traffic) → before.failed_reads ≡ 0 → before.failed_writes ≡ 0 → Fails outcome before after
+    → Fails outcome no_traffic after
+fails_first outcomes.Closed before after no_reads no_writes f = (f.0 ∙ no_reads, f.1 ∙ no_writes)
+fails_first outcomes.ReadFailed before after no_reads no_writes f = (f.0 ∙ ap (λ n. suc n) no_reads, f.1 ∙ no_writes)
+fails_first outcomes.WriteFailed before after no_reads no_writes f = (f.0 ∙ no_reads, f.1 ∙ ap (λ n. suc n) no_writes)
 
--- a clock that gave some moments has told them
-told_all : (old new moments : List ℕ) → GivesAll Tells old new moments → new ≡ old ++ moments
-told_all old new [] given = given ∙ sym (append-nil old)
-told_all old new (moment ∷ moments) given =
-    told_all given.0 new moments given.2 ∙ ap (λ (ms : List ℕ). ms ++ moments) given.1 ∙ append_assoc old (moment ∷ []) moments
+pub ends_so : ConnectionsEnd → (settings : Settings) (c : Connected) (before after : Traffic) (moments : List ℕ) (entries : List Entry) (step : Step)
+    → IsServed settings c after moments entries → StopsAt step c → before.failed_reads ≡ 0 → before.failed_writes ≡ 0 → HasMet step before after
+    → EndsSo settings after moments entries (outcome_of step)
+ends_so end settings c before after moments entries (steps.Ended outcome) s stops no_reads no_writes met =
+    (end settings c after moments entries outcome s stops, fails_first outcome before after no_reads no_writes met)
+ends_so end settings c before after moments entries (steps.Waits wanted) s stops no_reads no_writes met = (met.0.0 ∙ no_reads, met.0.1 ∙ no_writes)
+ends_so end settings c before after moments entries steps.MayGoOn s stops no_reads no_writes met = (met.0.0 ∙ no_reads, met.0.1 ∙ no_writes)
 
--- one step more
-behind_push : (own : Own) (steps : List Own) (step : Own) → own_behind own (steps ++ step ∷ []) ≡ with_own (own_behind own steps) step.moments step.entries
-behind_push own [] step = refl
-behind_push own (first ∷ steps) step = behind_push (with_own own first.moments first.entries) steps step
+-- one that did nothing is the same
+pub gone_nowhere : (now : ℕ) (h : Held) → HasGoneOn now h h
+gone_nowhere now h = record {
+  received = ([], append-nil h.traffic.received);
+  sent = ([], append-nil h.traffic.sent);
+  entries = ([], append-nil h.entries);
+  moments = record { more = []; added = sym (append-nil h.moments); all = tt };
+}
 
-pub own_push : (steps more : List Own) (step : Own) (moments : List ℕ) (entries : List Entry) → more ≡ steps ++ step ∷ []
-    → step ≡ record { moments = moments; entries = entries } → own_of more ≡ with_own (own_of steps) moments entries
-own_push steps more step moments entries is same =
-    ap own_of is ∙ behind_push nothing_own steps step ∙ ap (λ (s : Own). with_own (own_of steps) s.moments s.entries) same
-
--- clock and counter have grown by what they added
-pub grown : (settings : Settings) (c : workers.Held) (own : Own) (clock later : List ℕ) (entries more : List Entry) (traffic : Traffic)
-    → MayRest Tells settings c (since own no_traffic clock entries) (around later more traffic)
-    → (later ≡ clock ++ added clock later) × (more ≡ entries ++ added entries more)
-grown settings c own clock later entries more traffic r =
-    let told = told_all clock later r.moments r.given in (
-      told ∙ ap (λ (ms : List ℕ). clock ++ ms) (sym (added_is clock later r.moments told)),
-      r.made ∙ ap (λ (es : List Entry). entries ++ es) (sym (added_is entries more r.gained r.made)),
-    )
-
--- a connection that was served on is held with what clock and counter added
-pub held_on : (settings : Settings) (c : workers.Held) (own : Own) (clock later : List ℕ) (entries more : List Entry) (traffic : Traffic)
-    → MayRest Tells settings c (since own no_traffic clock entries) (around later more traffic)
-    → IsHeld settings c (with_own own (added clock later) (added entries more)) no_traffic traffic
-held_on settings c own clock later entries more traffic r =
-    subst (λ (moments : List ℕ). IsHeld settings c (with_own own moments (added entries more)) no_traffic traffic)
-    (sym (added_is clock later r.moments (told_all clock later r.moments r.given)))
-    (subst (λ (gained : List Entry). IsHeld settings c (with_own own r.moments gained) no_traffic traffic)
-    (sym (added_is entries more r.gained r.made)) r.is_held)
+-- the account of one that stands so fits its entries
+pub fits_so : ConnectionsHaveWritten → (settings : Settings) (h : Held) → Stands settings h → Fits settings (account_of h) h.entries
+fits_so write settings h stands = record {
+  written = write settings h.connection h.traffic h.moments h.entries stands.0;
+  ends = stands.1;
+}

@@ -1,36 +1,44 @@
 -- A connection in the hands of a worker.
-use Rattle.std.specs.Prelude.{ℕ, List, [], ◌∷◌, drop, length}
+use Rattle.std.specs.Prelude.{◌≡◌, ℕ, List, Option, None, Some}
+use mathlib.Core.List.{IsPrefix}
 use Rattle.s3_config.specs.Settings.{Settings}
 use Rattle.s3_machine.specs.History.{Entry}
-use Rattle.s3_workers.specs.Around.{Around, Own, nothing_own, since, with_own}
-use Rattle.s3_workers.specs.Connection as workers
-use Rattle.s3_workers.specs.Connection.{IsHeld}
+use Rattle.s3_connection.specs.Connection.{Connected}
 use Rattle.s3_devices.specs.Device.{Traffic}
-use Rattle.s3_devices.specs.Recorded.{no_traffic}
+use Rattle.s3_pump.specs.declared.outcome.Outcome.{Outcome}
+use Rattle.s3_pump.specs.declared.outcome.Step.{Step}
+use Rattle.s3_pump.specs.declared.outcome.Step.TheVariants as steps
+use Rattle.s3_pump.specs.Served.{HaveMore, IsServed}
+use Rattle.s3_connections.specs.Account.{Account, EndsSo}
 
--- its settings, how it stands, the moments and entries that are its own, and all that its socket gave and took
+-- how it stands, all that its socket gave and took, the moments of its messages, the entries of its seat, and how it has ended, if it
+-- has
 pub record Held : Type 0 where
-  pub settings : Settings
-  pub connection : workers.Held
-  pub own : Own
+  pub connection : Connected
   pub traffic : Traffic
+  pub moments : List ℕ
+  pub entries : List Entry
+  pub outcome : Option Outcome
 
--- how it stands, and what it wrote, is what its own moments and entries and all that its socket gave make
-abbrev pub Stands : Held → Type 0
-Stands h = IsHeld h.settings h.connection h.own no_traffic h.traffic
+-- it was served so, and if it has ended, as its outcome says
+abbrev pub Stands : Settings → Held → Type 0
+Stands settings h =
+    IsServed settings h.connection h.traffic h.moments h.entries × EndsSo settings h.traffic h.moments h.entries h.outcome
 
--- its beginning, as `Ends` needs it, where its worker's clock and counter stand so now
-abbrev pub begun : Held → List ℕ → List Entry → Around (List ℕ)
-begun h clock entries = since h.own no_traffic clock entries
+-- what is told of it when it leaves
+abbrev pub account_of : Held → Account
+account_of h = record { traffic = h.traffic; moments = h.moments; outcome = h.outcome }
 
--- what stands in a list behind another that begins it
-abbrev pub added : {A : Type 0} → List A → List A → List A
-added old new = drop (length old) new
+-- It is the same connection, further on: nothing that came or went is undone, and no entry; all messages whose heads became whole
+-- meanwhile have this moment.
+pub record HasGoneOn (now : ℕ) (old new : Held) : Type 0 where
+  pub received : IsPrefix old.traffic.received new.traffic.received
+  pub sent : IsPrefix old.traffic.sent new.traffic.sent
+  pub entries : IsPrefix old.entries new.entries
+  pub moments : HaveMore now old.moments new.moments
 
--- what a connection has of its own, by what it came to have in each step
-abbrev pub own_behind : Own → List Own → Own
-own_behind own [] = own
-own_behind own (step ∷ steps) = own_behind (with_own own step.moments step.entries) steps
-
-abbrev pub own_of : List Own → Own
-own_of steps = own_behind nothing_own steps
+-- how it has ended by a step, if it has
+abbrev pub outcome_of : Step → Option Outcome
+outcome_of (steps.Ended outcome) = Some outcome
+outcome_of (steps.Waits wanted) = None
+outcome_of steps.MayGoOn = None

@@ -1,3 +1,3 @@
-pub mod Clock
+pub mod Account
 pub mod Held
 pub mod Limits

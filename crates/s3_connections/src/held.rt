@@ -1,55 +1,59 @@
 //! A connection in the hands of a worker.
 
-ghost use Rattle.std.specs.Prelude.{◌≡◌, ◌≢◌, ◌<◌, ◌++◌, [], length, IfSome};
-ghost use Rattle.s3_workers.specs.Around.{Ends, Fails, around, nothing_own, with_own};
+ghost use Rattle.std.specs.Prelude.{◌≡◌, ◌≢◌, ◌<◌, [], length, None, Some, IfOk};
 ghost use Rattle.s3_devices.specs.Recorded.{no_traffic};
-ghost use Rattle.s3_workers.specs.declared.outcome.Outcome.{Outcome};
-ghost use Rattle.s3_connections.specs.Clock.{Tells};
-ghost use Rattle.s3_connections.specs.Held.{added, begun};
+ghost use Rattle.s3_pump.specs.declared.outcome.Outcome.{Outcome};
+ghost use Rattle.s3_connections.specs.Account.{Fits};
+ghost use Rattle.s3_connections.specs.Held.{HasGoneOn, account_of, outcome_of};
 
-use crate::clock::SystemClock;
-use crate::gains::{AsGained, Between, Gained};
+use crate::account::{Account, AsAccount, Told};
+use crate::sharing::Sharing;
 use crate::socket::{Left, Socket};
 use crate::time_limits::Awaited;
 use mio::{Registry, Token};
-use s3_config::Config;
+use s3_calendar::Moment;
+use s3_desk::Ground;
 use s3_devices::{Recorded, Wanted};
 use s3_history::Recorder;
-use s3_workers::{
-    Connection, Counter, Gate, Outcome, Step, Worker, connections_are_held, connections_go_on,
-    connections_rest,
+use s3_pump::{
+    DeskHandle, Outcome, Pump, Step, connections_are_served, connections_end,
+    connections_have_written,
 };
+use s3_records::MapRecords;
+use s3_terms::NoMemory;
 use std::alloc::Global;
 use std::io;
 use std::marker::Model;
-use std::snapshot::Snapshot;
-use std::time::{self, Instant};
+use std::mem::drop;
+use std::sync::Wait;
+use std::time::Instant;
 
 // How many moves a connection makes before others have theirs.
 const MOVES: u32 = 16;
 
-/// A connection with its socket, and since when it waits for what. Contracts see its settings, the moments and the entries that
-/// are its own, and what its socket gave and took up to its end; what is dropped behind that isn't among it. Its type keeps that it
-/// was served step by step, and no other way.
+/// A connection with its socket and its seat at the store, and since when it waits for what. Contracts see how it stands, all that its
+/// socket gave and took, the moments of its messages, the entries of its seat, and how it has ended; what is dropped behind that isn't
+/// among it. Its type keeps that it was served step by step, and no other way.
 #[derive(Drop)]
-pub struct Held<'a> {
-    config: &'a Config,
-    connection: Connection,
+pub struct Held<'a, J: Ground, W: Wait> {
+    pump: Pump,
     socket: Recorded<Socket>,
-    own: Recorder<Gained>,
+    seat: DeskHandle<'a, J, MapRecords, Account, W>,
+    moments: Recorder<Moment>,
+    outcome: Option<Outcome>,
     awaited: Awaited,
     since: Instant,
 }
 
-impl<'a> Model for Held<'a> {
+impl<'a, J: Ground, W: Wait> Model for Held<'a, J, W> {
     ghost use Rattle.s3_connections.specs.Held as rules;
-    ghost use Rattle.s3_connections.specs.Held.{own_of};
 
     ghost Value = { rules.Held };
 
-    ghost view = { λ h. record { settings = h.config.now; connection = h.connection; own = own_of h.own.entries; traffic = h.socket } };
+    ghost view = { λ h. record { connection = h.pump; traffic = h.socket; moments = h.moments.entries; entries = h.seat.mine; outcome = h.outcome } };
 
-    ghost invariant = { λ h. rules.Stands (record { settings = h.config.now; connection = h.connection; own = own_of h.own.entries; traffic = h.socket }) };
+    ghost invariant = { λ h. rules.Stands J.base.settings
+        (record { connection = h.pump; traffic = h.socket; moments = h.moments.entries; entries = h.seat.mine; outcome = h.outcome }) };
 }
 
 /// What came of a connection that went on.
@@ -63,48 +67,51 @@ pub enum Course {
     Lost,
 }
 
-impl<'a> Held<'a> {
-    /// The connection of this number, which came at a moment. `None` never comes, though no contract can say so.
+impl<'a, J: Ground, W: Wait> Held<'a, J, W> {
+    /// A connection which came at a moment, with a seat of its own. It waits for the store. `NoMemory` comes where there is no room for
+    /// a seat more.
     pub fn new(
-        alloc: Global,
-        config: &'a Config,
-        number: u64,
+        sharing: &Sharing<'a, J, W>,
         socket: Socket,
         now: Instant,
-    ) -> Option<Held<'a>>
-        ensures settings { IfSome result (λ held. held.settings ≡ config.entry.now) }
-        ensures own { IfSome result (λ held. held.own ≡ nothing_own) }
-        ensures traffic { IfSome result (λ held. held.traffic ≡ no_traffic) }
+    ) -> Result<Held<'a, J, W>, NoMemory>
+        ensures traffic { IfOk result (λ held. held.traffic ≡ no_traffic) }
+        ensures entries { IfOk result (λ held. held.entries ≡ []) }
+        ensures outcome { IfOk result (λ held. held.outcome ≡ None) }
     {
-        let own = Recorder::new()?;
-        let socket = Recorded::new(socket)?;
-        Some(Held::beginning(alloc, config, number, socket, own, now))
+        let Some(socket) = Recorded::new(socket) else {
+            return Err(NoMemory);
+        };
+        let seat = DeskHandle::open(sharing.rt(), sharing.desk())?;
+        Held::over(sharing.alloc(), socket, seat, now)
     }
 
-    // The same of its parts.
-    fn beginning(
+    // The same over its socket and at its seat.
+    fn over(
         alloc: Global,
-        config: &'a Config,
-        number: u64,
         socket: Recorded<Socket>,
-        own: Recorder<Gained>,
+        seat: DeskHandle<'a, J, MapRecords, Account, W>,
         now: Instant,
-    ) -> Held<'a>
-        requires own { own.entries ≡ [] }
+    ) -> Result<Held<'a, J, W>, NoMemory>
         requires traffic { socket ≡ no_traffic }
-        ensures settings { result.settings ≡ config.entry.now }
-        ensures own { result.own ≡ nothing_own }
-        ensures traffic { result.traffic ≡ no_traffic }
+        requires entries { seat.mine ≡ [] }
+        ensures traffic { IfOk result (λ held. held.traffic ≡ no_traffic) }
+        ensures entries { IfOk result (λ held. held.entries ≡ []) }
+        ensures outcome { IfOk result (λ held. held.outcome ≡ None) }
     {
-        connections_are_held();
-        Held {
-            config,
-            connection: Connection::new(alloc, number),
+        connections_are_served();
+        let Some(moments) = Recorder::new() else {
+            return Err(NoMemory);
+        };
+        Ok(Held {
+            pump: Pump::new(alloc),
             socket,
-            own,
+            seat,
+            moments,
+            outcome: None,
             awaited: Awaited::Message,
             since: now,
-        }
+        })
     }
 
     /// Has it reported under a token when it may go on.
@@ -112,33 +119,33 @@ impl<'a> Held<'a> {
         self.socket.stream().register(registry, token)
     }
 
+    /// What it wrote so far is as it has to be: a law about it, with nothing to run.
+    pub fn account(&self)
+        ensures { Fits J.base.settings (account_of self.now) self.now.entries }
+    {
+        connections_have_written();
+        let _ = &self.pump;
+    }
+
     /// Has it go on as far as it can without waiting, and no further than its share. Where it could go further it is reported
-    /// again at once, behind the others that are ready.
-    ///
-    /// What comes to be its own are the moments that the worker's clock gives meanwhile, and the entries that its counter gains.
-    /// Where it has ended, what it wrote is its output for what was read and for all that is its own (`Ends`).
-    pub fn go_on<R: time::Clock, N: Counter, G: Gate>(
+    /// again at once, behind the others that are ready. One that has ended stays so.
+    pub fn go_on(
         &mut self,
-        alloc: Global,
-        worker: &mut Worker<SystemClock<'_, R>, N, G>,
+        sharing: &Sharing<'a, J, W>,
+        moment: Moment,
         buffer: &mut [u8],
         registry: &Registry,
         token: Token,
         now: Instant,
     ) -> Course
         requires room { 0 < length buffer.old }
-        ensures settings { self.new.settings ≡ self.old.settings }
-        ensures own { self.new.own ≡ with_own self.old.own (added worker.old.clock worker.new.clock)
-            (added (N.entries worker.old.counter) (N.entries worker.new.counter)) }
-        ensures ended { (outcome : Outcome) → result ≡ Course.Ended outcome → Ends Tells outcome self.old.settings
-            (begun self.old worker.old.clock (N.entries worker.old.counter))
-            (around worker.new.clock (N.entries worker.new.counter) self.new.traffic) }
-        ensures fails { (outcome : Outcome) → result ≡ Course.Ended outcome → Fails outcome self.old.traffic self.new.traffic }
-        ensures grows { (worker.new.clock ≡ worker.old.clock ++ added worker.old.clock worker.new.clock)
-            × (N.entries worker.new.counter ≡ N.entries worker.old.counter ++ added (N.entries worker.old.counter) (N.entries worker.new.counter)) }
-        ensures seat { N.seat worker.new.counter ≡ N.seat worker.old.counter }
+        ensures goes_on { HasGoneOn moment self.old self.new }
+        ensures ended { (outcome : Outcome) → result ≡ Course.Ended outcome → self.new.outcome ≡ Some outcome }
     {
-        let step = self.step(alloc, worker, buffer);
+        if let Some(outcome) = self.outcome {
+            return Course::Ended(outcome);
+        }
+        let step = self.step(sharing, moment, buffer);
         self.note(step, now);
         match step {
             Step::Waits(_) if !self.socket.stream().take_interrupted() => Course::Stays,
@@ -149,17 +156,17 @@ impl<'a> Held<'a> {
 
     /// Has it go on likewise; and where it has ended and is written out, but its peer still sends, it stays for some seconds in
     /// which that is dropped. Else the system would tell the peer of a connection that was reset, and a refusal might never be seen.
-    /// Answers whether it stays. What it wrote is then as its type says, and of that no clause says more.
-    pub fn serve<R: time::Clock, N: Counter, G: Gate>(
+    /// Answers whether it stays.
+    pub fn serve(
         &mut self,
-        alloc: Global,
-        worker: &mut Worker<SystemClock<'_, R>, N, G>,
+        sharing: &Sharing<'a, J, W>,
+        moment: Moment,
         buffer: &mut [u8],
         registry: &Registry,
         token: Token,
         now: Instant,
     ) -> bool
-        ensures seat { N.seat worker.new.counter ≡ N.seat worker.old.counter }
+        ensures goes_on { HasGoneOn moment self.old self.new }
     {
         // No worker has such a buffer.
         if buffer.is_empty() {
@@ -168,15 +175,35 @@ impl<'a> Held<'a> {
         if let Awaited::End = self.awaited {
             return self.drains(buffer, registry, token);
         }
-        match self.go_on(alloc, worker, buffer, registry, token, now) {
+        match self.go_on(sharing, moment, buffer, registry, token, now) {
             Course::Stays => true,
             Course::Ended(Outcome::Closed) => self.leaves(registry, token, now),
             Course::Ended(_) | Course::Lost => false,
         }
     }
 
+    /// Gives its seat back, with the account of what it did. It waits for the store.
+    pub fn leave(self) {
+        connections_have_written();
+        let Held {
+            pump,
+            socket,
+            seat,
+            moments,
+            outcome,
+            awaited: _,
+            since: _,
+        } = self;
+        drop(pump);
+        tell(seat, &socket, &moments, outcome);
+        drop(moments);
+        drop(socket);
+    }
+
     // Ends what it writes, and answers whether it waits for its peer's end.
-    fn leaves(&mut self, registry: &Registry, token: Token, now: Instant) -> bool {
+    fn leaves(&mut self, registry: &Registry, token: Token, now: Instant) -> bool
+        ensures { self.new ≡ self.old }
+    {
         let socket = self.socket.stream();
         let stays = !socket.is_ended() && socket.end_writing();
         self.awaited = Awaited::End;
@@ -194,41 +221,27 @@ impl<'a> Held<'a> {
     }
 
     // Makes one step.
-    fn step<R: time::Clock, N: Counter, G: Gate>(
-        &mut self,
-        alloc: Global,
-        worker: &mut Worker<SystemClock<'_, R>, N, G>,
-        buffer: &mut [u8],
-    ) -> Step
+    fn step(&mut self, sharing: &Sharing<'a, J, W>, moment: Moment, buffer: &mut [u8]) -> Step
         requires room { 0 < length buffer.old }
-        ensures settings { self.new.settings ≡ self.old.settings }
-        ensures own { self.new.own ≡ with_own self.old.own (added worker.old.clock worker.new.clock)
-            (added (N.entries worker.old.counter) (N.entries worker.new.counter)) }
-        ensures ended { (outcome : Outcome) → result ≡ Step.Ended outcome → Ends Tells outcome self.old.settings
-            (begun self.old worker.old.clock (N.entries worker.old.counter))
-            (around worker.new.clock (N.entries worker.new.counter) self.new.traffic) }
-        ensures fails { (outcome : Outcome) → result ≡ Step.Ended outcome → Fails outcome self.old.traffic self.new.traffic }
-        ensures grows { (worker.new.clock ≡ worker.old.clock ++ added worker.old.clock worker.new.clock)
-            × (N.entries worker.new.counter ≡ N.entries worker.old.counter ++ added (N.entries worker.old.counter) (N.entries worker.new.counter)) }
-        ensures seat { N.seat worker.new.counter ≡ N.seat worker.old.counter }
+        requires goes { self.old.outcome ≡ None }
+        ensures goes_on { HasGoneOn moment self.old self.new }
+        ensures outcome { self.new.outcome ≡ outcome_of result }
     {
-        connections_go_on::<SystemClock<'_, R>>();
-        connections_rest::<SystemClock<'_, R>>();
-        let before = Snapshot::of(worker);
-        let step = self.connection.step(
-            alloc,
-            self.config,
-            worker,
+        connections_end();
+        let step = self.pump.step(
+            sharing.alloc(),
+            sharing.config(),
+            &mut self.seat,
+            &mut self.moments,
             &mut self.socket,
             buffer,
+            moment,
             MOVES,
         );
-        let between = Between {
-            before,
-            after: worker,
+        self.outcome = match step {
+            Step::Ended(outcome) => Some(outcome),
+            Step::Waits(_) | Step::MayGoOn => None,
         };
-        self.own
-            .record::<Between<'_, Worker<SystemClock<'_, R>, N, G>>, AsGained>(&between);
         step
     }
 
@@ -261,7 +274,7 @@ impl<'a> Held<'a> {
     fn awaited_for(&self, wanted: Wanted) -> Awaited {
         match wanted {
             Wanted::Room => Awaited::Room,
-            Wanted::Input if self.connection.is_in_body() => Awaited::Body,
+            Wanted::Input if self.pump.is_in_body() => Awaited::Body,
             Wanted::Input if self.is_within_head() => Awaited::Head,
             Wanted::Input => Awaited::Message,
         }
@@ -269,7 +282,7 @@ impl<'a> Held<'a> {
 
     // Whether a part of a head has come.
     fn is_within_head(&self) -> bool {
-        self.connection.is_within_message() && !self.connection.is_in_body()
+        self.pump.is_within_message() && !self.pump.is_in_body()
     }
 
     /// Since when it waits for the next message, or for its peer's end; `None` where a part of a message has come, or a reply isn't out.
@@ -284,4 +297,21 @@ impl<'a> Held<'a> {
     pub fn is_over(&self, now: Instant) -> bool {
         self.awaited.is_over(self.since, now)
     }
+}
+
+// Gives a seat back, with the account of what was done at it.
+fn tell<J: Ground, W: Wait>(
+    seat: DeskHandle<'_, J, MapRecords, Account, W>,
+    socket: &Recorded<Socket>,
+    moments: &Recorder<Moment>,
+    outcome: Option<Outcome>,
+)
+    requires fits { Fits J.base.settings (record { traffic = socket.now; moments = moments.now.entries; outcome = outcome }) seat.mine }
+{
+    let told = Told {
+        socket,
+        moments,
+        outcome,
+    };
+    seat.leave::<Told<'_>, AsAccount>(&told);
 }

@@ -1,10 +1,9 @@
--- Lists that have some of the elements of others, and lists that begin others.
-use Rattle.std.proofs.Common.{◌≡◌, ◌≤◌, List, [], ◌∷◌, ◌++◌, length, refl, ap, sym, ◌∙◌, subst, arith, inl, inr, append_assoc}
-use mathlib.Core.List.{IsPrefix}
+-- Lists that have some of the elements of others.
+use Rattle.std.proofs.Common.{◌≡◌, ◌≤◌, List, [], ◌∷◌, ◌++◌, length, refl, ap, sym, ◌∙◌, subst, arith, inl, inr}
 use Rattle.s3_desk.specs.Desk.{IsAmong}
 
 module _ {A : Type 0} where
-  none_among : (all : List A) → IsAmong [] all
+  pub none_among : (all : List A) → IsAmong [] all
   none_among [] = refl
   none_among (x ∷ all) = inl (none_among all)
 
@@ -31,10 +30,3 @@ module _ {A : Type 0} where
   among_all some (x ∷ all) (inr among) many =
       let one = ap length among.1 in
       ap (λ (xs : List A). x ∷ xs) (among_all among.0 all among.2 (omega (arith, one, many))) ∙ sym among.1
-
-  pub prefix-trans : (xs ys zs : List A) → IsPrefix xs ys → IsPrefix ys zs → IsPrefix xs zs
-  prefix-trans xs ys zs p q = (p.0 ++ q.0, sym (append_assoc xs p.0 q.0) ∙ ap (λ (begun : List A). begun ++ q.0) p.1 ∙ q.1)
-
-  -- what begins a list begins it with more behind
-  pub prefix-append : (xs ys more : List A) → IsPrefix xs ys → IsPrefix xs (ys ++ more)
-  prefix-append xs ys more begins = prefix-trans xs ys (ys ++ more) begins (more, refl)

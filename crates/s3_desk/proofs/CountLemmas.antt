@@ -1,104 +1,116 @@
--- Why the entries of all seats are all entries, where their counts say so.
-use Rattle.std.proofs.Common.{◌≡◌, ◌≤◌, ◌+◌, ℕ, suc, Bool, true, false, cond, eqb, ltb, List, [], ◌∷◌, ◌++◌, length, drop, filter, All, refl, ap, sym, subst, ◌∙◌, arith}
+-- Why the entries of those who have left are all entries, where their counts say so.
+use Rattle.std.proofs.Common.{◌≡◌, ◌≢◌, ◌≤◌, ◌+◌, ℕ, suc, Bool, true, false, cond, not, eqb, List, [], ◌∷◌, ◌++◌, length, filter, ap, sym, subst, ◌∙◌, arith, refl}
 use Rattle.std.proofs.lemmas.Bool.Decides.{nat_tests}
-use Rattle.std.proofs.lemmas.List.{length-map, length-drop}
-use Rattle.std.proofs.lemmas.List.Elements.{All-nil, All-cons}
-use Rattle.std.proofs.lemmas.List.Sums.{sum_by-cons}
+use Rattle.s3_machine.specs.History.{Entry}
 use Rattle.s3_journal.specs.Book.{Journal, KeepsHistory}
-use Rattle.s3_journal.specs.Recorded.{Recorded, entries_of_seat}
-use Rattle.s3_desk.specs.Desk.{Base, Seated, IsRoom, new_seat, AreNew, part_of_seat}
-use Rattle.s3_desk.specs.Closing.{AreNumbered, AreSeenIn, IsClosed, IsWholeIn, count_of}
+use Rattle.s3_journal.specs.Recorded.{Recorded, entries_of_seat, history_of}
+use Rattle.s3_desk.specs.Desk.{Base, IsAmong}
+use Rattle.s3_desk.specs.Gone.{Gone, AreApart, AreGone, AreWhole, IsApart, IsClosed, IsRoom, IsWhole, Numbered, count_of}
 use Rattle.s3_desk.proofs.AmongLemmas.{among_length, among_all}
 
--- how many entries are of seats from this number on
-abbrev count_from : ℕ → List Recorded → ℕ
-count_from number [] = 0
-count_from number (r ∷ entries) = cond (ltb r.seat number) 0 1 + count_from number entries
+-- the entries of all others than this seat
+abbrev others : ℕ → List Recorded → List Recorded
+others n [] = []
+others n (r ∷ entries) = cond (eqb r.seat n) (others n entries) (r ∷ others n entries)
 
--- an entry is of a seat from a number on, if it is of that number or of one from the next on
-one_when : (seat number : ℕ) (own below under : Bool) → eqb seat number ≡ own → ltb seat (suc number) ≡ below → ltb seat number ≡ under
-    → cond own 1 0 + cond below 0 1 ≡ cond under 0 1
-one_when seat number true true true own below under = absurd (grind (arith, nat_tests, own, under))
-one_when seat number true true false own below under = refl
-one_when seat number true false true own below under = absurd (grind (arith, nat_tests, own, under))
-one_when seat number true false false own below under = absurd (grind (arith, nat_tests, own, below))
-one_when seat number false true true own below under = refl
-one_when seat number false true false own below under = absurd (grind (arith, nat_tests, own, below, under))
-one_when seat number false false true own below under = absurd (grind (arith, nat_tests, below, under))
-one_when seat number false false false own below under = refl
+-- the entries of a seat, one at a time
+abbrev of_seat : ℕ → List Recorded → List Entry
+of_seat n [] = []
+of_seat n (r ∷ entries) = cond (eqb r.seat n) (r.entry ∷ of_seat n entries) (of_seat n entries)
 
-own_length : (number : ℕ) (b : Bool) (r : Recorded) (entries : List Recorded) → length (cond b (r ∷ entries) entries) ≡ cond b 1 0 + length entries
-own_length number true r entries = omega arith
-own_length number false r entries = omega arith
+of_seat_next : (b : Bool) (r : Recorded) (entries : List Recorded) → history_of (cond b (r ∷ entries) entries) ≡ cond b (r.entry ∷ history_of entries) (history_of entries)
+of_seat_next true r entries = refl
+of_seat_next false r entries = refl
 
-filter_count : (number : ℕ) (entries : List Recorded) → length (filter (λ (r : Recorded). eqb r.seat number) entries) + count_from (suc number) entries ≡ count_from number entries
-filter_count number [] = refl
-filter_count number (r ∷ entries) =
-    let rest = filter_count number entries in
-    let own = own_length number (eqb r.seat number) r (filter (λ (x : Recorded). eqb x.seat number) entries) in
-    let one = one_when r.seat number (eqb r.seat number) (ltb r.seat (suc number)) (ltb r.seat number) refl refl refl in
-    omega (arith, rest, own, one)
+of_seat_is : (n : ℕ) (entries : List Recorded) → entries_of_seat n entries ≡ of_seat n entries
+of_seat_is n [] = refl
+of_seat_is n (r ∷ entries) =
+    of_seat_next (eqb r.seat n) r (filter (λ (x : Recorded). eqb x.seat n) entries)
+    ∙ ap (λ (es : List Entry). cond (eqb r.seat n) (r.entry ∷ es) es) (of_seat_is n entries)
 
-seat_count : (number : ℕ) (entries : List Recorded) → length (entries_of_seat number entries) + count_from (suc number) entries ≡ count_from number entries
-seat_count number entries =
-    let own = length-map (filter (λ (r : Recorded). eqb r.seat number) entries) (λ (r : Recorded). r.entry) in
-    let rest = filter_count number entries in
-    omega (arith, own, rest)
+split_next : (b : Bool) (r : Recorded) (own : List Entry) (rest entries : List Recorded) → length own + length rest ≡ length entries
+    → length (cond b (r.entry ∷ own) own) + length (cond b rest (r ∷ rest)) ≡ suc (length entries)
+split_next true r own rest entries is = omega (arith, is)
+split_next false r own rest entries is = omega (arith, is)
 
-cond_le : (b : Bool) → cond b 0 1 ≤ 1
-cond_le true = omega arith
-cond_le false = omega arith
+split_count : (n : ℕ) (entries : List Recorded) → length (of_seat n entries) + length (others n entries) ≡ length entries
+split_count n [] = refl
+split_count n (r ∷ entries) = split_next (eqb r.seat n) r (of_seat n entries) (others n entries) entries (split_count n entries)
 
-count_le : (number : ℕ) (entries : List Recorded) → count_from number entries ≤ length entries
-count_le number [] = omega arith
-count_le number (r ∷ entries) = let rest = count_le number entries in let one = cond_le (ltb r.seat number) in omega (arith, rest, one)
+stay_next : (m n : ℕ) (r : Recorded) (of_n of_m : Bool) (rest entries : List Recorded) → m ≢ n → eqb r.seat n ≡ of_n → eqb r.seat m ≡ of_m
+    → of_seat m rest ≡ of_seat m entries → of_seat m (cond of_n rest (r ∷ rest)) ≡ cond of_m (r.entry ∷ of_seat m entries) (of_seat m entries)
+stay_next m n r true true rest entries other is_n is_m same = absurd (grind (arith, nat_tests, is_n, is_m, other))
+stay_next m n r true false rest entries other is_n is_m same = same
+stay_next m n r false of_m rest entries other is_n is_m same =
+    ap (λ (b : Bool). cond b (r.entry ∷ of_seat m rest) (of_seat m rest)) is_m ∙ ap (λ (es : List Entry). cond of_m (r.entry ∷ es) es) same
 
-module _ (base : Base) (log : List Recorded) where
-  -- seats that are numbered apart were given no more than there is of them
-  given_le : (number : ℕ) (seats : List Seated) → AreNumbered number seats → AreSeenIn base log seats
-      → count_of seats ≤ count_from number (drop (length base.entries) log)
-  given_le number [] numbered seen = omega arith
-  given_le number (seat ∷ seats) numbered seen =
-      let rest = given_le (suc number) seats numbered.1 seen.1 in
-      let sum = sum_by-cons (λ (s : Seated). length s.mine) seat seats in
-      let few = among_length seat.mine (part_of_seat base seat.number log) seen.0.1 in
-      let own = ap (λ (n : ℕ). length (part_of_seat base n log)) numbered.0 in
-      let all = seat_count number (drop (length base.entries) log) in
-      omega (arith, rest, sum, few, own, all)
+others_stay : (m n : ℕ) (entries : List Recorded) → m ≢ n → of_seat m (others n entries) ≡ of_seat m entries
+others_stay m n [] other = refl
+others_stay m n (r ∷ entries) other =
+    stay_next m n r (eqb r.seat n) (eqb r.seat m) (others n entries) entries other refl refl (others_stay m n entries other)
+
+module _ {P : Type 0} where
+  -- they were given some of the entries of their numbers, or all of them
+  abbrev AreAmong : List Recorded → List (Gone P) → Type 0
+  AreAmong entries [] = Unit {0}
+  AreAmong entries (g ∷ gone) = IsAmong g.calls (of_seat g.number entries) × AreAmong entries gone
+
+  abbrev AreAll : List Recorded → List (Gone P) → Type 0
+  AreAll entries [] = Unit {0}
+  AreAll entries (g ∷ gone) = (of_seat g.number entries ≡ g.calls) × AreAll entries gone
+
+  among_others : (n : ℕ) (entries : List Recorded) (gone : List (Gone P)) → IsApart n gone → AreAmong entries gone → AreAmong (others n entries) gone
+  among_others n entries [] apart are = tt
+  among_others n entries (g ∷ gone) apart are = (
+    subst (λ (es : List Entry). IsAmong g.calls es) (sym (others_stay g.number n entries apart.0)) are.0,
+    among_others n entries gone apart.1 are.1,
+  )
+
+  all_others : (n : ℕ) (entries : List Recorded) (gone : List (Gone P)) → IsApart n gone → AreAll (others n entries) gone → AreAll entries gone
+  all_others n entries [] apart are = tt
+  all_others n entries (g ∷ gone) apart are =
+      (sym (others_stay g.number n entries apart.0) ∙ are.0, all_others n entries gone apart.1 are.1)
+
+  -- whose numbers differ were given no more than there is
+  given_le : (entries : List Recorded) (gone : List (Gone P)) → AreApart gone → AreAmong entries gone → count_of gone ≤ length entries
+  given_le entries [] apart are = omega arith
+  given_le entries (g ∷ gone) apart are =
+      let few = among_length g.calls (of_seat g.number entries) are.0 in
+      let rest = given_le (others g.number entries) gone apart.1 (among_others g.number entries gone apart.0 are.1) in
+      let all = split_count g.number entries in
+      omega (arith, few, rest, all)
 
   -- where they were given as much as there is, each was given all that there is of it
-  each_is_whole : (number : ℕ) (seats : List Seated) → AreNumbered number seats → AreSeenIn base log seats
-      → count_from number (drop (length base.entries) log) ≤ count_of seats → All (IsWholeIn base log) seats
-  each_is_whole number [] numbered seen many = All-nil (IsWholeIn base log)
-  each_is_whole number (seat ∷ seats) numbered seen many =
-      let rest = given_le (suc number) seats numbered.1 seen.1 in
-      let sum = sum_by-cons (λ (s : Seated). length s.mine) seat seats in
-      let few = among_length seat.mine (part_of_seat base seat.number log) seen.0.1 in
-      let own = ap (λ (n : ℕ). length (part_of_seat base n log)) numbered.0 in
-      let all = seat_count number (drop (length base.entries) log) in
-      All-cons (IsWholeIn base log) seat seats
-      (seen.0.0, among_all seat.mine (part_of_seat base seat.number log) seen.0.1 (omega (arith, rest, sum, own, all, many)))
-      (each_is_whole (suc number) seats numbered.1 seen.1 (omega (arith, sum, few, own, all, many)))
+  given_all : (entries : List Recorded) (gone : List (Gone P)) → AreApart gone → AreAmong entries gone → length entries ≤ count_of gone → AreAll entries gone
+  given_all entries [] apart are many = tt
+  given_all entries (g ∷ gone) apart are many =
+      let few = among_length g.calls (of_seat g.number entries) are.0 in
+      let left = among_others g.number entries gone apart.0 are.1 in
+      let rest = given_le (others g.number entries) gone apart.1 left in
+      let all = split_count g.number entries in (
+        among_all g.calls (of_seat g.number entries) are.0 (omega (arith, rest, all, many)),
+        all_others g.number entries gone apart.0 (given_all (others g.number entries) gone apart.1 left (omega (arith, few, all, many))),
+      )
 
-pub is_closed : (base : Base) (seats : List Seated) (was book : Journal) (counted shares spare back : ℕ) → IsRoom base was counted shares spare → book ≡ was
-    → KeepsHistory book → AreNumbered 0 seats → AreSeenIn base was.entries seats → back ≡ count_of seats → back ≡ counted → IsClosed base seats book
-is_closed base seats was book counted shares spare back room same keeps numbered seen given all =
-    let few = count_le 0 (drop (length base.entries) was.entries) in
-    let rest = length-drop (length base.entries) was.entries in
-    let count = room.count in
-    let keeps_was : KeepsHistory was = subst KeepsHistory same keeps in
-    subst (λ (j : Journal). IsClosed base seats j) (sym same)
-    (record {
-      continues = room.continues;
-      keeps = keeps_was;
-      each = each_is_whole base was.entries 0 seats numbered seen (omega (arith, few, rest, count, given, all));
-      count = omega (arith, count, given, all);
-    })
+  module _ (fits : P → List Entry → Type 0) (entries : List Recorded) (numbers : Numbered) where
+    gone_among : (gone : List (Gone P)) → AreGone fits entries numbers gone → AreAmong entries gone
+    gone_among [] are = tt
+    gone_among (g ∷ gone) are =
+        (subst (λ (es : List Entry). IsAmong g.calls es) (of_seat_is g.number entries) are.0.among, gone_among gone are.1)
 
--- new seats, and one more
-pub new_push : (base : Base) (number : ℕ) (seats : List Seated) (seat : Seated) → AreNew base number seats → seat ≡ new_seat base (number + length seats)
-    → AreNew base number (seats ++ seat ∷ [])
-new_push base number [] seat new is = let same : number + 0 ≡ number = omega arith in (is ∙ ap (new_seat base) same, tt)
-new_push base number (first ∷ seats) seat new is =
-    let same : number + suc (length seats) ≡ suc number + length seats = omega arith in
-    (new.0, new_push base (suc number) seats seat new.1 (is ∙ ap (new_seat base) same))
+    whole : (gone : List (Gone P)) → AreGone fits entries numbers gone → AreAll entries gone → AreWhole fits entries gone
+    whole [] are all = tt
+    whole (g ∷ gone) are all = (record { all = of_seat_is g.number entries ∙ all.0; told = are.0.told }, whole gone are.1 all.1)
+
+  pub is_closed : (fits : P → List Entry → Type 0) (base : Base) (all : ℕ) (book : Journal) (counted parts amount : ℕ) (numbers : Numbered) (gone : List (Gone P))
+      → IsRoom fits base all book counted parts amount numbers gone → KeepsHistory book → amount ≡ counted → IsClosed fits base book gone
+  is_closed fits base all book counted parts amount numbers gone room keeps same =
+      let count = room.count in
+      let given = room.given in record {
+        continues = room.continues;
+        keeps = keeps;
+        apart = room.apart;
+        each = whole fits book.entries numbers gone room.each
+            (given_all book.entries gone room.apart (gone_among fits book.entries numbers gone room.each) (omega (arith, count, given, same)));
+        count = omega (arith, count, given, same);
+      }

@@ -1,3 +1,6 @@
 pub mod AmongLemmas
-pub mod PartLemmas
+pub mod SeatLemmas
+pub mod GoneLemmas
 pub mod CountLemmas
+pub mod NumberLemmas
+pub mod RoomLemmas

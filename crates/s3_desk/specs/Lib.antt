@@ -1,4 +1,4 @@
 pub mod Desk
 pub mod Calls
-pub mod Closing
+pub mod Gone
 pub use Rattle.s3_journal.specs.Book

@@ -1,26 +1,24 @@
 //! The entries of one seat.
 ghost use Rattle.std.specs.Prelude.{◌≡◌, ◌++◌, ◌∷◌, [], IfSome};
-ghost use Rattle.s3_desk.specs.Calls.{entry_of};
 
-use s3_history::{Answered, AsEntry, Entry, Recorder};
-use s3_machine::{Answer, Turn};
+use s3_history::{AsItself, Recorder};
+use s3_journal::Entry;
 use std::marker::Model;
 
 /// The entries that a seat was given, which no memory holds. It has a word of its own.
 #[derive(Drop)]
-pub(crate) struct Calls {
-    recorder: Recorder<Entry<Turn, Answer>>,
+pub struct Calls {
+    recorder: Recorder<Entry>,
 }
 
 impl Model for Calls {
-    ghost use Rattle.std.specs.Prelude.{List, map};
+    ghost use Rattle.std.specs.Prelude.{List};
     ghost use Rattle.s3_machine.specs.History.{Entry};
     ghost use Rattle.s3_journal.specs.Recorded.{history_of};
-    ghost use Rattle.s3_journal.specs.Entries.{recorded_of};
 
     ghost Value = { List Entry };
 
-    ghost view = { λ c. history_of (map recorded_of c.recorder.entries) };
+    ghost view = { λ c. history_of c.recorder.entries };
 }
 
 impl Calls {
@@ -34,11 +32,10 @@ impl Calls {
         Some(Calls { recorder })
     }
 
-    /// One entry more: the turn that was asked for, with its answer.
-    pub(crate) fn add(&mut self, told: &Answered<Turn, Answer>)
-        ensures { self.new ≡ self.old ++ entry_of told.now.command.value told.now.answer.value ∷ [] }
+    /// One entry more.
+    pub(crate) fn add(&mut self, entry: &Entry)
+        ensures { self.new ≡ self.old ++ entry.now.entry ∷ [] }
     {
-        self.recorder
-            .record::<Answered<Turn, Answer>, AsEntry>(told);
+        self.recorder.record::<Entry, AsItself>(entry);
     }
 }

@@ -1,11 +1,20 @@
 //! What a desk stands on, and what it is opened with.
-ghost use Rattle.std.specs.Prelude.{◌≡◌};
 
+ghost use Rattle.std.specs.Prelude.{◌≡◌, [], IfOk};
+ghost use Rattle.s3_desk.specs.Desk.{Continues, most_seats};
+
+use s3_config::Config;
+use s3_journal::Book;
+use s3_records::Records;
+use s3_store::Store;
+use s3_terms::NoMemory;
+use std::alloc::Global;
 use std::marker::{Brand, Model};
-use std::sync::ledger::{Blank, Book, Ledger, Share};
+use std::snapshot::Snapshot;
+use std::sync::ledger::{self, Blank, Ledger, Share};
 
-/// The brand of a desk, which tells it from all others: what it stands on, and, as a ledger, how many seats it has. What
-/// uses a desk is generic in the brand, and its caller passes `Brand` of `std::marker` for it.
+/// The brand of a desk, which tells it from all others: what it stands on, and, as a ledger, how many may have a seat at a time.
+/// What uses a desk is generic in the brand, and its caller passes `Brand` of `std::marker` for it.
 pub trait Ground: Ledger {
     ghost use Rattle.s3_desk.specs.Desk.{Base};
 
@@ -18,47 +27,59 @@ impl Ground for Brand {
     ghost base = { no_base };
 }
 
-/// What a desk is opened with: a ledger that no desk has yet, and the number of seats. One `open` uses it up, and it can't
-/// be copied, so no two desks have one ledger.
+/// What a desk is opened with: a new book, the settings, and a ledger that no desk has yet. One desk uses it up, and it can't be
+/// copied, so no two desks have one ledger.
 #[derive(Drop)]
-pub struct Start {
+pub struct Start<R: Records + Drop> {
+    book: Book<R>,
     blank: Blank,
-    seats: u64,
+    settings: Snapshot<Config>,
 }
 
-impl Model for Start {
-    ghost use Rattle.std.specs.Prelude.{◌≡◌};
-    ghost use Rattle.s3_desk.specs.Desk.{Lot};
+impl<R: Records + Drop> Model for Start<R> {
+    ghost use Rattle.std.specs.Prelude.{◌≡◌, []};
+    ghost use Rattle.std.specs.Coded.{codes};
+    ghost use Rattle.s3_store.specs.Steps.{coded_standing};
+    ghost use Rattle.s3_desk.specs.Desk.{Opening, most_seats};
 
-    ghost Value = { Lot };
+    ghost Value = { Opening };
 
-    ghost view = { λ s. record { name = s.blank.name; seats = s.seats } };
+    ghost coded = { Prim.hlevel (codes, coded_standing) };
 
-    ghost invariant = { λ s. s.blank.parts ≡ s.seats };
+    ghost view = { λ s. record { name = s.blank.name; base = record { origin = s.book.origin; settings = s.settings.value; store = s.book.opening } } };
+
+    ghost invariant = { λ s. (s.blank.parts ≡ most_seats) × (s.book.entries ≡ []) × (s.book.least ≡ s.settings.value.min_part) };
 }
 
-impl Start {
-    /// What a desk with this many seats is opened with.
-    pub fn new(seats: u64) -> Start
-        ensures { result.seats ≡ seats }
+impl<R: Records + Drop> Start<R> {
+    /// What a desk over this store is opened with, with these settings. The error never comes, though no contract can say so.
+    pub fn new(alloc: Global, config: &Config, store: Store<R>) -> Result<Start<R>, NoMemory>
+        ensures settings { IfOk result (λ start. start.base.settings ≡ config.now) }
+        ensures store { IfOk result (λ start. start.base.store ≡ store) }
     {
-        Start {
-            blank: Blank::new(seats),
-            seats,
-        }
+        let book = Book::new(alloc, config.min_part(), store)?;
+        Ok(Start {
+            book,
+            blank: Blank::new(u64::MAX),
+            settings: Snapshot::of(config),
+        })
     }
 
-    // The ledger that counts a desk's entries, with all its shares, and the number of seats.
-    pub(crate) fn into_ledger<J: Ground>(self) -> (Book<J>, Share<J>, u64)
-        requires name { self.name ≡ J.name }
-        requires seats { self.seats ≡ J.parts }
-        ensures total { result.0.total ≡ 0 }
-        ensures shares { result.1.parts ≡ J.parts }
-        ensures none { result.1.amount ≡ 0 }
-        ensures seats { result.2 ≡ J.parts }
+    // The book, and the ledger that counts its entries, with all its shares.
+    pub(crate) fn into_parts<J: Ground>(self) -> (Book<R>, ledger::Book<J>, Share<J>)
+        requires name { J.name ≡ self.name }
+        requires base { J.base ≡ self.base }
+        requires parts { J.parts ≡ most_seats }
+        ensures book { Continues J.base result.0 × (result.0.entries ≡ []) }
+        ensures total { result.1.total ≡ 0 }
+        ensures shares { (result.2.parts ≡ J.parts) × (result.2.amount ≡ 0) }
     {
-        let Start { blank, seats } = self;
+        let Start {
+            book,
+            blank,
+            settings: _,
+        } = self;
         let (calls, shares) = blank.open::<J>();
-        (calls, shares, seats)
+        (book, calls, shares)
     }
 }

@@ -1,22 +1,19 @@
 //! Who may submit turns to a desk.
-ghost use Rattle.std.specs.Prelude.{◌≡◌, ◌++◌, ◌∷◌, [], ◌+◌, ◌⊎◌, IfOk, List};
+ghost use Rattle.std.specs.Prelude.{◌≡◌, ◌++◌, ◌∷◌, [], ◌+◌, ◌⊎◌, List};
 ghost use mathlib.Core.List.{IsPrefix};
-ghost use Rattle.s3_journal.specs.Recorded.{Recorded};
-ghost use Rattle.s3_desk.specs.Calls.{entry_of, entry_of_seat};
-ghost use Rattle.s3_desk.specs.Desk.{new_seat, IsAmong, IsSeat, part_of_seat};
+ghost use Rattle.s3_journal.specs.Recorded.{Recorded, entries_of_seat, entry_of, recorded};
+ghost use Rattle.s3_desk.specs.Desk.{IsAmong, IsLegal, IsSeat};
 
 use crate::calls::Calls;
 use crate::ground::Ground;
-use s3_history::Answered;
-use s3_journal::Prefix;
+use s3_journal::{Entry, Prefix};
 use s3_machine::{Answer, Turn};
-use s3_terms::NoMemory;
 use std::marker::Model;
 use std::snapshot::Snapshot;
 use std::sync::ledger::{Book, Share};
 
 /// Who may submit turns to a desk. It has its number and a word, however much it submits. Contracts see its number, the
-/// entries that it was given, and the history as far as it has seen it.
+/// entries that it was given, and the history as far as it has seen it, which is legal.
 #[derive(Drop)]
 pub struct Seat<J: Ground> {
     number: u64,
@@ -36,39 +33,27 @@ impl<J: Ground> Model for Seat<J> {
 }
 
 impl<J: Ground> Seat<J> {
-    // A new seat, with what is known at the opening.
-    pub(crate) fn new(number: u64, known: Prefix, share: Share<J>) -> Result<Seat<J>, NoMemory>
+    // A new seat, which has seen this.
+    pub(crate) fn new(number: u64, calls: Calls, known: Prefix, share: Share<J>) -> Seat<J>
         requires origin { known.origin ≡ J.base.origin }
-        requires entries { known.entries ≡ J.base.entries }
+        requires none { calls ≡ [] }
+        requires legal { IsLegal J.base known.entries }
         requires share { (share.parts ≡ 1) × (share.amount ≡ 0) }
-        ensures { IfOk result (λ seat. seat ≡ new_seat J.base number) }
+        ensures { result ≡ record { number = number; mine = []; seen = known.entries } }
     {
-        match Calls::new() {
-            Some(calls) => Ok(Seat {
-                number,
-                calls,
-                known,
-                share,
-            }),
-            None => Err(NoMemory),
+        Seat {
+            number,
+            calls,
+            known,
+            share,
         }
     }
 
-    /// Its number: 0 for the first of a desk, and 1 more for each that follows.
+    /// Its number. No two seats of a desk have one.
     pub fn number(&self) -> u64
         ensures { result ≡ self.now.number }
     {
         self.number
-    }
-
-    /// Takes in what another seat of the desk has seen: what this one submits from now on stands behind that.
-    pub fn hear(&mut self, other: &Seat<J>)
-        ensures number { self.new.number ≡ self.old.number }
-        ensures mine { self.new.mine ≡ self.old.mine }
-        ensures kept { IsPrefix self.old.seen self.new.seen }
-        ensures heard { IsPrefix other.now.seen self.new.seen }
-    {
-        self.known.learn(&other.known);
     }
 
     /// Of what two seats of a desk have seen one begins the other. It takes no memory, and waits for nobody.
@@ -82,7 +67,7 @@ impl<J: Ground> Seat<J> {
     pub(crate) fn known(&self) -> &Prefix
         ensures origin { result.now.origin ≡ J.base.origin }
         ensures entries { result.now.entries ≡ self.now.seen }
-        ensures among { IsAmong self.now.mine (part_of_seat J.base self.now.number self.now.seen) }
+        ensures among { IsAmong self.now.mine (entries_of_seat self.now.number self.now.seen) }
     {
         &self.known
     }
@@ -97,31 +82,44 @@ impl<J: Ground> Seat<J> {
     )
         requires origin { known.origin ≡ J.base.origin }
         requires seen { (earlier : List Recorded) × IsPrefix self.old.seen earlier
-            × (known.entries ≡ earlier ++ entry_of_seat self.old.number asked.value answer.now ∷ []) }
+            × (known.entries ≡ earlier ++ recorded self.old.number asked.value answer.now ∷ []) }
+        requires legal { IsLegal J.base known.entries }
         ensures seat { self.new
             ≡ record { number = self.old.number; mine = self.old.mine ++ entry_of asked.value answer.now ∷ []; seen = known.entries } }
         ensures total { calls.new.total ≡ calls.old.total + 1 }
     {
-        self.calls.add(&Answered {
+        self.calls.add(&Entry {
             seat: self.number,
-            command: asked,
+            turn: asked,
             answer: Snapshot::of(answer),
         });
         calls.add(&mut self.share, 1);
         self.known = known;
     }
 
-    // What it has seen, and its share of the ledger.
-    pub(crate) fn into_parts(self) -> (Prefix, Share<J>)
-        ensures known { result.0 ≡ record { origin = J.base.origin; entries = self.seen } }
-        ensures seat { IsSeat J.base self result.0.origin result.1.parts result.1.amount }
+    // Takes in how far the history is.
+    pub(crate) fn see(&mut self, known: Prefix)
+        requires origin { known.origin ≡ J.base.origin }
+        requires begins { IsPrefix self.old.seen known.entries }
+        requires legal { IsLegal J.base known.entries }
+        ensures { self.new ≡ record { number = self.old.number; mine = self.old.mine; seen = known.entries } }
+    {
+        self.known = known;
+    }
+
+    // Its number, its entries, what it has seen, and its share of the ledger.
+    pub(crate) fn into_parts(self) -> (u64, Calls, Prefix, Share<J>)
+        ensures number { result.0 ≡ self.number }
+        ensures calls { result.1 ≡ self.mine }
+        ensures known { result.2 ≡ record { origin = J.base.origin; entries = self.seen } }
+        ensures seat { IsSeat J.base self result.2.origin result.3.parts result.3.amount }
     {
         let Seat {
-            number: _,
-            calls: _,
+            number,
+            calls,
             known,
             share,
         } = self;
-        (known, share)
+        (number, calls, known, share)
     }
 }

@@ -1,7 +1,9 @@
 //! A device over any reader and writer.
 
-ghost use Rattle.std.specs.Prelude.{◌≡◌, IfSome};
-ghost use Rattle.s3_devices.specs.Recorded.{no_traffic};
+ghost use Rattle.std.specs.Prelude.{◌≡◌, ◌≢◌, ◌<◌, [], length, IfSome};
+ghost use Rattle.std.specs.Io.Slices.{io_slices_bytes};
+ghost use Rattle.s3_devices.specs.Device.{Reads, Writes};
+ghost use Rattle.s3_devices.specs.Recorded.{HasGiven, HasTaken, no_traffic, traffic_of};
 
 use crate::device::{Device, Reading, Writing};
 use crate::events::{
@@ -63,52 +65,78 @@ impl<S: Read + WriteParts> Device for Recorded<S> {
     ghost traffic = { λ device. device };
 
     fn read(&mut self, buffer: &mut [u8]) -> Reading {
-        match self.stream.read(buffer) {
-            Ok(0) => {
-                self.recorder.record::<(), AsEnd>(&());
-                Reading::End
-            }
-            Ok(count) => {
-                let piece = Piece {
-                    bytes: &buffer[..count],
-                };
-                self.recorder.record::<Piece<'_>, AsGiven>(&piece);
-                Reading::Bytes(count)
-            }
-            Err(e) => match e.kind() {
-                ErrorKind::WouldBlock | ErrorKind::Interrupted => {
-                    self.recorder.record::<(), AsLateRead>(&());
-                    Reading::Later
-                }
-                _ => {
-                    self.recorder.record::<(), AsFailedRead>(&());
-                    Reading::Failed
-                }
-            },
-        }
+        read_some(&mut self.stream, &mut self.recorder, buffer)
     }
 
     fn write(&mut self, parts: &[IoSlice<'_>]) -> Writing {
-        match self.stream.write_parts(parts) {
-            Ok(0) => {
-                self.recorder.record::<(), AsFailedWrite>(&());
+        write_some(&mut self.stream, &mut self.recorder, parts)
+    }
+}
+
+// Reads what has come, and tells the recorder. Where the stream says what it has left to give, that loses just what is told.
+fn read_some<S: Read>(
+    stream: &mut S,
+    recorder: &mut Recorder<DeviceEvent>,
+    buffer: &mut [u8],
+) -> Reading
+    requires room { 0 < length buffer.old }
+    ensures reads { Reads result (traffic_of recorder.old.entries) (traffic_of recorder.new.entries) buffer.new }
+    ensures told { HasGiven result (S.remaining stream.old) (S.remaining stream.new) buffer.new }
+{
+    match stream.read(buffer) {
+        Ok(0) => {
+            recorder.record::<(), AsEnd>(&());
+            Reading::End
+        }
+        Ok(count) => {
+            let piece = Piece {
+                bytes: &buffer[..count],
+            };
+            recorder.record::<Piece<'_>, AsGiven>(&piece);
+            Reading::Bytes(count)
+        }
+        Err(e) => match e.kind() {
+            ErrorKind::WouldBlock | ErrorKind::Interrupted => {
+                recorder.record::<(), AsLateRead>(&());
+                Reading::Later
+            }
+            _ => {
+                recorder.record::<(), AsFailedRead>(&());
+                Reading::Failed
+            }
+        },
+    }
+}
+
+// Writes some of these parts, and tells the recorder. Where the stream says what it holds, that grows by just what is told.
+fn write_some<S: WriteParts>(
+    stream: &mut S,
+    recorder: &mut Recorder<DeviceEvent>,
+    parts: &[IoSlice<'_>],
+) -> Writing
+    requires some { io_slices_bytes parts.now ≢ [] }
+    ensures writes { Writes result (traffic_of recorder.old.entries) (traffic_of recorder.new.entries) (io_slices_bytes parts.now) }
+    ensures told { HasTaken result (S.contents stream.old) (S.contents stream.new) (io_slices_bytes parts.now) }
+{
+    match stream.write_parts(parts) {
+        Ok(0) => {
+            recorder.record::<(), AsFailedWrite>(&());
+            Writing::Failed
+        }
+        Ok(count) => {
+            let front = Front { parts, count };
+            recorder.record::<Front<'_>, AsTaken>(&front);
+            Writing::Took(count)
+        }
+        Err(e) => match e.kind() {
+            ErrorKind::WouldBlock | ErrorKind::Interrupted => {
+                recorder.record::<(), AsLateWrite>(&());
+                Writing::Later
+            }
+            _ => {
+                recorder.record::<(), AsFailedWrite>(&());
                 Writing::Failed
             }
-            Ok(count) => {
-                let front = Front { parts, count };
-                self.recorder.record::<Front<'_>, AsTaken>(&front);
-                Writing::Took(count)
-            }
-            Err(e) => match e.kind() {
-                ErrorKind::WouldBlock | ErrorKind::Interrupted => {
-                    self.recorder.record::<(), AsLateWrite>(&());
-                    Writing::Later
-                }
-                _ => {
-                    self.recorder.record::<(), AsFailedWrite>(&());
-                    Writing::Failed
-                }
-            },
-        }
+        },
     }
 }

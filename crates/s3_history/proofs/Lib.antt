@@ -1,4 +1,3 @@
 pub mod CellLemmas
 pub mod LineLemmas
 pub mod StepLemmas
-pub mod RunLemmas

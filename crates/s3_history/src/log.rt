@@ -73,6 +73,13 @@ pub trait Describes<X, E> {
     ghost entry: { X → E };
 }
 
+/// A value stands for itself.
+pub struct AsItself;
+
+impl<X> Describes<X, X> for AsItself {
+    ghost entry = { λ value. value };
+}
+
 /// What a line is made of: what its entry is told of, and the pen of the word that the line after it uses.
 pub struct Draft<X> {
     pub about: Snapshot<X>,

@@ -1,3 +1,2 @@
 pub mod BookLemmas
-pub mod PrefixLemmas
-pub mod RunLemmas
+pub mod HistoryLemmas

@@ -1,9 +1,11 @@
 -- What a book is: a store, and the history of the commands that it answered. No memory holds the history: only contracts
 -- and proofs speak of it.
-use Rattle.std.specs.Prelude.{◌≡◌, ℕ, ◌+◌, List, length}
+use Rattle.std.specs.Prelude.{◌≡◌, ◌≢◌, IsTrue, ℕ, ◌+◌, Bool, true, false, List, [], ◌∷◌, length}
 use Rattle.s3_history.specs.Log.{Origin}
+use Rattle.s3_machine.specs.Effects.{is_refused, takes_room}
 use Rattle.s3_machine.specs.History.{Legal, after}
-use Rattle.s3_store.specs.Steps.{Standing}
+use Rattle.s3_machine.specs.declared.turn.Turn.{Turn}
+use Rattle.s3_store.specs.Steps.{Standing, outcome_of}
 use Rattle.s3_journal.specs.Recorded.{Recorded, history_of}
 
 -- a book: which history it is, the least size of a part that is not the last, the store as it was when the book was opened,
@@ -20,3 +22,14 @@ pub record KeepsHistory (book : Journal) : Type 0 where
   pub legal : Legal book.least book.opening.state book.opening.number (history_of book.entries)
   pub leaves : after book.least book.opening.state (history_of book.entries) ≡ book.store.state
   pub counts : book.store.number ≡ book.opening.number + length book.entries
+
+-- the store that was told at the opening; if none was, this one
+abbrev pub told_or : List Standing → Standing → Standing
+told_or [] store = store
+told_or (opening ∷ more) store = opening
+
+-- where the rows are in memory, and the numbers are not used up, memory may be lacking at a store only for a turn that it doesn't refuse
+-- and that takes room
+pub record MayLack (in_memory : Bool) (least : ℕ) (store : Standing) (turn : Turn) : Type 0 where
+  pub memory : in_memory ≡ true → store.number ≢ 18446744073709551615 → is_refused (outcome_of least store turn.moment turn.command) ≡ false
+  pub room : in_memory ≡ true → store.number ≢ 18446744073709551615 → IsTrue (takes_room store.state turn.command)

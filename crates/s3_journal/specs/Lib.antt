@@ -1,6 +1,4 @@
 pub mod Book
-pub mod Entries
-pub mod Keeper
 pub mod Laws
 pub mod Recorded
 pub use Rattle.s3_machine.specs.History

@@ -1,11 +1,20 @@
 -- What an entry of a book is, without the store that it is of.
 use Rattle.std.specs.Prelude.{◌==◌, ℕ, List, map, filter}
 use Rattle.s3_machine.specs.History.{Entry}
+use Rattle.s3_machine.specs.declared.command.Answer.{Answer}
+use Rattle.s3_machine.specs.declared.turn.Turn.{Turn}
 
 -- an entry of a book: who asked for it, and the command with its moment and its answer
 pub record Recorded : Type 0 where
   pub seat : ℕ
   pub entry : Entry
+
+-- the entry of a turn that was given this answer, and that of a book, with who asked
+abbrev pub entry_of : Turn → Answer → Entry
+entry_of turn answer = record { command = turn.command; moment = turn.moment; answer = answer }
+
+abbrev pub recorded : ℕ → Turn → Answer → Recorded
+recorded seat turn answer = record { seat = seat; entry = entry_of turn answer }
 
 -- the entries of all, in their order
 abbrev pub history_of : List Recorded → List Entry

@@ -3,10 +3,9 @@
 #![tactic(auto)]
 
 mod book;
-mod keeper;
+mod entry;
 mod laws;
-mod prefix;
 
-pub use book::Book;
+pub use book::{Book, Prefix};
+pub use entry::Entry;
 pub use laws::{books_keep_conditions, books_keep_promises, books_keep_uploads};
-pub use prefix::Prefix;

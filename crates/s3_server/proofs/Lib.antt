@@ -1,1 +1,1 @@
-pub mod SeatLemmas
+pub mod ServedLemmas

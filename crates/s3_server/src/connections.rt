@@ -1,27 +1,27 @@
 //! The connections that a worker holds, each under a key.
 
-ghost use Rattle.std.specs.Prelude.{◌≡◌};
-
-use crate::tally::Tally;
+use crate::places::Places;
+use crate::worker::Now;
 use mio::{Registry, Token};
-use s3_connections::{Held, SystemClock};
-use s3_workers::{Counter, Gate, Worker};
+use s3_connections::{Held, Sharing, Socket};
+use s3_desk::Ground;
 use slab::Slab;
 use std::alloc::Global;
-use std::time::{self, Duration, Instant};
+use std::sync::Wait;
+use std::time::{Duration, Instant};
 
 // How many milliseconds a connection has waited for its next message at least before it is let go for another one.
 const LEAST_IDLE: u64 = 1000;
 
-/// The connections that a worker holds. Their keys are below `capacity`.
+/// The connections that a worker holds. Their keys are below `capacity`. Each leaves its seat when it is let go.
 #[derive(Drop)]
-pub(crate) struct Connections<'a> {
-    held: Slab<Held<'a>>,
+pub(crate) struct Connections<'a, J: Ground, W: Wait> {
+    held: Slab<Held<'a, J, W>>,
 }
 
-impl<'a> Connections<'a> {
+impl<'a, J: Ground, W: Wait> Connections<'a, J, W> {
     /// None.
-    pub(crate) fn new(alloc: Global) -> Connections<'a> {
+    pub(crate) fn new(alloc: Global) -> Connections<'a, J, W> {
         Connections {
             held: Slab::new(alloc),
         }
@@ -37,58 +37,87 @@ impl<'a> Connections<'a> {
         self.held.capacity()
     }
 
-    /// Whether there is one under a key.
-    pub(crate) fn contains(&self, key: usize) -> bool {
-        self.held.contains(key)
+    /// Whether it holds a connection that came, which is reported from now on; one for which there is no memory, or which the system
+    /// can't report, is let go.
+    pub(crate) fn holds(
+        &mut self,
+        sharing: &Sharing<'a, J, W>,
+        registry: &Registry,
+        socket: Socket,
+        now: Instant,
+    ) -> bool {
+        let Some(key) = self.add(sharing, socket, now) else {
+            return false;
+        };
+        if self.is_registered(registry, key) {
+            return true;
+        }
+        self.drops(key);
+        false
     }
 
-    /// The key of a further one; without memory for it it is dropped.
-    pub(crate) fn add(&mut self, held: Held<'a>) -> Option<usize> {
-        self.held.insert(held).ok()
+    // The key of a further one, unless there is no memory for it.
+    fn add(&mut self, sharing: &Sharing<'a, J, W>, socket: Socket, now: Instant) -> Option<usize> {
+        let Ok(held) = Held::new(sharing, socket, now) else {
+            return None;
+        };
+        match self.held.insert(held) {
+            Ok(key) => Some(key),
+            Err(failed) => {
+                failed.value.leave();
+                None
+            }
+        }
     }
 
-    /// Whether the one under a key is reported from now on.
-    pub(crate) fn is_registered(&self, registry: &Registry, key: usize) -> bool {
+    // Whether the one under a key is reported from now on.
+    fn is_registered(&self, registry: &Registry, key: usize) -> bool {
         match self.held.get(key) {
             Some(held) => held.register(registry, Token(key)).is_ok(),
             None => false,
         }
     }
 
-    /// Drops the one under a key, and answers whether there was one.
-    pub(crate) fn drops(&mut self, key: usize) -> bool {
-        if !self.held.contains(key) {
-            return false;
+    // Has the one under a key leave, and answers whether there was one.
+    fn drops(&mut self, key: usize) -> bool {
+        match self.held.try_remove(key) {
+            Some(held) => {
+                held.leave();
+                true
+            }
+            None => false,
         }
-        drop(self.held.remove(key));
-        true
     }
 
-    /// Drops the one under a key, if there is one, and gives its place back.
-    pub(crate) fn let_go(&mut self, tally: &Tally, key: usize) {
+    /// Has the one under a key leave, if there is one, and gives its place back.
+    pub(crate) fn let_go(&mut self, places: &Places, key: usize) {
         if self.drops(key) {
-            tally.give_place();
+            places.give_place();
         }
     }
 
     /// Has the one under a key go on, if there is one; where it has ended it is let go.
-    pub(crate) fn serve<R: time::Clock, N: Counter, G: Gate>(
+    pub(crate) fn serve(
         &mut self,
-        alloc: Global,
-        tally: &Tally,
-        worker: &mut Worker<SystemClock<'_, R>, N, G>,
+        sharing: &Sharing<'a, J, W>,
+        places: &Places,
         buffer: &mut [u8],
         registry: &Registry,
         key: usize,
-        now: Instant,
-    )
-        ensures seat { N.seat worker.new.counter ≡ N.seat worker.old.counter }
-    {
+        now: &Now,
+    ) {
         let Some(held) = self.held.get_mut(key) else {
             return;
         };
-        if !held.serve(alloc, worker, buffer, registry, Token(key), now) {
-            self.let_go(tally, key);
+        if !held.serve(
+            sharing,
+            now.moment,
+            buffer,
+            registry,
+            Token(key),
+            now.instant,
+        ) {
+            self.let_go(places, key);
         }
     }
 

@@ -1,27 +1,28 @@
 //! A server from its options to its end.
 
-ghost use Rattle.std.specs.Prelude.{◌≡◌, ◌⊎◌, IfOk, IfErr};
-ghost use Rattle.std.specs.Vec.{vec_len};
-ghost use Rattle.s3_desk.specs.Desk.{base_of};
-ghost use Rattle.s3_desk.specs.Closing.{AreNumbered};
+ghost use Rattle.std.specs.Prelude.{◌≡◌, ◌⊎◌, IfOk, IfErr, IfSome, OnOk, IsOk};
+ghost use Rattle.s3_desk.specs.Desk.{most_seats};
+ghost use Rattle.s3_desk.specs.Gone.{IsClosed};
+ghost use Rattle.s3_records.specs.Catalogue.{opening};
+ghost use Rattle.s3_store.specs.Steps.{opened};
 ghost use Rattle.s3_settings.specs.Devices.{AppendsBeginning};
 ghost use Rattle.s3_settings.specs.Fault.{line_of};
 ghost use Rattle.s3_settings.specs.declared.fault.Fault.{Fault};
+ghost use Rattle.s3_connections.specs.Account.{Fits};
 ghost use Rattle.s3_server.specs.Serve.{IsServeFault, IsToldFault, IsListenFault};
+ghost use Rattle.s3_server.specs.Served.{HasServed, HasServedAs};
 
 use crate::listener::listen;
-use crate::post::{NoPost, Post};
-use crate::tally::Tally;
+use crate::places::Places;
+use crate::worker::{Means, NoMeans, Worker};
 use s3_config::Config;
-use s3_connections::SystemClock;
-use s3_desk::{Desk, Ground, Seat, Start};
-use s3_journal::Book;
+use s3_connections::{Account, Sharing};
+use s3_desk::{Closed, Desk, Ground, Start};
 use s3_options::ServeOptions;
 use s3_records::MapRecords;
 use s3_settings::{Fault, Files, ServeMode, server_settings, write_flushed};
 use s3_store::Store;
 use s3_terms::NoMemory;
-use s3_workers::{DeskCounter, NoGate, Worker};
 use std::alloc::Global;
 use std::io::Write;
 use std::marker::Brand;
@@ -40,6 +41,10 @@ const FAILED: u8 = 1;
 /// `errors`. A worker whose waiting fails ends with its connections, and the others go on; after the last such worker the status is
 /// 0 too. `output` is told `listening ADDR`, with the port that was taken, and at the end `entries K`, the number of commands that the
 /// store answered.
+///
+/// A server that ended has served what `HasServedAs` says: there is one legal history from the opening of the store; each connection has
+/// the entries in it that its own commands made; there are no others; and what each connection wrote is what its own bytes and entries
+/// make, or a beginning of that. Which connections come is the system's to say.
 pub fn serve_words<R: Wait + Threads + Net + Clock + Sync, F: Files, W: Write, E: Write>(
     rt: &R,
     alloc: Global,
@@ -50,6 +55,7 @@ pub fn serve_words<R: Wait + Threads + Net + Clock + Sync, F: Files, W: Write, E
 ) -> u8
     ensures status { (result ≡ DONE) ⊎ (result ≡ FAILED) }
     ensures silent { result ≡ DONE → errors.new ≡ errors.old }
+    ensures served { result ≡ DONE → HasServedAs (F.known files.now) options.now }
     ensures failed { result ≡ FAILED → (fault : Fault) × IsServeFault (F.known files.now) options.now fault
         × AppendsBeginning (E.contents errors.old) (E.contents errors.new) (line_of fault) }
 {
@@ -70,6 +76,7 @@ fn serve<'a, R: Wait + Threads + Net + Clock + Sync, F: Files, W: Write>(
     files: &F,
     output: &mut W,
 ) -> Result<(), Fault<'a>>
+    ensures served { OnOk result (HasServedAs (F.known files.now) options.now) }
     ensures refused { IfErr result (IsServeFault (F.known files.now) options.now) }
 {
     let (mode, config) = server_settings(alloc, options, files)?;
@@ -84,303 +91,216 @@ fn serve_mode<'a, R: Wait + Threads + Net + Clock + Sync, W: Write>(
     config: &Config,
     output: &mut W,
 ) -> Result<(), Fault<'a>>
+    ensures served { OnOk result (HasServed config.now) }
     ensures refused { IfErr result (IsToldFault mode.now.address) }
 {
-    let book = opened_book(alloc, config)?;
-    let entries = serve_book(rt, alloc, mode, config, book, output)?;
+    let start = start(alloc, config)?;
+    let entries = serve_start(rt, alloc, mode, config, start, output)?;
     tell_entries(alloc, entries, output)
 }
 
-// Serves what a book has, and answers how many commands it answered.
-fn serve_book<'a, R: Wait + Threads + Net + Clock + Sync, W: Write>(
+// What a desk over a store with the opening buckets is opened with.
+fn start(alloc: Global, config: &Config) -> Result<Start<MapRecords>, NoMemory>
+    ensures settings { IfOk result (λ start. start.base.settings ≡ config.now) }
+    ensures store { IfOk result (λ start. start.base.store ≡ opened (opening config.now.buckets)) }
+{
+    let store = Store::open(alloc, config.buckets())?;
+    Start::new(alloc, config, store)
+}
+
+// Serves from there, and answers how many commands were answered.
+fn serve_start<'a, R: Wait + Threads + Net + Clock + Sync, W: Write>(
     rt: &R,
     alloc: Global,
     mode: &ServeMode<'a>,
     config: &Config,
-    book: Book<MapRecords>,
+    start: Start<MapRecords>,
     output: &mut W,
 ) -> Result<u64, Fault<'a>>
+    requires settings { start.base.settings ≡ config.now }
+    requires store { start.base.store ≡ opened (opening config.now.buckets) }
+    ensures served { OnOk result (HasServed config.now) }
     ensures refused { IfErr result (IsToldFault mode.now.address) }
 {
-    match listen(rt, mode.address) {
-        Ok(listener) => serve_listener(rt, alloc, mode, config, &listener, book, output),
+    match listening(rt, alloc, mode, output) {
+        Ok(means) => {
+            let places = Places::new(mode.connections, mode.most_held);
+            entries_of(run_all(rt, alloc, config, &places, start, means))
+        }
         Err(fault) => Err(fault),
     }
-}
-
-// The same for the connections of a listener.
-fn serve_listener<'a, R: Wait + Threads + Net + Clock + Sync, W: Write>(
-    rt: &R,
-    alloc: Global,
-    mode: &ServeMode<'a>,
-    config: &Config,
-    listener: &net::TcpListener,
-    book: Book<MapRecords>,
-    output: &mut W,
-) -> Result<u64, Fault<'a>>
-    ensures refused { IfErr result (IsToldFault mode.now.address) }
-{
-    match told_posts(rt, alloc, mode, config, listener, output) {
-        Ok(posts) => serve_posts(rt, alloc, mode, book, posts),
-        Err(fault) => Err(fault),
-    }
-}
-
-// The same at these posts.
-fn serve_posts<'a, R: Wait + Threads + Clock + Sync>(
-    rt: &R,
-    alloc: Global,
-    mode: &ServeMode<'a>,
-    book: Book<MapRecords>,
-    posts: Vec<Post<'_>>,
-) -> Result<u64, Fault<'a>>
-    ensures refused { IfErr result (λ fault. fault ≡ Fault.OutOfMemory) }
-{
-    let tally = Tally::new(mode.connections, mode.most_held);
-    entries_of(run_all(rt, alloc, &tally, book, posts))
 }
 
 // How many commands were answered, where there was memory.
 fn entries_of<'a>(entries: Result<u64, NoMemory>) -> Result<u64, Fault<'a>>
+    ensures same { OnOk result (IsOk entries) }
     ensures refused { IfErr result (λ fault. fault ≡ Fault.OutOfMemory) }
 {
     Ok(entries?)
 }
 
-// The posts of a server's workers, once it is told where it listens.
-fn told_posts<'a, 'c, R: Net, W: Write>(
+// What the workers work with, on the address that was asked for, once it is told.
+fn listening<'a, R: Net, W: Write>(
     rt: &R,
     alloc: Global,
     mode: &ServeMode<'a>,
-    config: &'c Config,
-    listener: &net::TcpListener,
     output: &mut W,
-) -> Result<Vec<Post<'c>>, Fault<'a>>
+) -> Result<Vec<Means>, Fault<'a>>
     ensures refused { IfErr result (IsToldFault mode.now.address) }
 {
-    let posts = posts(rt, alloc, mode, config, listener)?;
+    match listen(rt, mode.address) {
+        Ok(listener) => told_means(rt, alloc, mode, &listener, output),
+        Err(fault) => Err(fault),
+    }
+}
+
+// The same for a listener.
+fn told_means<'a, R: Net, W: Write>(
+    rt: &R,
+    alloc: Global,
+    mode: &ServeMode<'a>,
+    listener: &net::TcpListener,
+    output: &mut W,
+) -> Result<Vec<Means>, Fault<'a>>
+    ensures refused { IfErr result (IsToldFault mode.now.address) }
+{
+    let means = all_means(rt, alloc, mode, listener)?;
     tell_address(alloc, mode, listener, output)?;
-    Ok(posts)
+    Ok(means)
 }
 
-// A book over a store with the opening buckets.
-fn opened_book(alloc: Global, config: &Config) -> Result<Book<MapRecords>, NoMemory> {
-    let store = Store::open(alloc, config.buckets())?;
-    Book::new(alloc, config.min_part(), store)
-}
-
-// The posts of a server's workers.
-fn posts<'a, 'c, R: Net>(
+// What the workers work with.
+fn all_means<'a, R: Net>(
     rt: &R,
     alloc: Global,
     mode: &ServeMode<'a>,
-    config: &'c Config,
     listener: &net::TcpListener,
-) -> Result<Vec<Post<'c>>, Fault<'a>>
+) -> Result<Vec<Means>, Fault<'a>>
     ensures refused { IfErr result (IsListenFault mode.now.address) }
 {
-    let mut posts = Vec::new(alloc);
+    let mut all = Vec::new(alloc);
     for _ in 0..mode.workers {
-        let post = post(rt, alloc, mode, config, listener)?;
-        posts.push(post)?;
+        let means = one_means(rt, alloc, mode, listener)?;
+        all.push(means)?;
     }
-    Ok(posts)
+    Ok(all)
 }
 
-// The post of one worker.
-fn post<'a, 'c, R: Net>(
+// What one worker works with.
+fn one_means<'a, R: Net>(
     rt: &R,
     alloc: Global,
     mode: &ServeMode<'a>,
-    config: &'c Config,
     listener: &net::TcpListener,
-) -> Result<Post<'c>, Fault<'a>>
+) -> Result<Means, Fault<'a>>
     ensures refused { IfErr result (IsListenFault mode.now.address) }
 {
-    match Post::new(rt, alloc, config, listener) {
-        Ok(post) => Ok(post),
-        Err(NoPost::OutOfMemory) => Err(Fault::OutOfMemory),
-        Err(NoPost::NoDescriptor) => Err(Fault::CannotListen(mode.address)),
+    match Means::new(rt, alloc, listener) {
+        Ok(means) => Ok(means),
+        Err(NoMeans::OutOfMemory) => Err(Fault::OutOfMemory),
+        Err(NoMeans::NoDescriptor) => Err(Fault::CannotListen(mode.address)),
     }
 }
 
-// Has a worker work at each post, in a thread of its own, and answers how many commands the store answered.
+// Has a worker work with each of these, in a thread of its own, and answers how many commands the store answered.
 fn run_all<R: Wait + Threads + Clock + Sync>(
     rt: &R,
     alloc: Global,
-    tally: &Tally,
-    book: Book<MapRecords>,
-    posts: Vec<Post<'_>>,
-) -> Result<u64, NoMemory> {
-    let start = Start::new(posts.len() as u64);
-    run::<Brand, R>(rt, alloc, tally, start, book, posts)
+    config: &Config,
+    places: &Places,
+    start: Start<MapRecords>,
+    means: Vec<Means>,
+) -> Result<u64, NoMemory>
+    requires settings { start.base.settings ≡ config.now }
+    requires store { start.base.store ≡ opened (opening config.now.buckets) }
+    ensures served { OnOk result (HasServed config.now) }
+{
+    run::<Brand, R>(rt, alloc, config, places, start, means)
 }
 
 // The same at the desk of a brand.
 fn run<J: Ground + Send + Sync, R: Wait + Threads + Clock + Sync>(
     rt: &R,
     alloc: Global,
-    tally: &Tally,
-    start: Start,
-    book: Book<MapRecords>,
-    posts: Vec<Post<'_>>,
+    config: &Config,
+    places: &Places,
+    start: Start<MapRecords>,
+    means: Vec<Means>,
 ) -> Result<u64, NoMemory>
-    requires base { J.base ≡ base_of book }
-    requires ledger { start.name ≡ J.name }
-    requires seats { start.seats ≡ J.parts }
+    requires name { J.name ≡ start.name }
+    requires base { J.base ≡ start.base }
+    requires parts { J.parts ≡ most_seats }
+    requires settings { J.base.settings ≡ config.now }
+    requires store { J.base.store ≡ opened (opening config.now.buckets) }
+    ensures served { OnOk result (HasServed config.now) }
 {
-    let (desk, seats) = Desk::<J, MapRecords>::open(alloc, start, book)?;
-    run_at(rt, alloc, tally, desk, posts, seats)
+    let desk = Desk::<J, MapRecords, Account>::open(alloc, start)?;
+    work_all(rt, alloc, config, places, &desk, means)?;
+    entries_left::<J>(config, desk.close())
 }
 
-// The same at a desk with all its seats.
-fn run_at<J: Ground + Send + Sync, R: Wait + Threads + Clock + Sync>(
-    rt: &R,
-    alloc: Global,
-    tally: &Tally,
-    desk: Desk<J, MapRecords>,
-    posts: Vec<Post<'_>>,
-    seats: Vec<Seat<J>>,
+// How many entries a desk left, where all have left it. The error comes where somebody has a seat still.
+#[tactic(auto, using(crate::proofs::ServedLemmas::has_served))]
+fn entries_left<J: Ground>(
+    config: &Config,
+    closed: Option<Closed<MapRecords, Account>>,
 ) -> Result<u64, NoMemory>
-    requires all { vec_len seats ≡ J.parts }
+    requires closed { IfSome closed (λ closed. IsClosed (Fits J.base.settings) J.base closed.book closed.gone.entries) }
+    requires settings { J.base.settings ≡ config.now }
+    requires store { J.base.store ≡ opened (opening config.now.buckets) }
+    ensures served { OnOk result (HasServed config.now) }
 {
-    match worked_all(rt, alloc, tally, &desk, posts, seats) {
-        Ok(back) => Ok(closed(desk, back)),
-        Err(none) => Err(none),
+    let _ = config;
+    match closed {
+        Some(closed) => Ok(closed.book.entries()),
+        None => Err(NoMemory),
     }
 }
 
-// How many commands a desk answered, all seats of which are back.
-fn closed<J: Ground>(desk: Desk<J, MapRecords>, seats: Vec<Seat<J>>) -> u64
-    requires all { vec_len seats ≡ J.parts }
-    requires numbered { AreNumbered 0 seats.items }
-{
-    desk.close(seats).entries()
-}
-
-// The seats of the workers, which have all worked.
-fn worked_all<J: Ground + Send + Sync, R: Wait + Threads + Clock + Sync>(
+// Has all workers work to their end.
+fn work_all<J: Ground + Send + Sync, R: Wait + Threads + Clock + Sync>(
     rt: &R,
     alloc: Global,
-    tally: &Tally,
-    desk: &Desk<J, MapRecords>,
-    posts: Vec<Post<'_>>,
-    seats: Vec<Seat<J>>,
-) -> Result<Vec<Seat<J>>, NoMemory>
-    ensures count { IfOk result (λ back. vec_len back ≡ vec_len seats) }
-    ensures numbered { IfOk result (λ back. AreNumbered 0 back.items) }
+    config: &Config,
+    places: &Places,
+    desk: &Desk<J, MapRecords, Account>,
+    means: Vec<Means>,
+) -> Result<(), NoMemory>
+    requires settings { J.base.settings ≡ config.now }
 {
-    let count = seats.len();
-    let places = places(alloc, posts, seats)?;
-    let back = thread::map_vec(
+    let worked = thread::map_vec(
         rt,
-        places,
-        &|place: (Post<'_>, Seat<J>)| { worked(rt, alloc, tally, desk, place) },
+        means,
+        &|means: Means| { works(rt, alloc, config, places, desk, means) },
     )?;
-    all_back(alloc, count, back)
+    drop(worked);
+    Ok(())
 }
 
-// The seats that come back in their order, where they are so many. The error comes where there is no room for their list.
-fn all_back<J: Ground>(
-    alloc: Global,
-    count: usize,
-    back: Vec<Seat<J>>,
-) -> Result<Vec<Seat<J>>, NoMemory>
-    ensures count { IfOk result (λ all. vec_len all ≡ count) }
-    ensures numbered { IfOk result (λ all. AreNumbered 0 all.items) }
-{
-    all_of(count, numbered(alloc, back)?)
-}
-
-// These seats, where they are so many.
-fn all_of<J: Ground>(count: usize, seats: Vec<Seat<J>>) -> Result<Vec<Seat<J>>, NoMemory>
-    ensures count { IfOk result (λ all. vec_len all ≡ count) }
-    ensures same { IfOk result (λ all. all ≡ seats) }
-{
-    if seats.len() != count {
-        return Err(NoMemory);
-    }
-    Ok(seats)
-}
-
-// Each post with its seat.
-fn places<'c, J: Ground>(
-    alloc: Global,
-    posts: Vec<Post<'c>>,
-    seats: Vec<Seat<J>>,
-) -> Result<Vec<(Post<'c>, Seat<J>)>, NoMemory> {
-    let mut places = Vec::new(alloc);
-    for place in posts.into_iter().zip(seats) {
-        places.push(place)?;
-    }
-    Ok(places)
-}
-
-// The seat of a worker that has worked.
-fn worked<J: Ground, R: Wait + Clock>(
+// Has a worker with these means work to its end.
+fn works<J: Ground, R: Wait + Clock>(
     rt: &R,
     alloc: Global,
-    tally: &Tally,
-    desk: &Desk<J, MapRecords>,
-    place: (Post<'_>, Seat<J>),
-) -> Seat<J> {
-    let (mut post, seat) = place;
-    worked_at(rt, alloc, tally, desk, &mut post, seat)
-}
-
-// The seat of a worker that has worked at a post.
-fn worked_at<J: Ground, R: Wait + Clock>(
-    rt: &R,
-    alloc: Global,
-    tally: &Tally,
-    desk: &Desk<J, MapRecords>,
-    post: &mut Post<'_>,
-    seat: Seat<J>,
-) -> Seat<J> {
-    match SystemClock::new(rt) {
-        Some(clock) => {
-            let counter = DeskCounter::new(rt, desk, seat);
-            seat_behind(rt, alloc, tally, post, clock, counter)
-        }
-        None => seat,
-    }
-}
-
-// The seat of a counter with which a worker has worked at a post.
-fn seat_behind<J: Ground, R: Wait + Clock>(
-    rt: &R,
-    alloc: Global,
-    tally: &Tally,
-    post: &mut Post<'_>,
-    clock: SystemClock<'_, R>,
-    counter: DeskCounter<'_, J, MapRecords, R>,
-) -> Seat<J> {
-    let mut worker = Worker {
-        clock,
-        counter,
-        gate: NoGate,
-    };
-    post.work(rt, alloc, tally, &mut worker);
-    let Worker {
-        clock: _,
-        counter,
-        gate: _,
-    } = worker;
-    counter.into_seat()
-}
-
-// The seats, which come back in their order. The error comes where there is no room for their list.
-fn numbered<J: Ground>(alloc: Global, back: Vec<Seat<J>>) -> Result<Vec<Seat<J>>, NoMemory>
-    ensures { IfOk result (λ seats. AreNumbered 0 seats.items) }
+    config: &Config,
+    places: &Places,
+    desk: &Desk<J, MapRecords, Account>,
+    means: Means,
+)
+    requires settings { J.base.settings ≡ config.now }
 {
-    let mut seats: Vec<Seat<J>> = Vec::new(alloc);
-    for seat in back {
-        if seat.number() != seats.len() as u64 {
-            return Err(NoMemory);
-        }
-        seats.push(seat)?;
+    let sharing = Sharing::new(rt, alloc, config, desk);
+    works_at(&sharing, places, means);
+}
+
+// The same at a store that is shared. There is no worker without a clock.
+fn works_at<J: Ground, R: Wait + Clock>(
+    sharing: &Sharing<'_, J, R>,
+    places: &Places,
+    means: Means,
+) {
+    if let Some(mut worker) = Worker::new(sharing, places, means) {
+        worker.work();
     }
-    Ok(seats)
 }
 
 // Tells where the server listens.

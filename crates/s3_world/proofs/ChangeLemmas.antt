@@ -1,5 +1,5 @@
 -- One connection of several changed.
-use Rattle.std.proofs.Common.{◌≡◌, ◌≢◌, ◌<◌, ◌≤◌, ◌&&◌, not, ℕ, zero, suc, Bool, true, false, Option, Some, is_some, Result, Ok, Err, IfOk, OnOk, OnErr, List, [], ◌∷◌, ◌++◌, length, get_or, set, refl, sym, ap, subst, ◌∙◌, arith, IsTrue, inl, inr}
+use Rattle.std.proofs.Common.{◌≡◌, ◌≢◌, ◌<◌, ◌≤◌, ℕ, zero, suc, Bool, true, false, Option, Some, Result, Ok, Err, IfOk, OnOk, OnErr, List, [], ◌∷◌, ◌++◌, length, get_or, set, refl, sym, ap, subst, ◌∙◌, arith, IsTrue, inl, inr}
 use Rattle.std.specs.Global.{Vec}
 use Rattle.std.specs.List.{slice_get}
 use Rattle.std.specs.Vec.{with_items}
@@ -7,12 +7,11 @@ use Rattle.std.proofs.lemmas.List.{length-set, length_push, with_items_is}
 use Rattle.std.proofs.lemmas.Option.{slice_get-get_or, slice_get_past}
 use Rattle.s3_config.specs.Settings.{Settings}
 use Rattle.s3_terms.specs.declared.memory.NoMemory.{NoMemory}
-use Rattle.s3_machine.specs.Effects.{is_refused, takes_room}
 use Rattle.s3_machine.specs.History.{Entry}
 use Rattle.s3_machine.specs.declared.command.Answer.{Answer}
 use Rattle.s3_machine.specs.declared.turn.Turn.{Turn}
-use Rattle.s3_store.specs.Steps.{outcome_of}
-use Rattle.s3_journal.specs.Book.{Journal}
+use Rattle.s3_journal.specs.Book.{Journal, MayLack}
+use Rattle.s3_journal.specs.Recorded.{recorded}
 use Rattle.s3_session.specs.Output.{Standing, is_dead, is_waiting, is_closed}
 use Rattle.s3_session.specs.Output as standings
 use Rattle.s3_connection.specs.Connection.{entries_with}
@@ -95,14 +94,14 @@ fed_set settings more old c b d (Err e) less fed = tt
 -- ---- a turn
 
 recorded_by : (seat : ℕ) (d : Playing) (old new : Journal) (turn : Turn) (answered : Result Answer NoMemory)
-    → IfOk answered (λ answer. new.entries ≡ old.entries ++ record { seat = seat; entry = record { command = turn.command; moment = turn.moment; answer = answer } } ∷ [])
+    → IfOk answered (λ answer. new.entries ≡ old.entries ++ recorded seat turn answer ∷ [])
     → OnErr answered (new ≡ old) → OnErr answered (standing_of d ≡ standings.Dead) → IsRecorded seat d old new turn answered
 recorded_by seat d old new turn (Ok answer) entry same dies = entry
 recorded_by seat d old new turn (Err e) entry same dies = (ap (λ (j : Journal). j.entries) same, ap is_dead dies)
 
 pub had_turn : (settings : Settings) (seat : ℕ) (b d : Playing) (old new : Journal) (turn : Turn) (told : Option Turn) (answered : Result Answer NoMemory)
     → told ≡ turn_of b → told ≡ Some turn → is_waiting (standing_of b) ≡ true
-    → IfOk answered (λ answer. new.entries ≡ old.entries ++ record { seat = seat; entry = record { command = turn.command; moment = turn.moment; answer = answer } } ∷ [])
+    → IfOk answered (λ answer. new.entries ≡ old.entries ++ recorded seat turn answer ∷ [])
     → OnErr answered (new ≡ old) → OnErr answered (standing_of d ≡ standings.Dead)
     → ((moments : List ℕ) (input : Input) (entries : List Entry) (sent : List ℕ)
     → Plays b settings moments input entries sent → Plays d settings moments input (entries_with entries turn answered) sent)
@@ -128,12 +127,11 @@ written_back v now left c Stays Change is at = with_items_is v left (at.count �
 
 pub entered_by : (in_memory : Bool) (old new : Journal) (seat : ℕ) (turn : Turn) (told waits : Option Turn) (answered : Result Answer NoMemory)
     → told ≡ waits → told ≡ Some turn
-    → IfOk answered (λ answer. new.entries ≡ old.entries ++ record { seat = seat; entry = record { command = turn.command; moment = turn.moment; answer = answer } } ∷ [])
-    → OnErr answered (in_memory ≡ true → old.store.number ≢ 18446744073709551615 → is_refused (outcome_of old.least old.store turn.moment turn.command) ≡ false)
-    → OnErr answered (in_memory ≡ true → old.store.number ≢ 18446744073709551615 → IsTrue (takes_room old.store.state turn.command))
+    → IfOk answered (λ answer. new.entries ≡ old.entries ++ recorded seat turn answer ∷ [])
+    → OnErr answered (MayLack in_memory old.least old.store turn)
     → IsEntered in_memory old new waits
-entered_by in_memory old new seat turn told waits (Ok answer) value is entry memory room =
+entered_by in_memory old new seat turn told waits (Ok answer) value is entry lacks =
     subst (IsEntered in_memory old new) (sym is ∙ value)
-    (inl (ap length entry ∙ length_push old.entries (record { seat = seat; entry = record { command = turn.command; moment = turn.moment; answer = answer } })))
-entered_by in_memory old new seat turn told waits (Err e) value is entry memory room =
-    subst (IsEntered in_memory old new) (sym is ∙ value) (inr (λ rows number. (memory rows number, room rows number)))
+    (inl (ap length entry ∙ length_push old.entries (recorded seat turn answer)))
+entered_by in_memory old new seat turn told waits (Err e) value is entry lacks =
+    subst (IsEntered in_memory old new) (sym is ∙ value) (inr lacks)

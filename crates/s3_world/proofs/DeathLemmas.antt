@@ -1,12 +1,12 @@
 -- What a connection shows in which memory ran out.
-use Rattle.std.proofs.Common.{◌≡◌, ◌<◌, ℕ, Bool, true, false, List, [], ◌∷◌, ◌++◌, length, refl, sym, ap, ◌∙◌, append_assoc, Option, Some, None}
+use Rattle.std.proofs.Common.{◌≡◌, ℕ, Bool, true, List, ◌++◌, sym, ap, ◌∙◌, append_assoc, Option, Some, None}
 use Rattle.std.specs.List.{flat_map}
 use Rattle.s3_config.specs.Settings.{Settings}
 use Rattle.s3_machine.specs.declared.turn.Turn.{Turn}
 use Rattle.s3_replies.specs.Replies.{internal_error}
 use Rattle.s3_session.specs.Output.{Past, Standing, Writes, Behind, Serves, IsDead, is_dead, written_for}
 use Rattle.s3_session.specs.Output as standings
-use Rattle.s3_world.specs.Run.{Runs, output_of}
+use Rattle.s3_world.specs.Run.{output_of}
 use Rattle.s3_world.specs.Alike.{DeathsShow}
 
 -- what stands behind the answered messages ends so

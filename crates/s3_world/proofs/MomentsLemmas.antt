@@ -1,7 +1,7 @@
 -- The moments that a clock over a list hands out.
-use Rattle.std.proofs.Common.{◌≡◌, ℕ, zero, suc, ◌+◌, List, [], ◌∷◌, ◌++◌, refl, sym, ap, subst, ◌∙◌, arith, append-nil, append_assoc}
+use Rattle.std.proofs.Common.{◌≡◌, ℕ, zero, suc, ◌+◌, List, [], ◌∷◌, ◌++◌, refl, sym, ap, subst, ◌∙◌, arith, append_assoc}
 use mathlib.Core.List.{IsPrefix}
-use Rattle.s3_world.specs.Moments.{Handing, HasHanded, IsHanded, IsHandedIf, handed, handed_after, next_of}
+use Rattle.s3_world.specs.Moments.{Handing, HasHanded, IsHanded, handed, handed_after}
 
 -- one more
 pub handed_one : (moments : List ℕ) (count moment : ℕ) (old new : Handing) → HasHanded moments count old → IsHanded old new moment

@@ -7,7 +7,7 @@ use Rattle.s3_machine.specs.Step.{State, step}
 use Rattle.s3_machine.specs.History.{IsAnswer, Legal, after}
 use Rattle.s3_machine.specs.declared.command.Answer.{Answer}
 use Rattle.s3_machine.specs.declared.turn.Turn.{Turn}
-use Rattle.s3_journal.specs.Recorded.{Recorded, entries_of_seat, history_of}
+use Rattle.s3_journal.specs.Recorded.{Recorded, entries_of_seat, history_of, recorded}
 use Rattle.s3_session.specs.Output.{is_dead}
 use Rattle.s3_session.specs.Output as standings
 use Rattle.s3_connection.specs.Output.{Input, OneOutput, answered_turn}
@@ -17,10 +17,6 @@ use Rattle.s3_world.specs.Laws.{OneRun}
 use Rattle.s3_world.specs.Timed.{TimedOutputs}
 use Rattle.s3_world.proofs.PlayedLemmas.{OneTimedOutput, timed_one}
 use Rattle.s3_world.proofs.EntryLemmas.{answer_there, history_more}
-
--- an entry of these
-abbrev made : ℕ → Turn → Answer → Recorded
-made seat turn answer = record { seat = seat; entry = record { command = turn.command; moment = turn.moment; answer = answer } }
 
 -- the answer to a turn
 abbrev given : ℕ → State → ℕ → Turn → Answer
@@ -76,9 +72,9 @@ module _ (one : OneTimedOutput) (settings : Settings) (moments : List (List ℕ)
         let turn : answered_turn some.0.entry ≡ answered_turn some'.0.entry = one_waits done at (answered_turn some.0.entry) (answered_turn some'.0.entry) some.3.1 some'.3.1 in
         let answer : some.0.entry.answer ≡ some'.0.entry.answer = one_answer done some.0 some'.0 some.1 some'.1 legal-here legal-there turn in
         let same : some.0 ≡ some'.0 =
-        ap (λ (k : ℕ). made k (answered_turn some.0.entry) some.0.entry.answer) (some.3.0 ∙ sym some'.3.0)
-        ∙ ap (λ (t : Turn). made some'.0.seat t some.0.entry.answer) turn
-        ∙ ap (made some'.0.seat (answered_turn some'.0.entry)) answer in
+        ap (λ (k : ℕ). recorded k (answered_turn some.0.entry) some.0.entry.answer) (some.3.0 ∙ sym some'.3.0)
+        ∙ ap (λ (t : Turn). recorded some'.0.seat t some.0.entry.answer) turn
+        ∙ ap (recorded some'.0.seat (answered_turn some'.0.entry)) answer in
         some.2
         ∙ ap (λ (es : List Recorded). some.0 ∷ es)
         (one_taking (done ++ some.0 ∷ []) turns some.1 some'.1 some.4

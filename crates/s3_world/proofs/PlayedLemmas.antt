@@ -1,5 +1,5 @@
 -- A connection of a world.
-use Rattle.std.proofs.Common.{◌≡◌, ◌+◌, ℕ, Bool, true, false, Option, Some, None, Result, Ok, Err, OnErr, ◌≢◌, List, [], ◌∷◌, ◌++◌, refl, sym, ap, subst, ◌∙◌, append-nil}
+use Rattle.std.proofs.Common.{◌≡◌, ◌+◌, ℕ, Bool, true, false, Option, Some, None, Result, Ok, Err, OnErr, ◌≢◌, List, [], ◌∷◌, ◌++◌, sym, ap, subst, ◌∙◌, append-nil}
 use Rattle.s3_config.specs.Settings.{Settings}
 use Rattle.s3_machine.specs.History.{Entry}
 use Rattle.s3_machine.specs.declared.turn.Turn.{Turn}

@@ -13,7 +13,7 @@ use Rattle.s3_machine.specs.declared.turn.Turn.{Turn}
 use Rattle.s3_store.specs.Steps.{opened}
 use Rattle.s3_session.specs.Output.{Reading, is_dead, is_waiting}
 use Rattle.s3_journal.specs.Book.{Journal, KeepsHistory}
-use Rattle.s3_journal.specs.Recorded.{entries_of_seat}
+use Rattle.s3_journal.specs.Recorded.{entries_of_seat, recorded}
 use Rattle.s3_events.specs.declared.event.Event.{Event}
 use Rattle.s3_connection.specs.Connection.{entries_with, nothing_received}
 use Rattle.s3_connection.specs.Output.{Input}
@@ -80,7 +80,7 @@ pub record IsSentOn (count : ℕ) (b d : Playing) : Type 0 where
 -- the entry of a turn that was answered, or none where memory ran out at it, and then the connection is dead
 abbrev pub IsRecorded : ℕ → Playing → Journal → Journal → Turn → Result Answer NoMemory → Type 0
 IsRecorded seat d old new turn (Ok answer) =
-    new.entries ≡ old.entries ++ record { seat = seat; entry = record { command = turn.command; moment = turn.moment; answer = answer } } ∷ []
+    new.entries ≡ old.entries ++ recorded seat turn answer ∷ []
 IsRecorded seat d old new turn (Err e) = (new.entries ≡ old.entries) × (is_dead (standing_of d) ≡ true)
 
 -- the command of a connection that waited had its turn

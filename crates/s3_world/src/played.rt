@@ -106,7 +106,7 @@ impl<'a> Played<'a> {
         ensures opening { book.new.opening ≡ book.old.opening }
     {
         if let Some(turn) = self.connection.take_turn() {
-            let answered = book.apply(seat, turn);
+            let answered = book.enter(seat, turn);
             self.connection.answer(alloc, answered);
             self.go_on(alloc, config);
         }

@@ -1,9 +1,9 @@
 //! Connections to their end.
-use crate::workers::served::{HEAD, Sent, ending, moment};
+use crate::workers::served::{Sent, ending, moment};
 use crate::workers::stream::{Manner, PLAIN};
 use s3_config::Config;
+use s3_pump::Outcome;
 use s3_replay::replay_one;
-use s3_workers::Outcome;
 use std::alloc::Global;
 use std::mem::drop;
 use std::sync::Wait;
@@ -18,9 +18,10 @@ struct Row {
     // How it ends, and how many bytes it has written of what is replayed, where these aren't all.
     outcome: Outcome,
     written: Option<usize>,
-    // What it passes at the gate, where that is asked.
-    passed: Option<u64>,
 }
+
+// What the client of the first put waits for, which is out before the put has its turn.
+const CONTINUE: &[u8] = b"HTTP/1.1 100 Continue\r\n\r\n";
 
 // A stream that blocks once, first of all at its beginning.
 const BLOCKED: Manner = Manner { first: 0, ..PLAIN };
@@ -34,7 +35,7 @@ const SLOW: Manner = Manner {
 // The same byte by byte.
 const SLOW_BYTES: Manner = Manner { most: 1, ..SLOW };
 
-static ROWS: [Row; 11] = [
+static ROWS: [Row; 10] = [
     Row {
         name: "a put and a get, blocked anywhere",
         sent: Sent::PutAndGet,
@@ -42,7 +43,6 @@ static ROWS: [Row; 11] = [
         places: usize::MAX,
         outcome: Outcome::Closed,
         written: None,
-        passed: None,
     },
     Row {
         name: "a put and a get, blocked anywhere and at every second write",
@@ -51,7 +51,6 @@ static ROWS: [Row; 11] = [
         places: usize::MAX,
         outcome: Outcome::Closed,
         written: None,
-        passed: None,
     },
     Row {
         name: "the same byte by byte",
@@ -60,7 +59,6 @@ static ROWS: [Row; 11] = [
         places: usize::MAX,
         outcome: Outcome::Closed,
         written: None,
-        passed: None,
     },
     Row {
         name: "a put in chunks and a get, blocked anywhere",
@@ -69,7 +67,6 @@ static ROWS: [Row; 11] = [
         places: usize::MAX,
         outcome: Outcome::Closed,
         written: None,
-        passed: None,
     },
     Row {
         name: "a put in chunks and a get, blocked anywhere and at every second write",
@@ -78,7 +75,6 @@ static ROWS: [Row; 11] = [
         places: usize::MAX,
         outcome: Outcome::Closed,
         written: None,
-        passed: None,
     },
     Row {
         name: "the put in chunks byte by byte",
@@ -87,7 +83,6 @@ static ROWS: [Row; 11] = [
         places: usize::MAX,
         outcome: Outcome::Closed,
         written: None,
-        passed: None,
     },
     Row {
         name: "the first read fails",
@@ -99,7 +94,6 @@ static ROWS: [Row; 11] = [
         places: 1,
         outcome: Outcome::ReadFailed,
         written: Some(0),
-        passed: None,
     },
     Row {
         name: "the second read fails",
@@ -111,7 +105,6 @@ static ROWS: [Row; 11] = [
         places: 1,
         outcome: Outcome::ReadFailed,
         written: Some(439),
-        passed: None,
     },
     Row {
         name: "the first write fails",
@@ -123,7 +116,6 @@ static ROWS: [Row; 11] = [
         places: 1,
         outcome: Outcome::WriteFailed,
         written: Some(0),
-        passed: None,
     },
     Row {
         name: "the second write fails",
@@ -134,20 +126,7 @@ static ROWS: [Row; 11] = [
         },
         places: 1,
         outcome: Outcome::WriteFailed,
-        written: Some(178),
-        passed: None,
-    },
-    Row {
-        name: "the places that are passed",
-        sent: Sent::PutAndGet,
-        manner: Manner {
-            first: HEAD,
-            ..PLAIN
-        },
-        places: 1,
-        outcome: Outcome::Closed,
-        written: None,
-        passed: Some(1 + 16 + 2 * 256),
+        written: Some(CONTINUE.len()),
     },
 ];
 
@@ -166,12 +145,7 @@ fn comes_out<R: Wait>(
         ..row.manner
     };
     let written = Some(row.written.unwrap_or(wanted.len()));
-    match ending(rt, alloc, config, bytes, manner, wanted) {
-        Some((ending, passed)) => {
-            (ending, row.passed.unwrap_or(passed)) == ((row.outcome, written), passed)
-        }
-        None => false,
-    }
+    ending(rt, alloc, config, bytes, manner, wanted) == Some((row.outcome, written))
 }
 
 // Whether it comes out so at all places, where this is wanted.

@@ -1,21 +1,27 @@
-//! Two workers at one desk: while one connection is inside a body, another one is answered.
-use crate::workers::served::{HEAD, Sent, ending_by, moment};
+//! Two connections at one desk, each in a thread of its own: while one is inside a body, the other is answered.
+use crate::workers::served::{HEAD, Sent, outcome_over};
 use crate::workers::stream::{Manner, PLAIN, Stream};
 use s3_config::Config;
-use s3_desk::{Desk, Ground, Seat};
+use s3_desk::{Desk, Ground};
+use s3_devices::{Recorded, WriteParts};
+use s3_history::AsItself;
+use s3_pump::{DeskHandle, Outcome};
 use s3_records::MapRecords;
-use s3_session::Still;
-use s3_workers::{DeskCounter, Gate, Outcome, Place, Worker};
 use std::alloc::Global;
+use std::io::{Read, Write};
 use std::sync::Wait;
 use std::sync::atomic::{AtomicBool, AtomicU64, Ordering};
-use std::thread;
 use std::time::{Clock, Duration};
+use std::{io, thread};
 
-/// The connection that is held, and the other one. Each has the number of its worker's seat.
+/// The connection that is held. The other one has the next number.
 pub(crate) const HELD: u64 = 0;
 
-pub(crate) const OTHER: u64 = 1;
+// The read of the other one at which it begins.
+const FIRST: u64 = 1;
+
+// The read that is held: the one behind the head.
+const WITHIN_BODY: u64 = 2;
 
 // How many milliseconds a connection is held at most.
 const TURNS: u32 = 10_000;
@@ -91,22 +97,96 @@ impl Marks {
     }
 }
 
-// A gate that holds one connection inside its body until the other one is answered, which begins only then.
+/// A stream that is held at one of its reads or writes until the other connection is answered; or that of the other, which begins
+/// when the one is held, and tells when it is answered. What is counted from 1 is 0 where it never comes.
 #[derive(Drop)]
-struct Overlap<'a, R: Clock> {
-    rt: &'a R,
-    marks: &'a Marks,
+pub(crate) struct Meeting<'a, R: Clock> {
+    pub(crate) stream: Stream<'a>,
+    pub(crate) rt: &'a R,
+    pub(crate) marks: &'a Marks,
+    pub(crate) connection: u64,
+    pub(crate) held_read: u64,
+    pub(crate) held_write: u64,
+    reads: u64,
+    writes: u64,
 }
 
-impl<R: Clock> Gate for Overlap<'_, R> {
-    fn pass(&self, place: Place, connection: u64) {
-        match (place, connection) {
-            (Place::Accepted, OTHER) => self.marks.wait_until_held(self.rt),
-            (Place::BodyBegins, HELD) => self.marks.hold(self.rt),
-            (Place::Answered, OTHER) => self.marks.tell_answered(),
-            _ => {}
+impl<'a, R: Clock> Meeting<'a, R> {
+    /// The stream of the connection of this number.
+    pub(crate) fn new(
+        rt: &'a R,
+        marks: &'a Marks,
+        connection: u64,
+        stream: Stream<'a>,
+    ) -> Meeting<'a, R> {
+        Meeting {
+            stream,
+            rt,
+            marks,
+            connection,
+            held_read: 0,
+            held_write: 0,
+            reads: 0,
+            writes: 0,
         }
     }
+
+    // Waits where this read has to.
+    fn meets(&self) {
+        if self.connection == HELD {
+            if self.reads == self.held_read {
+                self.marks.hold(self.rt);
+            }
+        } else if self.reads == FIRST {
+            self.marks.wait_until_held(self.rt);
+        } else if self.stream.is_over() {
+            self.marks.tell_answered();
+        }
+    }
+}
+
+impl<R: Clock> Read for Meeting<'_, R> {
+    fn read(&mut self, buf: &mut [u8]) -> io::Result<usize> {
+        self.reads = self.reads.wrapping_add(1);
+        self.meets();
+        self.stream.read(buf)
+    }
+}
+
+impl<R: Clock> Write for Meeting<'_, R> {
+    fn write(&mut self, buf: &[u8]) -> io::Result<usize> {
+        self.writes = self.writes.wrapping_add(1);
+        if self.writes == self.held_write {
+            self.marks.hold(self.rt);
+        }
+        self.stream.write(buf)
+    }
+
+    fn flush(&mut self) -> io::Result<()> {
+        Ok(())
+    }
+}
+
+impl<R: Clock> WriteParts for Meeting<'_, R> {}
+
+/// Whether a connection over this stream, which has a seat of its own at the desk, is closed and has written just what is wanted.
+pub(crate) fn is_answered<J: Ground, R: Wait + Clock>(
+    rt: &R,
+    alloc: Global,
+    desk: &Desk<J, MapRecords, ()>,
+    config: &Config,
+    meeting: Meeting<'_, R>,
+    wanted: &[u8],
+) -> bool {
+    let Some(mut device) = Recorded::new(meeting) else {
+        return false;
+    };
+    let Ok(mut seat) = DeskHandle::open(rt, desk) else {
+        return false;
+    };
+    let outcome = outcome_over(rt, alloc, config, &mut seat, &mut device);
+    seat.leave::<(), AsItself>(&());
+    outcome == Some(Outcome::Closed) && device.stream().stream.output.as_slice() == wanted
 }
 
 // The answer that a connection has to have, and how its stream gives: the first read of the one that is held ends with its head.
@@ -124,41 +204,19 @@ fn wanted_of(connection: u64) -> (&'static [u8], Manner) {
     }
 }
 
-// Whether a put of `hello` by the connection of this number is answered as it has to be.
-fn is_served<J: Ground, R: Wait + Clock>(
+/// Whether the connection of this number is answered as it has to be: each puts `hello`, and one is held inside its body.
+pub(crate) fn overlaps<J: Ground, R: Wait + Clock>(
     rt: &R,
     alloc: Global,
+    desk: &Desk<J, MapRecords, ()>,
     config: &Config,
-    worker: &mut Worker<Still, DeskCounter<'_, J, MapRecords, R>, Overlap<'_, R>>,
+    marks: &Marks,
     connection: u64,
 ) -> bool {
     let (answer, manner) = wanted_of(connection);
     let put = Sent::PutAndGet.bytes().get(..HEAD + 5).unwrap_or(b"");
     let stream = Stream::new(put, Vec::new(alloc), manner);
-    ending_by(rt, alloc, config, worker, stream, connection, answer)
-        == Some((Outcome::Closed, Some(answer.len())))
-}
-
-/// Serves the connection of a seat's number: the seat, and whether the answer is as it has to be.
-pub(crate) fn serves<J: Ground, R: Wait + Clock>(
-    rt: &R,
-    alloc: Global,
-    desk: &Desk<J, MapRecords>,
-    config: &Config,
-    marks: &Marks,
-    seat: Seat<J>,
-) -> (Seat<J>, bool) {
-    let connection = seat.number();
-    let mut worker = Worker {
-        clock: Still { moment: moment() },
-        counter: DeskCounter::new(rt, desk, seat),
-        gate: Overlap { rt, marks },
-    };
-    let is_served = is_served(rt, alloc, config, &mut worker, connection);
-    let Worker {
-        clock: _,
-        counter,
-        gate: _,
-    } = worker;
-    (counter.into_seat(), is_served)
+    let mut meeting = Meeting::new(rt, marks, connection, stream);
+    meeting.held_read = WITHIN_BODY;
+    is_answered(rt, alloc, desk, config, meeting, answer)
 }

@@ -47,7 +47,7 @@ static TURNS: [Row; 4] = [
 // Whether a turn has its number, and what has to come of it does.
 fn is_answered(alloc: Global, book: &mut Book<MapRecords>, row: &Row) -> bool {
     match turn(alloc, row.1, row.2, true) {
-        Some(turn) => match book.apply(row.0, turn) {
+        Some(turn) => match book.enter(row.0, turn) {
             Ok(answer) => {
                 let came = (answer.number, word_of(alloc, &answer.outcome));
                 drop(answer);

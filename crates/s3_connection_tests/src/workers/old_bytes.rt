@@ -1,17 +1,11 @@
-//! Two workers at one desk: while the reply to a get is on its way, the object is replaced.
-use crate::workers::gate_overlap::{HELD, Marks, OTHER};
-use crate::workers::served::moment;
+//! Two connections at one desk: while the reply to a get is on its way, the object is replaced.
+use crate::workers::gate_overlap::{HELD, Marks, Meeting, is_answered};
 use crate::workers::stream::{PLAIN, Stream};
 use s3_config::Config;
-use s3_desk::{Desk, Ground, Seat};
-use s3_devices::{Recorded, WriteParts};
+use s3_desk::{Desk, Ground};
 use s3_records::MapRecords;
-use s3_session::Still;
 use s3_terms::NoMemory;
-use s3_workers::{DeskCounter, Gate, Outcome, Place, Worker, serve};
 use std::alloc::Global;
-use std::io;
-use std::io::{Read, Write};
 use std::sync::Wait;
 use std::time::Clock;
 
@@ -62,54 +56,6 @@ const GET_ANSWER: &[u8] = b"HTTP/1.1 200 OK\r\n\
 // The write that is held: the one behind the head of the answer to the get.
 const HELD_WRITE: u64 = 3;
 
-// A stream that is held behind the head of its second answer.
-#[derive(Drop)]
-struct Slow<'a, R: Clock> {
-    stream: Stream<'a>,
-    rt: &'a R,
-    marks: &'a Marks,
-    writes: u64,
-}
-
-impl<R: Clock> Read for Slow<'_, R> {
-    fn read(&mut self, buf: &mut [u8]) -> io::Result<usize> {
-        self.stream.read(buf)
-    }
-}
-
-impl<R: Clock> Write for Slow<'_, R> {
-    fn write(&mut self, buf: &[u8]) -> io::Result<usize> {
-        self.writes = self.writes.wrapping_add(1);
-        if self.writes == HELD_WRITE {
-            self.marks.hold(self.rt);
-        }
-        self.stream.write(buf)
-    }
-
-    fn flush(&mut self) -> io::Result<()> {
-        Ok(())
-    }
-}
-
-impl<R: Clock> WriteParts for Slow<'_, R> {}
-
-// A gate at which the other connection begins once the one is held, and tells that it is answered.
-#[derive(Drop)]
-struct Behind<'a, R: Clock> {
-    rt: &'a R,
-    marks: &'a Marks,
-}
-
-impl<R: Clock> Gate for Behind<'_, R> {
-    fn pass(&self, place: Place, connection: u64) {
-        match (place, connection) {
-            (Place::Accepted, OTHER) => self.marks.wait_until_held(self.rt),
-            (Place::Answered, OTHER) => self.marks.tell_answered(),
-            _ => {}
-        }
-    }
-}
-
 // A put of the object whose bytes are all this letter, and what is sent behind it.
 fn put_and(alloc: Global, letter: u8, behind: &[u8]) -> Result<Vec<u8>, NoMemory> {
     let letters = Vec::from_elem(alloc, letter, SIZE)?;
@@ -134,71 +80,32 @@ fn wanted_by(alloc: Global, connection: u64) -> Result<Vec<u8>, NoMemory> {
     Ok([PUT_ANSWER, GET_ANSWER, &letters].concat(alloc)?)
 }
 
-// Whether a connection that sends these bytes is answered with those.
-fn is_answered<J: Ground, R: Wait + Clock>(
+// Whether the connection of this number is answered as it has to be.
+fn is_right<J: Ground, R: Wait + Clock>(
     rt: &R,
     alloc: Global,
+    desk: &Desk<J, MapRecords, ()>,
     config: &Config,
-    worker: &mut Worker<Still, DeskCounter<'_, J, MapRecords, R>, Behind<'_, R>>,
-    connection: u64,
-    sent: &[u8],
-    wanted: &[u8],
-) -> bool {
-    let slow = Slow {
-        stream: Stream::new(sent, Vec::new(alloc), PLAIN),
-        rt,
-        marks: worker.gate.marks,
-        writes: 0,
-    };
-    let Some(mut device) = Recorded::new(slow) else {
-        return false;
-    };
-    let mut buffer = [0; 4096];
-    let outcome = serve(
-        rt,
-        alloc,
-        config,
-        worker,
-        &mut device,
-        connection,
-        &mut buffer,
-    );
-    outcome == Outcome::Closed && device.stream().stream.output.as_slice() == wanted
-}
-
-// The same of what a connection sends.
-fn is_served<J: Ground, R: Wait + Clock>(
-    rt: &R,
-    alloc: Global,
-    config: &Config,
-    worker: &mut Worker<Still, DeskCounter<'_, J, MapRecords, R>, Behind<'_, R>>,
+    marks: &Marks,
     connection: u64,
 ) -> Result<bool, NoMemory> {
     let sent = sent_by(alloc, connection)?;
     let wanted = wanted_by(alloc, connection)?;
-    Ok(is_answered(rt, alloc, config, worker, connection, &sent, &wanted))
+    let stream = Stream::new(&sent, Vec::new(alloc), PLAIN);
+    let mut meeting = Meeting::new(rt, marks, connection, stream);
+    meeting.held_write = HELD_WRITE;
+    Ok(is_answered(rt, alloc, desk, config, meeting, &wanted))
 }
 
-/// Serves the connection of a seat's number: the seat, and whether the answer is as it has to be.
+/// Whether the connection of this number is answered as it has to be: the one is held behind the head of a reply, until the other has
+/// replaced what is on its way.
 pub(crate) fn replaces<J: Ground, R: Wait + Clock>(
     rt: &R,
     alloc: Global,
-    desk: &Desk<J, MapRecords>,
+    desk: &Desk<J, MapRecords, ()>,
     config: &Config,
     marks: &Marks,
-    seat: Seat<J>,
-) -> (Seat<J>, bool) {
-    let connection = seat.number();
-    let mut worker = Worker {
-        clock: Still { moment: moment() },
-        counter: DeskCounter::new(rt, desk, seat),
-        gate: Behind { rt, marks },
-    };
-    let is_served = is_served(rt, alloc, config, &mut worker, connection).unwrap_or(false);
-    let Worker {
-        clock: _,
-        counter,
-        gate: _,
-    } = worker;
-    (counter.into_seat(), is_served)
+    connection: u64,
+) -> bool {
+    is_right(rt, alloc, desk, config, marks, connection).unwrap_or(false)
 }

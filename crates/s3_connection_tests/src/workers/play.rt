@@ -36,7 +36,7 @@ fn is_outcome(alloc: Global, outcome: &Outcome, put: Option<&[u8]>, bytes: &[u8]
 fn has<J: Ground>(
     rt: &impl Wait,
     alloc: Global,
-    desk: &Desk<J, MapRecords>,
+    desk: &Desk<J, MapRecords, ()>,
     seat: &mut Seat<J>,
     whose: u64,
     put: Option<&[u8]>,
@@ -59,7 +59,7 @@ fn has<J: Ground>(
 pub(crate) fn plays<J: Ground>(
     rt: &impl Wait,
     alloc: Global,
-    desk: &Desk<J, MapRecords>,
+    desk: &Desk<J, MapRecords, ()>,
     seat: &mut Seat<J>,
 ) -> bool {
     let own = seat.number();
@@ -78,7 +78,7 @@ pub(crate) fn plays<J: Ground>(
 pub(crate) fn finds_others<J: Ground>(
     rt: &impl Wait,
     alloc: Global,
-    desk: &Desk<J, MapRecords>,
+    desk: &Desk<J, MapRecords, ()>,
     seat: &mut Seat<J>,
 ) -> bool {
     for other in 1..SEATS {

@@ -1,15 +1,14 @@
-//! Several seats of one desk, each of which works in a thread of its own.
+//! Those who share a desk, each in a thread of its own.
 ghost use Rattle.std.specs.Prelude.{◌≡◌};
-ghost use Rattle.s3_desk.specs.Desk.{base_of};
-ghost use Rattle.s3_desk.specs.Closing.{AreNumbered};
+ghost use Rattle.s3_desk.specs.Desk.{most_seats};
 
-use crate::workers::gate_overlap::{Marks, serves};
+use crate::workers::gate_overlap::{Marks, overlaps};
 use crate::workers::old_bytes::replaces;
 use crate::workers::play::{SEATS, finds_others, plays};
-use crate::workers::served::book;
+use crate::workers::served::store;
 use s3_config::Config;
-use s3_desk::{Desk, Ground, Seat, Start};
-use s3_journal::Book;
+use s3_desk::{Desk, Ground, Start};
+use s3_history::AsItself;
 use s3_records::MapRecords;
 use std::alloc::Global;
 use std::marker::Brand;
@@ -19,160 +18,107 @@ use std::thread;
 use std::thread::Threads;
 use std::time::Clock;
 
-// What the seats of a desk do.
+// What those do who share a desk.
 #[derive(Clone, Copy)]
 enum Work<'a> {
-    // Each puts and gets under its own key, and at the end the first gets what the others put last.
+    // Each puts and gets under its own key.
     Play,
     // Each serves the connection of its number, of which one is held inside its body.
-    Serve(&'a Config, &'a Marks),
+    Overlap(&'a Config, &'a Marks),
     // The same, where one is held behind the head of a reply.
     Replace(&'a Config, &'a Marks),
 }
 
-// A seat that has worked, and whether all went well.
-fn worked<J: Ground, R: Wait + Clock>(
-    rt: &R,
-    alloc: Global,
-    desk: &Desk<J, MapRecords>,
-    work: &Work<'_>,
-    mut seat: Seat<J>,
-) -> (Seat<J>, bool) {
-    match work {
-        Work::Play => {
-            let went_well = plays(rt, alloc, desk, &mut seat);
-            (seat, went_well)
-        }
-        Work::Serve(config, marks) => serves(rt, alloc, desk, config, marks, seat),
-        Work::Replace(config, marks) => replaces(rt, alloc, desk, config, marks, seat),
-    }
+// Whether all goes well with one who comes, puts and gets, and leaves.
+fn plays_once<J: Ground>(rt: &impl Wait, alloc: Global, desk: &Desk<J, MapRecords, ()>) -> bool {
+    let Ok(mut seat) = desk.seat(rt) else {
+        return false;
+    };
+    let went_well = plays(rt, alloc, desk, &mut seat);
+    desk.leave::<(), AsItself>(rt, seat, &());
+    went_well
 }
 
-// Whether a seat finds what the others put last, where it is the first of those that play.
-fn finds_if_first<J: Ground>(
-    rt: &impl Wait,
+// Whether one who comes last finds what the others have put, and whoever comes then has seen no other history.
+fn reads_back<J: Ground>(rt: &impl Wait, alloc: Global, desk: &Desk<J, MapRecords, ()>) -> bool {
+    let (Ok(mut first), Ok(second)) = (desk.seat(rt), desk.seat(rt)) else {
+        return false;
+    };
+    let finds = finds_others(rt, alloc, desk, &mut first);
+    first.meet(&second);
+    desk.leave::<(), AsItself>(rt, first, &());
+    desk.leave::<(), AsItself>(rt, second, &());
+    finds
+}
+
+// Whether all goes well with the one of this number.
+fn works<J: Ground, R: Wait + Clock>(
+    rt: &R,
     alloc: Global,
-    desk: &Desk<J, MapRecords>,
+    desk: &Desk<J, MapRecords, ()>,
     work: &Work<'_>,
-    seat: &mut Seat<J>,
+    number: u64,
 ) -> bool {
-    match (work, seat.number()) {
-        (Work::Play, 0) => finds_others(rt, alloc, desk, seat),
-        _ => true,
+    match work {
+        Work::Play => plays_once(rt, alloc, desk),
+        Work::Overlap(config, marks) => overlaps(rt, alloc, desk, config, marks, number),
+        Work::Replace(config, marks) => replaces(rt, alloc, desk, config, marks, number),
     }
 }
 
-// Adds a seat, if it is the next in turn. It has heard then of what the first has seen, which begins what it has.
-#[tactic(auto, using(crate::proofs::SeatLemmas::numbered_push))]
-fn add_next<J: Ground>(seats: &mut Vec<Seat<J>>, mut seat: Seat<J>)
-    requires { AreNumbered 0 seats.old.items }
-    ensures { AreNumbered 0 seats.new.items }
-{
-    if let Some(first) = seats.first() {
-        seat.hear(first);
-        seat.meet(first);
-    }
-    if seat.number() == seats.len() as u64 {
-        drop(seats.push(seat));
-    } else {
-        drop(seat);
-    }
-}
-
-// Adds a seat that has worked, where all went well.
-fn add_worked<J: Ground>(
-    rt: &impl Wait,
-    alloc: Global,
-    desk: &Desk<J, MapRecords>,
-    work: &Work<'_>,
-    seats: &mut Vec<Seat<J>>,
-    worked: (Seat<J>, bool),
-)
-    requires { AreNumbered 0 seats.old.items }
-    ensures { AreNumbered 0 seats.new.items }
-{
-    let (mut seat, went_well) = worked;
-    if went_well && finds_if_first(rt, alloc, desk, work, &mut seat) {
-        add_next(seats, seat);
-    } else {
-        drop(seat);
-    }
-}
-
-// The seats that have worked, without those with which not all went well, or that aren't the next in turn.
-fn seats_back<J: Ground>(
-    rt: &impl Wait,
-    alloc: Global,
-    desk: &Desk<J, MapRecords>,
-    work: &Work<'_>,
-    all: Vec<(Seat<J>, bool)>,
-) -> Vec<Seat<J>>
-    ensures { AreNumbered 0 result.items }
-{
-    let mut seats: Vec<Seat<J>> = Vec::new(alloc);
-    for worked in all {
-        add_worked(rt, alloc, desk, work, &mut seats, worked);
-    }
-    seats
-}
-
-// Has each seat work in a thread of its own.
-fn work_all<J: Ground + Send + Sync, R: Threads + Wait + Clock + Sync>(
+// Whether all goes well with so many, each in a thread of its own.
+fn all_work<J: Ground + Send + Sync, R: Threads + Wait + Clock + Sync>(
     rt: &R,
     alloc: Global,
-    desk: &Desk<J, MapRecords>,
+    desk: &Desk<J, MapRecords, ()>,
     work: &Work<'_>,
-    seats: Vec<Seat<J>>,
-) -> Vec<Seat<J>>
-    ensures { AreNumbered 0 result.items }
-{
-    match thread::map_vec(rt, seats, &|seat| worked(rt, alloc, desk, work, seat)) {
-        Ok(all) => seats_back(rt, alloc, desk, work, all),
-        Err(_) => Vec::new(alloc),
+    count: u64,
+) -> bool {
+    let mut numbers = Vec::new(alloc);
+    for number in 0..count {
+        drop(numbers.push(number));
+    }
+    match thread::map_vec(rt, numbers, &|number| works(rt, alloc, desk, work, number)) {
+        Ok(all) => all.iter().all(|went_well| *went_well),
+        Err(_) => false,
     }
 }
 
-// How many entries a desk has once all its seats are back, which are so many.
+// How many entries a desk leaves, where all went well.
 fn entries_of<J: Ground + Send + Sync, R: Threads + Wait + Clock + Sync>(
     rt: &R,
     alloc: Global,
-    desk: Desk<J, MapRecords>,
+    desk: Desk<J, MapRecords, ()>,
     work: &Work<'_>,
-    seats: Vec<Seat<J>>,
     count: u64,
-) -> Option<u64>
-    requires { count ≡ J.parts }
-{
-    let seats = work_all(rt, alloc, &desk, work, seats);
-    if seats.len() as u64 != count {
-        return None;
+) -> Option<u64> {
+    let went_well = all_work(rt, alloc, &desk, work, count);
+    let is_found = !matches!(work, Work::Play) || reads_back(rt, alloc, &desk);
+    match desk.close() {
+        Some(closed) if went_well && is_found => Some(closed.book.entries()),
+        _ => None,
     }
-    let book = desk.close(seats);
-    let entries = book.entries();
-    drop(book);
-    Some(entries)
 }
 
-// The same at a desk that is to be opened over a book.
+// The same at a desk that is to be opened.
 fn entries_left<J: Ground + Send + Sync, R: Threads + Wait + Clock + Sync>(
     rt: &R,
     alloc: Global,
-    start: Start,
-    book: Book<MapRecords>,
+    start: Start<MapRecords>,
     work: &Work<'_>,
     count: u64,
 ) -> Option<u64>
-    requires base { J.base ≡ base_of book }
-    requires ledger { start.name ≡ J.name }
-    requires seats { (start.seats ≡ J.parts) × (count ≡ J.parts) }
+    requires name { J.name ≡ start.name }
+    requires base { J.base ≡ start.base }
+    requires parts { J.parts ≡ most_seats }
 {
-    match Desk::<J, MapRecords>::open(alloc, start, book) {
-        Ok((desk, seats)) => entries_of(rt, alloc, desk, work, seats, count),
+    match Desk::<J, MapRecords, ()>::open(alloc, start) {
+        Ok(desk) => entries_of(rt, alloc, desk, work, count),
         Err(_) => None,
     }
 }
 
-// The same at a desk of a new book.
+// The same at a desk over a new store.
 fn entries_of_new<R: Threads + Wait + Clock + Sync>(
     rt: &R,
     alloc: Global,
@@ -180,9 +126,9 @@ fn entries_of_new<R: Threads + Wait + Clock + Sync>(
     work: &Work<'_>,
     count: u64,
 ) -> Option<u64> {
-    match book(alloc, config) {
-        Some(book) => entries_left::<Brand, R>(rt, alloc, Start::new(count), book, work, count),
-        None => None,
+    match Start::new(alloc, config, store(alloc, config)?) {
+        Ok(start) => entries_left::<Brand, R>(rt, alloc, start, work, count),
+        Err(_) => None,
     }
 }
 
@@ -194,7 +140,7 @@ pub(crate) fn seats_work<R: Threads + Wait + Clock + Sync>(
 ) -> bool {
     let marks = Marks::new();
     let played = entries_of_new(rt, alloc, config, &Work::Play, SEATS);
-    let served = entries_of_new(rt, alloc, config, &Work::Serve(config, &marks), 2);
+    let served = entries_of_new(rt, alloc, config, &Work::Overlap(config, &marks), 2);
     played == Some(1_607) && served == Some(2) && marks.met() == 2
 }
 

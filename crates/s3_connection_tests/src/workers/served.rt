@@ -1,16 +1,18 @@
 //! What comes of a connection over a stream in memory, to a server that has nothing in its buckets.
-use crate::workers::places::Count;
+ghost use Rattle.std.specs.Prelude.{◌≡◌, [], IfSome};
+ghost use Rattle.s3_devices.specs.Recorded.{no_traffic};
+ghost use Rattle.s3_journal.specs.Recorded.{entries_of_seat};
+
 use crate::workers::stream::{Manner, Stream};
 use s3_calendar::Moment;
 use s3_config::Config;
-use s3_devices::Recorded;
+use s3_devices::{Device, Recorded};
+use s3_history::Recorder;
 use s3_journal::Book;
+use s3_pump::{BookHandle, Outcome, StoreHandle, serve};
 use s3_records::MapRecords;
-use s3_session::Still;
 use s3_store::Store;
-use s3_workers::{BookCounter, Counter, Gate, Outcome, Worker, serve};
 use std::alloc::Global;
-use std::cell::Cell;
 use std::sync::Wait;
 
 // A put of `hello`, and a get of it. They are signed outside of this program, by Python's `hmac`.
@@ -90,54 +92,53 @@ pub(crate) fn config(alloc: Global) -> Option<Config> {
     )
 }
 
-/// A book over a store that has nothing in its buckets.
-pub(crate) fn book(alloc: Global, config: &Config) -> Option<Book<MapRecords>> {
-    match Store::open(alloc, config.buckets()) {
-        Ok(store) => Book::new(alloc, config.min_part(), store).ok(),
-        Err(_) => None,
-    }
+/// A store that has nothing in its buckets.
+pub(crate) fn store(alloc: Global, config: &Config) -> Option<Store<MapRecords>> {
+    Store::open(alloc, config.buckets()).ok()
 }
 
-/// A worker with a store of its own.
-pub(crate) fn worker(
-    alloc: Global,
-    config: &Config,
-) -> Option<Worker<Still, BookCounter<MapRecords>, Count>> {
+/// A book over such a store.
+pub(crate) fn book(alloc: Global, config: &Config) -> Option<Book<MapRecords>>
+    ensures { IfSome result (λ book. book.entries ≡ []) }
+{
+    let store = store(alloc, config)?;
+    Book::new(alloc, config.min_part(), store).ok()
+}
+
+/// The same for one connection.
+pub(crate) fn handle(alloc: Global, config: &Config) -> Option<BookHandle<MapRecords>>
+    ensures { IfSome result (λ handle. entries_of_seat handle.seat handle.book.entries ≡ []) }
+{
     let book = book(alloc, config)?;
-    Some(Worker {
-        clock: Still { moment: moment() },
-        counter: BookCounter { book, seat: 0 },
-        gate: Count {
-            passed: Cell::new(0),
-        },
-    })
+    Some(BookHandle { book, seat: 0 })
 }
 
 /// How a connection over a stream ends, and how many bytes it has written, where they are a beginning of those that are wanted.
 pub(crate) type Ending = (Outcome, Option<usize>);
 
-/// How a connection over this stream ends.
-pub(crate) fn ending_by<R: Wait, C: Counter, G: Gate>(
+/// How a new connection over this device ends, whose messages all have one moment.
+pub(crate) fn outcome_over<R: Wait, N: StoreHandle, D: Device>(
     rt: &R,
     alloc: Global,
     config: &Config,
-    worker: &mut Worker<Still, C, G>,
-    stream: Stream<'_>,
-    connection: u64,
-    wanted: &[u8],
-) -> Option<Ending> {
-    let mut device = Recorded::new(stream)?;
+    handle: &mut N,
+    device: &mut D,
+) -> Option<Outcome>
+    requires none { N.entries handle.old ≡ [] }
+    requires fresh { D.traffic device.old ≡ no_traffic }
+{
+    let mut moments = Recorder::new()?;
     let mut buffer = [0; 4096];
-    let outcome = serve(
+    Some(serve(
         rt,
         alloc,
         config,
-        worker,
-        &mut device,
-        connection,
+        handle,
+        &mut moments,
+        device,
         &mut buffer,
-    );
-    Some((outcome, written_of(device.stream(), wanted)))
+        moment(),
+    ))
 }
 
 // How many bytes a stream has taken, where they are a beginning of those that are wanted.
@@ -149,7 +150,7 @@ fn written_of(stream: &Stream<'_>, wanted: &[u8]) -> Option<usize> {
     }
 }
 
-/// How a connection of these bytes ends over a stream of this manner, and what it passed at the gate.
+/// How a connection of these bytes ends over a stream of this manner.
 pub(crate) fn ending<R: Wait>(
     rt: &R,
     alloc: Global,
@@ -157,15 +158,10 @@ pub(crate) fn ending<R: Wait>(
     bytes: &[u8],
     manner: Manner,
     wanted: &[u8],
-) -> Option<(Ending, u64)> {
-    match worker(alloc, config) {
-        Some(mut worker) => {
-            let stream = Stream::new(bytes, Vec::new(alloc), manner);
-            let ending = ending_by(rt, alloc, config, &mut worker, stream, 1, wanted);
-            let passed = worker.gate.passed.get();
-            drop(worker);
-            Some((ending?, passed))
-        }
-        None => None,
-    }
+) -> Option<Ending> {
+    let mut handle = handle(alloc, config)?;
+    let mut device = Recorded::new(Stream::new(bytes, Vec::new(alloc), manner))?;
+    let outcome = outcome_over(rt, alloc, config, &mut handle, &mut device);
+    drop(handle);
+    Some((outcome?, written_of(device.stream(), wanted)))
 }

@@ -53,6 +53,11 @@ impl<'a> Stream<'a> {
         }
     }
 
+    /// Whether it has given all its bytes.
+    pub(crate) fn is_over(&self) -> bool {
+        self.input.is_empty()
+    }
+
     // How many bytes it gives now: none where it would block.
     fn next_count(&mut self, room: usize) -> usize {
         let most = self.input.len().min(room).min(self.manner.most);

@@ -8,7 +8,7 @@ use crate::workers::turns::two_take_turns;
 use crate::workers::worlds::first_other_world;
 use s3_config::Config;
 use s3_desk::Seat;
-use s3_workers::Connection;
+use s3_pump::Pump;
 use std::alloc::Global;
 use std::marker::Brand;
 use std::mem::{drop, size_of};
@@ -65,7 +65,7 @@ fn all_comes_out(rt: HostRuntime) {
     check_none(&rt, other);
     check(
         &rt,
-        size_of::<Connection>() + HEAD_ROOM <= 4_096 && size_of::<Seat<Brand>>() == 16,
+        size_of::<Pump>() + HEAD_ROOM <= 4_096 && size_of::<Seat<Brand>>() == 16,
         "sizes",
     );
 }

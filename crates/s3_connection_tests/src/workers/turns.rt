@@ -1,12 +1,12 @@
-//! Two connections of one worker, whose messages come in turns byte by byte.
-use crate::workers::places::Count;
-use crate::workers::served::{Sent, worker};
+//! Two connections that share a book in one thread, whose messages come in turns byte by byte.
+use crate::workers::served::{Sent, handle, moment};
 use crate::workers::stream::{Manner, PLAIN, Stream};
+use s3_calendar::Moment;
 use s3_config::Config;
 use s3_devices::Recorded;
+use s3_history::Recorder;
+use s3_pump::{BookHandle, Pump};
 use s3_records::MapRecords;
-use s3_session::Still;
-use s3_workers::{BookCounter, Connection, Worker};
 use std::alloc::Global;
 use std::mem::drop;
 
@@ -54,20 +54,25 @@ const SECOND: &[u8] = b"HTTP/1.1 200 OK\r\n\
     \r\n\
     hello";
 
-// A connection, its stream, and what it has to write.
+// A connection with its number, its stream, and what it has to write.
 #[derive(Drop)]
 struct Served {
-    connection: Connection,
+    number: u64,
+    pump: Pump,
+    moments: Recorder<Moment>,
     device: Recorded<Stream<'static>>,
     wanted: &'static [u8],
 }
 
 // Adds a connection that sends this, unless there is no memory for it.
 fn connect(alloc: Global, all: &mut Vec<Served>, number: u64, sent: Sent, wanted: &'static [u8]) {
-    if let Some(device) = Recorded::new(Stream::new(sent.bytes(), Vec::new(alloc), BYTE_BY_BYTE)) {
-        let connection = Connection::new(alloc, number);
+    let stream = Stream::new(sent.bytes(), Vec::new(alloc), BYTE_BY_BYTE);
+    if let (Some(device), Some(moments)) = (Recorded::new(stream), Recorder::new()) {
+        let pump = Pump::new(alloc);
         drop(all.push(Served {
-            connection,
+            number,
+            pump,
+            moments,
             device,
             wanted,
         }));
@@ -78,13 +83,15 @@ fn connect(alloc: Global, all: &mut Vec<Served>, number: u64, sent: Sent, wanted
 fn serve_all(
     alloc: Global,
     config: &Config,
-    worker: &mut Worker<Still, BookCounter<MapRecords>, Count>,
+    handle: &mut BookHandle<MapRecords>,
     all: &mut [Served],
 ) {
     for _ in 0..STEPS {
         for served in &mut *all {
-            let (connection, device) = (&mut served.connection, &mut served.device);
-            connection.step(alloc, config, worker, device, &mut [0; 16], 1);
+            handle.seat = served.number;
+            let (moments, device) = (&mut served.moments, &mut served.device);
+            let buffer = &mut [0; 16];
+            served.pump.step(alloc, config, handle, moments, device, buffer, moment(), 1);
         }
     }
 }
@@ -99,27 +106,23 @@ fn have_written(all: &[Served]) -> bool {
     all.len() == 2
 }
 
-// Whether the two are answered so by this worker.
-fn serves_both(
-    alloc: Global,
-    config: &Config,
-    worker: &mut Worker<Still, BookCounter<MapRecords>, Count>,
-) -> bool {
+// Whether the two are answered so by this book.
+fn serves_both(alloc: Global, config: &Config, handle: &mut BookHandle<MapRecords>) -> bool {
     let mut all = Vec::new(alloc);
     connect(alloc, &mut all, 1, Sent::PutAndGet, FIRST);
     connect(alloc, &mut all, 2, Sent::ChunksAndGet, SECOND);
-    serve_all(alloc, config, worker, &mut all);
+    serve_all(alloc, config, handle, &mut all);
     let have_written = have_written(&all);
     drop(all);
     have_written
 }
 
-/// Whether two connections are answered so by a new worker.
+/// Whether two connections are answered so by a new book.
 pub(crate) fn two_take_turns(alloc: Global, config: &Config) -> bool {
-    match worker(alloc, config) {
-        Some(mut worker) => {
-            let are_served = serves_both(alloc, config, &mut worker);
-            drop(worker);
+    match handle(alloc, config) {
+        Some(mut handle) => {
+            let are_served = serves_both(alloc, config, &mut handle);
+            drop(handle);
             are_served
         }
         None => false,

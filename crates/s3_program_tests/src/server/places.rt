@@ -1,6 +1,6 @@
 //! How many connections may be held, and when workers lack a place.
 use crate::checks::check;
-use s3_server::Tally;
+use s3_server::Places;
 use std::test::*;
 
 // What a worker does: it takes the place of a connection, gives one back, wants one that another worker may give, or wants none any
@@ -41,23 +41,23 @@ const DEEDS: [(Deed, bool, bool); 20] = [
 ];
 
 // Does it, and answers whether it could.
-fn does(tally: &Tally, deed: Deed) -> bool {
+fn does(places: &Places, deed: Deed) -> bool {
     match deed {
-        Deed::Take => return tally.take_place(),
-        Deed::Give => tally.give_place(),
-        Deed::Want => tally.want_place(),
-        Deed::WantNone => tally.want_no_place(),
-        Deed::Offer => return tally.offer_place(),
-        Deed::OfferNone => tally.offer_no_place(),
+        Deed::Take => return places.take_place(),
+        Deed::Give => places.give_place(),
+        Deed::Want => places.want_place(),
+        Deed::WantNone => places.want_no_place(),
+        Deed::Offer => return places.offer_place(),
+        Deed::OfferNone => places.offer_no_place(),
     }
     true
 }
 
 #[test]
 fn places(rt: HostRuntime) {
-    let tally = Tally::new(None, 2);
+    let places = Places::new(None, 2);
     for (deed, could, lacks) in DEEDS {
-        let is_right = does(&tally, deed) == could && tally.lacks_places() == lacks;
+        let is_right = does(&places, deed) == could && places.lacks_places() == lacks;
         check(&rt, is_right, "places");
     }
 }
@@ -73,9 +73,9 @@ const NUMBERS: [(Option<u64>, [Option<u64>; 3]); 4] = [
 #[test]
 fn numbers(rt: HostRuntime) {
     for (most, numbers) in NUMBERS {
-        let tally = Tally::new(most, 1);
+        let places = Places::new(most, 1);
         for number in numbers {
-            check(&rt, tally.count_one() == number, "numbers");
+            check(&rt, places.count_one() == number, "numbers");
         }
     }
 }

@@ -1,4 +1,4 @@
-use Rattle.std.proofs.Common.{◌≡◌, ◌∙◌, ap, subst, sym}
+use Rattle.std.proofs.Common.{◌∙◌, ap, subst, sym}
 use Rattle.s3_connection.specs.Connection.{Connected, moment_if}
 use Rattle.s3_connection.specs.Holds.{Holds}
 use Rattle.s3_connection.proofs.FeedingLemmas.{fit_answered}

@@ -1,9 +1,9 @@
 use Rattle.std.proofs.Common.{◌≡◌, ◌++◌, ◌∷◌, [], refl, sym, ap, subst, ◌∙◌}
 use mathlib.Core.List.{IsPrefix}
 use Rattle.s3_machine.specs.declared.command.Answer.{Answer}
-use Rattle.s3_desk.specs.Calls.{entry_of, entry_of_seat}
+use Rattle.s3_journal.specs.Recorded.{entry_of, recorded}
 use Rattle.s3_desk.specs.Desk.{Seated}
-use Rattle.s3_desk.proofs.PartLemmas.{seat_takes}
+use Rattle.s3_desk.proofs.SeatLemmas.{seat_takes}
 use Rattle.s3_desk.proofs.seat.Seat.take.Goals as goal
 
 pub invariant_of-self : goal.invariant_of-self
@@ -15,9 +15,9 @@ invariant_of-self g c =
     let known = c.args.known.entries in
     let earlier = c.requires.seen.0 in
     let later : IsPrefix seat.seen earlier = subst (λ (s : Seated). IsPrefix s.seen earlier) (sym c.self.view_is) c.requires.seen.1 in
-    let ends : known ≡ earlier ++ entry_of_seat seat.number turn answer ∷ [] =
-    subst (λ (s : Seated). known ≡ earlier ++ entry_of_seat s.number turn answer ∷ []) (sym c.self.view_is) c.requires.seen.2 in
+    let ends : known ≡ earlier ++ recorded seat.number turn answer ∷ [] =
+    subst (λ (s : Seated). known ≡ earlier ++ recorded s.number turn answer ∷ []) (sym c.self.view_is) c.requires.seen.2 in
     let adds : c.add.new.self ≡ seat.mine ++ entry_of turn answer ∷ [] = c.add.ensures ∙ ap (λ (a : Answer). seat.mine ++ entry_of turn a ∷ []) c.of.ensures in
-    seat_takes g.J.Ground.base seat (entry_of_seat seat.number turn answer) earlier known c.add.new.self old.known.origin c.args.known.origin
+    seat_takes g.J.Ground.base seat (recorded seat.number turn answer) earlier known c.add.new.self old.known.origin c.args.known.origin
     old.share.parts c.add-2.new.share.parts old.share.amount c.add-2.new.share.amount
-    c.self.invariant refl later ends adds c.requires.origin c.add-2.ensures.parts c.add-2.ensures.amount
+    c.self.invariant refl later ends adds c.requires.origin c.add-2.ensures.parts c.add-2.ensures.amount c.requires.legal

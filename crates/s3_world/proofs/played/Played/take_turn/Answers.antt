@@ -10,11 +10,11 @@ pub returns-in-Some-clause-taken : goal.returns-in-Some-clause-taken
 returns-in-Some-clause-taken g c =
     let settings = c.args.config.now in
     let turn = c.in-Some.turn in
-    let answered = c.apply-answered.result in
+    let answered = c.enter-answered.result in
     let taken = c.take_turn.ensures.taken (some_asked c.take_turn.result _ turn c.take_turn.ensures.value c.in-Some.is) ∙ c.in-Some.is in
-    subst (λ (p : Playing). HasTaken settings c.args.seat c.args.book.now c.apply-answered.new.self p c.go_on.new.self) c.self.view_is
-    (had_turn settings c.args.seat _ c.go_on.new.self c.args.book.now c.apply-answered.new.self turn c.take_turn.result answered
-    c.take_turn.ensures.value c.in-Some.is c.in-Some.ensures.waits c.apply-answered.ensures.entry c.apply-answered.ensures.err
+    subst (λ (p : Playing). HasTaken settings c.args.seat c.args.book.now c.enter-answered.new.self p c.go_on.new.self) c.self.view_is
+    (had_turn settings c.args.seat _ c.go_on.new.self c.args.book.now c.enter-answered.new.self turn c.take_turn.result answered
+    c.take_turn.ensures.value c.in-Some.is c.in-Some.ensures.waits c.enter-answered.ensures.entry c.enter-answered.ensures.err
     (on_err answered _ _ (dead_too _ _ c.go_on.ensures.closed) c.answer.ensures.dies)
     (λ moments input entries sent h.
     c.go_on.ensures.holds moments input (entries_with entries turn answered) sent
@@ -24,5 +24,5 @@ returns-in-Some-clause-taken g c =
 
 pub returns-in-Some-clause-entered : goal.returns-in-Some-clause-entered
 returns-in-Some-clause-entered g c =
-    entered_by g.R.Records.is_in_memory c.args.book.now c.apply-answered.new.self c.args.seat c.in-Some.turn c.take_turn.result _ c.apply-answered.result
-    (c.take_turn.ensures.value ∙ ap turn_of c.self.view_is) c.in-Some.is c.apply-answered.ensures.entry c.apply-answered.ensures.memory c.apply-answered.ensures.room
+    entered_by g.R.Records.is_in_memory c.args.book.now c.enter-answered.new.self c.args.seat c.in-Some.turn c.take_turn.result _ c.enter-answered.result
+    (c.take_turn.ensures.value ∙ ap turn_of c.self.view_is) c.in-Some.is c.enter-answered.ensures.entry c.enter-answered.ensures.memory

@@ -1,0 +1,30 @@
+-- What is told of a connection that has left its worker.
+use Rattle.std.specs.Prelude.{◌≡◌, ℕ, List, [], Option, None, Some}
+use Rattle.s3_config.specs.Settings.{Settings}
+use Rattle.s3_machine.specs.History.{Entry}
+use Rattle.s3_devices.specs.Device.{Traffic}
+use Rattle.s3_devices.specs.Recorded.{no_traffic}
+use Rattle.s3_pump.specs.declared.outcome.Outcome.{Outcome}
+use Rattle.s3_pump.specs.Ended.{Ends, Fails, HasWritten}
+
+-- what its socket gave and took, the moments of its messages, and how it has ended, unless it was given up before
+pub record Account : Type 0 where
+  pub traffic : Traffic
+  pub moments : List ℕ
+  pub outcome : Option Outcome
+
+-- the account of a connection that did nothing
+abbrev pub nothing_told : Account
+nothing_told = record { traffic = no_traffic; moments = []; outcome = None }
+
+-- What it wrote is what its outcome says, and its socket failed no sooner. One that was given up, since its time was over, its place
+-- was wanted or the server ended, wrote a beginning, and its socket had not failed.
+abbrev pub EndsSo : Settings → Traffic → List ℕ → List Entry → Option Outcome → Type 0
+EndsSo settings traffic moments entries None = (traffic.failed_reads ≡ 0) × (traffic.failed_writes ≡ 0)
+EndsSo settings traffic moments entries (Some outcome) = Ends settings traffic moments entries outcome × Fails outcome no_traffic traffic
+
+-- An account fits the entries of its connection's seat: what was written is at any rate a beginning of the output for all that came, for
+-- these moments and these entries.
+pub record Fits (settings : Settings) (account : Account) (entries : List Entry) : Type 0 where
+  pub written : HasWritten settings account.traffic account.moments entries
+  pub ends : EndsSo settings account.traffic account.moments entries account.outcome

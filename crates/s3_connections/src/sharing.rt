@@ -1,0 +1,71 @@
+//! What all connections of a server share.
+
+ghost use Rattle.std.specs.Prelude.{◌≡◌};
+
+use crate::account::Account;
+use s3_config::Config;
+use s3_desk::{Desk, Ground};
+use s3_records::MapRecords;
+use std::alloc::Global;
+use std::marker::Model;
+use std::sync::Wait;
+
+/// What all connections of a server share: its settings, which are those that its store stands on, and the store.
+#[derive(Drop)]
+pub struct Sharing<'a, J: Ground, W: Wait> {
+    rt: &'a W,
+    alloc: Global,
+    config: &'a Config,
+    desk: &'a Desk<J, MapRecords, Account>,
+}
+
+impl<'a, J: Ground, W: Wait> Model for Sharing<'a, J, W> {
+    ghost use Rattle.std.specs.Prelude.{◌≡◌};
+
+    ghost Value = { Unit {0} };
+
+    ghost view = { λ s. tt };
+
+    ghost invariant = { λ s. s.config.now ≡ J.base.settings };
+}
+
+impl<'a, J: Ground, W: Wait> Sharing<'a, J, W> {
+    /// The same of its parts.
+    pub fn new(
+        rt: &'a W,
+        alloc: Global,
+        config: &'a Config,
+        desk: &'a Desk<J, MapRecords, Account>,
+    ) -> Sharing<'a, J, W>
+        requires { config.now ≡ J.base.settings }
+    {
+        Sharing {
+            rt,
+            alloc,
+            config,
+            desk,
+        }
+    }
+
+    /// What it waits with.
+    pub fn rt(&self) -> &'a W {
+        self.rt
+    }
+
+    /// What gives memory.
+    pub fn alloc(&self) -> Global {
+        self.alloc
+    }
+
+    // The settings.
+    pub(crate) fn config(&self) -> &'a Config
+        ensures { result.now ≡ J.base.settings }
+    {
+        self.config
+    }
+
+    // The store.
+    pub(crate) fn desk(&self) -> &'a Desk<J, MapRecords, Account> {
+        self.desk
+    }
+}

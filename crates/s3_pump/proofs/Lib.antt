@@ -1,0 +1,2 @@
+pub mod ServedLemmas
+pub mod EndedLemmas

@@ -1,0 +1,234 @@
+//! How a worker takes the connections that come, and finds places for them.
+
+use crate::worker::{Now, Worker};
+use mio::net::{TcpListener, TcpStream};
+use mio::{Interest, Poll, Token};
+use s3_connections::Socket;
+use s3_desk::Ground;
+use std::io::{self, ErrorKind};
+use std::net::{self, Net};
+use std::sync::Wait;
+use std::time::Clock;
+
+/// The token of the listener; no slab has so many places.
+pub(crate) const LISTENER: Token = Token(usize::MAX);
+
+/// The connections that come to a worker.
+#[derive(Drop)]
+pub(crate) struct Arrivals {
+    // Whether connections may wait to be taken; whether the listener has reported one since the last try; and whether one that is
+    // held may be let go for such a one.
+    pub(crate) has_waiting: bool,
+    is_reported: bool,
+    may_make_room: bool,
+    // One that was taken, and has no place yet; and whether the other workers were asked for one.
+    taken: Option<TcpStream>,
+    has_asked: bool,
+}
+
+impl Arrivals {
+    /// Some may wait.
+    pub(crate) fn new() -> Arrivals {
+        Arrivals {
+            has_waiting: true,
+            is_reported: false,
+            may_make_room: true,
+            taken: None,
+            has_asked: false,
+        }
+    }
+
+    /// Whether one was taken that has no place yet.
+    pub(crate) fn has_one(&self) -> bool {
+        self.taken.is_some()
+    }
+
+    /// The listener has reported one.
+    pub(crate) fn are_reported(&mut self) {
+        self.has_waiting = true;
+        self.is_reported = true;
+    }
+
+    /// Some may wait, and others may be let go for them.
+    pub(crate) fn may_come(&mut self) {
+        self.has_waiting = true;
+        self.may_make_room = true;
+    }
+
+    // Whether the peer of the one that was taken has gone.
+    fn is_nobody_there(&self) -> bool {
+        match &self.taken {
+            Some(stream) => has_gone(stream),
+            None => true,
+        }
+    }
+}
+
+impl<'a, J: Ground, W: Wait + Clock> Worker<'a, J, W> {
+    /// Takes a connection that waits, if it may, and gives one up where another worker wants its place.
+    pub(crate) fn take_and_give_up(&mut self, now: &Now) {
+        if self.arrivals.has_waiting && !self.places.is_full() {
+            self.take_one(now);
+        }
+        self.let_in(now);
+        self.give_up_one(now);
+    }
+
+    // Takes a connection that waits, if none has no place yet. Whoever has less to do takes the others: a worker that took all
+    // that wait would serve them alone.
+    fn take_one(&mut self, now: &Now) {
+        if self.arrivals.has_one() {
+            return;
+        }
+        match self.listener.accept() {
+            Ok((stream, _)) => {
+                self.arrivals.taken = Some(stream);
+                self.arrivals.may_make_room = true;
+            }
+            Err(error) => {
+                self.arrivals.has_waiting = self.may_take(error.kind(), now);
+            }
+        }
+        self.arrivals.is_reported = false;
+    }
+
+    // Whether one may be taken at once after that was refused so. Beside what passes by itself, the system lacks descriptors or
+    // memory.
+    fn may_take(&mut self, refused: ErrorKind, now: &Now) -> bool {
+        match refused {
+            ErrorKind::WouldBlock => false,
+            ErrorKind::ConnectionAborted
+            | ErrorKind::Interrupted
+            | ErrorKind::NetworkDown
+            | ErrorKind::NetworkUnreachable
+            | ErrorKind::HostUnreachable => true,
+            _ => self.makes_room(now),
+        }
+    }
+
+    // Lets a connection go for one that the system can't hand over, and answers whether it did: once, and if that was no help,
+    // again after the next look. The system says that it lacks descriptors where nobody waits, too: where the listener has
+    // reported nobody it is asked to.
+    fn makes_room(&mut self, now: &Now) -> bool {
+        if !self.arrivals.is_reported {
+            self.has_waiting_reported();
+            return false;
+        }
+        if !self.arrivals.may_make_room {
+            return false;
+        }
+        self.arrivals.may_make_room = false;
+        match self.spare_key(now) {
+            Some(key) => {
+                self.held.let_go(self.places, key);
+                true
+            }
+            None => false,
+        }
+    }
+
+    // Has the listener report who waits already. If the system can't, the next look tries again.
+    fn has_waiting_reported(&mut self) {
+        drop(
+            self.poll
+                .registry()
+                .reregister(&mut self.listener, LISTENER, Interest::READABLE),
+        );
+    }
+
+    // Lets the connection in that was taken, if there is a place for it; where the server takes no more, it ends.
+    fn let_in(&mut self, now: &Now) {
+        if self.places.is_full() {
+            self.arrivals.taken = None;
+        }
+        if !self.arrivals.has_one() {
+            self.asks_no_more();
+            return;
+        }
+        if self.has_place(now) {
+            self.take_in(now);
+        }
+    }
+
+    // Holds the connection that was taken, for which a place is taken.
+    fn take_in(&mut self, now: &Now) {
+        let is_held = match self.arrivals.taken.take() {
+            Some(stream) if self.places.count_one().is_some() => self.held.holds(
+                self.sharing,
+                self.poll.registry(),
+                Socket::new(stream),
+                now.instant,
+            ),
+            _ => false,
+        };
+        if !is_held {
+            self.places.give_place();
+        }
+    }
+
+    // Whether it has taken a place for the connection that was taken: a free one, or that of the connection which has waited longest
+    // for its next message. Where it holds none such, the other workers are asked. It asks no more before it takes one, so that
+    // they offer none behind that; and no place is given up for a connection that has gone, which counts as one that came.
+    fn has_place(&mut self, now: &Now) -> bool {
+        self.asks_no_more();
+        if self.places.take_place() {
+            return true;
+        }
+        if self.arrivals.is_nobody_there() {
+            self.arrivals.taken = None;
+            let _ = self.places.count_one();
+            return false;
+        }
+        if let Some(key) = self.spare_key(now) {
+            self.held.let_go(self.places, key);
+        }
+        if self.places.take_place() {
+            return true;
+        }
+        self.places.want_place();
+        self.arrivals.has_asked = true;
+        false
+    }
+
+    /// Takes back that it asked the other workers for a place, if it did.
+    pub(crate) fn asks_no_more(&mut self) {
+        if self.arrivals.has_asked {
+            self.places.want_no_place();
+            self.arrivals.has_asked = false;
+        }
+    }
+
+    // Lets the connection go that has waited longest for its next message, where another worker wants a place, none is free, and
+    // no third one lets one go for it.
+    fn give_up_one(&mut self, now: &Now) {
+        if self.arrivals.has_one() || self.places.is_full() || !self.places.lacks_places() {
+            return;
+        }
+        if let Some(key) = self.spare_key(now) {
+            if self.places.offer_place() {
+                self.held.let_go(self.places, key);
+                self.places.offer_no_place();
+            }
+        }
+    }
+}
+
+// Whether the peer of a connection from which nothing was read has gone: nothing came, and nothing will.
+fn has_gone(stream: &TcpStream) -> bool {
+    match stream.peek(&mut [0]) {
+        Ok(count) => count == 0,
+        Err(error) => !matches!(error.kind(), ErrorKind::WouldBlock | ErrorKind::Interrupted),
+    }
+}
+
+/// A poll that reports the connections that come, and what they are taken from.
+pub(crate) fn listening_poll<R: Net>(
+    rt: &R,
+    listener: &net::TcpListener,
+) -> io::Result<(Poll, TcpListener)> {
+    let poll = Poll::new(rt)?;
+    let mut listener = TcpListener::from_std(listener.try_clone()?);
+    poll.registry()
+        .register(&mut listener, LISTENER, Interest::READABLE)?;
+    Ok((poll, listener))
+}

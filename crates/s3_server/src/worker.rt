@@ -1,0 +1,203 @@
+//! A worker: it waits until some of its connections are ready, and has these go on.
+
+use crate::arrivals::{Arrivals, LISTENER, listening_poll};
+use crate::connections::Connections;
+use crate::limits::Looks;
+use crate::places::Places;
+use mio::net::TcpListener;
+use mio::{Events, Poll};
+use s3_calendar::Moment;
+use s3_connections::{Sharing, WorkerClock};
+use s3_desk::Ground;
+use std::alloc::{AllocError, Global};
+use std::io;
+use std::net::{self, Net};
+use std::sync::Wait;
+use std::time::{Clock, Duration, Instant};
+
+// How many events a wait reports at most.
+const EVENTS: usize = 256;
+
+// How many bytes a read takes at most.
+const BUFFER: usize = 262_144;
+
+// Milliseconds that it waits for events where the server goes on for ever, and where it ends some time or a connection is at the
+// door.
+const PATIENCE: u64 = 1000;
+
+const SHORT_PATIENCE: u64 = 20;
+
+/// What a worker waits with, and what it reads into.
+#[derive(Drop)]
+pub(crate) struct Means {
+    poll: Poll,
+    listener: TcpListener,
+    events: Events,
+    buffer: Vec<u8>,
+}
+
+/// Why there are none.
+#[derive(Drop)]
+pub(crate) enum NoMeans {
+    /// There was no memory.
+    OutOfMemory,
+    /// The system gave none of its own means, as where it has no more descriptors.
+    NoDescriptor,
+}
+
+impl From<AllocError> for NoMeans {
+    fn from(_e: AllocError) -> NoMeans {
+        NoMeans::OutOfMemory
+    }
+}
+
+impl From<io::Error> for NoMeans {
+    fn from(_e: io::Error) -> NoMeans {
+        NoMeans::NoDescriptor
+    }
+}
+
+impl Means {
+    /// What one worker works with, for connections from a listener that others have too. It takes all the memory that the worker
+    /// works with but that of its connections.
+    pub(crate) fn new<R: Net>(
+        rt: &R,
+        alloc: Global,
+        listener: &net::TcpListener,
+    ) -> Result<Means, NoMeans> {
+        let events = Events::with_capacity(alloc, EVENTS)?;
+        let buffer = Vec::from_elem(alloc, 0, BUFFER)?;
+        let (poll, listener) = listening_poll(rt, listener)?;
+        Ok(Means {
+            poll,
+            listener,
+            events,
+            buffer,
+        })
+    }
+}
+
+/// The time, as a worker reads it once whenever it has waited.
+#[derive(Drop)]
+pub(crate) struct Now {
+    /// What messages have whose heads become whole.
+    pub(crate) moment: Moment,
+    /// What limits of time are counted by.
+    pub(crate) instant: Instant,
+}
+
+/// A worker, with the connections that it holds.
+#[derive(Drop)]
+pub(crate) struct Worker<'a, J: Ground, W: Wait> {
+    pub(crate) sharing: &'a Sharing<'a, J, W>,
+    pub(crate) places: &'a Places,
+    pub(crate) poll: Poll,
+    pub(crate) listener: TcpListener,
+    events: Events,
+    buffer: Vec<u8>,
+    clock: WorkerClock,
+    pub(crate) held: Connections<'a, J, W>,
+    pub(crate) arrivals: Arrivals,
+    pub(crate) looks: Looks,
+}
+
+impl<'a, J: Ground, W: Wait + Clock> Worker<'a, J, W> {
+    /// A worker that holds nothing yet. `None` never comes, though no contract can say so.
+    pub(crate) fn new(
+        sharing: &'a Sharing<'a, J, W>,
+        places: &'a Places,
+        means: Means,
+    ) -> Option<Worker<'a, J, W>> {
+        let clock = WorkerClock::new()?;
+        let Means {
+            poll,
+            listener,
+            events,
+            buffer,
+        } = means;
+        Some(Worker {
+            sharing,
+            places,
+            poll,
+            listener,
+            events,
+            buffer,
+            clock,
+            held: Connections::new(sharing.alloc()),
+            arrivals: Arrivals::new(),
+            looks: Looks::new(),
+        })
+    }
+
+    /// Serves connections until no more are taken and the last one has ended, or the system fails. Then it holds none.
+    pub(crate) fn work(&mut self) {
+        let rt = self.sharing.rt();
+        for _ in rt.forever() {
+            if self.is_done() || self.turn(rt).is_err() {
+                break;
+            }
+        }
+        self.let_all_go();
+    }
+
+    // Whether no more connections are taken, and the last one has ended.
+    fn is_done(&self) -> bool {
+        self.places.is_full() && self.held.is_empty() && !self.arrivals.has_one()
+    }
+
+    // Waits once, and serves what is ready.
+    fn turn(&mut self, rt: &W) -> io::Result<()> {
+        let patience = self.patience();
+        self.poll.poll(&mut self.events, Some(patience))?;
+        let now = Now {
+            instant: Instant::now(rt)?,
+            moment: self.clock.now(rt),
+        };
+        self.serve_ready(&now);
+        self.take_and_give_up(&now);
+        self.look(&now);
+        Ok(())
+    }
+
+    // How long it waits for events.
+    fn patience(&self) -> Duration {
+        Duration::from_millis(if self.arrivals.has_one() || self.places.lacks_places() {
+            SHORT_PATIENCE
+        } else if self.arrivals.has_waiting && !self.places.is_full() {
+            0
+        } else if self.places.has_end() {
+            SHORT_PATIENCE
+        } else {
+            PATIENCE
+        })
+    }
+
+    // Has the connections go on that are ready; those that have ended are let go.
+    fn serve_ready(&mut self, now: &Now) {
+        for event in &self.events {
+            let token = event.token();
+            if token == LISTENER {
+                self.arrivals.are_reported();
+                continue;
+            }
+            let (buffer, registry) = (self.buffer.as_mut_slice(), self.poll.registry());
+            self.held
+                .serve(self.sharing, self.places, buffer, registry, token.0, now);
+        }
+    }
+
+    /// Has the connection under a key go on, if there is one.
+    pub(crate) fn serve_key(&mut self, key: usize, now: &Now) {
+        let (buffer, registry) = (self.buffer.as_mut_slice(), self.poll.registry());
+        self.held
+            .serve(self.sharing, self.places, buffer, registry, key, now);
+    }
+
+    // Lets all go, and asks for nothing more.
+    fn let_all_go(&mut self) {
+        self.asks_no_more();
+        for key in 0..self.held.capacity() {
+            self.held.let_go(self.places, key);
+        }
+    }
+}

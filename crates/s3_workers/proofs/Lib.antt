@@ -1,3 +1,0 @@
-pub mod CarriesLemmas
-pub mod EndsLemmas
-pub mod ServedLemmas
