@@ -1,5 +1,5 @@
 -- What a session made of some bytes.
-use Rattle.std.proofs.Common.{◌≡◌, ℕ, Bool, true, false, List, [], ◌∷◌, ◌++◌, map, take, drop, length, refl, sym, ap, subst, ◌∙◌, arith, append-nil}
+use Rattle.std.proofs.Common.{◌≡◌, ℕ, Bool, true, false, List, [], ◌++◌, map, take, drop, length, refl, sym, ap, subst, ◌∙◌, arith, append-nil}
 use Rattle.std.proofs.lemmas.List.{drop_all, take-append-drop}
 use Rattle.s3_config.specs.Settings.{Settings}
 use Rattle.s3_machine.specs.History.{Entry}
@@ -8,23 +8,13 @@ use Rattle.s3_session.specs.Output.{Past, Standing, Reading, Waiting, Over, Dead
 use Rattle.s3_session.specs.declared.session.Need.{Need}
 use Rattle.s3_session.specs.declared.session.Need.TheVariants as needs
 use Rattle.s3_session.specs.Session as sessions
-use Rattle.s3_session.specs.Session.{Connection, IsClockAsked, Needs, fed, turns_of}
+use Rattle.s3_session.specs.Session.{Connection, Needs, fed, turns_of}
 use Rattle.s3_session.specs.Stands.{Stands}
-use Rattle.s3_connection.specs.declared.once.Once.{Once}
 use Rattle.s3_connection.specs.declared.stage.Stage.{Stage}
 use Rattle.s3_connection.specs.declared.stage.Stage.TheVariants as stages
-use Rattle.s3_connection.specs.Connection.{IsFit, is_reading_at, moment_if}
+use Rattle.s3_connection.specs.Connection.{IsFit, is_reading_at}
 use Rattle.s3_connection.specs.Holds.{IsBehind, IsTurn, Took, Went}
 use Rattle.s3_connection.specs.Output.{HasWaiting, answered_turn, past_of}
-
--- the moment that a clock gave which has one
-pub asked_once : (old new : Once) (gave : List ℕ)
-    → IsClockAsked (λ (a b : Once) (m : ℕ). (m ≡ a.moment) × (b ≡ record { moment = a.moment; is_asked = true })) old new gave
-    → old.is_asked ≡ false → gave ≡ moment_if new.is_asked old.moment
-asked_once old new [] asked fresh = sym (ap (λ (b : Bool). moment_if b old.moment) (ap (λ (c : Once). c.is_asked) asked ∙ fresh))
-asked_once old new (moment ∷ []) asked fresh =
-    ap (λ (m : ℕ). m ∷ []) asked.0 ∙ sym (ap (λ (b : Bool). moment_if b old.moment) (ap (λ (c : Once). c.is_asked) asked.1))
-asked_once old new (moment ∷ another ∷ more) asked fresh = absurd asked
 
 -- more went through it
 pub fed_is : (taken bytes moments more : List ℕ) (entries : List Entry) (turns : List Turn)

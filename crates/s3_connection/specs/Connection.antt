@@ -91,11 +91,6 @@ nothing_received = record { bytes = []; ended = false }
 abbrev pub received : Input → List ℕ → Input
 received input piece = if input.ended then input else record input { bytes = input.bytes ++ piece }
 
--- the moment, where a message had it
-abbrev pub moment_if : Bool → ℕ → List ℕ
-moment_if true moment = moment ∷ []
-moment_if false moment = []
-
 -- the entries, with that of a turn that was answered
 abbrev pub entries_with : List Entry → Turn → Result Answer NoMemory → List Entry
 entries_with entries turn (Ok answer) = entries ++ record { command = turn.command; moment = turn.moment; answer = answer } ∷ []

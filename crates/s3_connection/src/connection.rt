@@ -6,16 +6,17 @@ ghost use Rattle.s3_config.specs.Settings.{Settings};
 ghost use Rattle.s3_machine.specs.History.{Entry};
 ghost use Rattle.s3_machine.specs.declared.turn.Turn.{Turn};
 ghost use Rattle.s3_session.specs.Output.{Reading, Dead, is_closed, is_waiting};
+ghost use Rattle.s3_session.specs.Session.{moment_if};
 ghost use Rattle.s3_connection.specs.Holds.{Holds};
 ghost use Rattle.s3_connection.specs.Output.{Input};
 
-use crate::feeding::{conclude, take_kept, take_piece};
+use crate::feeding::{conclude, stage_before, take_kept};
 use crate::kept::Kept;
 use crate::stage::{Stage, Wants};
 use s3_calendar::Moment;
 use s3_config::Config;
 use s3_machine::{Answer, Turn};
-use s3_session::{Next, Session};
+use s3_session::{Fed, Next, Session};
 use s3_terms::NoMemory;
 use std::alloc::Global;
 use std::io::IoSlice;
@@ -86,7 +87,7 @@ impl Connection {
     ) -> Result<bool, NoMemory>
         ensures holds { (input : Input) (moments : List ℕ) (entries : List Entry) (sent : List ℕ)
             → Holds self.old config.now input moments entries sent
-            → IfOk result (λ has_moment. Holds self.new config.now (rules.received input piece.now) (moments ++ rules.moment_if has_moment now) entries sent) }
+            → IfOk result (λ has_moment. Holds self.new config.now (rules.received input piece.now) (moments ++ moment_if has_moment now) entries sent) }
         ensures same { OnErr result (self.new ≡ self.old) }
         ensures memory { OnErr result ((piece.now ≢ []) × (self.old.is_ended ≡ false) × (is_closed (rules.standing_of self.old) ≡ false)
             × (rules.wants_of self.old ≢ Wants.Input)) }
@@ -121,18 +122,16 @@ impl Connection {
         requires reads { self.old.stage ≡ Stage.Reading }
         ensures holds { (input : Input) (moments : List ℕ) (entries : List Entry) (sent : List ℕ)
             → Holds self.old config.now input moments entries sent
-            → Holds self.new config.now (rules.received input piece.now) (moments ++ rules.moment_if result now) entries sent }
+            → Holds self.new config.now (rules.received input piece.now) (moments ++ moment_if result now) entries sent }
         ensures end { self.new.is_ended ≡ self.old.is_ended }
         ensures next { rules.IsNext self.new.stage }
     {
-        let (stage, has_moment) = take_piece(
-            alloc,
-            config,
-            &mut self.session,
-            &mut self.kept,
-            now,
-            piece,
-        );
+        let Fed {
+            len,
+            need,
+            has_moment,
+        } = self.session.feed(alloc, config, now, piece);
+        let stage = stage_before(&mut self.session, &mut self.kept, need, &piece[len..]);
         self.stage.become_next(stage);
         has_moment
     }
@@ -221,7 +220,7 @@ impl Connection {
     pub fn go_on(&mut self, alloc: Global, config: &Config, now: Moment) -> bool
         ensures holds { (input : Input) (moments : List ℕ) (entries : List Entry) (sent : List ℕ)
             → Holds self.old config.now input moments entries sent
-            → Holds self.new config.now input (moments ++ rules.moment_if result now) entries sent }
+            → Holds self.new config.now input (moments ++ moment_if result now) entries sent }
         ensures next { rules.taken_of self.old ≡ None → rules.IsNext self.new.stage }
         ensures closed { is_closed (rules.standing_of self.old) ≡ true → self.new ≡ self.old }
         ensures same { rules.wants_of self.old ≢ Wants.ToGoOn → (self.new ≡ self.old) × (result ≡ false) }
@@ -238,7 +237,7 @@ impl Connection {
         requires answered { self.old.stage ≡ Stage.Answered }
         ensures holds { (input : Input) (moments : List ℕ) (entries : List Entry) (sent : List ℕ)
             → Holds self.old config.now input moments entries sent
-            → Holds self.new config.now input (moments ++ rules.moment_if result now) entries sent }
+            → Holds self.new config.now input (moments ++ moment_if result now) entries sent }
         ensures next { rules.IsNext self.new.stage }
         ensures end { self.new.is_ended ≡ self.old.is_ended }
     {

@@ -5,86 +5,27 @@ ghost use Rattle.s3_config.specs.Settings.{Settings};
 ghost use Rattle.s3_machine.specs.History.{Entry};
 ghost use Rattle.s3_session.specs.Output.{Past, Reading, is_waiting};
 ghost use Rattle.s3_session.specs.Session as rules;
-ghost use Rattle.s3_session.specs.Session.{Needs, fed, standing_of, turns_of};
+ghost use Rattle.s3_session.specs.Session.{Needs, moment_if, standing_of, turns_of};
 ghost use Rattle.s3_session.specs.Stands.{Stands};
-ghost use Rattle.s3_connection.specs.Connection.{IsFit, IsNext, moment_if};
+ghost use Rattle.s3_connection.specs.Connection.{IsFit, IsNext};
 ghost use Rattle.s3_connection.specs.Holds.{IsBehind, IsTurn, Took, Went};
 ghost use Rattle.s3_connection.specs.Output.{HasWaiting, past_of};
 
 use crate::kept::Kept;
-use crate::once::Once;
 use crate::stage::Stage;
 use s3_calendar::Moment;
 use s3_config::Config;
 use s3_machine::Turn;
-use s3_session::{Need, Session};
+use s3_session::{Fed, Need, Session};
 use std::alloc::Global;
 
-// What a session made of a piece: how many bytes it took, what it needs, and whether its message has the moment.
-#[derive(Drop)]
-struct Fed {
-    len: usize,
-    need: Need,
-    has_moment: bool,
-}
-
-// Feeds a session at a moment.
-fn feed_session(
-    alloc: Global,
-    config: &Config,
-    session: &mut Session,
-    now: Moment,
-    piece: &[u8],
-) -> Fed
-    requires answered { is_waiting (standing_of session.old) ≡ false }
-    requires goes_on { session.old.is_ended ≡ false }
-    ensures within { result.len ≤ length piece.now }
-    ensures stands { (past : Past) (sent : List ℕ) → Stands session.old config.now past sent
-        → Stands session.new config.now (fed past (take result.len piece.now) (moment_if result.has_moment now) (turns_of result.need)) sent }
-    ensures all { (past : Past) (sent : List ℕ) → Stands session.old config.now past sent
-        → result.need ≡ Need.More → result.len ≡ length piece.now }
-    ensures needs { Needs result.need (standing_of session.new) }
-    ensures goes_on { session.new.is_ended ≡ false }
-{
-    let mut clock = Once::new(now);
-    let (len, need) = session.feed(alloc, config, &mut clock, piece);
-    Fed {
-        len,
-        need,
-        has_moment: clock.is_asked(),
-    }
-}
-
-// Feeds a session that reads with a piece, up to the end of the next message, and keeps what is behind that: what comes next, and
-// whether a message has this moment.
-pub(crate) fn take_piece(
-    alloc: Global,
-    config: &Config,
+// What comes next before these bytes, which are kept where a command waits.
+pub(crate) fn stage_before(
     session: &mut Session,
     kept: &mut Kept,
-    now: Moment,
-    piece: &[u8],
-) -> (Stage, bool)
-    requires reads { standing_of session.old ≡ Reading }
-    requires goes_on { session.old.is_ended ≡ false }
-    requires none { kept.old ≡ [] }
-    ensures took { (taken moments : List ℕ) (entries : List Entry) (sent : List ℕ)
-        → Stands session.old config.now (past_of taken false moments entries []) sent
-        → Took session.new kept.new result.0 config.now taken piece.now (moments ++ moment_if result.1 now) entries sent }
-    ensures fit { IsFit result.0 session.new kept.new false }
-    ensures next { IsNext result.0 }
-    ensures goes_on { session.new.is_ended ≡ false }
-{
-    let Fed {
-        len,
-        need,
-        has_moment,
-    } = feed_session(alloc, config, session, now, piece);
-    (stage_before(session, kept, need, &piece[len..]), has_moment)
-}
-
-// What comes next before these bytes, which are kept where a command waits.
-fn stage_before(session: &mut Session, kept: &mut Kept, need: Need, behind: &[u8]) -> Stage
+    need: Need,
+    behind: &[u8],
+) -> Stage
     requires needs { Needs need (standing_of session.old) }
     requires goes_on { session.old.is_ended ≡ false }
     requires none { kept.old ≡ [] }
@@ -152,7 +93,7 @@ pub(crate) fn take_kept(
         len,
         need,
         has_moment,
-    } = feed_session(alloc, config, session, now, kept.as_slice());
+    } = session.feed(alloc, config, now, kept.as_slice());
     (stage_behind(alloc, kept, need, len), has_moment)
 }
 

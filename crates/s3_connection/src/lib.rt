@@ -6,7 +6,6 @@ mod connection;
 mod feeding;
 mod kept;
 mod laws;
-mod once;
 mod stage;
 
 pub use connection::Connection;

@@ -1,17 +1,16 @@
 -- How a connection stands in the hands of its worker after a step.
-use Rattle.std.proofs.Common.{◌≡◌, ℕ, suc, List, [], Option, None, Some, refl, sym, ap, ◌∙◌, append-nil}
-use mathlib.Core.List.{IsPrefix}
+use Rattle.std.proofs.Common.{◌≡◌, ℕ, suc, List, [], sym, ap, ◌∙◌, append-nil}
 use Rattle.s3_config.specs.Settings.{Settings}
 use Rattle.s3_machine.specs.History.{Entry}
 use Rattle.s3_connection.specs.Connection.{Connected}
 use Rattle.s3_devices.specs.Device.{Traffic}
 use Rattle.s3_devices.specs.Recorded.{no_traffic}
-use Rattle.s3_pump.specs.declared.outcome.Outcome.{Outcome}
-use Rattle.s3_pump.specs.declared.outcome.Outcome.TheVariants as outcomes
-use Rattle.s3_pump.specs.declared.outcome.Step.{Step}
-use Rattle.s3_pump.specs.declared.outcome.Step.TheVariants as steps
-use Rattle.s3_pump.specs.Ended.{Fails}
-use Rattle.s3_pump.specs.Served.{ConnectionsEnd, ConnectionsHaveWritten, HasMet, HaveMore, IsServed, StopsAt}
+use Rattle.s3_connections.specs.declared.outcome.Outcome.{Outcome}
+use Rattle.s3_connections.specs.declared.outcome.Outcome.TheVariants as outcomes
+use Rattle.s3_connections.specs.declared.outcome.Step.{Step}
+use Rattle.s3_connections.specs.declared.outcome.Step.TheVariants as steps
+use Rattle.s3_connections.specs.Ended.{Fails}
+use Rattle.s3_connections.specs.Served.{ConnectionsEnd, ConnectionsHaveWritten, HasMet, IsServed, StopsAt}
 use Rattle.s3_connections.specs.Account.{EndsSo, Fits}
 use Rattle.s3_connections.specs.Held.{HasGoneOn, Held, Stands, account_of, outcome_of}
 

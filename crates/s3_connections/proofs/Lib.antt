@@ -1,1 +1,3 @@
+pub mod EndedLemmas
 pub mod HeldLemmas
+pub mod ServedLemmas

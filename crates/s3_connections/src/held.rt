@@ -1,24 +1,23 @@
 //! A connection in the hands of a worker.
 
-ghost use Rattle.std.specs.Prelude.{◌≡◌, ◌≢◌, ◌<◌, [], length, None, Some, IfOk};
+ghost use Rattle.std.specs.Prelude.{◌≡◌, ◌<◌, [], length, None, IfOk};
 ghost use Rattle.s3_devices.specs.Recorded.{no_traffic};
-ghost use Rattle.s3_pump.specs.declared.outcome.Outcome.{Outcome};
 ghost use Rattle.s3_connections.specs.Account.{Fits};
 ghost use Rattle.s3_connections.specs.Held.{HasGoneOn, account_of, outcome_of};
 
 use crate::account::{Account, AsAccount, Told};
+use crate::desk_handle::DeskHandle;
+use crate::laws::{connections_are_served, connections_end, connections_have_written};
+use crate::outcome::{Outcome, Step};
+use crate::pump::Pump;
 use crate::sharing::Sharing;
 use crate::socket::{Left, Socket};
 use crate::time_limits::Awaited;
 use mio::{Registry, Token};
 use s3_calendar::Moment;
-use s3_desk::Ground;
 use s3_devices::{Recorded, Wanted};
 use s3_history::Recorder;
-use s3_pump::{
-    DeskHandle, Outcome, Pump, Step, connections_are_served, connections_end,
-    connections_have_written,
-};
+use s3_journal::Ground;
 use s3_records::MapRecords;
 use s3_terms::NoMemory;
 use std::alloc::Global;
@@ -54,17 +53,6 @@ impl<'a, J: Ground, W: Wait> Model for Held<'a, J, W> {
 
     ghost invariant = { λ h. rules.Stands J.base.settings
         (record { connection = h.pump; traffic = h.socket; moments = h.moments.entries; entries = h.seat.mine; outcome = h.outcome }) };
-}
-
-/// What came of a connection that went on.
-#[derive(Clone, Copy)]
-pub enum Course {
-    /// It stays with its worker.
-    Stays,
-    /// It has ended so.
-    Ended(Outcome),
-    /// The system can't report it any more.
-    Lost,
 }
 
 impl<'a, J: Ground, W: Wait> Held<'a, J, W> {
@@ -127,36 +115,10 @@ impl<'a, J: Ground, W: Wait> Held<'a, J, W> {
         let _ = &self.pump;
     }
 
-    /// Has it go on as far as it can without waiting, and no further than its share. Where it could go further it is reported
-    /// again at once, behind the others that are ready. One that has ended stays so.
-    pub fn go_on(
-        &mut self,
-        sharing: &Sharing<'a, J, W>,
-        moment: Moment,
-        buffer: &mut [u8],
-        registry: &Registry,
-        token: Token,
-        now: Instant,
-    ) -> Course
-        requires room { 0 < length buffer.old }
-        ensures goes_on { HasGoneOn moment self.old self.new }
-        ensures ended { (outcome : Outcome) → result ≡ Course.Ended outcome → self.new.outcome ≡ Some outcome }
-    {
-        if let Some(outcome) = self.outcome {
-            return Course::Ended(outcome);
-        }
-        let step = self.step(sharing, moment, buffer);
-        self.note(step, now);
-        match step {
-            Step::Waits(_) if !self.socket.stream().take_interrupted() => Course::Stays,
-            Step::Waits(_) | Step::MayGoOn => self.reported_again(registry, token),
-            Step::Ended(outcome) => Course::Ended(outcome),
-        }
-    }
-
-    /// Has it go on likewise; and where it has ended and is written out, but its peer still sends, it stays for some seconds in
-    /// which that is dropped. Else the system would tell the peer of a connection that was reset, and a refusal might never be seen.
-    /// Answers whether it stays.
+    /// Has it go on as far as it can without waiting, and no further than its share, and answers whether it stays. Where it could go
+    /// further it is reported again at once, behind the others that are ready. One that has ended does nothing more; but where it is
+    /// written out, and its peer still sends, it stays for some seconds in which that is dropped: else the system would tell the peer
+    /// of a connection that was reset, and a refusal might never be seen.
     pub fn serve(
         &mut self,
         sharing: &Sharing<'a, J, W>,
@@ -175,11 +137,11 @@ impl<'a, J: Ground, W: Wait> Held<'a, J, W> {
         if let Awaited::End = self.awaited {
             return self.drains(buffer, registry, token);
         }
-        match self.go_on(sharing, moment, buffer, registry, token, now) {
-            Course::Stays => true,
-            Course::Ended(Outcome::Closed) => self.leaves(registry, token, now),
-            Course::Ended(_) | Course::Lost => false,
+        if self.outcome.is_some() {
+            return false;
         }
+        let step = self.step(sharing, moment, buffer);
+        self.stays(step, registry, token, now)
     }
 
     /// Gives its seat back, with the account of what it did. It waits for the store.
@@ -200,6 +162,19 @@ impl<'a, J: Ground, W: Wait> Held<'a, J, W> {
         drop(socket);
     }
 
+    // Whether it stays behind a step.
+    fn stays(&mut self, step: Step, registry: &Registry, token: Token, now: Instant) -> bool
+        ensures { self.new ≡ self.old }
+    {
+        self.note(step, now);
+        match step {
+            Step::Waits(_) if !self.socket.stream().take_interrupted() => true,
+            Step::Waits(_) | Step::MayGoOn => self.is_reported_again(registry, token),
+            Step::Ended(Outcome::Closed) => self.leaves(registry, token, now),
+            Step::Ended(_) => false,
+        }
+    }
+
     // Ends what it writes, and answers whether it waits for its peer's end.
     fn leaves(&mut self, registry: &Registry, token: Token, now: Instant) -> bool
         ensures { self.new ≡ self.old }
@@ -208,7 +183,7 @@ impl<'a, J: Ground, W: Wait> Held<'a, J, W> {
         let stays = !socket.is_ended() && socket.end_writing();
         self.awaited = Awaited::End;
         self.since = now;
-        stays && matches!(self.reported_again(registry, token), Course::Stays)
+        stays && self.is_reported_again(registry, token)
     }
 
     // Drops what its peer sends, and answers whether more may come.
@@ -216,7 +191,7 @@ impl<'a, J: Ground, W: Wait> Held<'a, J, W> {
         match self.socket.stream().drop_input(buffer) {
             Left::Nothing => false,
             Left::Later => true,
-            Left::More => matches!(self.reported_again(registry, token), Course::Stays),
+            Left::More => self.is_reported_again(registry, token),
         }
     }
 
@@ -260,14 +235,9 @@ impl<'a, J: Ground, W: Wait> Held<'a, J, W> {
         self.awaited = awaited;
     }
 
-    // Has it reported once more.
-    fn reported_again(&self, registry: &Registry, token: Token) -> Course
-        ensures { (outcome : Outcome) → result ≢ Course.Ended outcome }
-    {
-        match self.socket.stream().ask_again(registry, token) {
-            Ok(()) => Course::Stays,
-            Err(_) => Course::Lost,
-        }
+    // Has it reported once more, and answers whether the system can.
+    fn is_reported_again(&self, registry: &Registry, token: Token) -> bool {
+        self.socket.stream().ask_again(registry, token).is_ok()
     }
 
     // What it waits for.

@@ -4,7 +4,7 @@ ghost use Rattle.std.specs.Prelude.{◌≡◌};
 
 use crate::account::Account;
 use s3_config::Config;
-use s3_desk::{Desk, Ground};
+use s3_journal::{Desk, Ground};
 use s3_records::MapRecords;
 use std::alloc::Global;
 use std::marker::Model;

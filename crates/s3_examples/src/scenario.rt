@@ -11,8 +11,8 @@ use crate::body::add_body;
 use crate::request::signed;
 use s3_calendar::Stamp;
 use s3_config::Config;
-use s3_replay::replay_one;
 use s3_test_servers::config;
+use s3_world::replay_one;
 use std::alloc::Global;
 use std::fs;
 

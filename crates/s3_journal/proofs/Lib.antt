@@ -1,2 +1,8 @@
+pub mod AmongLemmas
 pub mod BookLemmas
+pub mod CountLemmas
+pub mod GoneLemmas
 pub mod HistoryLemmas
+pub mod NumberLemmas
+pub mod RoomLemmas
+pub mod SeatLemmas

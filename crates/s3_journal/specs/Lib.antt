@@ -1,4 +1,7 @@
 pub mod Book
+pub mod Calls
+pub mod Desk
+pub mod Gone
 pub mod Laws
 pub mod Recorded
 pub use Rattle.s3_machine.specs.History

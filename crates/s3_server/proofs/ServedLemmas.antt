@@ -6,8 +6,8 @@ use Rattle.s3_machine.specs.History.{Legal}
 use Rattle.s3_store.specs.Steps.{Standing, opened}
 use Rattle.s3_journal.specs.Book.{Journal}
 use Rattle.s3_journal.specs.Recorded.{history_of}
-use Rattle.s3_desk.specs.Desk.{Base}
-use Rattle.s3_desk.specs.Gone.{Gone, AreWhole, IsClosed}
+use Rattle.s3_journal.specs.Desk.{Base}
+use Rattle.s3_journal.specs.Gone.{Gone, AreWhole, IsClosed}
 use Rattle.s3_connections.specs.Account.{Account, Fits}
 use Rattle.s3_server.specs.Served.{HasServed}
 

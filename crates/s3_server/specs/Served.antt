@@ -5,7 +5,7 @@ use Rattle.s3_options.specs.declared.options.ServeOptions.{ServeOptions}
 use Rattle.s3_records.specs.Catalogue.{opening}
 use Rattle.s3_machine.specs.History.{Legal}
 use Rattle.s3_journal.specs.Recorded.{Recorded, history_of}
-use Rattle.s3_desk.specs.Gone.{Gone, AreApart, AreWhole, count_of}
+use Rattle.s3_journal.specs.Gone.{Gone, AreApart, AreWhole, count_of}
 use Rattle.s3_settings.specs.declared.server.ServeMode.{ServeMode}
 use Rattle.s3_settings.specs.Server.{IsServer}
 use Rattle.s3_connections.specs.Account.{Account, Fits}

@@ -4,7 +4,7 @@ use crate::worker::{Now, Worker};
 use mio::net::{TcpListener, TcpStream};
 use mio::{Interest, Poll, Token};
 use s3_connections::Socket;
-use s3_desk::Ground;
+use s3_journal::Ground;
 use std::io::{self, ErrorKind};
 use std::net::{self, Net};
 use std::sync::Wait;

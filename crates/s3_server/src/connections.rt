@@ -4,7 +4,7 @@ use crate::places::Places;
 use crate::worker::Now;
 use mio::{Registry, Token};
 use s3_connections::{Held, Sharing, Socket};
-use s3_desk::Ground;
+use s3_journal::Ground;
 use slab::Slab;
 use std::alloc::Global;
 use std::sync::Wait;

@@ -1,7 +1,7 @@
 //! The limits of time, and which connections are idle.
 
 use crate::worker::{Now, Worker};
-use s3_desk::Ground;
+use s3_journal::Ground;
 use std::sync::Wait;
 use std::time::{Clock, Duration, Instant};
 

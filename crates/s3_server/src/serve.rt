@@ -1,8 +1,8 @@
 //! A server from its options to its end.
 
 ghost use Rattle.std.specs.Prelude.{◌≡◌, ◌⊎◌, IfOk, IfErr, IfSome, OnOk, IsOk};
-ghost use Rattle.s3_desk.specs.Desk.{most_seats};
-ghost use Rattle.s3_desk.specs.Gone.{IsClosed};
+ghost use Rattle.s3_journal.specs.Desk.{most_seats};
+ghost use Rattle.s3_journal.specs.Gone.{IsClosed};
 ghost use Rattle.s3_records.specs.Catalogue.{opening};
 ghost use Rattle.s3_store.specs.Steps.{opened};
 ghost use Rattle.s3_settings.specs.Devices.{AppendsBeginning};
@@ -17,7 +17,7 @@ use crate::places::Places;
 use crate::worker::{Means, NoMeans, Worker};
 use s3_config::Config;
 use s3_connections::{Account, Sharing};
-use s3_desk::{Closed, Desk, Ground, Start};
+use s3_journal::{Closed, Desk, Ground, Start};
 use s3_options::ServeOptions;
 use s3_records::MapRecords;
 use s3_settings::{Fault, Files, ServeMode, server_settings, write_flushed};

@@ -8,7 +8,7 @@ use mio::net::TcpListener;
 use mio::{Events, Poll};
 use s3_calendar::Moment;
 use s3_connections::{Sharing, WorkerClock};
-use s3_desk::Ground;
+use s3_journal::Ground;
 use std::alloc::{AllocError, Global};
 use std::io;
 use std::net::{self, Net};

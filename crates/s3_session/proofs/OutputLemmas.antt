@@ -21,7 +21,7 @@ use Rattle.s3_session.specs.Verdict as verdicts
 use Rattle.s3_session.specs.Decision.{Decision, Judges, FoundJudged, open_yet}
 use Rattle.s3_session.specs.Invitation.{Invites, FoundInvites}
 use Rattle.s3_session.specs.Walk.{Walks}
-use Rattle.s3_session.specs.Output.{Exchange, message_of, turn_of, written_for, IsReplied, Past, Standing, Reading, Waiting, Over, Dead, asked_of_clock, IsOpen, IsWaiting, IsRefused, Behind, Writes, is_dead, is_waiting}
+use Rattle.s3_session.specs.Output.{Exchange, message_of, turn_of, written_for, IsReplied, Past, Standing, Reading, Waiting, Over, Dead, moment_once_found, IsOpen, IsWaiting, IsRefused, Behind, Writes, is_dead, is_waiting}
 use Rattle.s3_session.specs.Laws.{OneVerdict, OneInvitation, OneWriting, OneOutput}
 use Rattle.s3_session.specs.ReadBack.{entry_of, entries_from}
 use Rattle.s3_session.proofs.ServesLemmas.{moments_of}
@@ -57,12 +57,12 @@ record Told (standing : Standing) (settings : Settings) (ended : Bool) (rest : L
   concludes : Concludes moment decision.0 text
   joined : last ≡ before ++ text
 
--- the moment that the clock gave, if it was asked, was this one
+-- the moment of the message, if it has one, was this one
 abbrev Agrees : ℕ → List ℕ → Type 0
 Agrees moment [] = Unit {0}
 Agrees moment (m ∷ later) = m ≡ moment
 
--- two clocks that agree on a moment gave the same, where both gave one
+-- two that agree on a moment had the same, where both had one
 given_once : (moment m n : ℕ) (late later : List ℕ) → late ≡ m ∷ [] → later ≡ n ∷ [] → Agrees moment late → Agrees moment later → late ≡ later
 given_once moment m n late later gave also agrees here =
     let mine : m ≡ moment = subst (Agrees moment) gave agrees in
@@ -70,14 +70,14 @@ given_once moment m n late later gave also agrees here =
     gave ∙ ap (λ (t : ℕ). t ∷ []) (mine ∙ sym its) ∙ sym also
 
 -- and where both were asked for what was found
-asked_once : (f : Found) (moment m n : ℕ) (late later : List ℕ) → late ≡ asked_of_clock f m → later ≡ asked_of_clock f n
+asked_once : (f : Found) (moment m n : ℕ) (late later : List ℕ) → late ≡ moment_once_found f m → later ≡ moment_once_found f n
     → Agrees moment late → Agrees moment later → late ≡ later
 asked_once found.NeedMore moment m n late later asked also agrees here = asked ∙ sym also
 asked_once found.TooLarge moment m n late later asked also agrees here = given_once moment m n late later asked also agrees here
 asked_once (found.Head size) moment m n late later asked also agrees here = given_once moment m n late later asked also agrees here
 
 -- what doesn't depend on the moment before a head has come holds at this moment
-by_clock : (P : ℕ → Type 0) (f : Found) (moment m : ℕ) (late : List ℕ) → late ≡ asked_of_clock f m → Agrees moment late
+by_clock : (P : ℕ → Type 0) (f : Found) (moment m : ℕ) (late : List ℕ) → late ≡ moment_once_found f m → Agrees moment late
     → (f ≡ found.NeedMore → P m → P moment) → P m → P moment
 by_clock P found.NeedMore moment m late asked agrees any p = any refl p
 by_clock P found.TooLarge moment m late asked agrees any p = subst P (subst (Agrees moment) asked agrees) p
@@ -211,7 +211,7 @@ module _ (one : OneVerdict) (invited : OneInvitation) (replies : RepliesAreUniqu
       let its = closed settings ended [] later moment other end q also y in
       (mine.2 ∙ sym its.2, mine.1 ∙ sym its.1, mine.0 ∙ sym its.0)
 
-  -- the clock was asked for the same behind them
+  -- the message behind them has the same moment
   late_once : (left : Option (List ℕ)) (p : Standing) (moment : ℕ) (late later : List ℕ) (waiting other : List Turn) (last end : List ℕ)
       → is_dead p ≡ false → Behind p settings ended left late waiting last → Behind p settings ended left later other end
       → Agrees moment late → Agrees moment later → late ≡ later

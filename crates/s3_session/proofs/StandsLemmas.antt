@@ -28,7 +28,7 @@ use Rattle.s3_session.specs.declared.session.Stage.{Stage}
 use Rattle.s3_session.specs.declared.session.Stage.TheVariants as stages
 use Rattle.s3_session.specs.declared.session.Closing.TheVariants as closings
 use Rattle.s3_session.specs.Incoming.{IsInBody}
-use Rattle.s3_session.specs.Session.{Connection, IsLonger, added, fed, gave_between, moment_at, standing_at, standing_of, turns_of, unsent_of}
+use Rattle.s3_session.specs.Session.{Connection, IsLonger, added, fed, moment_at, moment_if, standing_at, standing_of, turns_of, unsent_of}
 use Rattle.s3_session.proofs.StayLemmas.{HeadsStay}
 use Rattle.s3_session.proofs.EarlyLemmas.{sound_text}
 use Rattle.s3_session.proofs.FrontLemmas.{body_judged}
@@ -175,6 +175,18 @@ writes_stay stay invited heads settings standing past out more ended over unende
 }
 
 -- ---- a piece
+
+-- the moments that it has behind those that it had
+abbrev pub gave_between : Connection → Connection → List ℕ
+gave_between old new = added (moment_at old.stage) (moment_at new.stage)
+
+pub gave_reading : (old new : Connection) (has : Bool) (now : ℕ) → old.stage ≡ stages.Reading → moment_at new.stage ≡ moment_if has now
+    → gave_between old new ≡ moment_if has now
+gave_reading old new has now at moment = rw at moment
+
+pub gave_receiving : (old new : Connection) (incoming : Incoming) → old.stage ≡ stages.Body incoming → moment_at new.stage ≡ incoming.context.moment ∷ []
+    → gave_between old new ≡ []
+gave_receiving old new incoming at moment = rw (at, moment) refl
 
 module _ (stay : VerdictsStay) (invited : InvitationsStay) (settings : Settings) (old new : Connection) (past : Past) (sent piece : List ℕ) (taken : ℕ) (need : Need)
     (unended : past.ended ≡ false) (longer : IsLonger (unsent_of old) (unsent_of new))

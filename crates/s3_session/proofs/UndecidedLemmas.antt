@@ -12,7 +12,7 @@ use Rattle.s3_replies.specs.declared.context.Context.{Context}
 use Rattle.s3_session.specs.Decision.{Judges, open_yet}
 use Rattle.s3_session.specs.Invitation.{Invites}
 use Rattle.s3_session.specs.Walk.{Walks}
-use Rattle.s3_session.specs.Output.{Exchange, IsOpen, Past, Reading, Writes, asked_of_clock, message_of, turn_of, written_for, is_dead}
+use Rattle.s3_session.specs.Output.{Exchange, IsOpen, Past, Reading, Writes, moment_once_found, message_of, turn_of, written_for, is_dead}
 use Rattle.s3_session.specs.Laws.{InvitationsStay, VerdictsStay}
 use Rattle.s3_machine.specs.declared.turn.Turn.{Turn}
 use Rattle.s3_session.specs.declared.incoming.Incoming.{Incoming}
@@ -21,10 +21,10 @@ use Rattle.s3_session.specs.declared.incoming.Progress.TheVariants as progress
 use Rattle.s3_session.specs.declared.session.Need.{Need}
 use Rattle.s3_session.specs.declared.session.Stage.TheVariants as stages
 use Rattle.s3_session.specs.Incoming.{IsInBody, IsIncoming, context_in}
-use Rattle.s3_session.specs.Session.{Connection, StaysOpen, fed, gave_between, moment_at, standing_of}
+use Rattle.s3_session.specs.Session.{Connection, StaysOpen, fed, moment_at, standing_of}
 use Rattle.s3_session.specs.Stands.{GoesOn, IsFed, IsUndecided, Stands}
 use Rattle.s3_session.proofs.StayLemmas.{HeadsStay}
-use Rattle.s3_session.proofs.StandsLemmas.{nothing_found, reading_at, receiving_at, walk_more}
+use Rattle.s3_session.proofs.StandsLemmas.{gave_between, nothing_found, reading_at, receiving_at, walk_more}
 
 -- first so many, and then so many of those behind
 pub take_on : (n m : ℕ) (xs : List ℕ) → take n xs ++ take m (drop n xs) ≡ take (n + m) xs
@@ -53,7 +53,7 @@ went_on context old new p need goes_on lives is =
     let never : true ≡ false = sym dead ∙ lives in
     absurd (cc)
 
--- the clock was asked for the message
+-- the message has its moment
 gave_its : (context : Context) (old new : Connection) (p : Progress) (need : Need) → context_in context p ≡ context → GoesOn context p old new need → moment_at new.stage ≡ context.moment ∷ []
 gave_its context old new (progress.Open incoming) need kept goes_on = rw goes_on.1 (ap (λ (c : Context). c.moment ∷ []) kept)
 gave_its context old new (progress.Whole command) need kept (inl asks) = rw asks.1 refl
@@ -165,6 +165,6 @@ module _ (stay : VerdictsStay) (invited : InvitationsStay) (settings : Settings)
       let k = open_there.0 in
       let m = incoming.context.moment in
       let there = heads a.0 (take n piece) (length a.2.body.begun.text) a.2.body.begun.found in
-      let asked : take k (m ∷ []) ≡ open_there.2.moment ∷ [] = ap (take k) (sym moment) ∙ open_there.2.asked ∙ ap (λ (f : Found). asked_of_clock f open_there.2.moment) there in
+      let asked : take k (m ∷ []) ≡ open_there.2.moment ∷ [] = ap (take k) (sym moment) ∙ open_there.2.asked ∙ ap (λ (f : Found). moment_once_found f open_there.2.moment) there in
       let out = writes_open a.0 a.1 a.2.none (take n piece) (take k (gave_between old new)) (take k (moment_at new.stage)) open_there.1 (gave_before old new incoming k open_there.2.moment at moment asked) open_there.2 in
       (k, out.0, rw few.1 out.1)

@@ -88,10 +88,9 @@ SoundIsJudged =
     → IsSound settings moment bytes context command rest
     → Judges settings moment ended bytes (verdicts.Sound context command, rest)
 
--- Two connections under the same settings, whose bytes are the same, of which both or neither have ended, whose clocks
--- gave beginnings of one list of moments, to which the same answers were given, and in which memory did not run out, have
--- written the same, wait for the same turns, were given the same moments and stand alike: however their bytes were cut into
--- pieces.
+-- Two connections under the same settings, whose bytes are the same, of which both or neither have ended, whose messages had
+-- the first moments of one list, to which the same answers were given, and in which memory did not run out, have written the
+-- same, wait for the same turns, have messages of the same moments and stand alike: however their bytes were cut into pieces.
 abbrev pub OneWriting : Type 0
 OneWriting =
     (settings : Settings) (p q : Standing) (a b : Past) (moments x y : List ℕ)

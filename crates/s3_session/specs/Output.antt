@@ -41,7 +41,7 @@ written_for x = x.invitation ++ x.reply
 abbrev pub IsReplied : Exchange → Type 0
 IsReplied x = Prints x.answer x.context x.reply
 
--- what went through a connection: its bytes, and whether they have ended; the moments that its clock gave; the turns
+-- what went through a connection: its bytes, and whether they have ended; the moments of its messages; the turns
 -- that its commands waited for; and the answers to them
 pub record Past : Type 0 where
   pub bytes : List ℕ
@@ -55,7 +55,7 @@ abbrev pub nothing_yet : Past
 nothing_yet = record { bytes = []; ended = false; moments = []; turns = []; answers = [] }
 
 -- The sound messages at the front of the bytes were answered one after another, and this was written for them. Behind
--- them are some bytes or none that are read, the moment that the clock gave for these, a turn that waits, and this text.
+-- them are some bytes or none that are read, the moment of the message in these, a turn that waits, and this text.
 pub record Serves (settings : Settings) (past : Past) (out : List ℕ) (left : Option (List ℕ)) (late : List ℕ) (waiting : List Turn) (last : List ℕ) : Type 0 where
   pub exchanges : List Exchange
   pub walk : Walks settings past.ended past.bytes (map message_of exchanges) left
@@ -94,16 +94,16 @@ is_closed Waiting = false
 is_closed Over = true
 is_closed Dead = true
 
--- the clock is asked once for each message: when its whole head has come, or more than a head may have
-abbrev pub asked_of_clock : Found → ℕ → List ℕ
-asked_of_clock found.NeedMore moment = []
-asked_of_clock found.TooLarge moment = moment ∷ []
-asked_of_clock (found.Head n) moment = moment ∷ []
+-- a message has its moment once its whole head has come, or more than a head may have
+abbrev pub moment_once_found : Found → ℕ → List ℕ
+moment_once_found found.NeedMore moment = []
+moment_once_found found.TooLarge moment = moment ∷ []
+moment_once_found (found.Head n) moment = moment ∷ []
 
 -- the next message is still open
 pub record IsOpen (settings : Settings) (ended : Bool) (rest late : List ℕ) (waiting : List Turn) (last : List ℕ) : Type 0 where
   pub moment : ℕ
-  pub asked : late ≡ asked_of_clock (found_in rest) moment
+  pub asked : late ≡ moment_once_found (found_in rest) moment
   pub none : waiting ≡ []
   pub judged : Judges settings moment ended rest open_yet
   pub invites : Invites settings moment rest last

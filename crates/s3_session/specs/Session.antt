@@ -47,7 +47,7 @@ standing_of session = standing_at session.stage
 abbrev pub unsent_of : Connection → List ℕ
 unsent_of session = session.outbox.unsent
 
--- the moment of the message behind those that it has answered, where the clock gave one
+-- the moment of the message behind those that it has answered, where it has one
 abbrev pub moment_at : Stage → List ℕ
 moment_at stages.Reading = []
 moment_at (stages.Body incoming) = incoming.context.moment ∷ []
@@ -64,15 +64,10 @@ added old new = drop (length old) new
 abbrev pub IsLonger : List ℕ → List ℕ → Type 0
 IsLonger old new = new ≡ old ++ added old new
 
--- the moments that the clock gave between these
-abbrev pub gave_between : Connection → Connection → List ℕ
-gave_between old new = added (moment_at old.stage) (moment_at new.stage)
-
--- a clock was asked for these moments, for one at most
-abbrev pub IsClockAsked : {C : Type 0} → (C → C → ℕ → Type 0) → C → C → List ℕ → Type 0
-IsClockAsked gives old new [] = new ≡ old
-IsClockAsked gives old new (moment ∷ []) = gives old new moment
-IsClockAsked gives old new (moment ∷ another ∷ more) = ⊥
+-- the moment, where a message has it
+abbrev pub moment_if : Bool → ℕ → List ℕ
+moment_if true moment = moment ∷ []
+moment_if false moment = []
 
 -- the turn that is asked for
 abbrev pub turns_of : Need → List Turn
@@ -85,8 +80,8 @@ abbrev pub fed : Past → List ℕ → List ℕ → List Turn → Past
 fed past bytes moments turns =
     record past { bytes = past.bytes ++ bytes; moments = past.moments ++ moments; turns = past.turns ++ turns }
 
--- with fewer of these bytes behind it the connection would still be reading, whether or not its clock had given these
--- moments by then: nothing would be decided about its next message
+-- with fewer of these bytes behind it the connection would still be reading, whether or not its next message had a moment by
+-- then: nothing would be decided about that
 abbrev pub StaysOpen : Settings → Past → List ℕ → List ℕ → Type 0
 StaysOpen settings past bytes moments =
     (n : ℕ) → n < length bytes → (k : ℕ) × (out : List ℕ) × Writes standings.Reading settings (fed past (take n bytes) (take k moments) []) out

@@ -64,10 +64,10 @@ pub fn invitations_are_final()
     verdict_is_exact();
 }
 
-/// A law: settings, the bytes of a connection, whether they have ended, the moments that its clock has to give and the
-/// answers to its commands fix what it writes, the turns that its commands wait for, how many moments it was given, and how
-/// it stands, as long as memory does not run out: so how the bytes are cut into pieces decides nothing. There is nothing to
-/// run.
+/// A law: settings, the bytes of a connection, whether they have ended, a list of moments of which its messages had the first
+/// ones, and the answers to its commands fix what it writes, the turns that its commands wait for, how many of its messages had
+/// a moment, and how it stands, as long as memory does not run out: so how the bytes are cut into pieces decides nothing. There
+/// is nothing to run.
 pub fn inputs_fix_outputs()
     ensures { OneWriting }
 {

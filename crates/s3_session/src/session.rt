@@ -12,7 +12,6 @@ ghost use Rattle.s3_session.specs.Output.{HasText, Past, Reading, ReadsBody, is_
 ghost use Rattle.s3_session.specs.Session.{Connection, NeedsNext, standing_of};
 ghost use Rattle.s3_session.specs.Stands.{IsReady};
 
-use crate::clock::Clock;
 use crate::incoming::{Incoming, Progress};
 use crate::laws::{inputs_fix_outputs, invitations_are_final, sessions_write, verdicts_stay};
 use crate::opening::{Opening, open_text};
@@ -40,6 +39,18 @@ pub enum Need {
     Turn(Turn),
     /// That what it has still to send is sent, and nothing else: the connection ends with it.
     Close,
+}
+
+/// What a connection made of a piece.
+#[derive(Drop)]
+pub struct Fed {
+    /// How many of its bytes it took.
+    pub len: usize,
+    /// What it needs next.
+    pub need: Need,
+    /// Whether the next message has the moment at which the piece came: with it that one's head is whole, or has more bytes than a
+    /// head may have.
+    pub has_moment: bool,
 }
 
 /// What a connection needs behind an answer.
@@ -137,8 +148,8 @@ impl Session {
     /// Takes a piece of what the peer sent, up to the end of the message at hand, and answers how many of its bytes
     /// it took, with what it needs next. `Turn` comes where the message is whole and sound, `Close` where the output
     /// has ended: at the byte that refuses a message, or behind a reply that closes. What it did not take belongs
-    /// behind this message, and the caller offers it again after the answer. The clock is asked once for each
-    /// message, when its whole head has come, or more than a head may have.
+    /// behind this message, and the caller offers it again after the answer. A message has the moment `now` of the call
+    /// with which its whole head has come, or more than a head may have; that is told too.
     ///
     /// The settings have to be the same at every call for a connection: its promises are about one.
     ///
@@ -146,29 +157,22 @@ impl Session {
     /// bytes of a head, once that is verified for the data of the body that came and for what its command reads in it,
     /// and for the Continue line and the reply. Where memory runs out, the connection ends with the reply that says so;
     /// in the middle of a head it does once that is whole (a head that is too large is refused all the same).
-    pub fn feed<C: Clock>(
-        &mut self,
-        alloc: Global,
-        config: &Config,
-        clock: &mut C,
-        piece: &[u8],
-    ) -> (usize, Need)
+    pub fn feed(&mut self, alloc: Global, config: &Config, now: Moment, piece: &[u8]) -> Fed
         requires answered { is_waiting (rules.standing_of self.old) ≡ false }
         requires goes_on { self.old.is_ended ≡ false }
-        ensures within { result.0 ≤ length piece.now }
+        ensures within { result.len ≤ length piece.now }
         ensures stands { (past : Past) (sent : List ℕ) → inside.Stands self.old config.now past sent
             → inside.Stands self.new config.now
-            (rules.fed past (take result.0 piece.now) (rules.gave_between self.old self.new) (rules.turns_of result.1)) sent }
-        ensures clock { rules.IsClockAsked C.gives clock.old clock.new (rules.gave_between self.old self.new) }
-        ensures needs { rules.Needs result.1 (rules.standing_of self.new) }
-        ensures closed { is_closed (rules.standing_of self.old) ≡ true → result.0 ≡ 0 }
+            (rules.fed past (take result.len piece.now) (rules.moment_if result.has_moment now) (rules.turns_of result.need)) sent }
+        ensures needs { rules.Needs result.need (rules.standing_of self.new) }
+        ensures closed { is_closed (rules.standing_of self.old) ≡ true → result.len ≡ 0 }
         ensures all { (past : Past) (sent : List ℕ) → inside.Stands self.old config.now past sent
-            → result.1 ≡ Need.More → result.0 ≡ length piece.now }
+            → result.need ≡ Need.More → result.len ≡ length piece.now }
 
         // Where memory doesn't run out, it stops at the first byte with which something is decided.
         ensures at_once { (past : Past) (sent : List ℕ) → inside.Stands self.old config.now past sent
             → is_dead (rules.standing_of self.new) ≡ false
-            → rules.StaysOpen config.now past (take result.0 piece.now) (rules.gave_between self.old self.new) }
+            → rules.StaysOpen config.now past (take result.len piece.now) (rules.moment_if result.has_moment now) }
         ensures longer { rules.IsLonger (rules.unsent_of self.old) (rules.unsent_of self.new) }
         ensures goes_on { self.new.is_ended ≡ false }
     {
@@ -176,45 +180,60 @@ impl Session {
         invitations_are_final();
         s3_http_heads::verdicts_stay();
         match &self.stage {
-            Stage::Reading => self.read_head(alloc, config, clock, piece),
+            Stage::Reading => self.read_head(alloc, config, now, piece),
             Stage::Body(_) => {
                 let Stage::Body(incoming) = mem::replace(&mut self.stage, Stage::Reading) else {
                     unreachable!()
                 };
-                self.read_body(alloc, incoming, piece)
+                let (len, need) = self.read_body(alloc, incoming, piece);
+                Fed {
+                    len,
+                    need,
+                    has_moment: false,
+                }
             }
-            Stage::Waiting(_) | Stage::Closed(_) => (0, Need::Close),
+            Stage::Waiting(_) | Stage::Closed(_) => Fed {
+                len: 0,
+                need: Need::Close,
+                has_moment: false,
+            },
         }
     }
 
     // Takes as much of the piece as is the next message's, of whose head some bytes may have come.
-    fn read_head<C: Clock>(
-        &mut self,
-        alloc: Global,
-        config: &Config,
-        clock: &mut C,
-        piece: &[u8],
-    ) -> (usize, Need)
+    fn read_head(&mut self, alloc: Global, config: &Config, now: Moment, piece: &[u8]) -> Fed
         requires stage { self.old.stage ≡ Stage.Reading }
         requires goes_on { self.old.is_ended ≡ false }
-        ensures within { result.0 ≤ length piece.now }
+        ensures within { result.len ≤ length piece.now }
         ensures fed { (rest : List ℕ) → Stands self.old.search rest
-            → inside.IsFed config.now self.old self.new rest [] piece.now result.0 result.1 }
-        ensures clock { rules.IsClockAsked C.gives clock.old clock.new (rules.moment_at self.new.stage) }
-        ensures needs { rules.Needs result.1 (rules.standing_of self.new) }
+            → inside.IsFed config.now self.old self.new rest [] piece.now result.len result.need }
+        ensures moment { rules.moment_at self.new.stage ≡ rules.moment_if result.has_moment now }
+        ensures needs { rules.Needs result.need (rules.standing_of self.new) }
         ensures longer { rules.IsLonger (rules.unsent_of self.old) (rules.unsent_of self.new) }
         ensures end { self.new.is_ended ≡ false }
     {
         let (len, found) = self.search.feed(piece);
         match found {
-            Found::NeedMore => (len, Need::More),
+            Found::NeedMore => Fed {
+                len,
+                need: Need::More,
+                has_moment: false,
+            },
             Found::TooLarge => {
-                self.refuse(Code::HeadTooLarge, clock.now(), false);
-                (len, Need::Close)
+                self.refuse(Code::HeadTooLarge, now, false);
+                Fed {
+                    len,
+                    need: Need::Close,
+                    has_moment: true,
+                }
             }
             Found::Head { .. } => {
-                let (behind, need) = self.begin(alloc, config, clock.now(), &piece[len..]);
-                (len + behind, need)
+                let (behind, need) = self.begin(alloc, config, now, &piece[len..]);
+                Fed {
+                    len: len + behind,
+                    need,
+                    has_moment: true,
+                }
             }
         }
     }

@@ -6,8 +6,7 @@ use Rattle.s3_settings.specs.declared.fault.Fault.{Fault}
 use Rattle.s3_settings.specs.declared.fault.Fault.TheVariants.{CannotRead, BadKeysLine, BadEventLine, BadSetting, CannotListen, InputFailed, OutputFailed, OutOfMemory}
 use Rattle.s3_settings.specs.declared.mode.ReplayMode.{ReplayMode}
 use Rattle.s3_settings.specs.Devices.{Gives, GivesAll, GivesSome, Reads}
-use Rattle.s3_replay.specs.Replaying.{HasTaken}
-use Rattle.s3_world.specs.World.{Serving}
+use Rattle.s3_world.specs.Replaying.{HasTaken, Replaying}
 use Rattle.s3_tasks.specs.Reading.{IsAnswerFault, IsFed, IsReadingFault}
 
 -- one piece more came
@@ -18,7 +17,7 @@ piece_came old between new given buffer count read before is came =
     ∙ ap (λ (bytes : List ℕ). record old { received = bytes; late_reads = new.late_reads }) (append_assoc old.received given (take count buffer))
 
 -- a replay was fed with it
-pub fed_more : (first between new : Serving) (given more : List ℕ) → IsFed first between given → IsFed between new more → IsFed first new (given ++ more)
+pub fed_more : (first between new : Replaying) (given more : List ℕ) → IsFed first between given → IsFed between new more → IsFed first new (given ++ more)
 fed_more first between new given more before now settings moment bytes h =
     subst (HasTaken new settings moment) (append_assoc bytes given more) (now settings moment (bytes ++ given) (before settings moment bytes h))
 

@@ -9,8 +9,7 @@ use Rattle.s3_settings.specs.Devices.{FailsToGive, GivesSome}
 use Rattle.s3_devices.specs.Device.{Traffic}
 use Rattle.s3_text.specs.Lines.{lines_of, IsFirstBadLine}
 use Rattle.s3_events.specs.Lines.{AreEventLines}
-use Rattle.s3_world.specs.World.{Serving}
-use Rattle.s3_replay.specs.Replaying.{HasTaken}
+use Rattle.s3_world.specs.Replaying.{HasTaken, Replaying}
 use Rattle.s3_tasks.specs.Run.{GivesBadLine}
 
 -- why all that a device gives has no answer in a mode, and what it gave by then
@@ -27,7 +26,7 @@ IsReadingFault old new OutOfMemory = GivesSome old new
 IsReadingFault old new _ = ⊥
 
 -- a replay was fed with these bytes
-abbrev pub IsFed : Serving → Serving → List ℕ → Type 0
+abbrev pub IsFed : Replaying → Replaying → List ℕ → Type 0
 IsFed old new given =
     (settings : Settings) (moment : ℕ) (bytes : List ℕ) → HasTaken old settings moment bytes → HasTaken new settings moment (bytes ++ given)
 

@@ -8,7 +8,7 @@ ghost use Rattle.s3_events.specs.Script.{IsScriptOf};
 ghost use Rattle.s3_settings.specs.Devices.{GivesAll};
 ghost use Rattle.s3_settings.specs.declared.mode.ReplayMode.TheVariants.{Events as InEvents};
 ghost use Rattle.s3_world.specs.Run.{Runs, each_moments};
-ghost use Rattle.s3_world.specs.Shown.{unsent_of_all};
+ghost use Rattle.s3_world.specs.Shown.{written_by_all};
 ghost use Rattle.s3_tasks.specs.Run.{IsEventsAnswered, IsScriptAnswered};
 ghost use Rattle.s3_tasks.specs.Reading.{IsAnswerFault, IsLinesFault, IsReadingFault};
 
@@ -101,7 +101,7 @@ fn world_of<'a>(
     script: &'a Script,
 ) -> Result<World<'a, MapRecords>, NoMemory>
     ensures { IfOk result (λ world. Runs config.now (each_moments script.now.moments.items) script.now.events.items
-        (unsent_of_all world.connections) world.book.entries) }
+        (written_by_all world.connections) world.book.entries) }
 {
     let store = Store::open(alloc, config.buckets())?;
     let (moments, events) = (script.moments.as_slice(), script.events.as_slice());
@@ -110,7 +110,7 @@ fn world_of<'a>(
 
 // The lines of what the connections wrote.
 fn printed(alloc: Global, world: &World<'_, MapRecords>) -> Result<Vec<u8>, NoMemory>
-    ensures { IfOk result (λ text. text.items ≡ outputs_text (unsent_of_all world.now.connections)) }
+    ensures { IfOk result (λ text. text.items ≡ outputs_text (written_by_all world.now.connections)) }
 {
     let Ok(count) = u32::try_from(world.connections()) else {
         return Err(NoMemory);
@@ -129,8 +129,8 @@ fn print_one(
     connection: u32,
 ) -> Result<(), NoMemory>
     requires { connection < length world.now.connections }
-    ensures { text.old.items ≡ outputs_text (take connection (unsent_of_all world.now.connections))
-        → OnOk result (text.new.items ≡ outputs_text (take (connection + 1) (unsent_of_all world.now.connections))) }
+    ensures { text.old.items ≡ outputs_text (take connection (written_by_all world.now.connections))
+        → OnOk result (text.new.items ≡ outputs_text (take (connection + 1) (written_by_all world.now.connections))) }
 {
     let output = world.out(connection)?;
     print_output(text, connection, output.as_slice())

@@ -3,8 +3,7 @@
 ghost use Rattle.std.specs.Prelude.{◌≡◌, ◌≢◌, ◌≤◌, ◌⊎◌, ℕ, List, [], IfOk, OnOk, IfErr, IsTrue, map, true};
 ghost use Rattle.s3_config.specs.Settings.{Settings};
 ghost use Rattle.s3_session.specs.Replay.{Replays};
-ghost use Rattle.s3_world.specs.Run.{each_moments};
-ghost use Rattle.s3_replay.specs.Replaying.{HasTaken, all_at};
+ghost use Rattle.s3_world.specs.Replaying.{HasTaken};
 ghost use Rattle.s3_settings.specs.Devices.{AppendsBeginning, GivesAll, IsUnread};
 ghost use Rattle.s3_settings.specs.Fault.{line_of};
 ghost use Rattle.s3_tasks.specs.Run.{IsAnswered, IsReplayed, IsReplayFault, IsDone, IsTaskText, IsTextFault, IsTaskDone, IsTaskFault, is_before_input, is_signing, IsRunFault, HasFailed};
@@ -21,11 +20,12 @@ use s3_command_line::{Asked, Task, WordsError, read_words};
 use s3_config::Config;
 use s3_devices::Device;
 use s3_options::{ReplayOptions, ServeOptions};
-use s3_replay::{Replay, at_moment};
 use s3_settings::{Fault, Files, ReplayMode, Setup, configure, read_piece, write_output};
+use s3_world::Replay;
 use std::alloc::Global;
 use std::convert::AsStr;
 use std::io::Write;
+use std::mem::drop;
 use std::sync::Wait;
 
 // How many bytes of the input are read at once, at most.
@@ -210,43 +210,29 @@ fn answers<'a, R: Wait, D: Device>(
     ensures value { IfOk result (λ text. GivesAll (λ bytes. Replays config.now moment bytes text.items) (D.traffic device.old) (D.traffic device.new)) }
     ensures refused { IfErr result (IsReadingFault (D.traffic device.old) (D.traffic device.new)) }
 {
-    let moments = at_moment(alloc, moment)?;
-    answers_at(rt, alloc, config, moments.as_slice(), device)
-}
-
-// The same, whose messages have the moments of a list.
-fn answers_at<'a, R: Wait, D: Device>(
-    rt: &R,
-    alloc: Global,
-    config: &Config,
-    moments: &[Vec<Moment>],
-    device: &mut D,
-) -> Result<Vec<u8>, Fault<'a>>
-    ensures value { (moment : ℕ) → each_moments moments.now ≡ all_at moment
-        → IfOk result (λ text. GivesAll (λ bytes. Replays config.now moment bytes text.items) (D.traffic device.old) (D.traffic device.new)) }
-    ensures refused { IfErr result (IsReadingFault (D.traffic device.old) (D.traffic device.new)) }
-{
-    let replay = Replay::new(alloc, config, moments)?;
-    written_after(rt, replay, device)
+    let mut replay = Replay::new(alloc, config, moment)?;
+    let written = written_after(rt, &mut replay, device);
+    drop(replay);
+    written
 }
 
 // What a replay writes that takes all that the device gives and then ends.
 fn written_after<'a, R: Wait, D: Device>(
     rt: &R,
-    mut replay: Replay<'_>,
+    replay: &mut Replay<'_>,
     device: &mut D,
 ) -> Result<Vec<u8>, Fault<'a>>
-    ensures value { (settings : Settings) (moment : ℕ) → HasTaken replay.entry settings moment []
+    ensures value { (settings : Settings) (moment : ℕ) → HasTaken replay.old settings moment []
         → IfOk result (λ text. GivesAll (λ bytes. Replays settings moment bytes text.items) (D.traffic device.old) (D.traffic device.new)) }
     ensures refused { IfErr result (IsReadingFault (D.traffic device.old) (D.traffic device.new)) }
 {
-    feed_input(rt, &mut replay, device)?;
+    feed_input(rt, replay, device)?;
     written(replay)
 }
 
 // What a replay writes that ends here.
-fn written<'a>(replay: Replay<'_>) -> Result<Vec<u8>, Fault<'a>>
-    ensures value { (settings : Settings) (moment : ℕ) (bytes : List ℕ) → HasTaken replay.entry settings moment bytes
+fn written<'a>(replay: &mut Replay<'_>) -> Result<Vec<u8>, Fault<'a>>
+    ensures value { (settings : Settings) (moment : ℕ) (bytes : List ℕ) → HasTaken replay.old settings moment bytes
         → IfOk result (λ text. Replays settings moment bytes text.items) }
     ensures refused { IfErr result (λ fault. fault ≡ Fault.OutOfMemory) }
 {

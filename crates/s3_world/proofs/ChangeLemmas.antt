@@ -1,5 +1,5 @@
 -- One connection of several changed.
-use Rattle.std.proofs.Common.{◌≡◌, ◌≢◌, ◌<◌, ◌≤◌, ℕ, zero, suc, Bool, true, false, Option, Some, Result, Ok, Err, IfOk, OnOk, OnErr, List, [], ◌∷◌, ◌++◌, length, get_or, set, refl, sym, ap, subst, ◌∙◌, arith, IsTrue, inl, inr}
+use Rattle.std.proofs.Common.{◌≡◌, ◌≢◌, ◌<◌, ◌≤◌, ℕ, zero, suc, Bool, true, Option, Some, Result, Ok, Err, IfOk, OnOk, OnErr, List, [], ◌∷◌, ◌++◌, length, get_or, set, refl, sym, ap, subst, ◌∙◌, arith, inl, inr}
 use Rattle.std.specs.Global.{Vec}
 use Rattle.std.specs.List.{slice_get}
 use Rattle.std.specs.Vec.{with_items}
@@ -18,7 +18,6 @@ use Rattle.s3_connection.specs.Connection.{entries_with}
 use Rattle.s3_connection.specs.Output.{Input}
 use Rattle.s3_world.specs.Played.{IsIdle, Playing, Plays, standing_of, turn_of}
 use Rattle.s3_world.specs.World.{IsEntered}
-use Rattle.s3_world.specs.Shown.{standing_at}
 use Rattle.s3_world.specs.StandsAfter.{HasTaken, IsChangedAt, IsChangedIn, IsFedWith, IsRecorded, IsTurnTaken}
 
 -- ---- the list
@@ -34,15 +33,6 @@ get_set_same : {X : Type 0} (xs : List X) (c : ℕ) (d : X) → c < length xs �
 get_set_same [] c d less = absurd (omega arith)
 get_set_same (x ∷ xs) zero d less = refl
 get_set_same (x ∷ xs) (suc c) d less = get_set_same xs c d (omega arith)
-
--- where the one that changed waits as it did, each does
-pub waiting_set : (old : List Playing) (c : ℕ) (b d : Playing) → c < length old → is_waiting (standing_of d) ≡ is_waiting (standing_of (get_or old c b))
-    → (k : ℕ) → is_waiting (standing_at (set old c d) k) ≡ is_waiting (standing_at old k)
-waiting_set [] c b d less same k = refl
-waiting_set (x ∷ old) zero b d less same zero = same
-waiting_set (x ∷ old) zero b d less same (suc k) = refl
-waiting_set (x ∷ old) (suc c) b d less same zero = refl
-waiting_set (x ∷ old) (suc c) b d less same (suc k) = waiting_set old c b d (omega arith) same k
 
 module _ (old : List Playing) (c : ℕ) (Stays : Type 0) (Change : Playing → Playing → Type 0) where
   pub changed_set : (b d : Playing) → c < length old → Change (get_or old c b) d → IsChangedAt c old (set old c d) Stays Change
@@ -70,8 +60,8 @@ dead_closed standings.Dead dead = refl
 
 module _ (settings : Settings) (more : Input → Input) (b d : Playing)
     (closed : is_closed (standing_of b) ≡ true → standing_of d ≡ standing_of b) (stays : IsIdle b → IsIdle d) where
-  pub fed_with : ((moments : List ℕ) (input : Input) (entries : List Entry) (sent : List ℕ)
-      → Plays b settings moments input entries sent → Plays d settings moments (more input) entries sent)
+  pub fed_with : ((moments : List ℕ) (input : Input) (entries : List Entry)
+      → Plays b settings moments input entries → Plays d settings moments (more input) entries)
       → IsFedWith settings more b d
   fed_with holds = record {
     holds = holds;
@@ -80,8 +70,8 @@ module _ (settings : Settings) (more : Input → Input) (b d : Playing)
   }
 
   pub fed_or_not : (result : Result (Unit {0}) NoMemory)
-      → ((moments : List ℕ) (input : Input) (entries : List Entry) (sent : List ℕ)
-      → Plays b settings moments input entries sent → OnOk result (Plays d settings moments (more input) entries sent))
+      → ((moments : List ℕ) (input : Input) (entries : List Entry)
+      → Plays b settings moments input entries → OnOk result (Plays d settings moments (more input) entries))
       → OnOk result (IsFedWith settings more b d)
   fed_or_not (Ok done) holds = fed_with holds
   fed_or_not (Err e) holds = tt
@@ -103,8 +93,8 @@ pub had_turn : (settings : Settings) (seat : ℕ) (b d : Playing) (old new : Jou
     → told ≡ turn_of b → told ≡ Some turn → is_waiting (standing_of b) ≡ true
     → IfOk answered (λ answer. new.entries ≡ old.entries ++ recorded seat turn answer ∷ [])
     → OnErr answered (new ≡ old) → OnErr answered (standing_of d ≡ standings.Dead)
-    → ((moments : List ℕ) (input : Input) (entries : List Entry) (sent : List ℕ)
-    → Plays b settings moments input entries sent → Plays d settings moments input (entries_with entries turn answered) sent)
+    → ((moments : List ℕ) (input : Input) (entries : List Entry)
+    → Plays b settings moments input entries → Plays d settings moments input (entries_with entries turn answered))
     → IsIdle d → HasTaken settings seat old new b d
 had_turn settings seat b d old new turn told answered value is waits entry same dies holds idle =
     subst (λ (t : Option Turn). IsTurnTaken settings seat b d old new t) (sym is ∙ value)

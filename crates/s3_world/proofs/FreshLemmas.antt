@@ -1,12 +1,10 @@
 -- Connections of which nothing came.
-use Rattle.std.proofs.Common.{◌≡◌, ◌<◌, ◌+◌, ◌⊎◌, ℕ, zero, suc, Option, Some, None, List, [], ◌∷◌, ◌++◌, length, get_or, refl, sym, ap, subst, ◌∙◌, arith, inl, inr}
+use Rattle.std.proofs.Common.{◌≡◌, ◌<◌, ◌+◌, ◌⊎◌, ℕ, zero, suc, Some, List, [], ◌∷◌, ◌++◌, length, get_or, refl, sym, ap, subst, ◌∙◌, arith, inl, inr}
 use Rattle.std.proofs.lemmas.List.{length_push}
 use Rattle.std.specs.Global.{Vec}
 use Rattle.std.specs.List.{slice_get}
-use Rattle.s3_session.specs.Output.{Reading}
-use Rattle.s3_world.specs.Played.{Playing, standing_of, unsent_of}
+use Rattle.s3_world.specs.Played.{Playing}
 use Rattle.s3_world.specs.Run.{moments_of, each_moments}
-use Rattle.s3_world.specs.Shown.{standing_at, standing_in, unsent_at, unsent_in}
 use Rattle.s3_world.specs.StandsAfter.{AreFresh, IsFresh}
 
 -- an element of a list with one more is the last, or was there before
@@ -40,31 +38,3 @@ fresh_more made moments n b before one = record {
             subst (λ (x : Playing). IsFresh x (moments_of c moments)) (sym last.1) (subst (λ (k : ℕ). IsFresh b (moments_of k moments)) (sym place) one))
       ];
 }
-
--- nothing is unsent of it
-abbrev pub IsSilent : List Playing → Type 0
-IsSilent made = (c : ℕ) (b : Playing) → slice_get made c ≡ Some b → unsent_of b ≡ []
-
-pub silent_none : IsSilent []
-silent_none c b is = absurd (cc)
-
-pub silent_more : (made : List Playing) (b : Playing) → IsSilent made → unsent_of b ≡ [] → IsSilent (made ++ b ∷ [])
-silent_more made b before one c d is = elim (get_push made b d c is) [
-  | inl earlier ↦ before c d earlier
-  | inr last ↦ ap unsent_of last.1 ∙ one
-]
-
-silent_in : (x : Option Playing) → ((b : Playing) → x ≡ Some b → unsent_of b ≡ []) → unsent_in x ≡ []
-silent_in None silent = refl
-silent_in (Some b) silent = silent b refl
-
-pub silent_all : (made : List Playing) → IsSilent made → (c : ℕ) → unsent_at made c ≡ []
-silent_all made silent c = silent_in (slice_get made c) (silent c)
-
--- it reads
-reads_in : (x : Option Playing) → ((b : Playing) → x ≡ Some b → standing_of b ≡ Reading) → standing_in x ≡ Reading
-reads_in None reads = refl
-reads_in (Some b) reads = reads b refl
-
-pub reads_all : (made : List Playing) (moments : List (List ℕ)) (n : ℕ) → AreFresh made moments n → (c : ℕ) → standing_at made c ≡ Reading
-reads_all made moments n fresh c = reads_in (slice_get made c) (λ b is. (fresh.fresh c b is).reads)

@@ -6,6 +6,7 @@ pub mod EventLemmas
 pub mod FreshLemmas
 pub mod MomentsLemmas
 pub mod PlayedLemmas
+pub mod ReplayLemmas
 pub mod OneRunLemmas
 pub mod RunLemmas
 pub mod TakenLemmas

@@ -1,36 +1,48 @@
--- The moments that a clock over a list hands out.
-use Rattle.std.proofs.Common.{◌≡◌, ℕ, zero, suc, ◌+◌, List, [], ◌∷◌, ◌++◌, refl, sym, ap, subst, ◌∙◌, arith, append_assoc}
+-- The moments that a list hands out.
+use Rattle.std.proofs.Common.{◌≡◌, ◌<◌, ◌≤◌, ℕ, zero, suc, ◌+◌, List, [], ◌∷◌, ◌++◌, length, drop, refl, sym, ap, subst, ◌∙◌, arith, append_assoc}
 use mathlib.Core.List.{IsPrefix}
-use Rattle.s3_world.specs.Moments.{Handing, HasHanded, IsHanded, handed, handed_after}
+use Rattle.s3_world.specs.Moments.{HasHanded, behind, handed, next_of}
+
+handed_next : (moments : List ℕ) (n : ℕ) → handed moments (suc n) ≡ next_of moments ∷ handed (behind moments) n
+handed_next [] n = refl
+handed_next (last ∷ []) n = refl
+handed_next (moment ∷ next ∷ later) n = refl
 
 -- one more
-pub handed_one : (moments : List ℕ) (count moment : ℕ) (old new : Handing) → HasHanded moments count old → IsHanded old new moment
-    → HasHanded moments (count + 1) new × (handed moments (count + 1) ≡ handed moments count ++ moment ∷ [])
-handed_one moments count moment old new before gives =
-    let more : (n : ℕ) → handed moments (count + 1 + n) ≡ handed moments count ++ moment ∷ handed_after new.last new.left n = λ n.
-    (let next : count + 1 + n ≡ count + suc n = omega arith in
-    ap (handed moments) next ∙ before (suc n) ∙ ap (λ (ms : List ℕ). handed moments count ++ ms) (gives n)) in
-    let one : handed moments (count + 1) ≡ handed moments count ++ moment ∷ [] =
-    ap (handed moments) (omega arith) ∙ before (suc zero) ∙ ap (λ (ms : List ℕ). handed moments count ++ ms) (gives zero) in (
-      λ n. more n ∙ sym (append_assoc (handed moments count) (moment ∷ []) (handed_after new.last new.left n))
-          ∙ ap (λ (ms : List ℕ). ms ++ handed_after new.last new.left n) (sym one),
+pub handed_one : (moments : List ℕ) (count : ℕ) (left : List ℕ) → HasHanded moments count left
+    → HasHanded moments (count + 1) (behind left) × (handed moments (count + 1) ≡ handed moments count ++ next_of left ∷ [])
+handed_one moments count left before =
+    let one : handed moments (count + 1) ≡ handed moments count ++ next_of left ∷ [] =
+    before (suc zero) ∙ ap (λ (ms : List ℕ). handed moments count ++ ms) (handed_next left zero) in (
+      λ n.
+          (let next : count + 1 + n ≡ count + suc n = omega arith in
+          ap (handed moments) next ∙ before (suc n) ∙ ap (λ (ms : List ℕ). handed moments count ++ ms) (handed_next left n)
+          ∙ sym (append_assoc (handed moments count) (next_of left ∷ []) (handed (behind left) n))
+          ∙ ap (λ (ms : List ℕ). ms ++ handed (behind left) n) (sym one)),
       one,
     )
 
+-- what a list has behind its first
+pub behind_drop : (moments : List ℕ) → 1 < length moments → drop 1 moments ≡ behind moments
+behind_drop [] more = absurd (omega arith)
+behind_drop (last ∷ []) more = absurd (omega arith)
+behind_drop (moment ∷ next ∷ later) more = refl
+
+pub behind_same : (moments : List ℕ) → length moments ≤ 1 → moments ≡ behind moments
+behind_same [] few = refl
+behind_same (last ∷ []) few = refl
+behind_same (moment ∷ next ∷ later) few = absurd (omega arith)
+
 -- fewer are a beginning of more
-handed_front : (a b last : ℕ) (left : List ℕ) → IsPrefix (handed_after last left a) (handed_after last left (a + b))
-handed_front zero b last left = (handed_after last left (zero + b), refl)
-handed_front (suc a) b last [] =
-    let rest = handed_front a b last [] in
-    let next : suc a + b ≡ suc (a + b) = omega arith in
-    (rest.0, ap (λ (ms : List ℕ). last ∷ ms) rest.1 ∙ ap (handed_after last []) (sym next))
-handed_front (suc a) b last (m ∷ left) =
-    let rest = handed_front a b m left in
-    let next : suc a + b ≡ suc (a + b) = omega arith in
-    (rest.0, ap (λ (ms : List ℕ). m ∷ ms) rest.1 ∙ ap (handed_after last (m ∷ left)) (sym next))
+pub begins : (a b : ℕ) (moments : List ℕ) → IsPrefix (handed moments a) (handed moments (a + b))
+begins zero b moments = (handed moments (zero + b), refl)
+begins (suc a) b moments =
+    let rest = begins a b (behind moments) in
+    let next : suc a + b ≡ suc (a + b) = omega arith in (
+      rest.0,
+      ap (λ (ms : List ℕ). ms ++ rest.0) (handed_next moments a) ∙ ap (λ (ms : List ℕ). next_of moments ∷ ms) rest.1
+          ∙ sym (handed_next moments (a + b)) ∙ ap (handed moments) (sym next),
+    )
 
-pub begins : (moments : List ℕ) (a b : ℕ) → IsPrefix (handed moments a) (handed moments (a + b))
-begins moments a b = handed_front a b 0 moments
-
-pub begins_too : (moments : List ℕ) (a b : ℕ) → IsPrefix (handed moments b) (handed moments (a + b))
-begins_too moments a b = subst (λ (n : ℕ). IsPrefix (handed moments b) (handed moments n)) (omega arith) (handed_front b a 0 moments)
+pub begins_too : (a b : ℕ) (moments : List ℕ) → IsPrefix (handed moments b) (handed moments (a + b))
+begins_too a b moments = subst (λ (n : ℕ). IsPrefix (handed moments b) (handed moments n)) (omega arith) (begins b a moments)

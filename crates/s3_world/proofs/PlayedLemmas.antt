@@ -6,43 +6,40 @@ use Rattle.s3_machine.specs.declared.turn.Turn.{Turn}
 use Rattle.s3_session.specs.Output.{Standing, Dead, is_closed, is_dead}
 use Rattle.s3_connection.specs.declared.stage.Stage.{Stage}
 use Rattle.s3_connection.specs.declared.stage.Stage.TheVariants as stages
-use Rattle.s3_connection.specs.Connection.{Connected, moment_if, nothing_received, turn_at}
+use Rattle.s3_session.specs.Session.{moment_if}
+use Rattle.s3_connection.specs.Connection.{Connected, turn_at}
 use Rattle.s3_connection.specs.Holds.{ConnectionsWrite, Holds, IsTurn}
 use Rattle.s3_connection.specs.Output.{Input, OneOutput}
-use Rattle.s3_world.specs.Moments.{Handing, HasHanded, IsHandedIf, handed, next_of}
-use Rattle.s3_world.specs.Played.{IsIdle, Playing, Plays, standing_of, unsent_of}
+use Rattle.s3_world.specs.Moments.{HasHanded, behind_if, handed, next_of}
+use Rattle.s3_world.specs.Played.{IsIdle, Playing, Plays, standing_of, written_by}
 use Rattle.s3_world.specs.Timed.{TimedOutputs}
 use Rattle.s3_world.proofs.MomentsLemmas.{begins, begins_too, handed_one}
 
 -- a moment was handed out or not
-handed_if : (moments : List ℕ) (count : ℕ) (has : Bool) (old new : Handing) → HasHanded moments count old → IsHandedIf has old new (next_of old)
-    → (more : ℕ) × HasHanded moments more new × (handed moments more ≡ handed moments count ++ moment_if has (next_of old))
-handed_if moments count true old new before is = let one = handed_one moments count (next_of old) old new before is in (count + 1, one.0, one.1)
-handed_if moments count false old new before same = (count, subst (HasHanded moments count) (sym same) before, sym (append-nil (handed moments count)))
+handed_if : (moments : List ℕ) (count : ℕ) (has : Bool) (left : List ℕ) → HasHanded moments count left
+    → (more : ℕ) × HasHanded moments more (behind_if has left) × (handed moments more ≡ handed moments count ++ moment_if has (next_of left))
+handed_if moments count true left before = let one = handed_one moments count left before in (count + 1, one.0, one.1)
+handed_if moments count false left before = (count, before, sym (append-nil (handed moments count)))
 
 -- it plays on after a call in which a message may have had the next moment
-pub plays_on : (p : Playing) (settings : Settings) (moments : List ℕ) (input later : Input) (entries : List Entry) (sent : List ℕ) (has : Bool) (connection : Connected) (clock : Handing)
-    → (h : Plays p settings moments input entries sent) → IsHandedIf has p.moments clock (next_of p.moments)
-    → Holds connection settings later (handed moments h.count ++ moment_if has (next_of p.moments)) entries sent
-    → Plays (record { connection = connection; moments = clock }) settings moments later entries sent
-plays_on p settings moments input later entries sent has connection clock h is holds =
-    let n = handed_if moments h.count has p.moments clock h.hands is in
+pub plays_on : (p d : Playing) (settings : Settings) (moments : List ℕ) (input later : Input) (entries : List Entry) (has : Bool)
+    → (h : Plays p settings moments input entries) → d.moments ≡ behind_if has p.moments
+    → Holds d.connection settings later (handed moments h.count ++ moment_if has (next_of p.moments)) entries []
+    → Plays d settings moments later entries
+plays_on p d settings moments input later entries has h is holds =
+    let n = handed_if moments h.count has p.moments h.hands in
     record {
       count = n.0;
-      hands = n.1;
-      holds = subst (λ (ms : List ℕ). Holds connection settings later ms entries sent) (sym n.2) holds;
+      hands = subst (HasHanded moments n.0) (sym is) n.1;
+      holds = subst (λ (ms : List ℕ). Holds d.connection settings later ms entries []) (sym n.2) holds;
     }
 
-pub plays_new : (connection : Connected) (settings : Settings) (moments : List ℕ) (clock : Handing) → HasHanded moments 0 clock
-    → Holds connection settings nothing_received [] [] [] → Plays (record { connection = connection; moments = clock }) settings moments nothing_received [] []
-plays_new connection settings moments clock none holds = record { count = 0; hands = none; holds = holds }
-
 -- its turn was taken and answered
-pub plays_answered : (p : Playing) (settings : Settings) (moments : List ℕ) (input : Input) (entries later : List Entry) (sent : List ℕ) (connection : Connected)
-    → Plays p settings moments input entries sent
-    → ((ms : List ℕ) → Holds p.connection settings input ms entries sent → Holds connection settings input ms later sent)
-    → Plays (record { connection = connection; moments = p.moments }) settings moments input later sent
-plays_answered p settings moments input entries later sent connection h answers = record { count = h.count; hands = h.hands; holds = answers (handed moments h.count) h.holds }
+pub plays_answered : (p : Playing) (settings : Settings) (moments : List ℕ) (input : Input) (entries later : List Entry) (connection : Connected)
+    → Plays p settings moments input entries
+    → ((ms : List ℕ) → Holds p.connection settings input ms entries [] → Holds connection settings input ms later [])
+    → Plays (record { connection = connection; moments = p.moments }) settings moments input later
+plays_answered p settings moments input entries later connection h answers = record { count = h.count; hands = h.hands; holds = answers (handed moments h.count) h.holds }
 
 pub some_asked : (told asked : Option Turn) (turn : Turn) → told ≡ asked → told ≡ Some turn → asked ≢ None
 some_asked told asked turn value is none = cc
@@ -55,11 +52,11 @@ pub dead_too : (mid late : Standing) → (is_closed mid ≡ true → late ≡ mi
 dead_too mid late stays dead = stays (ap is_closed dead) ∙ dead
 
 -- what it wrote, where nothing of it is under way
-pub plays_write : ConnectionsWrite → (p : Playing) (settings : Settings) (moments : List ℕ) (input : Input) (entries : List Entry) (sent : List ℕ)
-    → Plays p settings moments input entries sent → IsIdle p
-    → (waiting : List Turn) × TimedOutputs (standing_of p) settings moments input entries waiting (sent ++ unsent_of p) × IsTurn p.connection.stage waiting
-plays_write write p settings moments input entries sent h idle =
-    let w = write p.connection settings input (handed moments h.count) entries sent h.holds in
+pub plays_write : ConnectionsWrite → (p : Playing) (settings : Settings) (moments : List ℕ) (input : Input) (entries : List Entry)
+    → Plays p settings moments input entries → IsIdle p
+    → (waiting : List Turn) × TimedOutputs (standing_of p) settings moments input entries waiting (written_by p) × IsTurn p.connection.stage waiting
+plays_write write p settings moments input entries h idle =
+    let w = write p.connection settings input (handed moments h.count) entries [] h.holds in
     (w.0.waiting, record { count = h.count; output = w.0.whole idle.0 }, w.1)
 
 -- the turn that waits is the one
@@ -78,5 +75,5 @@ OneTimedOutput =
 pub timed_one : OneOutput → OneTimedOutput
 timed_one one settings moments input entries p q w v x y live also a b =
     let same = one settings input (handed moments (a.count + b.count)) (handed moments a.count) (handed moments b.count) entries p q w v x y live also
-    (begins moments a.count b.count) (begins_too moments a.count b.count) a.output b.output in
+    (begins a.count b.count moments) (begins_too a.count b.count moments) a.output b.output in
     (same.0, same.1, same.3)

@@ -20,7 +20,7 @@ use Rattle.s3_connection.specs.Output.{Input}
 use Rattle.s3_connection.specs.Connection as sessions
 use Rattle.s3_connection.specs.Connection.{entries_with}
 use Rattle.s3_connection.specs.Holds.{ConnectionsWrite}
-use Rattle.s3_world.specs.Played.{IsIdle, Playing, Plays, standing_of, turn_of, unsent_of}
+use Rattle.s3_world.specs.Played.{IsIdle, Playing, Plays, standing_of, turn_of, written_by}
 use Rattle.s3_world.specs.Timed.{TimedOutputs}
 use Rattle.s3_world.proofs.PlayedLemmas.{OneTimedOutput, asks_one, plays_write}
 use Rattle.s3_world.specs.Events.{TurnAt, received, turn_given, turns_given}
@@ -71,26 +71,26 @@ module _ (c : ℕ) (old new : List Playing) (Stays : Type 0) (Change : Playing �
 abbrev input_with : List ℕ → Bool → Input
 input_with bytes ended = record { bytes = bytes; ended = ended }
 
-pub fed_stands : (settings : Settings) (old new : List Playing) (book : Journal) (moments : List (List ℕ)) (happened : List Event) (sent : ℕ → List ℕ)
+pub fed_stands : (settings : Settings) (old new : List Playing) (book : Journal) (moments : List (List ℕ)) (happened : List Event)
     (c : ℕ) (more : Input → Input) (e : Event)
     → IsChangedAt c old new (Unit {0}) (IsFedWith settings more)
     → turn_given happened e ≡ [] → ((k : ℕ) → k ≢ c → received k (happened ++ e ∷ []) ≡ received k happened)
     → received c (happened ++ e ∷ []) ≡ more (received c happened)
-    → StandsAfter (record { settings = settings; connections = old; book = book }) moments happened sent
-    → StandsAfter (record { settings = settings; connections = new; book = book }) moments (happened ++ e ∷ []) sent
-fed_stands settings old new book moments happened sent c more e at no_turn others own s =
+    → StandsAfter (record { settings = settings; connections = old; book = book }) moments happened
+    → StandsAfter (record { settings = settings; connections = new; book = book }) moments (happened ++ e ∷ [])
+fed_stands settings old new book moments happened c more e at no_turn others own s =
     let was = one_was c old new (Unit {0}) (IsFedWith settings more) at in
     record {
       each = at.count ∙ s.each;
       holds = λ k d is.
-          elim (same_or_not k c) as (λ _. Plays d settings (moments_of k moments) (received k (happened ++ e ∷ [])) (entries_of_seat k book.entries) (sent k)) [
+          elim (same_or_not k c) as (λ _. Plays d settings (moments_of k moments) (received k (happened ++ e ∷ [])) (entries_of_seat k book.entries)) [
             | inl same ↦
                 let b = was d (subst (λ (j : ℕ). slice_get new j ≡ Some d) same is) in
-                subst (λ (j : ℕ). Plays d settings (moments_of j moments) (received j (happened ++ e ∷ [])) (entries_of_seat j book.entries) (sent j)) (sym same)
-                (subst (λ (input : Input). Plays d settings (moments_of c moments) input (entries_of_seat c book.entries) (sent c)) (sym own)
-                (b.2.holds (moments_of c moments) (received c happened) (entries_of_seat c book.entries) (sent c) (s.holds c b.0 b.1)))
+                subst (λ (j : ℕ). Plays d settings (moments_of j moments) (received j (happened ++ e ∷ [])) (entries_of_seat j book.entries)) (sym same)
+                (subst (λ (input : Input). Plays d settings (moments_of c moments) input (entries_of_seat c book.entries)) (sym own)
+                (b.2.holds (moments_of c moments) (received c happened) (entries_of_seat c book.entries) (s.holds c b.0 b.1)))
             | inr differ ↦
-                subst (λ (input : Input). Plays d settings (moments_of k moments) input (entries_of_seat k book.entries) (sent k)) (sym (others k differ))
+                subst (λ (input : Input). Plays d settings (moments_of k moments) input (entries_of_seat k book.entries)) (sym (others k differ))
                 (s.holds k d (sym (at.others k differ) ∙ is))
           ];
       idle = λ k d is.
@@ -120,23 +120,23 @@ given_piece c happened piece =
           ∙ ap (λ (b : Bool). cond b (received c happened) (record { bytes = (received c happened).bytes ++ piece.items; ended = (received c happened).ended })) (sym on)
     ]
 
-pub piece_stands : (settings : Settings) (old new : List Playing) (book : Journal) (moments : List (List ℕ)) (happened : List Event) (sent : ℕ → List ℕ)
+pub piece_stands : (settings : Settings) (old new : List Playing) (book : Journal) (moments : List (List ℕ)) (happened : List Event)
     (c : ℕ) (piece : Vec ℕ) (bytes : List ℕ) → piece.items ≡ bytes
     → IsChangedAt c old new (Unit {0}) (IsFedWith settings (λ input. sessions.received input bytes))
-    → StandsAfter (record { settings = settings; connections = old; book = book }) moments happened sent
-    → StandsAfter (record { settings = settings; connections = new; book = book }) moments (happened ++ events.Piece c piece ∷ []) sent
-piece_stands settings old new book moments happened sent c piece bytes is at s =
-    fed_stands settings old new book moments happened sent c (λ input. sessions.received input bytes) (events.Piece c piece) at refl
+    → StandsAfter (record { settings = settings; connections = old; book = book }) moments happened
+    → StandsAfter (record { settings = settings; connections = new; book = book }) moments (happened ++ events.Piece c piece ∷ [])
+piece_stands settings old new book moments happened c piece bytes is at s =
+    fed_stands settings old new book moments happened c (λ input. sessions.received input bytes) (events.Piece c piece) at refl
     (λ k differ. received_others_piece k c happened piece (λ same. differ (sym same)))
     (given_piece c happened piece ∙ ap (sessions.received (received c happened)) is) s
 
 -- its end
-pub end_stands : (settings : Settings) (old new : List Playing) (book : Journal) (moments : List (List ℕ)) (happened : List Event) (sent : ℕ → List ℕ) (c : ℕ)
+pub end_stands : (settings : Settings) (old new : List Playing) (book : Journal) (moments : List (List ℕ)) (happened : List Event) (c : ℕ)
     → IsChangedAt c old new (Unit {0}) (IsFedWith settings (λ input. record { bytes = input.bytes; ended = true }))
-    → StandsAfter (record { settings = settings; connections = old; book = book }) moments happened sent
-    → StandsAfter (record { settings = settings; connections = new; book = book }) moments (happened ++ events.End c ∷ []) sent
-end_stands settings old new book moments happened sent c at s =
-    fed_stands settings old new book moments happened sent c (λ input. record { bytes = input.bytes; ended = true }) (events.End c) at refl
+    → StandsAfter (record { settings = settings; connections = old; book = book }) moments happened
+    → StandsAfter (record { settings = settings; connections = new; book = book }) moments (happened ++ events.End c ∷ [])
+end_stands settings old new book moments happened c at s =
+    fed_stands settings old new book moments happened c (λ input. record { bytes = input.bytes; ended = true }) (events.End c) at refl
     (λ k differ. received_others_end k c happened (λ same. differ (sym same)))
     (received_end c happened) s
 
@@ -163,25 +163,25 @@ there [] c less none = omega arith
 there (x ∷ xs) zero less none = cc
 there (x ∷ xs) (suc c) less none = there xs c (omega arith) none
 
-same_some : {X : Type 0} (x : Option X) (y z : X) → x ≡ Some y → x ≡ Some z → y ≡ z
+pub same_some : {X : Type 0} (x : Option X) (y z : X) → x ≡ Some y → x ≡ Some z → y ≡ z
 same_some x y z p q = cc
 
 none_some : {X : Type 0} (x : Option X) (y : X) → x ≡ None → x ≡ Some y → ⊥
 none_some x y p q = cc
 
 module _ (one : OneTimedOutput) (write : ConnectionsWrite)
-    (settings : Settings) (old new : List Playing) (before after : Journal) (moments : List (List ℕ)) (happened : List Event) (sent : ℕ → List ℕ) (c : ℕ)
-    (s : StandsAfter (record { settings = settings; connections = old; book = before }) moments happened sent)
+    (settings : Settings) (old new : List Playing) (before after : Journal) (moments : List (List ℕ)) (happened : List Event) (c : ℕ)
+    (s : StandsAfter (record { settings = settings; connections = old; book = before }) moments happened)
     (at : IsChangedAt c old new (after.entries ≡ before.entries) (HasTaken settings c before after))
     (least : after.least ≡ before.least) (opens : after.opening ≡ before.opening) (keeps : KeepsHistory after) where
   abbrev turn_now : TurnAt
   turn_now = record { connection = c; input = received c happened }
 
   abbrev Later : Type 0
-  Later = StandsAfter (record { settings = settings; connections = new; book = after }) moments (happened ++ events.Turn c ∷ []) sent
+  Later = StandsAfter (record { settings = settings; connections = new; book = after }) moments (happened ++ events.Turn c ∷ [])
 
   abbrev OwnHolds : Type 0
-  OwnHolds = (d : Playing) → slice_get new c ≡ Some d → Plays d settings (moments_of c moments) (received c happened) (entries_of_seat c after.entries) (sent c)
+  OwnHolds = (d : Playing) → slice_get new c ≡ Some d → Plays d settings (moments_of c moments) (received c happened) (entries_of_seat c after.entries)
 
   abbrev OwnIdle : Type 0
   OwnIdle = (d : Playing) → slice_get new c ≡ Some d → IsIdle d
@@ -195,13 +195,13 @@ module _ (one : OneTimedOutput) (write : ConnectionsWrite)
   stands_then own idle others taken = record {
     each = at.count ∙ s.each;
     holds = λ k d is.
-        subst (λ (input : Input). Plays d settings (moments_of k moments) input (entries_of_seat k after.entries) (sent k)) (sym (received_turn k c happened))
+        subst (λ (input : Input). Plays d settings (moments_of k moments) input (entries_of_seat k after.entries)) (sym (received_turn k c happened))
         (elim (same_or_not k c) [
           | inl same ↦
-              subst (λ (j : ℕ). Plays d settings (moments_of j moments) (received j happened) (entries_of_seat j after.entries) (sent j)) (sym same)
+              subst (λ (j : ℕ). Plays d settings (moments_of j moments) (received j happened) (entries_of_seat j after.entries)) (sym same)
               (own d (subst (λ (j : ℕ). slice_get new j ≡ Some d) same is))
           | inr differ ↦
-              subst (λ (es : List Entry). Plays d settings (moments_of k moments) (received k happened) es (sent k)) (sym (others k differ))
+              subst (λ (es : List Entry). Plays d settings (moments_of k moments) (received k happened) es) (sym (others k differ))
               (s.holds k d (sym (at.others k differ) ∙ is))
         ]);
     idle = λ k d is.
@@ -250,18 +250,18 @@ module _ (one : OneTimedOutput) (write : ConnectionsWrite)
     turn_idle stays same idle =
         let held = s.holds c b was in
         stands_then
-        (λ e at_e. subst (λ (x : Playing). Plays x settings (moments_of c moments) (received c happened) (entries_of_seat c after.entries) (sent c))
+        (λ e at_e. subst (λ (x : Playing). Plays x settings (moments_of c moments) (received c happened) (entries_of_seat c after.entries))
         (sym stays ∙ same_some (slice_get new c) d e is at_e)
-        (subst (λ (es : List Recorded). Plays b settings (moments_of c moments) (received c happened) (entries_of_seat c es) (sent c)) (sym same) held))
+        (subst (λ (es : List Recorded). Plays b settings (moments_of c moments) (received c happened) (entries_of_seat c es)) (sym same) held))
         (λ e at_e. subst IsIdle (sym stays ∙ same_some (slice_get new c) d e is at_e) (s.idle c b was))
         (λ k differ. ap (entries_of_seat k) same)
         (taken_without same
         (elim (cases_Bool (is_dead (standing_of b))) [
           | inl dead ↦ inr (lost_now (ap (λ (x : Playing). is_dead (standing_of x)) stays ∙ dead), refl)
           | inr lives ↦ inl (λ turn waits.
-              let wrote = plays_write write b settings (moments_of c moments) (received c happened) (entries_of_seat c before.entries) (sent c) held (s.idle c b was) in
+              let wrote = plays_write write b settings (moments_of c moments) (received c happened) (entries_of_seat c before.entries) held (s.idle c b was) in
               let stand = (one settings (moments_of c moments) (received c happened) (entries_of_seat c before.entries) (standing_of b) standings.Waiting wrote.0 (turn ∷ [])
-              (sent c ++ unsent_of b) waits.1.0 lives refl wrote.1 waits.1.1).2 in
+              (written_by b) waits.1.0 lives refl wrote.1 waits.1.1).2 in
               true≢false (sym (ap is_waiting stand) ∙ idle))
         ]))
 
@@ -269,13 +269,13 @@ module _ (one : OneTimedOutput) (write : ConnectionsWrite)
       -- its command waited
       waited : WaitsAt settings moments before.entries turn_now turn
       waited =
-          let wrote = plays_write write b settings (moments_of c moments) (received c happened) (entries_of_seat c before.entries) (sent c) (s.holds c b was) (s.idle c b was) in (
+          let wrote = plays_write write b settings (moments_of c moments) (received c happened) (entries_of_seat c before.entries) (s.holds c b was) (s.idle c b was) in (
             count_there,
             (
-              sent c ++ unsent_of b,
-              subst (λ (standing : Standing). TimedOutputs standing settings (moments_of c moments) (received c happened) (entries_of_seat c before.entries) (turn ∷ []) (sent c ++ unsent_of b))
+              written_by b,
+              subst (λ (standing : Standing). TimedOutputs standing settings (moments_of c moments) (received c happened) (entries_of_seat c before.entries) (turn ∷ []) (written_by b))
                   (is_standing (standing_of b) had.waited)
-                  (subst (λ (ts : List Turn). TimedOutputs (standing_of b) settings (moments_of c moments) (received c happened) (entries_of_seat c before.entries) ts (sent c ++ unsent_of b))
+                  (subst (λ (ts : List Turn). TimedOutputs (standing_of b) settings (moments_of c moments) (received c happened) (entries_of_seat c before.entries) ts (written_by b))
                   (asks_one b.connection.stage turn wrote.0 asks wrote.2) wrote.1),
             ),
           )
@@ -285,11 +285,11 @@ module _ (one : OneTimedOutput) (write : ConnectionsWrite)
 
       -- memory ran out at it
       turn_failed : (e : NoMemory) → after.entries ≡ before.entries → is_dead (standing_of d) ≡ true
-          → Plays d settings (moments_of c moments) (received c happened) (entries_of_seat c before.entries) (sent c) → Later
+          → Plays d settings (moments_of c moments) (received c happened) (entries_of_seat c before.entries) → Later
       turn_failed e same dead holds =
           stands_then
-          (λ x at_x. subst (λ (y : Playing). Plays y settings (moments_of c moments) (received c happened) (entries_of_seat c after.entries) (sent c)) (same_some (slice_get new c) d x is at_x)
-          (subst (λ (es : List Recorded). Plays d settings (moments_of c moments) (received c happened) (entries_of_seat c es) (sent c)) (sym same) holds))
+          (λ x at_x. subst (λ (y : Playing). Plays y settings (moments_of c moments) (received c happened) (entries_of_seat c after.entries)) (same_some (slice_get new c) d x is at_x)
+          (subst (λ (es : List Recorded). Plays d settings (moments_of c moments) (received c happened) (entries_of_seat c es)) (sym same) holds))
           idle_then
           (λ k differ. ap (entries_of_seat k) same)
           (taken_without same (inr (lost_now dead, refl)))
@@ -300,13 +300,13 @@ module _ (one : OneTimedOutput) (write : ConnectionsWrite)
         entry_now = record { seat = c; entry = record { command = turn.command; moment = turn.moment; answer = answer } }
 
         turn_answered : after.entries ≡ before.entries ++ entry_now ∷ []
-            → Plays d settings (moments_of c moments) (received c happened) (entries_of_seat c before.entries ++ entry_now.entry ∷ []) (sent c) → Later
+            → Plays d settings (moments_of c moments) (received c happened) (entries_of_seat c before.entries ++ entry_now.entry ∷ []) → Later
         turn_answered more holds =
             let own : entries_of_seat c after.entries ≡ entries_of_seat c before.entries ++ entry_now.entry ∷ [] =
             ap (entries_of_seat c) more ∙ seat_own c before.entries entry_now refl in
             stands_then
-            (λ x at_x. subst (λ (y : Playing). Plays y settings (moments_of c moments) (received c happened) (entries_of_seat c after.entries) (sent c)) (same_some (slice_get new c) d x is at_x)
-            (subst (λ (es : List Entry). Plays d settings (moments_of c moments) (received c happened) es (sent c)) (sym own) holds))
+            (λ x at_x. subst (λ (y : Playing). Plays y settings (moments_of c moments) (received c happened) (entries_of_seat c after.entries)) (same_some (slice_get new c) d x is at_x)
+            (subst (λ (es : List Entry). Plays d settings (moments_of c moments) (received c happened) es) (sym own) holds))
             idle_then
             (λ k differ. ap (entries_of_seat k) more ∙ seat_others k before.entries entry_now (λ same. differ (sym same)))
             (subst (λ (es : List Recorded). AreTaken settings moments (is_lost_in new) [] (turns_given happened ++ turn_now ∷ []) es) (sym more)
@@ -317,7 +317,7 @@ module _ (one : OneTimedOutput) (write : ConnectionsWrite)
             (ap (λ (x : Option Playing). is_dead (standing_in x)) was ∙ lives_waiting (standing_of b) had.waited))))
 
       turn_had : (answered : Result Answer NoMemory) → IsRecorded c d before after turn answered
-          → Plays d settings (moments_of c moments) (received c happened) (entries_with (entries_of_seat c before.entries) turn answered) (sent c) → Later
+          → Plays d settings (moments_of c moments) (received c happened) (entries_with (entries_of_seat c before.entries) turn answered) → Later
       turn_had (Ok answer) recorded holds = turn_answered answer recorded holds
       turn_had (Err e) recorded holds = turn_failed e recorded.0 recorded.1 holds
 
@@ -325,7 +325,7 @@ module _ (one : OneTimedOutput) (write : ConnectionsWrite)
     turn_here None asks taken = turn_idle taken.0 taken.1 (taken.2 (s.idle c b was))
     turn_here (Some turn) asks had =
         turn_had turn asks had had.answered had.recorded
-        (had.holds (moments_of c moments) (received c happened) (entries_of_seat c before.entries) (sent c) (s.holds c b was))
+        (had.holds (moments_of c moments) (received c happened) (entries_of_seat c before.entries) (s.holds c b was))
 
   turn_in : (x y : Option Playing) → slice_get old c ≡ x → slice_get new c ≡ y → IsChangedIn (after.entries ≡ before.entries) (HasTaken settings c before after) x y → Later
   turn_in None None was is change = turn_nowhere was is change

@@ -1,10 +1,10 @@
 -- What holds of all runs.
-use Rattle.std.specs.Prelude.{◌≡◌, ◌<◌, ℕ, false, List, [], ◌∷◌, ◌++◌, length}
+use Rattle.std.specs.Prelude.{◌≡◌, ◌<◌, ℕ, false, List, length}
 use Rattle.s3_config.specs.Settings.{Settings}
 use Rattle.s3_journal.specs.Recorded.{Recorded}
 use Rattle.s3_session.specs.Output.{is_dead}
 use Rattle.s3_events.specs.declared.event.Event.{Event}
-use Rattle.s3_world.specs.Events.{brought, is_end, received, turns_given}
+use Rattle.s3_world.specs.Events.{received, turns_given}
 use Rattle.s3_world.specs.Run.{Runs}
 
 -- the events bring the same to each connection, in the whole and up to each turn of it, and give the same turns in the
@@ -27,10 +27,3 @@ OneRun =
     → IsWhole settings moments happened outs entries run → IsWhole settings moments other outs' entries' run'
     → AreAlike happened other
     → (entries ≡ entries') × (outs ≡ outs')
-
--- as long as its end has not come, a connection receives what each event brings it, and its end
-abbrev pub EventsBring : Type 0
-EventsBring =
-    (c : ℕ) (happened : List Event) (e : Event)
-    → (received c happened).ended ≡ false
-    → received c (happened ++ e ∷ []) ≡ record { bytes = (received c happened).bytes ++ brought c e; ended = is_end c e }

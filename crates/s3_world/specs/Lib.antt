@@ -3,10 +3,12 @@ pub mod Events
 pub mod Laws
 pub mod Moments
 pub mod Played
+pub mod Replaying
 pub mod Run
 pub mod Shown
 pub mod StandsAfter
 pub mod Timed
 pub mod World
+pub use Rattle.s3_session.specs.Replay
 pub use Rattle.s3_connection.specs.Output
 pub use Rattle.s3_journal.specs.Book

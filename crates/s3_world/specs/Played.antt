@@ -1,6 +1,6 @@
 -- A connection of a world, with the moments that its messages have still to get, as those see it who hold it, and what the clauses
 -- of a world carry along of it. Nobody has to believe it.
-use Rattle.std.specs.Prelude.{ℕ, List, Option}
+use Rattle.std.specs.Prelude.{ℕ, List, [], Option}
 use Rattle.s3_config.specs.Settings.{Settings}
 use Rattle.s3_machine.specs.History.{Entry}
 use Rattle.s3_machine.specs.declared.turn.Turn.{Turn}
@@ -9,19 +9,19 @@ use Rattle.s3_connection.specs.Connection as connections
 use Rattle.s3_connection.specs.Connection.{Connected, IsNext}
 use Rattle.s3_connection.specs.Holds.{Holds}
 use Rattle.s3_connection.specs.Output.{Input}
-use Rattle.s3_world.specs.Moments.{Handing, HasHanded, handed}
+use Rattle.s3_world.specs.Moments.{HasHanded, handed}
 
--- a connection, and the moments of a list that its messages have still to get
+-- a connection, and what hands out the moments that its messages have still to get
 pub record Playing : Type 0 where
   pub connection : Connected
-  pub moments : Handing
+  pub moments : List ℕ
 
 abbrev pub standing_of : Playing → Standing
 standing_of p = connections.standing_of p.connection
 
--- what it wrote and has not sent
-abbrev pub unsent_of : Playing → List ℕ
-unsent_of p = connections.unsent_of p.connection
+-- what it wrote
+abbrev pub written_by : Playing → List ℕ
+written_by p = connections.unsent_of p.connection
 
 -- the turn that waits, if one does
 abbrev pub turn_of : Playing → Option Turn
@@ -31,8 +31,8 @@ turn_of p = connections.turn_of p.connection
 abbrev pub IsIdle : Playing → Type 0
 IsIdle p = IsNext p.connection.stage
 
--- it received this, its messages had the first moments of the list, the commands of the entries were answered, and so much is sent
-pub record Plays (p : Playing) (settings : Settings) (moments : List ℕ) (input : Input) (entries : List Entry) (sent : List ℕ) : Type 0 where
+-- it received this, its messages had the first moments of the list, and the commands of the entries were answered
+pub record Plays (p : Playing) (settings : Settings) (moments : List ℕ) (input : Input) (entries : List Entry) : Type 0 where
   pub count : ℕ
   pub hands : HasHanded moments count p.moments
-  pub holds : Holds p.connection settings input (handed moments count) entries sent
+  pub holds : Holds p.connection settings input (handed moments count) entries []

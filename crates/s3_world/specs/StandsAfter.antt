@@ -2,7 +2,7 @@
 -- `StandsAfter` is what the clauses of a world carry along. What it comes to is a law, `worlds_run`: a run. So its inside need
 -- not be believed. A reader believes the law at the end; the others serve `StandsAfter` and the clauses of private functions
 -- alone.
-use Rattle.std.specs.Prelude.{◌≡◌, ◌≢◌, ℕ, Bool, true, false, List, [], ◌∷◌, ◌++◌, length, take, Option, Some, None, Result, Ok, Err}
+use Rattle.std.specs.Prelude.{◌≡◌, ◌≢◌, ℕ, Bool, true, false, List, [], ◌∷◌, ◌++◌, length, Option, Some, None, Result, Ok, Err}
 use Rattle.std.specs.List.{slice_get}
 use Rattle.s3_config.specs.Settings.{Settings}
 use Rattle.s3_records.specs.Catalogue.{opening}
@@ -11,27 +11,27 @@ use Rattle.s3_machine.specs.History.{Entry}
 use Rattle.s3_machine.specs.declared.command.Answer.{Answer}
 use Rattle.s3_machine.specs.declared.turn.Turn.{Turn}
 use Rattle.s3_store.specs.Steps.{opened}
-use Rattle.s3_session.specs.Output.{Reading, is_dead, is_waiting}
+use Rattle.s3_session.specs.Output.{is_dead, is_waiting}
 use Rattle.s3_journal.specs.Book.{Journal, KeepsHistory}
 use Rattle.s3_journal.specs.Recorded.{entries_of_seat, recorded}
 use Rattle.s3_events.specs.declared.event.Event.{Event}
 use Rattle.s3_connection.specs.Connection.{entries_with, nothing_received}
 use Rattle.s3_connection.specs.Output.{Input}
 use Rattle.s3_world.specs.Events.{received, turns_given}
-use Rattle.s3_world.specs.Played.{IsIdle, Playing, Plays, standing_of, turn_of, unsent_of}
+use Rattle.s3_world.specs.Played.{IsIdle, Playing, Plays, standing_of, turn_of}
 use Rattle.s3_world.specs.Run.{AreTaken, Runs, moments_of}
-use Rattle.s3_world.specs.Shown.{AreOutputs, standing_at}
+use Rattle.s3_world.specs.Shown.{standing_at, written_by_all}
 use Rattle.s3_world.specs.World.{Serving}
 
 -- memory ran out in a connection
 abbrev pub is_lost_in : List Playing → ℕ → Bool
 is_lost_in connections c = is_dead (standing_at connections c)
 
--- a world stands so after these events, with so much sent
-pub record StandsAfter (world : Serving) (moments : List (List ℕ)) (happened : List Event) (sent : ℕ → List ℕ) : Type 0 where
+-- a world stands so after these events
+pub record StandsAfter (world : Serving) (moments : List (List ℕ)) (happened : List Event) : Type 0 where
   pub each : length world.connections ≡ length moments
   pub holds : (c : ℕ) (b : Playing) → slice_get world.connections c ≡ Some b
-      → Plays b world.settings (moments_of c moments) (received c happened) (entries_of_seat c world.book.entries) (sent c)
+      → Plays b world.settings (moments_of c moments) (received c happened) (entries_of_seat c world.book.entries)
   pub idle : (c : ℕ) (b : Playing) → slice_get world.connections c ≡ Some b → IsIdle b
   pub least : world.book.least ≡ world.settings.min_part
   pub opens : world.book.opening ≡ opened (opening world.settings.buckets)
@@ -40,9 +40,8 @@ pub record StandsAfter (world : Serving) (moments : List (List ℕ)) (happened :
 
 -- nothing came of a connection whose messages have these moments
 pub record IsFresh (b : Playing) (moments : List ℕ) : Type 0 where
-  pub holds : (settings : Settings) → Plays b settings moments nothing_received [] []
+  pub holds : (settings : Settings) → Plays b settings moments nothing_received []
   pub idle : IsIdle b
-  pub reads : standing_of b ≡ Reading
 
 -- so many of these connections were made, each for its list of moments
 pub record AreFresh (connections : List Playing) (moments : List (List ℕ)) (made : ℕ) : Type 0 where
@@ -64,17 +63,9 @@ pub record IsChangedAt (c : ℕ) (old new : List Playing) (Stays : Type 0) (Chan
 
 -- a connection received more
 pub record IsFedWith (settings : Settings) (more : Input → Input) (b d : Playing) : Type 0 where
-  pub holds : (moments : List ℕ) (input : Input) (entries : List Entry) (sent : List ℕ)
-      → Plays b settings moments input entries sent → Plays d settings moments (more input) entries sent
+  pub holds : (moments : List ℕ) (input : Input) (entries : List Entry)
+      → Plays b settings moments input entries → Plays d settings moments (more input) entries
   pub dead : is_dead (standing_of b) ≡ true → is_dead (standing_of d) ≡ true
-  pub idle : IsIdle b → IsIdle d
-
--- so many of the bytes that a connection wrote were sent
-pub record IsSentOn (count : ℕ) (b d : Playing) : Type 0 where
-  pub holds : (settings : Settings) (moments : List ℕ) (input : Input) (entries : List Entry) (sent : List ℕ)
-      → Plays b settings moments input entries sent
-      → Plays d settings moments input entries (sent ++ take count (unsent_of b))
-  pub standing : standing_of d ≡ standing_of b
   pub idle : IsIdle b → IsIdle d
 
 -- the entry of a turn that was answered, or none where memory ran out at it, and then the connection is dead
@@ -88,9 +79,8 @@ pub record HadTurn (settings : Settings) (seat : ℕ) (b d : Playing) (old new :
   pub answered : Result Answer NoMemory
   pub waited : is_waiting (standing_of b) ≡ true
   pub recorded : IsRecorded seat d old new turn answered
-  pub holds : (moments : List ℕ) (input : Input) (entries : List Entry) (sent : List ℕ)
-      → Plays b settings moments input entries sent
-      → Plays d settings moments input (entries_with entries turn answered) sent
+  pub holds : (moments : List ℕ) (input : Input) (entries : List Entry)
+      → Plays b settings moments input entries → Plays d settings moments input (entries_with entries turn answered)
   pub idle : IsIdle d
 
 -- or none waited, and nothing changed
@@ -102,10 +92,8 @@ IsTurnTaken settings seat b d old new (Some turn) = HadTurn settings seat b d ol
 abbrev pub HasTaken : Settings → ℕ → Journal → Journal → Playing → Playing → Type 0
 HasTaken settings seat old new b d = IsTurnTaken settings seat b d old new (turn_of b)
 
--- a world that stands after some events has made a run of them: its connections stand as in the run, and what they wrote is
--- the run's outputs
+-- a world that stands after some events has made a run of them, whose outputs are what its connections wrote
 abbrev pub WorldsRun : Type 0
 WorldsRun =
-    (world : Serving) (moments : List (List ℕ)) (happened : List Event) (sent : ℕ → List ℕ) (outs : List (List ℕ))
-    → StandsAfter world moments happened sent → AreOutputs world.connections sent outs
-    → (run : Runs world.settings moments happened outs world.book.entries) × ((c : ℕ) → run.standing c ≡ standing_at world.connections c)
+    (world : Serving) (moments : List (List ℕ)) (happened : List Event)
+    → StandsAfter world moments happened → Runs world.settings moments happened (written_by_all world.connections) world.book.entries

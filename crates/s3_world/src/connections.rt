@@ -1,13 +1,12 @@
 //! What an event does to one of several connections.
 
-ghost use Rattle.std.specs.Prelude.{◌≡◌, ◌≢◌, ◌<◌, ◌≤◌, ℕ, true, [], length, take, IfOk, OnOk, OnErr};
+ghost use Rattle.std.specs.Prelude.{◌≡◌, ◌≢◌, ◌<◌, true, [], length, IfOk, OnOk, OnErr};
 ghost use Rattle.s3_config.specs.Settings.{Settings};
-ghost use Rattle.s3_session.specs.Output.{Reading, is_waiting};
 ghost use Rattle.s3_connection.specs.Connection as sessions;
 ghost use Rattle.s3_world.specs.World.{IsEntered};
-ghost use Rattle.s3_world.specs.Run.{each_moments};
-ghost use Rattle.s3_world.specs.Shown.{standing_at, unsent_at, waiting_at};
-ghost use Rattle.s3_world.specs.StandsAfter.{AreFresh, HasTaken, IsChangedAt, IsFedWith, IsSentOn};
+ghost use Rattle.s3_world.specs.Run.{each_moments, output_of};
+ghost use Rattle.s3_world.specs.Shown.{waiting_at, written_by_all};
+ghost use Rattle.s3_world.specs.StandsAfter.{AreFresh, HasTaken, IsChangedAt, IsFedWith};
 
 use crate::played::Played;
 use s3_calendar::Moment;
@@ -26,9 +25,7 @@ pub(crate) fn fresh<'a>(
     alloc: Global,
     moments: &'a [Vec<Moment>],
 ) -> Result<Vec<Played<'a>>, NoMemory>
-    ensures fresh { IfOk result (λ made. AreFresh made.items (each_moments moments.now) (length moments.now)) }
-    ensures nothing { IfOk result (λ made. (c : ℕ) → unsent_at made.items c ≡ []) }
-    ensures reads { IfOk result (λ made. (c : ℕ) → standing_at made.items c ≡ Reading) }
+    ensures { IfOk result (λ made. AreFresh made.items (each_moments moments.now) (length moments.now)) }
 {
     let mut made = Vec::new(alloc);
     for number in 0..moments.len() {
@@ -37,38 +34,18 @@ pub(crate) fn fresh<'a>(
     Ok(made)
 }
 
-/// Whether a command of the connection of this number waits for its turn.
-pub(crate) fn is_one_waiting(connections: &[Played<'_>], number: usize) -> bool
-    ensures { result ≡ is_waiting (standing_at connections.now number) }
-{
-    number < connections.len() && connections[number].is_waiting()
-}
-
-/// A beginning of what the connection of this number wrote and has not sent.
-pub(crate) fn unsent_of_one<'a>(connections: &'a [Played<'_>], number: usize) -> &'a [u8]
-    ensures beginning { take (length result.now) (unsent_at connections.now number) ≡ result.now }
-    ensures within { length result.now ≤ length (unsent_at connections.now number) }
-    ensures empty { result.now ≡ [] → unsent_at connections.now number ≡ [] }
-{
-    if number < connections.len() {
-        connections[number].out()
-    } else {
-        &[]
-    }
-}
-
-/// A copy of all that the connection of this number wrote and has not sent.
+/// A copy of all that the connection of this number wrote.
 ///
 /// # Errors
 ///
-/// `NoMemory` where something is unsent and memory runs out.
+/// `NoMemory` where it wrote something and memory runs out.
 pub(crate) fn all_of_one(
     alloc: Global,
     connections: &[Played<'_>],
     number: usize,
 ) -> Result<Vec<u8>, NoMemory>
-    ensures all { IfOk result (λ all. all.items ≡ unsent_at connections.now number) }
-    ensures memory { OnErr result (unsent_at connections.now number ≢ []) }
+    ensures all { IfOk result (λ all. all.items ≡ output_of number (written_by_all connections.now)) }
+    ensures memory { OnErr result (output_of number (written_by_all connections.now) ≢ []) }
 {
     if number < connections.len() {
         connections[number].all(alloc)
@@ -100,22 +77,11 @@ pub(crate) fn feed_one(
 
 /// Says to the connection of this number, if it is there, that no more bytes come.
 pub(crate) fn end_one(connections: &mut [Played<'_>], number: usize)
-    ensures ended { (settings : Settings) → IsChangedAt number connections.old connections.new (Unit {0})
+    ensures { (settings : Settings) → IsChangedAt number connections.old connections.new (Unit {0})
         (IsFedWith settings (λ input. record input { ended = true })) }
-    ensures waits { (c : ℕ) → is_waiting (standing_at connections.new c) ≡ is_waiting (standing_at connections.old c) }
 {
     if number < connections.len() {
         connections[number].end();
-    }
-}
-
-/// Says that so many bytes in front of what the connection of this number wrote were sent.
-pub(crate) fn sent_one(connections: &mut [Played<'_>], number: usize, count: usize)
-    requires within { count ≤ length (unsent_at connections.old number) }
-    ensures sent { IsChangedAt number connections.old connections.new (Unit {0}) (IsSentOn count) }
-{
-    if number < connections.len() {
-        connections[number].sent(count);
     }
 }
 

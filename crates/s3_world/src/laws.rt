@@ -1,12 +1,12 @@
 //! What is known of all worlds: laws, with nothing to run.
 
-ghost use Rattle.s3_world.specs.Laws.{EventsBring, OneRun};
+ghost use Rattle.s3_world.specs.Laws.{OneRun};
 ghost use Rattle.s3_world.specs.StandsAfter.{WorldsRun};
 
 use s3_connection::{connections_write, outputs_are_one};
 
-/// A law: a world that stands after some events, with so much sent, has made a run of them, whose outputs are what was sent
-/// and what is unsent. There is nothing to run.
+/// A law: a world that stands after some events has made a run of them, whose outputs are what its connections wrote. There is
+/// nothing to run.
 pub fn worlds_run()
     ensures { WorldsRun }
 {
@@ -21,8 +21,3 @@ pub fn runs_are_one()
 {
     outputs_are_one();
 }
-
-/// A law: what one event more brings to a connection. There is nothing to run.
-pub fn events_bring()
-    ensures { EventsBring }
-{}

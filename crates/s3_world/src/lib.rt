@@ -1,16 +1,20 @@
 //! Connections that share one store: their bytes come in pieces, and their commands have their turns, in any order
-//! of events (`World`). What a run of them is stands in `specs/Run.antt`; the laws say what holds of all runs.
+//! of events (`World`). What a run of them is stands in `specs/Run.antt`; the laws say what holds of all runs. And one connection
+//! over a store of its own, whose commands have their turns at once (`Replay`, `replay_one`).
 #![tactic(auto)]
 
 mod alike;
 mod connections;
 mod laws;
-mod moments;
 mod played;
+mod replay;
 mod running;
+mod whole;
 mod world;
 
 pub use alike::{cuts_and_moves_are_alike, deaths_show};
-pub use laws::{events_bring, runs_are_one, worlds_run};
+pub use laws::{runs_are_one, worlds_run};
+pub use replay::Replay;
 pub use running::run;
+pub use whole::replay_one;
 pub use world::World;

@@ -4,7 +4,7 @@ ghost use Rattle.std.specs.Prelude.{◌≡◌, ℕ, List, [], IfOk, OnOk};
 ghost use Rattle.s3_records.specs.Catalogue.{opening};
 ghost use Rattle.s3_store.specs.Steps.{opened};
 ghost use Rattle.s3_world.specs.Run.{Runs, each_moments};
-ghost use Rattle.s3_world.specs.Shown.{nothing_sent, unsent_of_all};
+ghost use Rattle.s3_world.specs.Shown.{written_by_all};
 ghost use Rattle.s3_world.specs.StandsAfter.{StandsAfter};
 
 use crate::laws::worlds_run;
@@ -18,7 +18,7 @@ use s3_terms::NoMemory;
 use std::alloc::Global;
 
 /// The world after these events, one after another, of connections over a store that holds the opening buckets: its history
-/// and what the connections wrote, all of it unsent, are a run of the events.
+/// and what the connections wrote are a run of the events.
 ///
 /// # Errors
 ///
@@ -32,7 +32,7 @@ pub fn run<'a, R: Records + Drop>(
 ) -> Result<World<'a, R>, NoMemory>
     requires opening { store ≡ opened (opening config.now.buckets) }
     ensures runs { IfOk result (λ world.
-        Runs config.now (each_moments moments.now) events.now (unsent_of_all world.connections) world.book.entries) }
+        Runs config.now (each_moments moments.now) events.now (written_by_all world.connections) world.book.entries) }
 {
     worlds_run();
     let mut world = World::new(alloc, config, store, moments)?;
@@ -42,8 +42,8 @@ pub fn run<'a, R: Records + Drop>(
 
 // Does what events say, one after another.
 fn step_all<R: Records + Drop>(world: &mut World<'_, R>, events: &[Event]) -> Result<(), NoMemory>
-    ensures stands { (moments : List (List ℕ)) → StandsAfter world.old moments [] nothing_sent
-        → OnOk result (StandsAfter world.new moments events.now nothing_sent) }
+    ensures stands { (moments : List (List ℕ)) → StandsAfter world.old moments []
+        → OnOk result (StandsAfter world.new moments events.now) }
     ensures settings { world.new.settings ≡ world.old.settings }
 {
     for number in 0..events.len() {

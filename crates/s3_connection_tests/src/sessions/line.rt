@@ -1,4 +1,4 @@
-//! A connection with its clock, and the turn that its command waits for.
+//! A connection with the moments of its messages, and the turn that its command waits for.
 ghost use Rattle.std.specs.Prelude.{◌≡◌, is_some};
 ghost use Rattle.s3_session.specs.Output.{is_waiting};
 ghost use Rattle.s3_session.specs.Session.{standing_of};
@@ -7,7 +7,7 @@ use crate::sessions::clock::Counting;
 use s3_config::Config;
 use s3_machine::Turn;
 use s3_records::MapRecords;
-use s3_session::{Need, Next, Session};
+use s3_session::{Fed, Need, Next, Session};
 use s3_store::Store;
 use s3_terms::NoMemory;
 use std::alloc::Global;
@@ -27,12 +27,12 @@ pub(crate) enum Then {
     Ended,
 }
 
-/// A connection with its clock, the turn that its command waits for, and the store where it has its turns.
+/// A connection with the moments of its messages, the turn that its command waits for, and the store where it has its turns.
 #[derive(Drop)]
 pub(crate) struct Line<'a> {
     alloc: Global,
     config: &'a Config,
-    clock: Counting,
+    moments: Counting,
     session: Session,
     waiting: Option<Turn>,
     has_ended: bool,
@@ -43,17 +43,17 @@ pub(crate) struct Line<'a> {
 }
 
 impl<'a> Line<'a> {
-    /// A connection of which nothing has come, with this clock, over this store.
+    /// A connection of which nothing has come, with these moments, over this store.
     pub(crate) fn new(
         alloc: Global,
         config: &'a Config,
-        clock: Counting,
+        moments: Counting,
         store: &'a mut Store<MapRecords>,
     ) -> Line<'a> {
         Line {
             alloc,
             config,
-            clock,
+            moments,
             session: Session::new(alloc),
             waiting: None,
             has_ended: false,
@@ -62,9 +62,9 @@ impl<'a> Line<'a> {
         }
     }
 
-    /// How often its clock was asked.
-    pub(crate) fn asked(&self) -> usize {
-        self.clock.asked
+    /// How many of its messages had a moment.
+    pub(crate) fn timed(&self) -> usize {
+        self.moments.count
     }
 
     /// Whether the body of a message is open.
@@ -92,9 +92,15 @@ impl<'a> Line<'a> {
         if self.has_ended {
             return (0, Then::Ended);
         }
-        let (len, need) = self
-            .session
-            .feed(self.alloc, self.config, &mut self.clock, piece);
+        let now = self.moments.next;
+        let Fed {
+            len,
+            need,
+            has_moment,
+        } = self.session.feed(self.alloc, self.config, now, piece);
+        if has_moment {
+            self.moments.go_on();
+        }
         match need {
             Need::More => (len, self.reading()),
             Need::Turn(turn) => {

@@ -1,7 +1,7 @@
 //! The settings of a server with the access key of AWS's examples and two buckets, and the moment of its first message.
 use s3_calendar::Moment;
 use s3_config::Config;
-use s3_replay::replay_one;
+use s3_world::replay_one;
 use std::alloc::Global;
 
 /// 2013-05-24T00:00:00Z.

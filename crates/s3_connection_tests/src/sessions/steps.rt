@@ -8,7 +8,7 @@
 //! - `answer`: it is given the turn that it asked for;
 //! - `starve`: it is told that memory ran out for its turn;
 //! - `end`: it is told that no more bytes come;
-//! - `asked N`: nothing; its clock was asked so often.
+//! - `timed N`: nothing; so many of its messages had a moment.
 use crate::sessions::line::{Line, Then};
 use crate::sessions::parts::{bytes_of, joined};
 use std::alloc::Global;
@@ -81,7 +81,7 @@ impl Tried for Line<'_> {
         let (verb, rest) = act.split_once(' ').unwrap_or((act, ""));
         match verb {
             "feed" => return feed(alloc, self, rest),
-            "asked" => return is_number(rest, self.asked()),
+            "timed" => return is_number(rest, self.timed()),
             "answer" => self.answer(),
             "starve" => self.starve(),
             "end" => self.end(),

@@ -30,7 +30,7 @@ enum Deed<'a> {
 // What is tried with a new connection.
 #[derive(Clone, Copy)]
 enum Trial<'a> {
-    // This is done to it, and its clock goes on by so many seconds each time that it is asked.
+    // This is done to it, and each of its messages has a moment so many seconds later.
     Paced(u64, Deed<'a>),
     // It keeps what comes and goes as a script says, with one moment or with two.
     Kept(bool, &'a str),
@@ -50,7 +50,7 @@ fn does(alloc: Global, line: &mut Line, deed: Deed) -> bool {
     }
 }
 
-// Does this to a new connection over a store, with a clock of this pace.
+// Does this to a new connection over a store, with moments of this pace.
 fn does_over(
     alloc: Global,
     config: &Config,
@@ -58,10 +58,10 @@ fn does_over(
     pace: u64,
     deed: Deed,
 ) -> bool {
-    let Some(clock) = Counting::new(pace) else {
+    let Some(moments) = Counting::new(pace) else {
         return false;
     };
-    let mut line = Line::new(alloc, config, clock, store);
+    let mut line = Line::new(alloc, config, moments, store);
     let goes = does(alloc, &mut line, deed);
     drop(line);
     goes
@@ -148,7 +148,7 @@ enum Rows {
     Replayed { is_long: bool },
     // Messages that end at each byte.
     CutShort,
-    // Scripts, with a clock that goes on by so many seconds.
+    // Scripts, with moments that go on by so many seconds.
     Scripts(u64),
     // Scripts of connections that keep what comes, with one moment or two.
     Kept { is_timed: bool },

@@ -2,8 +2,8 @@
 use crate::workers::served::{Sent, ending, moment};
 use crate::workers::stream::{Manner, PLAIN};
 use s3_config::Config;
-use s3_pump::Outcome;
-use s3_replay::replay_one;
+use s3_connections::Outcome;
+use s3_world::replay_one;
 use std::alloc::Global;
 use std::mem::drop;
 use std::sync::Wait;

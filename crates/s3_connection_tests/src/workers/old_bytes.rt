@@ -2,7 +2,7 @@
 use crate::workers::gate_overlap::{HELD, Marks, Meeting, is_answered};
 use crate::workers::stream::{PLAIN, Stream};
 use s3_config::Config;
-use s3_desk::{Desk, Ground};
+use s3_journal::{Desk, Ground};
 use s3_records::MapRecords;
 use s3_terms::NoMemory;
 use std::alloc::Global;

@@ -1,6 +1,6 @@
 //! Seats of a desk that put and get.
 use crate::workers::asked::{is_body, turn};
-use s3_desk::{Desk, Ground, Seat};
+use s3_journal::{Desk, Ground, Seat};
 use s3_machine::Outcome;
 use s3_records::MapRecords;
 use std::alloc::Global;

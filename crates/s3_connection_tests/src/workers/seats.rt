@@ -1,14 +1,14 @@
 //! Those who share a desk, each in a thread of its own.
 ghost use Rattle.std.specs.Prelude.{◌≡◌};
-ghost use Rattle.s3_desk.specs.Desk.{most_seats};
+ghost use Rattle.s3_journal.specs.Desk.{most_seats};
 
 use crate::workers::gate_overlap::{Marks, overlaps};
 use crate::workers::old_bytes::replaces;
 use crate::workers::play::{SEATS, finds_others, plays};
 use crate::workers::served::store;
 use s3_config::Config;
-use s3_desk::{Desk, Ground, Start};
 use s3_history::AsItself;
+use s3_journal::{Desk, Ground, Start};
 use s3_records::MapRecords;
 use std::alloc::Global;
 use std::marker::Brand;

@@ -1,6 +1,5 @@
 //! Events of two connections that share one store, and what is written for each.
 use crate::workers::acts::{Act, Sent, events};
-use crate::workers::calls::go_well;
 use s3_calendar::Moment;
 use s3_config::Config;
 use s3_events::{Event, read_events};
@@ -139,11 +138,8 @@ fn holds(alloc: Global, config: &Config, moments: &[Vec<Moment>], row: &Row) -> 
     come_out
 }
 
-// The name of the first that goes in another way: the calls one by one, or the events of a row.
+// The name of the first row that goes in another way.
 fn first_other(alloc: Global, config: &Config, moments: &[Vec<Moment>]) -> Option<&'static str> {
-    if !go_well(alloc, config, moments) {
-        return Some("the calls one by one");
-    }
     for row in &ROWS {
         if !holds(alloc, config, moments, row) {
             return Some(row.name);

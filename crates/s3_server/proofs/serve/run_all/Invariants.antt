@@ -1,4 +1,4 @@
-use Rattle.s3_desk.specs.Desk.{most_seats}
+use Rattle.s3_journal.specs.Desk.{most_seats}
 use Rattle.s3_server.proofs.serve.run_all.Given as goal
 
 abbrev pub ghosts-run-J-Ground : goal.ghosts-run-J-Ground

@@ -1,5 +1,5 @@
 use Rattle.std.proofs.Common.{◌∙◌, take}
-use Rattle.s3_world.specs.Shown.{unsent_of_all}
+use Rattle.s3_world.specs.Shown.{written_by_all}
 use Rattle.s3_tasks.proofs.EventsLemmas.{count_taken, printed_one}
 use Rattle.s3_tasks.proofs.events.print_one.Goals as goal
 
@@ -8,4 +8,4 @@ returns c same =
     let connections = c.args.world.now.connections in
     printed_one c.print_output.result connections c.args.connection c.as_slice.result.now _ c.requires
     (c.as_slice.ensures.value ∙ c.in_ok-output.ensures.all)
-    (c.print_output.ensures.text (take c.args.connection (unsent_of_all connections)) same (count_taken connections c.args.connection c.requires))
+    (c.print_output.ensures.text (take c.args.connection (written_by_all connections)) same (count_taken connections c.args.connection c.requires))

@@ -1,17 +1,14 @@
 use Rattle.std.proofs.Common.{true}
 use Rattle.s3_world.specs.StandsAfter.{IsFedWith}
 use Rattle.s3_connection.specs.Output.{Input}
-use Rattle.s3_world.proofs.ChangeLemmas.{changed_set, fed_with, waiting_set}
+use Rattle.s3_world.proofs.ChangeLemmas.{changed_set, fed_with}
 use Rattle.s3_world.proofs.connections.end_one.Goals as goal
 
 abbrev ended : Input → Input
 ended input = record { bytes = input.bytes; ended = true }
 
 pub returns-then-number-connections : goal.returns-then-number-connections
-returns-then-number-connections c = record {
-  ended = λ settings.
-      changed_set c.args.connections.now c.args.number (Unit {0}) (IsFedWith settings ended)
-      c.index-connections-number.result c.end.new.self c.if-number-connections.true
-      (fed_with settings ended _ c.end.new.self c.end.ensures.closed c.end.ensures.idle (c.end.ensures.holds settings));
-  waits = waiting_set c.args.connections.now c.args.number c.index-connections-number.result c.end.new.self c.if-number-connections.true c.end.ensures.waits;
-}
+returns-then-number-connections c settings =
+    changed_set c.args.connections.now c.args.number (Unit {0}) (IsFedWith settings ended)
+    c.index-connections-number.result c.end.new.self c.if-number-connections.true
+    (fed_with settings ended _ c.end.new.self c.end.ensures.closed c.end.ensures.idle (c.end.ensures.holds settings))

@@ -1,17 +1,15 @@
 use Rattle.std.proofs.Common.{◌∙◌, subst}
 use Rattle.s3_config.specs.Settings.{Settings}
 use Rattle.s3_world.specs.Run.{Runs, each_moments}
-use Rattle.s3_world.specs.Shown.{nothing_sent, unsent_of_all}
-use Rattle.s3_world.proofs.RunLemmas.{unsent_outputs}
+use Rattle.s3_world.specs.Shown.{written_by_all}
 use Rattle.s3_world.proofs.running.run.Goals as goal
 
 pub returns : goal.returns
 returns g c =
     let world = c.step_all.new.world in
     let moments = each_moments c.args.moments.now in
-    let stands = c.in_ok-step_all.ensures.stands moments c.in_ok-world.ensures.begins in
     record {
-      runs = subst (λ (settings : Settings). Runs settings moments c.args.events.now (unsent_of_all world.connections) world.book.entries)
+      runs = subst (λ (settings : Settings). Runs settings moments c.args.events.now (written_by_all world.connections) world.book.entries)
           (c.in_ok-step_all.ensures.settings ∙ c.in_ok-world.ensures.settings)
-          (c.worlds_run.ensures world moments c.args.events.now nothing_sent (unsent_of_all world.connections) stands (unsent_outputs world.connections)).0;
+          (c.worlds_run.ensures world moments c.args.events.now (c.in_ok-step_all.ensures.stands moments c.in_ok-world.ensures.begins));
     }

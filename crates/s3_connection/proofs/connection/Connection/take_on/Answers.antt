@@ -1,5 +1,6 @@
 use Rattle.std.proofs.Common.{◌∙◌, ap, subst, sym}
-use Rattle.s3_connection.specs.Connection.{Connected, moment_if}
+use Rattle.s3_session.specs.Session.{moment_if}
+use Rattle.s3_connection.specs.Connection.{Connected}
 use Rattle.s3_connection.specs.Holds.{Holds}
 use Rattle.s3_connection.proofs.FeedingLemmas.{fit_answered}
 use Rattle.s3_connection.proofs.HoldsLemmas.{holds_went, idle_stands}

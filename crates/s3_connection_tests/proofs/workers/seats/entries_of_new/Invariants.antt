@@ -1,4 +1,4 @@
-use Rattle.s3_desk.specs.Desk.{most_seats}
+use Rattle.s3_journal.specs.Desk.{most_seats}
 use Rattle.s3_connection_tests.proofs.workers.seats.entries_of_new.Given as goal
 
 abbrev pub ghosts-entries_left-J-Ground : goal.ghosts-entries_left-J-Ground

@@ -8,19 +8,19 @@ use Rattle.s3_session.proofs.ReceivingLemmas.{reads_found, reads_large, reads_no
 use Rattle.s3_session.proofs.session.Session.read_head.Goals as goal
 
 pub returns-in-TooLarge-clause-fed : goal.returns-in-TooLarge-clause-fed
-returns-in-TooLarge-clause-fed g c rest h =
+returns-in-TooLarge-clause-fed c rest h =
     let searched = c.feed-len.ensures.fed rest (subst (λ (s : Connection). Stands s.search rest) (sym c.self.view_is) h) in
-    reads_large c.args.config.now rest c.args.piece.now c.args.self.now _ c.feed-len.result.0 _ c.now.result (sym c.in-TooLarge.is ∙ searched.found) c.refuse.ensures.stage
-    (subst (λ (s : Connection). PrintsRefusal HeadTooLarge c.now.result false (added (unsent_of s) (unsent_of c.refuse.new.self))) c.self.view_is c.refuse.ensures.printed) refl searched.at_once
+    reads_large c.args.config.now rest c.args.piece.now c.args.self.now _ c.feed-len.result.0 _ c.args.now (sym c.in-TooLarge.is ∙ searched.found) c.refuse.ensures.stage
+    (subst (λ (s : Connection). PrintsRefusal HeadTooLarge c.args.now false (added (unsent_of s) (unsent_of c.refuse.new.self))) c.self.view_is c.refuse.ensures.printed) refl searched.at_once
 
 pub returns-in-Head-clause-fed : goal.returns-in-Head-clause-fed
-returns-in-Head-clause-fed g c rest h =
+returns-in-Head-clause-fed c rest h =
     let searched = c.feed-len.ensures.fed rest (subst (λ (s : Connection). Stands s.search rest) (sym c.self.view_is) h) in
     reads_found c.args.config.now rest c.args.piece.now c.args.self.now _ _ c.feed-len.result.0 c.begin-behind.result.0 c.begin-behind.result.1 c.feed-len.ensures.within searched.at_once (ap (λ (s : Connection). unsent_of s) c.self.view_is)
     (c.begin-behind.ensures.fed (rest ++ take c.feed-len.result.0 c.args.piece.now) searched.held (record { size = c.in-Head.len; found = sym searched.found ∙ c.in-Head.is }))
 
 pub returns-in-NeedMore-clause-fed : goal.returns-in-NeedMore-clause-fed
-returns-in-NeedMore-clause-fed g c rest h =
+returns-in-NeedMore-clause-fed c rest h =
     let searched = c.feed-len.ensures.fed rest (subst (λ (s : Connection). Stands s.search rest) (sym c.self.view_is) h) in
     reads_none c.args.config.now rest c.args.piece.now c.args.self.now _ c.feed-len.result.0 _
     (subst (λ (f : Found). IsSearched rest c.args.piece.now (c.feed-len.result.0, f) c.feed-len.new.self) c.in-NeedMore.is searched)

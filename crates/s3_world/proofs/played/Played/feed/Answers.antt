@@ -1,5 +1,6 @@
-use Rattle.std.proofs.Common.{◌++◌, ℕ, subst, sym}
-use Rattle.s3_connection.specs.Connection.{moment_if, received}
+use Rattle.std.proofs.Common.{[], ◌++◌, ℕ, subst, sym}
+use Rattle.s3_session.specs.Session.{moment_if}
+use Rattle.s3_connection.specs.Connection.{received}
 use Rattle.s3_connection.specs.Holds.{Holds}
 use Rattle.s3_world.specs.Moments.{handed}
 use Rattle.s3_world.specs.Played.{Playing, Plays}
@@ -7,11 +8,11 @@ use Rattle.s3_world.proofs.PlayedLemmas.{plays_on}
 use Rattle.s3_world.proofs.played.Played.feed.Goals as goal
 
 pub returns-clause-holds : goal.returns-clause-holds
-returns-clause-holds c moments input entries sent h =
+returns-clause-holds c moments input entries h =
     let settings = c.args.config.now in
     let later = received input c.args.piece.now in
     let has = c.in_ok-has_moment.has_moment in
-    let held = subst (λ (p : Playing). Plays p settings moments input entries sent) (sym c.self.view_is) h in
-    plays_on _ settings moments input later entries sent has c.piece.new.self c.hand_out.new.self held c.hand_out.ensures
-    (subst (λ (now : ℕ). Holds c.piece.new.self settings later (handed moments held.count ++ moment_if has now) entries sent) c.next-now.ensures
-    (c.in_ok-has_moment.ensures.holds input (handed moments held.count) entries sent held.holds))
+    let held = subst (λ (p : Playing). Plays p settings moments input entries) (sym c.self.view_is) h in
+    plays_on _ _ settings moments input later entries has held c.left-self-inside.ensures
+    (subst (λ (now : ℕ). Holds c.piece.new.self settings later (handed moments held.count ++ moment_if has now) entries []) c.next-now.ensures
+    (c.in_ok-has_moment.ensures.holds input (handed moments held.count) entries [] held.holds))

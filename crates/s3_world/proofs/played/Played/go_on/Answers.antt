@@ -1,5 +1,5 @@
-use Rattle.std.proofs.Common.{◌++◌, ℕ, subst, sym}
-use Rattle.s3_connection.specs.Connection.{moment_if}
+use Rattle.std.proofs.Common.{[], ◌++◌, ℕ, subst, sym}
+use Rattle.s3_session.specs.Session.{moment_if}
 use Rattle.s3_connection.specs.Holds.{Holds}
 use Rattle.s3_world.specs.Moments.{handed}
 use Rattle.s3_world.specs.Played.{Playing, Plays}
@@ -7,10 +7,10 @@ use Rattle.s3_world.proofs.PlayedLemmas.{plays_on}
 use Rattle.s3_world.proofs.played.Played.go_on.Goals as goal
 
 pub returns-clause-holds : goal.returns-clause-holds
-returns-clause-holds c moments input entries sent h =
+returns-clause-holds c moments input entries h =
     let settings = c.args.config.now in
     let has = c.go_on-has_moment.result in
-    let held = subst (λ (p : Playing). Plays p settings moments input entries sent) (sym c.self.view_is) h in
-    plays_on _ settings moments input input entries sent has c.go_on-has_moment.new.self c.hand_out.new.self held c.hand_out.ensures
-    (subst (λ (now : ℕ). Holds c.go_on-has_moment.new.self settings input (handed moments held.count ++ moment_if has now) entries sent) c.next-now.ensures
-    (c.go_on-has_moment.ensures.holds input (handed moments held.count) entries sent held.holds))
+    let held = subst (λ (p : Playing). Plays p settings moments input entries) (sym c.self.view_is) h in
+    plays_on _ _ settings moments input input entries has held c.left-self-inside.ensures
+    (subst (λ (now : ℕ). Holds c.go_on-has_moment.new.self settings input (handed moments held.count ++ moment_if has now) entries []) c.next-now.ensures
+    (c.go_on-has_moment.ensures.holds input (handed moments held.count) entries [] held.holds))

@@ -1,5 +1,10 @@
-use Rattle.s3_world.proofs.PlayedLemmas.{plays_new}
+use Rattle.std.proofs.Common.{◌≡◌, ◌+◌, ap, arith}
+use Rattle.s3_world.specs.Moments.{handed}
 use Rattle.s3_world.proofs.played.Played.new.Goals as goal
 
 pub returns-clause-begins : goal.returns-clause-begins
-returns-clause-begins c settings = plays_new c.new.result settings c.args.moments.now c.new-2.result c.new-2.ensures (c.new.ensures.begins settings)
+returns-clause-begins c settings = record {
+  count = 0;
+  hands = λ n. (let same : 0 + n ≡ n = omega arith in ap (handed c.args.moments.now) same);
+  holds = c.new.ensures.begins settings;
+}

@@ -1,4 +1,4 @@
-use Rattle.std.proofs.Common.{◌∙◌, ap, subst}
+use Rattle.std.proofs.Common.{[], ◌∙◌, ap, subst}
 use Rattle.s3_connection.specs.Connection.{entries_with}
 use Rattle.s3_world.specs.Played.{Playing, turn_of}
 use Rattle.s3_world.specs.StandsAfter.{HasTaken}
@@ -16,10 +16,10 @@ returns-in-Some-clause-taken g c =
     (had_turn settings c.args.seat _ c.go_on.new.self c.args.book.now c.enter-answered.new.self turn c.take_turn.result answered
     c.take_turn.ensures.value c.in-Some.is c.in-Some.ensures.waits c.enter-answered.ensures.entry c.enter-answered.ensures.err
     (on_err answered _ _ (dead_too _ _ c.go_on.ensures.closed) c.answer.ensures.dies)
-    (λ moments input entries sent h.
-    c.go_on.ensures.holds moments input (entries_with entries turn answered) sent
-    (plays_answered _ settings moments input entries (entries_with entries turn answered) sent c.answer.new.self h
-    (λ ms holds. c.answer.ensures.holds settings input ms entries turn sent taken (c.take_turn.ensures.holds settings input ms entries sent holds))))
+    (λ moments input entries h.
+    c.go_on.ensures.holds moments input (entries_with entries turn answered)
+    (plays_answered _ settings moments input entries (entries_with entries turn answered) c.answer.new.self h
+    (λ ms holds. c.answer.ensures.holds settings input ms entries turn [] taken (c.take_turn.ensures.holds settings input ms entries [] holds))))
     (c.go_on.ensures.idle c.answer.ensures.taken))
 
 pub returns-in-Some-clause-entered : goal.returns-in-Some-clause-entered

@@ -9,12 +9,6 @@ opened_book book least store = record { origin = book.origin; least = least; ope
 
 pub returns-clause-begins : goal.returns-clause-begins
 returns-clause-begins g c =
-    begins c.args.config.now c.in_ok-connections.connections.items c.in_ok-book.book c.args.moments.now c.in_ok-connections.ensures.fresh
+    begins c.args.config.now c.in_ok-connections.connections.items c.in_ok-book.book c.args.moments.now c.in_ok-connections.ensures
     (c.in_ok-book.ensures ∙ ap (λ (least : ℕ). opened_book c.in_ok-book.book least c.args.store) c.min_part.ensures.value
     ∙ ap (opened_book c.in_ok-book.book c.args.config.now.min_part) c.requires.opening)
-
-pub returns-clause-nothing : goal.returns-clause-nothing
-returns-clause-nothing g c = c.in_ok-connections.ensures.nothing
-
-pub returns-clause-reads : goal.returns-clause-reads
-returns-clause-reads g c = c.in_ok-connections.ensures.reads

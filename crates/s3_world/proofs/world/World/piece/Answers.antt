@@ -9,15 +9,15 @@ use Rattle.s3_world.proofs.WorldLemmas.{on_ok, piece_stands}
 use Rattle.s3_world.proofs.world.World.piece.Goals as goal
 
 pub returns-clause-stands : goal.returns-clause-stands
-returns-clause-stands g c moments happened sent piece is s =
+returns-clause-stands g c moments happened piece is s =
     let settings = c.self.inside.config.now in
     let book = c.self.inside.book in
     on_ok c.feed_one.result _ _
     (λ (at : IsChangedAt c.args.connection c.deref_mut.result.now c.feed_one.new.connections (Unit {0}) (IsFedWith settings (λ input. sessions.received input c.args.bytes.now))).
-    subst (λ (cs : List Playing). StandsAfter (record { settings = settings; connections = cs; book = book }) moments (happened ++ events.Piece c.args.connection piece ∷ []) sent)
+    subst (λ (cs : List Playing). StandsAfter (record { settings = settings; connections = cs; book = book }) moments (happened ++ events.Piece c.args.connection piece ∷ []))
     (sym (written_back c.self.inside.connections c.deref_mut.result.now c.feed_one.new.connections c.args.connection _ _ c.deref_mut.ensures.value at))
-    (piece_stands settings c.self.inside.connections.items c.feed_one.new.connections book moments happened sent c.args.connection piece c.args.bytes.now is
+    (piece_stands settings c.self.inside.connections.items c.feed_one.new.connections book moments happened c.args.connection piece c.args.bytes.now is
     (subst (λ (old : List Playing). IsChangedAt c.args.connection old c.feed_one.new.connections (Unit {0}) (IsFedWith settings (λ input. sessions.received input c.args.bytes.now)))
     c.deref_mut.ensures.value at)
-    (subst (λ (w : Serving). StandsAfter w moments happened sent) (sym c.self.view_is) s)))
+    (subst (λ (w : Serving). StandsAfter w moments happened) (sym c.self.view_is) s)))
     c.feed_one.ensures.fed

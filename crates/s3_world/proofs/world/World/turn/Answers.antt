@@ -9,15 +9,15 @@ use Rattle.s3_world.proofs.WorldLemmas.{turn_stands}
 use Rattle.s3_world.proofs.world.World.turn.Goals as goal
 
 pub returns-clause-stands : goal.returns-clause-stands
-returns-clause-stands g c moments happened sent s =
+returns-clause-stands g c moments happened s =
     (let settings = c.self.inside.config.now in
     let before = c.self.inside.book in
     let after = c.turn_one.new.book in
-    subst (λ (cs : List Playing). StandsAfter (record { settings = settings; connections = cs; book = after }) moments (happened ++ events.Turn c.args.connection ∷ []) sent)
+    subst (λ (cs : List Playing). StandsAfter (record { settings = settings; connections = cs; book = after }) moments (happened ++ events.Turn c.args.connection ∷ []))
     (sym (written_back c.self.inside.connections c.deref_mut.result.now c.turn_one.new.connections c.args.connection _ _ c.deref_mut.ensures.value c.turn_one.ensures.taken))
     (turn_stands (timed_one c.outputs_are_one.ensures) c.connections_write.ensures
-    settings c.self.inside.connections.items c.turn_one.new.connections before after moments happened sent c.args.connection
-    (subst (λ (w : Serving). StandsAfter w moments happened sent) (sym c.self.view_is) s)
+    settings c.self.inside.connections.items c.turn_one.new.connections before after moments happened c.args.connection
+    (subst (λ (w : Serving). StandsAfter w moments happened) (sym c.self.view_is) s)
     (subst (λ (old : List Playing). IsChangedAt c.args.connection old c.turn_one.new.connections (after.entries ≡ before.entries) (HasTaken settings c.args.connection before after))
     c.deref_mut.ensures.value c.turn_one.ensures.taken)
     c.turn_one.ensures.least c.turn_one.ensures.opening c.store-store.ensures.history))

@@ -1,0 +1,10 @@
+use Rattle.s3_connections.specs.Ended.{Fails}
+use Rattle.s3_connections.specs.Served.{IsServed}
+use Rattle.s3_connections.specs.declared.outcome.Outcome.TheVariants as outcomes
+use Rattle.s3_connections.proofs.serving.serve_on.Given as goal
+
+abbrev pub invariant-loop : goal.invariant-loop
+invariant-loop g l =
+    (IsServed l.config l.initial.pump (g.D.Device.traffic l.initial.device) l.initial.moments.entries (g.N.StoreHandle.entries l.initial.handle)
+    → IsServed l.config l.pump (g.D.Device.traffic l.device) l.moments.entries (g.N.StoreHandle.entries l.handle))
+    × Fails outcomes.Closed (g.D.Device.traffic l.initial.device) (g.D.Device.traffic l.device)

@@ -1,6 +1,0 @@
-pub mod AmongLemmas
-pub mod SeatLemmas
-pub mod GoneLemmas
-pub mod CountLemmas
-pub mod NumberLemmas
-pub mod RoomLemmas

@@ -1,0 +1,48 @@
+-- What a call of a seat does.
+use Rattle.std.specs.Prelude.{◌≡◌, ℕ, ◌+◌, Bool, List, [], ◌∷◌, ◌++◌, length}
+use mathlib.Core.List.{IsPrefix}
+use Rattle.s3_machine.specs.declared.command.Answer.{Answer}
+use Rattle.s3_machine.specs.declared.turn.Turn.{Turn}
+use Rattle.s3_machine.specs.History.{after}
+use Rattle.s3_store.specs.Steps.{Standing}
+use Rattle.s3_journal.specs.Book.{Journal, KeepsHistory, MayLack}
+use Rattle.s3_journal.specs.Recorded.{Recorded, entries_of_seat, entry_of, history_of, recorded}
+use Rattle.s3_journal.specs.Desk.{Base, IsAmong, IsLegal, Seated}
+
+-- A book has answered a seat's turn, which is one entry more, and goes on to keep its history.
+pub record HasAnswered (old new : Journal) (seat : ℕ) (turn : Turn) (answer : Answer) : Type 0 where
+  pub origin : new.origin ≡ old.origin
+  pub least : new.least ≡ old.least
+  pub opening : new.opening ≡ old.opening
+  pub entry : new.entries ≡ old.entries ++ recorded seat turn answer ∷ []
+  pub number : answer.number ≡ old.store.number
+  pub keeps : KeepsHistory new
+
+-- A seat's turn was answered: that is one entry more of the seat's, and it ends the history that the seat has now seen.
+-- This history is legal from the base, so it settles the answer; it begins with what the seat had seen before, and has all
+-- that the seat was ever given.
+pub record IsAnswered (base : Base) (old new : Seated) (turn : Turn) (answer : Answer) : Type 0 where
+  pub number : new.number ≡ old.number
+  pub mine : new.mine ≡ old.mine ++ entry_of turn answer ∷ []
+  pub earlier : List Recorded
+  pub seen : new.seen ≡ earlier ++ recorded old.number turn answer ∷ []
+  pub begins : IsPrefix old.seen earlier
+  pub legal : IsLegal base new.seen
+  pub place : answer.number ≡ base.store.number + length earlier
+  pub among : IsAmong new.mine (entries_of_seat new.number new.seen)
+
+-- the store that these entries leave
+abbrev pub left_by : Base → List Recorded → Standing
+left_by base entries = record {
+  state = after base.settings.min_part base.store.state (history_of entries);
+  number = base.store.number + length entries;
+}
+
+-- Memory was lacking for a seat's turn, and may have been: at the state that the seat has now seen, which is no older than what it
+-- had seen, the turn takes room and isn't refused. The seat was given nothing.
+pub record LacksMemory (in_memory : Bool) (base : Base) (old new : Seated) (turn : Turn) : Type 0 where
+  pub number : new.number ≡ old.number
+  pub mine : new.mine ≡ old.mine
+  pub begins : IsPrefix old.seen new.seen
+  pub legal : IsLegal base new.seen
+  pub lacks : MayLack in_memory base.settings.min_part (left_by base new.seen) turn

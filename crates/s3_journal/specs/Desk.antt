@@ -1,0 +1,63 @@
+-- A desk: one store that many share, whose one history is that of its book.
+use Rattle.std.specs.Prelude.{◌≡◌, ℕ, List, [], ◌∷◌, ◌⊎◌, length}
+use Rattle.s3_config.specs.Settings.{Settings}
+use Rattle.s3_history.specs.Log.{Origin}
+use Rattle.s3_machine.specs.History.{Entry, Legal}
+use Rattle.s3_records.specs.Catalogue.{opening}
+use Rattle.s3_store.specs.Steps.{Standing, opened}
+use Rattle.s3_journal.specs.Book.{Journal}
+use Rattle.s3_journal.specs.Recorded.{Recorded, entries_of_seat, history_of}
+
+-- what a desk stands on: which history it is, the settings, and the store as it was at the opening
+pub record Base : Type 0 where
+  pub origin : Origin
+  pub settings : Settings
+  pub store : Standing
+
+-- the base of no desk
+abbrev pub no_base : Base
+no_base = record {
+  origin = record { number = 0; log_name = 0; cells_name = 0 };
+  settings = record { region = []; keys = []; min_part = 0; body_limit = 0; buckets = [] };
+  store = opened (opening []);
+}
+
+-- the book is that of the base, with what was answered since
+pub record Continues (base : Base) (book : Journal) : Type 0 where
+  pub origin : book.origin ≡ base.origin
+  pub least : book.least ≡ base.settings.min_part
+  pub store : book.opening ≡ base.store
+
+-- entries from the opening, each with the answer that those before it settle
+abbrev pub IsLegal : Base → List Recorded → Type 0
+IsLegal base entries = Legal base.settings.min_part base.store.state base.store.number (history_of entries)
+
+-- how many may have a seat at a time
+abbrev pub most_seats : ℕ
+most_seats = 18446744073709551615
+
+-- what a desk is opened with: the name of the ledger that counts its entries, and what it stands on
+pub record Opening : Type 0 where
+  pub name : ℕ
+  pub base : Base
+
+-- a seat: its number, the entries that it was given, and the history as far as it has seen it
+pub record Seated : Type 0 where
+  pub number : ℕ
+  pub mine : List Entry
+  pub seen : List Recorded
+
+module _ {A : Type 0} where
+  -- a list has some of the elements of another, in their order
+  abbrev pub IsAmong : List A → List A → Type 0
+  IsAmong some [] = some ≡ []
+  IsAmong some (x ∷ all) = IsAmong some all ⊎ ((rest : List A) × (some ≡ x ∷ rest) × IsAmong rest all)
+
+-- what a seat keeps: one share of the desk's ledger, which counts its entries; these are among those of its number in the history
+-- as far as it has seen it; and that is legal
+pub record IsSeat (base : Base) (seat : Seated) (origin : Origin) (shares counted : ℕ) : Type 0 where
+  pub same : origin ≡ base.origin
+  pub one : shares ≡ 1
+  pub count : counted ≡ length seat.mine
+  pub among : IsAmong seat.mine (entries_of_seat seat.number seat.seen)
+  pub legal : IsLegal base seat.seen

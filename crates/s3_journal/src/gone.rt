@@ -1,0 +1,53 @@
+//! What is known of those who have left a desk.
+
+use crate::calls::Calls;
+use s3_history::Describes;
+use std::marker::{Model, PhantomData};
+use std::snapshot::Snapshot;
+
+/// What is told of who leaves a desk. No value of it is made: a history consists of them, which stands in the proofs alone.
+pub trait Report {
+    ghost use Rattle.std.specs.Prelude.{List};
+    ghost use Rattle.s3_machine.specs.History.{Entry};
+    ghost use Rattle.s3_journal.specs.Desk.{Base};
+
+    // What is told fits these entries, at a desk that stands on this.
+    ghost fits: { Base → Self → List Entry → Type 0 };
+}
+
+/// Nothing is told.
+impl Report for () {
+    ghost use Rattle.s3_journal.specs.Gone.{NothingIsTold};
+
+    ghost fits = { NothingIsTold };
+}
+
+/// A seat that has left: its number, the entries that it was given, and what was told of it. No value of it is made.
+pub struct Gone<P> {
+    number: u64,
+    calls: Snapshot<Calls>,
+    report: Snapshot<P>,
+}
+
+impl<P> Model for Gone<P> {
+    ghost use Rattle.s3_journal.specs.Gone as rules;
+
+    ghost Value = { rules.Gone P };
+
+    ghost view = { λ g. record { number = g.number; calls = g.calls.value; report = g.report.value } };
+}
+
+// What a seat leaves with. It has the bytes of the number alone.
+#[derive(Drop)]
+pub(crate) struct Leaving<X> {
+    pub(crate) number: u64,
+    pub(crate) calls: Snapshot<Calls>,
+    pub(crate) about: Snapshot<X>,
+}
+
+// The seat that has left, with the report that `D` tells.
+pub(crate) struct AsGone<D>(PhantomData<D>);
+
+impl<X, P, D: Describes<X, P>> Describes<Leaving<X>, Gone<P>> for AsGone<D> {
+    ghost entry = { λ leaving. record { number = leaving.number; calls = leaving.calls.value; report = D.entry leaving.about.value } };
+}

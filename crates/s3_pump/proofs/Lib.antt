@@ -1,2 +1,0 @@
-pub mod ServedLemmas
-pub mod EndedLemmas

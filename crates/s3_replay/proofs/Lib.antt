@@ -1,2 +1,0 @@
-pub mod OneLemmas
-pub mod TakenLemmas
