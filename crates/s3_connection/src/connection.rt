@@ -247,6 +247,14 @@ impl Connection {
         has_moment
     }
 
+    /// Whether bytes are kept, of which the next message will be: for the time that its caller gives it. It takes no memory.
+    pub fn has_kept(&self) -> bool
+        ensures some { result ≡ true → self.now.kept ≢ [] }
+        ensures none { result ≡ false → self.now.kept ≡ [] }
+    {
+        !self.kept.is_empty()
+    }
+
     /// Whether the head of a message was admitted and its body isn't whole: for the time that its caller gives it. It takes no
     /// memory.
     pub fn is_in_body(&self) -> bool {

@@ -15,4 +15,5 @@ mod served;
 mod stream;
 mod tests;
 mod turns;
+mod within;
 mod worlds;

@@ -229,9 +229,10 @@ impl Pump {
         ensures took { rules.HasTaken config.now now self.old self.new [] moments.old.entries moments.new.entries }
         ensures moves { taken_of self.old ≡ None → rules.stage_weight self.old.stage < rules.stage_weight self.new.stage }
     {
+        let has_kept = self.connection.has_kept();
         let is_given = self.connection.go_on(alloc, config, now);
         tell(moments, now, is_given);
-        self.is_within = matches!(self.connection.wants(), Wants::Input);
+        self.is_within = has_kept && matches!(self.connection.wants(), Wants::Input);
     }
 }
 

@@ -5,6 +5,7 @@ use crate::workers::journal::two_seats_are_answered;
 use crate::workers::seats::{old_bytes_are_sent, seats_work};
 use crate::workers::served::config;
 use crate::workers::turns::two_take_turns;
+use crate::workers::within::parts_are_told;
 use crate::workers::worlds::first_other_world;
 use s3_config::Config;
 use s3_connections::Pump;
@@ -34,6 +35,9 @@ fn first_other<R: Threads + Wait + Clock + Sync>(
     }
     if !two_take_turns(alloc, config) {
         return Some("two connections in turns");
+    }
+    if !parts_are_told(alloc, config) {
+        return Some("whether a part of a message has come");
     }
     if let Some(name) = first_other_world(alloc, config) {
         return Some(name);
