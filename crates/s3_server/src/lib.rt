@@ -1,6 +1,6 @@
 //! The server that listens on a socket. Its workers have a thread and connections of their own each: a worker waits until some of
-//! these are ready, and has each go on as far as it can. How a connection is served `s3_pump` says, how it is held `s3_connections`,
-//! and what the store does `s3_desk`; here are the listener, the places and the threads.
+//! these are ready, and has each go on as far as it can. How a connection is served and held `s3_connections` says,
+//! and what the store does `s3_journal`; here are the listener, the places and the threads.
 #![tactic(auto)]
 
 mod arrivals;
