@@ -1,10 +1,11 @@
 //! Connections that share one store.
 
-ghost use Rattle.std.specs.Prelude.{◌≡◌, ◌≢◌, ◌++◌, ◌∷◌, ℕ, true, List, [], length, IfOk, OnOk, OnErr};
+ghost use Rattle.std.specs.Prelude.{◌≡◌, ◌≢◌, ◌++◌, ◌∷◌, ◌<◌, ℕ, true, List, [], length, IfOk, OnOk, OnErr};
 ghost use Rattle.std.specs.Global.{Vec as Bytes};
 ghost use Rattle.s3_records.specs.Catalogue.{opening};
 ghost use Rattle.s3_store.specs.Steps.{opened};
 ghost use Rattle.s3_events.specs.declared.event.Event.{Event as Happening};
+ghost use Rattle.s3_world.specs.Alike.{connection_of};
 ghost use Rattle.s3_world.specs.Events.{brings_bytes};
 ghost use Rattle.s3_world.specs.World.{IsEntered, turn_of_event};
 ghost use Rattle.s3_world.specs.Run.{each_moments, output_of};
@@ -96,6 +97,7 @@ impl<'a, R: Records + Drop> World<'a, R> {
         ensures settings { self.new.settings ≡ self.old.settings }
         ensures same { OnErr result (self.new ≡ self.old) }
         ensures memory { OnErr result (brings_bytes event.now ≡ true) }
+        ensures there { OnErr result (connection_of event.now < length self.old.connections) }
     {
         match event {
             Event::Piece { connection, bytes } => self.piece(*connection, bytes.as_slice()),
@@ -118,6 +120,7 @@ impl<'a, R: Records + Drop> World<'a, R> {
         ensures settings { self.new.settings ≡ self.old.settings }
         ensures same { OnErr result (self.new ≡ self.old) }
         ensures memory { OnErr result (bytes.now ≢ []) }
+        ensures there { OnErr result (connection < length self.old.connections) }
     {
         let number = connection as usize;
         feed_one(
