@@ -210,7 +210,7 @@ fn answers<'a, R: Wait, D: Device>(
     ensures value { IfOk result (λ text. GivesAll (λ bytes. Replays config.now moment bytes text.items) (D.traffic device.old) (D.traffic device.new)) }
     ensures refused { IfErr result (IsReadingFault (D.traffic device.old) (D.traffic device.new)) }
 {
-    let mut replay = Replay::new(alloc, config, moment)?;
+    let mut replay = Replay::new(alloc, config, &moment)?;
     let written = written_after(rt, &mut replay, device);
     drop(replay);
     written

@@ -5,25 +5,20 @@ use Rattle.std.proofs.lemmas.Bool.{cases_Bool}
 use Rattle.std.proofs.lemmas.Bool.Decides.{eqb_tells}
 use Rattle.s3_events.specs.declared.event.Event.{Event}
 use Rattle.s3_events.specs.declared.event.Event.TheVariants as events
+use Rattle.s3_events.specs.Script.{connection_of_event}
+use Rattle.s3_connection.specs.Connection.{received as heard_piece}
 use Rattle.s3_connection.specs.Output.{Input}
-use Rattle.s3_world.specs.Events.{TurnAt, brought, is_end, received, turn_given, turns_given, turns_given_after}
+use Rattle.s3_world.specs.Events.{TurnAt, received, turn_given, turns_given, turns_given_after}
 use Rattle.s3_world.specs.Laws.{AreAlike}
-use Rattle.s3_world.specs.Alike.{CutsAreAlike, MovesAreAlike, connection_of, is_turn}
-use Rattle.s3_world.proofs.EventLemmas.{received_ended, received_on, received_same}
+use Rattle.s3_world.specs.Alike.{CutsAreAlike, MovesAreAlike, is_turn}
+use Rattle.s3_world.proofs.EventLemmas.{heard_by, received_more, received_others}
 
 -- they bring the same to each connection
 abbrev BringSame : List Event → List Event → Type 0
 BringSame xs ys = (c : ℕ) → received c xs ≡ received c ys
 
-abbrev went_on : ℕ → Event → Input → Input
-went_on c e input = record { bytes = input.bytes ++ brought c e; ended = is_end c e }
-
 same_more : (c : ℕ) (xs ys : List Event) (e : Event) → received c xs ≡ received c ys → received c (xs ++ e ∷ []) ≡ received c (ys ++ e ∷ [])
-same_more c xs ys e same =
-    elim (cases_Bool (received c xs).ended) [
-      | inl ended ↦ received_ended c xs e ended ∙ same ∙ sym (received_ended c ys e (sym (ap (λ (i : Input). i.ended) same) ∙ ended))
-      | inr on ↦ received_on c xs e on ∙ ap (went_on c e) same ∙ sym (received_on c ys e (sym (ap (λ (i : Input). i.ended) same) ∙ on))
-    ]
+same_more c xs ys e same = received_more c xs e ∙ ap (heard_by c e) same ∙ sym (received_more c ys e)
 
 same_on : (xs ys es : List Event) → BringSame xs ys → BringSame (xs ++ es) (ys ++ es)
 same_on xs ys [] same = λ c. ap (received c) (append-nil xs) ∙ same c ∙ ap (received c) (sym (append-nil ys))
@@ -70,28 +65,27 @@ alike_by before xs ys later turns same = record {
 
 -- ---- a piece that is cut
 
-cut_brings : (b : Bool) (whole first second : List ℕ) → whole ≡ first ++ second → cond b whole [] ≡ cond b first [] ++ cond b second []
-cut_brings true whole first second cut = cut
-cut_brings false whole first second cut = refl
+cut_heard : (bytes : List ℕ) (ended : Bool) (whole first second : List ℕ) → whole ≡ first ++ second
+    → heard_piece (record { bytes = bytes; ended = ended }) whole ≡ heard_piece (heard_piece (record { bytes = bytes; ended = ended }) first) second
+cut_heard bytes true whole first second cut = refl
+cut_heard bytes false whole first second cut =
+    ap (λ (b : List ℕ). record { bytes = bytes ++ b; ended = false }) cut
+    ∙ ap (λ (b : List ℕ). record { bytes = b; ended = false }) (sym (append_assoc bytes first second))
+
+cut_for : (mine : Bool) (input : Input) (whole first second : List ℕ) → whole ≡ first ++ second
+    → cond mine (heard_piece input whole) input
+    ≡ cond mine (heard_piece (cond mine (heard_piece input first) input) second) (cond mine (heard_piece input first) input)
+cut_for true input whole first second cut = cut_heard input.bytes input.ended whole first second cut
+cut_for false input whole first second cut = refl
 
 cut_same : (before : List Event) (k : ℕ) (whole first second : Vec ℕ) → whole.items ≡ first.items ++ second.items
     → BringSame (before ++ events.Piece k whole ∷ []) (before ++ events.Piece k first ∷ events.Piece k second ∷ [])
 cut_same before k whole first second cut c =
     let one = events.Piece k first in
     let two = events.Piece k second in
-    let apart : received c (before ++ one ∷ two ∷ []) ≡ received c ((before ++ one ∷ []) ++ two ∷ []) = ap (received c) (sym (append_assoc before (one ∷ []) (two ∷ []))) in
-    elim (cases_Bool (received c before).ended) [
-      | inl ended ↦
-          let first_ended = received_ended c before one ended in
-          received_ended c before (events.Piece k whole) ended
-          ∙ sym (apart ∙ received_ended c (before ++ one ∷ []) two (ap (λ (i : Input). i.ended) first_ended ∙ ended) ∙ first_ended)
-      | inr on ↦
-          let first_on = received_on c before one on in
-          received_on c before (events.Piece k whole) on
-          ∙ ap (λ (b : List ℕ). record { bytes = (received c before).bytes ++ b; ended = false }) (cut_brings (eqb k c) whole.items first.items second.items cut)
-          ∙ ap (λ (b : List ℕ). record { bytes = b; ended = false }) (sym (append_assoc (received c before).bytes (brought c one) (brought c two)))
-          ∙ sym (apart ∙ received_on c (before ++ one ∷ []) two (ap (λ (i : Input). i.ended) first_on) ∙ ap (went_on c two) first_on)
-    ]
+    received_more c before (events.Piece k whole)
+    ∙ cut_for (eqb k c) (received c before) whole.items first.items second.items cut
+    ∙ sym (ap (received c) (sym (append_assoc before (one ∷ []) (two ∷ []))) ∙ received_more c (before ++ one ∷ []) two ∙ ap (heard_by c two) (received_more c before one))
 
 pub cuts_are_alike : CutsAreAlike
 cuts_are_alike before later k whole first second cut =
@@ -99,42 +93,24 @@ cuts_are_alike before later k whole first second cut =
 
 -- ---- events that change places
 
-another_brings : (c k : ℕ) (bytes : List ℕ) → k ≢ c → cond (eqb k c) bytes [] ≡ []
-another_brings c k bytes other = elim (eqb_tells k c) [
-  | inl same ↦ absurd (other same.1)
-  | inr differs ↦ ap (λ (b : Bool). cond b bytes []) differs.0
-]
-
-another_ends : (c k : ℕ) → k ≢ c → eqb k c ≡ false
-another_ends c k other = elim (eqb_tells k c) [
-  | inl same ↦ absurd (other same.1)
-  | inr differs ↦ differs.0
-]
-
--- another's event brings nothing
-quiet : (c : ℕ) (before : List Event) (e : Event) → connection_of e ≢ c → received c (before ++ e ∷ []) ≡ received c before
-quiet c before (events.Piece k bytes) other = received_same c before (events.Piece k bytes) (another_brings c k bytes.items other) refl
-quiet c before (events.End k) other = received_same c before (events.End k) refl (another_ends c k other)
-quiet c before (events.Turn k) other = received_same c before (events.Turn k) refl refl
-
 -- one of two different events is another's
-moved_for : (c : ℕ) (before : List Event) (x y : Event) → connection_of x ≢ c → received c (before ++ x ∷ y ∷ []) ≡ received c (before ++ y ∷ x ∷ [])
+moved_for : (c : ℕ) (before : List Event) (x y : Event) → connection_of_event x ≢ c → received c (before ++ x ∷ y ∷ []) ≡ received c (before ++ y ∷ x ∷ [])
 moved_for c before x y other =
     ap (received c) (sym (append_assoc before (x ∷ []) (y ∷ [])))
-    ∙ same_more c (before ++ x ∷ []) before y (quiet c before x other)
-    ∙ sym (quiet c (before ++ y ∷ []) x other)
+    ∙ same_more c (before ++ x ∷ []) before y (received_others c before x other)
+    ∙ sym (received_others c (before ++ y ∷ []) x other)
     ∙ ap (received c) (append_assoc before (y ∷ []) (x ∷ []))
 
-moved_same : (before : List Event) (x y : Event) → connection_of x ≢ connection_of y → BringSame (before ++ x ∷ y ∷ []) (before ++ y ∷ x ∷ [])
-moved_same before x y apart c = elim (eqb_tells (connection_of x) c) [
+moved_same : (before : List Event) (x y : Event) → connection_of_event x ≢ connection_of_event y → BringSame (before ++ x ∷ y ∷ []) (before ++ y ∷ x ∷ [])
+moved_same before x y apart c = elim (eqb_tells (connection_of_event x) c) [
   | inl same ↦ sym (moved_for c before y x (λ here. apart (same.1 ∙ sym here)))
   | inr differs ↦ moved_for c before x y differs.1
 ]
 
-turn_kept : (before : List Event) (x y : Event) → connection_of x ≢ connection_of y → turn_given (before ++ x ∷ []) y ≡ turn_given before y
+turn_kept : (before : List Event) (x y : Event) → connection_of_event x ≢ connection_of_event y → turn_given (before ++ x ∷ []) y ≡ turn_given before y
 turn_kept before x (events.Piece k bytes) apart = refl
 turn_kept before x (events.End k) apart = refl
-turn_kept before x (events.Turn k) apart = ap (λ (i : Input). record { connection = k; input = i } ∷ []) (quiet k before x apart)
+turn_kept before x (events.Turn k) apart = ap (λ (i : Input). record { connection = k; input = i } ∷ []) (received_others k before x apart)
 
 no_turn : (before : List Event) (e : Event) → is_turn e ≡ false → turn_given before e ≡ []
 no_turn before (events.Piece k bytes) none = refl
@@ -142,7 +118,7 @@ no_turn before (events.End k) none = refl
 no_turn before (events.Turn k) none = absurd cc
 
 -- where the first is none, the turns are those of the second
-turns_moved : (before : List Event) (x y : Event) → connection_of x ≢ connection_of y → is_turn x ≡ false
+turns_moved : (before : List Event) (x y : Event) → connection_of_event x ≢ connection_of_event y → is_turn x ≡ false
     → turns_given_after before (x ∷ y ∷ []) ≡ turns_given_after before (y ∷ x ∷ [])
 turns_moved before x y apart none =
     ap (λ (ts : List TurnAt). ts ++ (turn_given (before ++ x ∷ []) y ++ [])) (no_turn before x none)

@@ -1,5 +1,5 @@
--- One connection of several changed.
-use Rattle.std.proofs.Common.{◌≡◌, ◌≢◌, ◌<◌, ◌≤◌, ℕ, zero, suc, Bool, true, Option, Some, Result, Ok, Err, IfOk, OnOk, OnErr, List, [], ◌∷◌, ◌++◌, length, get_or, set, refl, sym, ap, subst, ◌∙◌, arith, inl, inr}
+-- One connection of several went on with an event.
+use Rattle.std.proofs.Common.{◌≡◌, ◌≢◌, ◌<◌, ◌≤◌, ℕ, zero, suc, Bool, true, Option, Some, None, Result, Ok, Err, IfOk, OnOk, OnErr, List, [], ◌∷◌, ◌++◌, length, get_or, set, refl, sym, ap, subst, ◌∙◌, append-nil, arith, inl, inr}
 use Rattle.std.specs.Global.{Vec}
 use Rattle.std.specs.List.{slice_get}
 use Rattle.std.specs.Vec.{with_items}
@@ -11,14 +11,17 @@ use Rattle.s3_machine.specs.History.{Entry}
 use Rattle.s3_machine.specs.declared.command.Answer.{Answer}
 use Rattle.s3_machine.specs.declared.turn.Turn.{Turn}
 use Rattle.s3_journal.specs.Book.{Journal, MayLack}
-use Rattle.s3_journal.specs.Recorded.{recorded}
-use Rattle.s3_session.specs.Output.{Standing, is_dead, is_waiting, is_closed}
+use Rattle.s3_journal.specs.Recorded.{Recorded, history_of, recorded}
+use Rattle.s3_session.specs.Output.{Standing, is_dead, is_closed, is_waiting}
 use Rattle.s3_session.specs.Output as standings
+use Rattle.s3_events.specs.declared.event.Event.{Event}
+use Rattle.s3_events.specs.declared.event.Event.TheVariants as events
+use Rattle.s3_events.specs.Script.{connection_of_event}
 use Rattle.s3_connection.specs.Connection.{entries_with}
 use Rattle.s3_connection.specs.Output.{Input}
-use Rattle.s3_world.specs.Played.{IsIdle, Playing, Plays, standing_of, turn_of}
-use Rattle.s3_world.specs.World.{IsEntered}
-use Rattle.s3_world.specs.StandsAfter.{HasTaken, IsChangedAt, IsChangedIn, IsFedWith, IsRecorded, IsTurnTaken}
+use Rattle.s3_world.specs.Played.{Playing, Plays, standing_of, turn_of}
+use Rattle.s3_world.specs.StandsAfter.{AreMade, GoesOn, HasHappened, WentOn, heard}
+use Rattle.s3_world.specs.World.{IsEntered, given_by}
 
 -- ---- the list
 
@@ -34,23 +37,46 @@ get_set_same [] c d less = absurd (omega arith)
 get_set_same (x ∷ xs) zero d less = refl
 get_set_same (x ∷ xs) (suc c) d less = get_set_same xs c d (omega arith)
 
-module _ (old : List Playing) (c : ℕ) (Stays : Type 0) (Change : Playing → Playing → Type 0) where
-  pub changed_set : (b d : Playing) → c < length old → Change (get_or old c b) d → IsChangedAt c old (set old c d) Stays Change
-  changed_set b d less change = record {
-    count = length-set old c d;
-    others = λ k differ. get_set_other old c k d differ;
-    one = subst (λ (x : Option Playing). IsChangedIn Stays Change x (slice_get (set old c d) c)) (sym (slice_get-get_or old c b less))
-        (subst (λ (y : Option Playing). IsChangedIn Stays Change (Some (get_or old c b)) y) (sym (get_set_same old c d less)) change);
+module _ (settings : Settings) (e : Event) (old : List Playing) (before after : Journal) (least : after.least ≡ before.least) (opens : after.opening ≡ before.opening) where
+  abbrev own : ℕ
+  own = connection_of_event e
+
+  abbrev Went : Option Playing → Option Playing → Type 0
+  Went x y = WentOn settings e x y before.entries after.entries
+
+  happened_there : (b d : Playing) → own < length old → GoesOn settings e (get_or old own b) d before.entries after.entries
+      → HasHappened settings e old (set old own d) before after
+  happened_there b d less on = record {
+    count = length-set old own d;
+    others = λ k differ. get_set_other old own k d differ;
+    own = subst (λ (x : Option Playing). Went x (slice_get (set old own d) own)) (sym (slice_get-get_or old own b less))
+        (subst (λ (y : Option Playing). Went (Some (get_or old own b)) y) (sym (get_set_same old own d less)) on);
+    least = least;
+    opens = opens;
   }
 
-  pub changed_nowhere : length old ≤ c → Stays → IsChangedAt c old old Stays Change
-  changed_nowhere past stays = record {
-    count = refl;
-    others = λ k differ. refl;
-    one = subst (λ (x : Option Playing). IsChangedIn Stays Change x x) (sym (slice_get_past old c past)) stays;
-  }
+  pub happened_at : {T E : Type 0} (result : Result T E) (k : ℕ) → k ≡ own → (b d : Playing) → k < length old
+      → OnOk result (GoesOn settings e (get_or old k b) d before.entries after.entries) → OnOk result (HasHappened settings e old (set old k d) before after)
+  happened_at (Ok x) k is b d less on =
+      subst (λ (n : ℕ). HasHappened settings e old (set old n d) before after) (sym is)
+      (happened_there b d (subst (λ (n : ℕ). n < length old) is less) (subst (λ (n : ℕ). GoesOn settings e (get_or old n b) d before.entries after.entries) is on))
+  happened_at (Err x) k is b d less on = tt
 
--- ---- a piece, or the end
+pub happened_nowhere : (settings : Settings) (e : Event) (old : List Playing) (book : Journal) → length old ≤ connection_of_event e
+    → HasHappened settings e old old book book
+happened_nowhere settings e old book past = record {
+  count = refl;
+  others = λ k differ. refl;
+  own = subst (λ (x : Option Playing). WentOn settings e x x book.entries book.entries) (sym (slice_get_past old (connection_of_event e) past)) refl;
+  least = refl;
+  opens = refl;
+}
+
+-- a vector of connections, through a slice of it: it has the elements that the slice was left with
+pub written_back : (v : Vec Playing) (now left : List Playing) → now ≡ v.items → length left ≡ length now → (with_items v left).items ≡ left
+written_back v now left is count = with_items_is v left (count ∙ ap length is ∙ sym v.ok.0)
+
+-- ---- one connection
 
 dead_closed : (standing : Standing) → is_dead standing ≡ true → is_closed standing ≡ true
 dead_closed standings.Reading dead = absurd (cc)
@@ -58,62 +84,79 @@ dead_closed standings.Waiting dead = absurd (cc)
 dead_closed standings.Over dead = absurd (cc)
 dead_closed standings.Dead dead = refl
 
-module _ (settings : Settings) (more : Input → Input) (b d : Playing)
-    (closed : is_closed (standing_of b) ≡ true → standing_of d ≡ standing_of b) (stays : IsIdle b → IsIdle d) where
-  pub fed_with : ((moments : List ℕ) (input : Input) (entries : List Entry)
-      → Plays b settings moments input entries → Plays d settings moments (more input) entries)
-      → IsFedWith settings more b d
-  fed_with holds = record {
-    holds = holds;
-    dead = λ dead. ap is_dead (closed (dead_closed (standing_of b) dead)) ∙ dead;
-    idle = stays;
-  }
+-- an event without a turn
+pub fed : (settings : Settings) (e : Event) (b d : Playing) (entries : List Recorded) → given_by e (turn_of b) ≡ None
+    → (is_closed (standing_of b) ≡ true → standing_of d ≡ standing_of b)
+    → ((moments : List ℕ) (input : Input) (es : List Entry) → Plays b settings moments input es → Plays d settings moments (heard e input) es)
+    → GoesOn settings e b d entries entries
+fed settings e b d entries none closed plays = record {
+  made = [];
+  added = sym (append-nil entries);
+  are = subst (λ (given : Option Turn). AreMade (connection_of_event e) given d []) (sym none) refl;
+  plays = λ moments input es h. subst (λ (more : List Entry). Plays d settings moments (heard e input) more) (sym (append-nil es)) (plays moments input es h);
+  dead = λ dead. ap is_dead (closed (dead_closed (standing_of b) dead)) ∙ dead;
+}
 
-  pub fed_or_not : (result : Result (Unit {0}) NoMemory)
-      → ((moments : List ℕ) (input : Input) (entries : List Entry)
-      → Plays b settings moments input entries → OnOk result (Plays d settings moments (more input) entries))
-      → OnOk result (IsFedWith settings more b d)
-  fed_or_not (Ok done) holds = fed_with holds
-  fed_or_not (Err e) holds = tt
-
-pub fed_set : (settings : Settings) (more : Input → Input) (old : List Playing) (c : ℕ) (b d : Playing) (result : Result (Unit {0}) NoMemory) → c < length old
-    → OnOk result (IsFedWith settings more (get_or old c b) d) → OnOk result (IsChangedAt c old (set old c d) (Unit {0}) (IsFedWith settings more))
-fed_set settings more old c b d (Ok done) less fed = changed_set old c (Unit {0}) (IsFedWith settings more) b d less fed
-fed_set settings more old c b d (Err e) less fed = tt
+-- a piece, which there may be no memory for
+pub fed_or_not : {T E : Type 0} (settings : Settings) (e : Event) (b d : Playing) (entries : List Recorded) (result : Result T E) → given_by e (turn_of b) ≡ None
+    → (is_closed (standing_of b) ≡ true → standing_of d ≡ standing_of b)
+    → ((moments : List ℕ) (input : Input) (es : List Entry) → Plays b settings moments input es → OnOk result (Plays d settings moments (heard e input) es))
+    → OnOk result (GoesOn settings e b d entries entries)
+fed_or_not settings e b d entries (Ok x) none closed plays = fed settings e b d entries none closed plays
+fed_or_not settings e b d entries (Err x) none closed plays = tt
 
 -- ---- a turn
 
-recorded_by : (seat : ℕ) (d : Playing) (old new : Journal) (turn : Turn) (answered : Result Answer NoMemory)
-    → IfOk answered (λ answer. new.entries ≡ old.entries ++ recorded seat turn answer ∷ [])
-    → OnErr answered (new ≡ old) → OnErr answered (standing_of d ≡ standings.Dead) → IsRecorded seat d old new turn answered
-recorded_by seat d old new turn (Ok answer) entry same dies = entry
-recorded_by seat d old new turn (Err e) entry same dies = (ap (λ (j : Journal). j.entries) same, ap is_dead dies)
+pub none_told : {A : Type 0} (told : Option A) → ((x : A) → told ≢ Some x) → told ≡ None
+none_told None none = refl
+none_told (Some x) none = absurd (none x refl)
 
-pub had_turn : (settings : Settings) (seat : ℕ) (b d : Playing) (old new : Journal) (turn : Turn) (told : Option Turn) (answered : Result Answer NoMemory)
+-- none waited
+pub no_turn : (settings : Settings) (seat : ℕ) (b d : Playing) (entries : List Recorded) → turn_of b ≡ None → d ≡ b → GoesOn settings (events.Turn seat) b d entries entries
+no_turn settings seat b d entries none same =
+    subst (λ (p : Playing). GoesOn settings (events.Turn seat) b p entries entries) (sym same)
+    (fed settings (events.Turn seat) b b entries none (λ closed. refl) (λ moments input es h. h))
+
+waiting_lives : (standing : Standing) → is_waiting standing ≡ true → is_dead standing ≡ true → ⊥
+waiting_lives standings.Reading waits dead = cc
+waiting_lives standings.Waiting waits dead = cc
+waiting_lives standings.Over waits dead = cc
+waiting_lives standings.Dead waits dead = cc
+
+abbrev made_by : ℕ → Turn → Result Answer NoMemory → List Recorded
+made_by seat turn (Ok answer) = recorded seat turn answer ∷ []
+made_by seat turn (Err e) = []
+
+entries_made : (seat : ℕ) (turn : Turn) (answered : Result Answer NoMemory) (entries : List Entry)
+    → entries_with entries turn answered ≡ entries ++ history_of (made_by seat turn answered)
+entries_made seat turn (Ok answer) entries = refl
+entries_made seat turn (Err e) entries = sym (append-nil entries)
+
+added_by : (seat : ℕ) (turn : Turn) (answered : Result Answer NoMemory) (old new : Journal)
+    → IfOk answered (λ answer. new.entries ≡ old.entries ++ recorded seat turn answer ∷ []) → OnErr answered (new ≡ old)
+    → new.entries ≡ old.entries ++ made_by seat turn answered
+added_by seat turn (Ok answer) old new entry same = entry
+added_by seat turn (Err e) old new entry same = ap (λ (j : Journal). j.entries) same ∙ sym (append-nil old.entries)
+
+are_made : (seat : ℕ) (turn : Turn) (answered : Result Answer NoMemory) (mid : Standing) (d : Playing) → OnErr answered (mid ≡ standings.Dead)
+    → (is_closed mid ≡ true → standing_of d ≡ mid) → AreMade seat (Some turn) d (made_by seat turn answered)
+are_made seat turn (Ok answer) mid d dies stays = inl (answer, refl)
+are_made seat turn (Err e) mid d dies stays = inr (refl, ap is_dead (stays (ap is_closed dies) ∙ dies))
+
+pub had_turn : (settings : Settings) (seat : ℕ) (b d : Playing) (mid : Standing) (old new : Journal) (turn : Turn) (told : Option Turn) (answered : Result Answer NoMemory)
     → told ≡ turn_of b → told ≡ Some turn → is_waiting (standing_of b) ≡ true
     → IfOk answered (λ answer. new.entries ≡ old.entries ++ recorded seat turn answer ∷ [])
-    → OnErr answered (new ≡ old) → OnErr answered (standing_of d ≡ standings.Dead)
+    → OnErr answered (new ≡ old) → OnErr answered (mid ≡ standings.Dead) → (is_closed mid ≡ true → standing_of d ≡ mid)
     → ((moments : List ℕ) (input : Input) (entries : List Entry)
     → Plays b settings moments input entries → Plays d settings moments input (entries_with entries turn answered))
-    → IsIdle d → HasTaken settings seat old new b d
-had_turn settings seat b d old new turn told answered value is waits entry same dies holds idle =
-    subst (λ (t : Option Turn). IsTurnTaken settings seat b d old new t) (sym is ∙ value)
-    (record {
-      answered = answered;
-      waited = waits;
-      recorded = recorded_by seat d old new turn answered entry same dies;
-      holds = holds;
-      idle = idle;
-    })
-
--- ---- a vector of connections, through a slice of it
-
--- it has the elements that the slice was left with
-pub written_back : (v : Vec Playing) (now left : List Playing) (c : ℕ) (Stays : Type 0) (Change : Playing → Playing → Type 0) → now ≡ v.items
-    → IsChangedAt c now left Stays Change → (with_items v left).items ≡ left
-written_back v now left c Stays Change is at = with_items_is v left (at.count ∙ ap length is ∙ sym v.ok.0)
-
--- ---- the entry of a turn
+    → GoesOn settings (events.Turn seat) b d old.entries new.entries
+had_turn settings seat b d mid old new turn told answered value is waits entry same dies stays plays = record {
+  made = made_by seat turn answered;
+  added = added_by seat turn answered old new entry same;
+  are = subst (λ (given : Option Turn). AreMade seat given d (made_by seat turn answered)) (sym is ∙ value) (are_made seat turn answered mid d dies stays);
+  plays = λ moments input entries h. subst (λ (es : List Entry). Plays d settings moments input es) (entries_made seat turn answered entries) (plays moments input entries h);
+  dead = λ dead. absurd (waiting_lives (standing_of b) waits dead);
+}
 
 pub entered_by : (in_memory : Bool) (old new : Journal) (seat : ℕ) (turn : Turn) (told waits : Option Turn) (answered : Result Answer NoMemory)
     → told ≡ waits → told ≡ Some turn

@@ -1,5 +1,5 @@
 -- The entries of one connection, and a legal history with one entry more.
-use Rattle.std.proofs.Common.{◌≡◌, ◌≢◌, ℕ, suc, ◌+◌, cond, eqb, Bool, List, [], ◌∷◌, ◌++◌, length, filter, ap, subst, ◌∙◌, append-nil, eq-eqb, arith, inl, inr}
+use Rattle.std.proofs.Common.{◌≡◌, ◌≢◌, ℕ, suc, ◌+◌, cond, eqb, Bool, List, [], ◌∷◌, ◌++◌, length, filter, ap, subst, ◌∙◌, eq-eqb, arith, inl, inr}
 use Rattle.std.proofs.lemmas.Bool.Decides.{eqb_tells}
 use Rattle.std.proofs.lemmas.List.{map-append}
 use Rattle.std.proofs.lemmas.List.Elements.{filter-append}
@@ -7,28 +7,23 @@ use Rattle.s3_machine.specs.Step.{State}
 use Rattle.s3_machine.specs.History.{Entry, IsAnswer, Legal, after, after_entry}
 use Rattle.s3_journal.specs.Recorded.{Recorded, entries_of_seat, history_of}
 
--- the entries of one, with one entry more
-seat_more : (seat : ℕ) (entries : List Recorded) (r : Recorded)
-    → entries_of_seat seat (entries ++ r ∷ []) ≡ entries_of_seat seat entries ++ history_of (cond (eqb r.seat seat) (r ∷ []) [])
-seat_more seat entries r =
-    ap history_of (filter-append (λ (x : Recorded). eqb x.seat seat) entries (r ∷ []))
-    ∙ map-append (λ (x : Recorded). x.entry) (filter (λ (x : Recorded). eqb x.seat seat) entries) (cond (eqb r.seat seat) (r ∷ []) [])
+-- the entries of one, with more entries
+pub seat_join : (seat : ℕ) (entries more : List Recorded)
+    → entries_of_seat seat (entries ++ more) ≡ entries_of_seat seat entries ++ entries_of_seat seat more
+seat_join seat entries more =
+    ap history_of (filter-append (λ (x : Recorded). eqb x.seat seat) entries more)
+    ∙ map-append (λ (x : Recorded). x.entry) (filter (λ (x : Recorded). eqb x.seat seat) entries) (filter (λ (x : Recorded). eqb x.seat seat) more)
 
--- it is its own
-pub seat_own : (seat : ℕ) (entries : List Recorded) (r : Recorded) → r.seat ≡ seat
-    → entries_of_seat seat (entries ++ r ∷ []) ≡ entries_of_seat seat entries ++ r.entry ∷ []
-seat_own seat entries r own =
-    seat_more seat entries r ∙ ap (λ (b : Bool). entries_of_seat seat entries ++ history_of (cond b (r ∷ []) [])) (eq-eqb r.seat seat own)
+-- of one entry, which is its own
+pub seat_own : (seat : ℕ) (r : Recorded) → r.seat ≡ seat → entries_of_seat seat (r ∷ []) ≡ r.entry ∷ []
+seat_own seat r own = ap (λ (b : Bool). history_of (cond b (r ∷ []) [])) (eq-eqb r.seat seat own)
 
--- it is another's
-pub seat_others : (seat : ℕ) (entries : List Recorded) (r : Recorded) → r.seat ≢ seat
-    → entries_of_seat seat (entries ++ r ∷ []) ≡ entries_of_seat seat entries
-seat_others seat entries r others =
-    seat_more seat entries r
-    ∙ elim (eqb_tells r.seat seat) [
-      | inl same ↦ absurd (others same.1)
-      | inr other ↦ ap (λ (b : Bool). entries_of_seat seat entries ++ history_of (cond b (r ∷ []) [])) other.0 ∙ append-nil (entries_of_seat seat entries)
-    ]
+-- or another's
+pub seat_others : (seat : ℕ) (r : Recorded) → r.seat ≢ seat → entries_of_seat seat (r ∷ []) ≡ []
+seat_others seat r others = elim (eqb_tells r.seat seat) [
+  | inl same ↦ absurd (others same.1)
+  | inr other ↦ ap (λ (b : Bool). history_of (cond b (r ∷ []) [])) other.0
+]
 
 -- the history, with more entries
 pub history_more : (entries more : List Recorded) → history_of (entries ++ more) ≡ history_of entries ++ history_of more

@@ -1,6 +1,5 @@
 -- What one more event makes of what connections received, and of the turns that were given.
 use Rattle.std.proofs.Common.{◌≡◌, ◌≢◌, ℕ, Bool, true, false, cond, eqb, not, ◌||◌, List, [], ◌∷◌, ◌++◌, refl, sym, ap, ◌∙◌, append-nil, append_assoc, eq-eqb, inl, inr}
-use Rattle.std.specs.Global.{Vec}
 use Rattle.std.specs.List.{flat_map, list_any, take_while}
 use Rattle.std.proofs.lemmas.Bool.{cases_Bool, or_parts}
 use Rattle.std.proofs.lemmas.Bool.Decides.{eqb_tells}
@@ -8,8 +7,10 @@ use Rattle.std.proofs.lemmas.List.Sums.{take_while-cons}
 use Rattle.std.proofs.lemmas.List.Folds.{list_any-append}
 use Rattle.s3_events.specs.declared.event.Event.{Event}
 use Rattle.s3_events.specs.declared.event.Event.TheVariants as events
+use Rattle.s3_events.specs.Script.{connection_of_event}
 use Rattle.s3_connection.specs.Output.{Input}
 use Rattle.s3_world.specs.Events.{TurnAt, brought, is_end, received, turn_given, turns_given, turns_given_after}
+use Rattle.s3_world.specs.StandsAfter.{heard}
 
 -- ---- lists: what stands before the first element that passes a test
 
@@ -48,21 +49,21 @@ module _ {X : Type 0} (p : X → Bool) (f : X → List ℕ) where
 
 -- ---- what a connection received
 
-nothing_either : (b : Bool) → cond {A = List ℕ} b [] [] ≡ []
-nothing_either true = refl
-nothing_either false = refl
+same_either : {A : Type 0} (b : Bool) (x : A) → cond b x x ≡ x
+same_either true x = refl
+same_either false x = refl
 
 -- an event that ends a connection brings nothing
 end_brings : (c : ℕ) (e : Event) → cond (is_end c e) [] (brought c e) ≡ brought c e
 end_brings c (events.Piece k bytes) = refl
-end_brings c (events.End k) = nothing_either (eqb k c)
+end_brings c (events.End k) = same_either (eqb k c) []
 end_brings c (events.Turn k) = refl
 
 abbrev input_of : List ℕ → Bool → Input
 input_of bytes ended = record { bytes = bytes; ended = ended }
 
 -- behind its end nothing is received
-pub received_ended : (c : ℕ) (before : List Event) (e : Event) → (received c before).ended ≡ true → received c (before ++ e ∷ []) ≡ received c before
+received_ended : (c : ℕ) (before : List Event) (e : Event) → (received c before).ended ≡ true → received c (before ++ e ∷ []) ≡ received c before
 received_ended c before e ended =
     ap (λ (b : List ℕ). input_of b (list_any (is_end c) (before ++ e ∷ []))) (gathered_stay (is_end c) (brought c) before (e ∷ []) ended)
     ∙ ap (input_of (received c before).bytes) (list_any-append (is_end c) before (e ∷ []) ∙ ap (λ (b : Bool). b || list_any (is_end c) (e ∷ [])) ended ∙ sym ended)
@@ -72,59 +73,59 @@ or_nothing true = refl
 or_nothing false = refl
 
 -- before its end, what an event brings and whether it ends it
-pub received_on : (c : ℕ) (before : List Event) (e : Event) → (received c before).ended ≡ false
+received_on : (c : ℕ) (before : List Event) (e : Event) → (received c before).ended ≡ false
     → received c (before ++ e ∷ []) ≡ record { bytes = (received c before).bytes ++ brought c e; ended = is_end c e }
 received_on c before e on =
     ap (λ (b : List ℕ). input_of b (list_any (is_end c) (before ++ e ∷ []))) (gathered_more (is_end c) (brought c) before e on ∙ ap (λ (b : List ℕ). (received c before).bytes ++ b) (end_brings c e))
     ∙ ap (input_of ((received c before).bytes ++ brought c e))
     (list_any-append (is_end c) before (e ∷ []) ∙ ap (λ (b : Bool). b || list_any (is_end c) (e ∷ [])) on ∙ or_nothing (is_end c e))
 
--- an event that brings it nothing and doesn't end it
-pub received_same : (c : ℕ) (before : List Event) (e : Event) → brought c e ≡ [] → is_end c e ≡ false
-    → received c (before ++ e ∷ []) ≡ received c before
-received_same c before e nothing goes_on =
-    elim (cases_Bool (received c before).ended) [
-      | inl ended ↦ received_ended c before e ended
-      | inr on ↦ received_on c before e on
-          ∙ ap (λ (b : List ℕ). input_of ((received c before).bytes ++ b) (is_end c e)) nothing
-          ∙ ap (λ (b : List ℕ). input_of b (is_end c e)) (append-nil (received c before).bytes)
-          ∙ ap (input_of (received c before).bytes) (goes_on ∙ sym on)
+-- what a connection has received with an event, its own or another's
+abbrev pub heard_by : ℕ → Event → Input → Input
+heard_by c e input = cond (eqb (connection_of_event e) c) (heard e input) input
+
+heard_ended : (c : ℕ) (e : Event) (bytes : List ℕ) → heard_by c e (input_of bytes true) ≡ input_of bytes true
+heard_ended c (events.Piece k piece) bytes = same_either (eqb k c) (input_of bytes true)
+heard_ended c (events.End k) bytes = same_either (eqb k c) (input_of bytes true)
+heard_ended c (events.Turn k) bytes = same_either (eqb k c) (input_of bytes true)
+
+piece_on : (mine : Bool) (bytes piece : List ℕ)
+    → input_of (bytes ++ cond mine piece []) false ≡ cond mine (input_of (bytes ++ piece) false) (input_of bytes false)
+piece_on true bytes piece = refl
+piece_on false bytes piece = ap (λ (b : List ℕ). input_of b false) (append-nil bytes)
+
+end_on : (mine : Bool) (bytes : List ℕ) → input_of (bytes ++ []) mine ≡ cond mine (input_of bytes true) (input_of bytes false)
+end_on true bytes = ap (λ (b : List ℕ). input_of b true) (append-nil bytes)
+end_on false bytes = ap (λ (b : List ℕ). input_of b false) (append-nil bytes)
+
+heard_on : (c : ℕ) (e : Event) (bytes : List ℕ) → input_of (bytes ++ brought c e) (is_end c e) ≡ heard_by c e (input_of bytes false)
+heard_on c (events.Piece k piece) bytes = piece_on (eqb k c) bytes piece.items
+heard_on c (events.End k) bytes = end_on (eqb k c) bytes
+heard_on c (events.Turn k) bytes = ap (λ (b : List ℕ). input_of b false) (append-nil bytes) ∙ sym (same_either (eqb k c) (input_of bytes false))
+
+-- with one event more
+pub received_more : (c : ℕ) (before : List Event) (e : Event) → received c (before ++ e ∷ []) ≡ heard_by c e (received c before)
+received_more c before e =
+    let so_far = received c before in
+    elim (cases_Bool so_far.ended) [
+      | inl ended ↦ received_ended c before e ended ∙ ap (input_of so_far.bytes) ended
+          ∙ sym (heard_ended c e so_far.bytes) ∙ ap (λ (b : Bool). heard_by c e (input_of so_far.bytes b)) (sym ended)
+      | inr on ↦ received_on c before e on ∙ heard_on c e so_far.bytes ∙ ap (λ (b : Bool). heard_by c e (input_of so_far.bytes b)) (sym on)
     ]
 
--- its end
-pub received_end : (c : ℕ) (before : List Event) → received c (before ++ events.End c ∷ []) ≡ record { bytes = (received c before).bytes; ended = true }
-received_end c before =
-    elim (cases_Bool (received c before).ended) [
-      | inl ended ↦ received_ended c before (events.End c) ended ∙ ap (input_of (received c before).bytes) ended
-      | inr on ↦ received_on c before (events.End c) on
-          ∙ ap (λ (b : List ℕ). input_of b (eqb c c)) (append-nil (received c before).bytes)
-          ∙ ap (input_of (received c before).bytes) (eq-eqb c c refl)
+pub received_own : (before : List Event) (e : Event)
+    → received (connection_of_event e) (before ++ e ∷ []) ≡ heard e (received (connection_of_event e) before)
+received_own before e =
+    let c = connection_of_event e in
+    received_more c before e ∙ ap (λ (b : Bool). cond b (heard e (received c before)) (received c before)) (eq-eqb c c refl)
+
+pub received_others : (c : ℕ) (before : List Event) (e : Event) → connection_of_event e ≢ c → received c (before ++ e ∷ []) ≡ received c before
+received_others c before e differ =
+    received_more c before e
+    ∙ elim (eqb_tells (connection_of_event e) c) [
+      | inl same ↦ absurd (differ same.1)
+      | inr other ↦ ap (λ (b : Bool). cond b (heard e (received c before)) (received c before)) other.0
     ]
-
--- a piece of it
-pub received_piece : (c : ℕ) (before : List Event) (bytes : Vec ℕ) → (received c before).ended ≡ false
-    → received c (before ++ events.Piece c bytes ∷ []) ≡ record { bytes = (received c before).bytes ++ bytes.items; ended = false }
-received_piece c before bytes on =
-    received_on c before (events.Piece c bytes) on
-    ∙ ap (λ (b : Bool). input_of ((received c before).bytes ++ cond b bytes.items []) false) (eq-eqb c c refl)
-
--- ---- events of others
-
-eqb_differs : (k c : ℕ) → k ≢ c → eqb k c ≡ false
-eqb_differs k c differ = elim (eqb_tells k c) [
-  | inl same ↦ absurd (differ same.1)
-  | inr other ↦ other.0
-]
-
-pub received_others_piece : (c k : ℕ) (before : List Event) (bytes : Vec ℕ) → k ≢ c → received c (before ++ events.Piece k bytes ∷ []) ≡ received c before
-received_others_piece c k before bytes differ =
-    received_same c before (events.Piece k bytes) (ap (λ (b : Bool). cond b bytes.items []) (eqb_differs k c differ)) refl
-
-pub received_others_end : (c k : ℕ) (before : List Event) → k ≢ c → received c (before ++ events.End k ∷ []) ≡ received c before
-received_others_end c k before differ = received_same c before (events.End k) refl (eqb_differs k c differ)
-
-pub received_turn : (c k : ℕ) (before : List Event) → received c (before ++ events.Turn k ∷ []) ≡ received c before
-received_turn c k before = received_same c before (events.Turn k) refl refl
 
 -- ---- turns
 

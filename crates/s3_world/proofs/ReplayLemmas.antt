@@ -1,70 +1,68 @@
 -- A connection over a store of its own: what it takes, and that what it has written is what a replay writes.
-use Rattle.std.proofs.Common.{◌≡◌, ◌≢◌, ◌<◌, ℕ, Bool, true, false, List, [], ◌∷◌, ◌++◌, length, map, Option, Some, None, Result, Ok, Err, IfOk, OnErr, refl, sym, ap, subst, ◌∙◌}
+use Rattle.std.proofs.Common.{◌≡◌, ◌≢◌, ◌<◌, ℕ, zero, suc, true, false, List, [], ◌∷◌, ◌++◌, length, map, Result, Ok, Err, IfOk, OnOk, OnErr, refl, sym, ap, subst, ◌∙◌}
 use Rattle.std.specs.List.{AllByRecursion}
-use Rattle.std.proofs.lemmas.List.{map-append}
 use Rattle.s3_config.specs.Settings.{Settings}
-use Rattle.s3_terms.specs.declared.memory.NoMemory.{NoMemory}
 use Rattle.s3_http_heads.specs.Find.{found_in, skip_pairs, text_length}
 use Rattle.s3_http_heads.specs.declared.find.Found.TheVariants as found
 use Rattle.s3_records.specs.Catalogue.{opening}
 use Rattle.s3_store.specs.Steps as stores
 use Rattle.s3_machine.specs.History.{Entry, Legal}
-use Rattle.s3_machine.specs.declared.command.Answer.{Answer}
 use Rattle.s3_machine.specs.declared.turn.Turn.{Turn}
 use Rattle.s3_journal.specs.Book.{Journal, KeepsHistory}
-use Rattle.s3_journal.specs.Recorded.{Recorded, history_of, recorded}
-use Rattle.s3_session.specs.Output.{is_waiting}
+use Rattle.s3_journal.specs.Recorded.{history_of}
 use Rattle.s3_session.specs.Replay.{Replays, entries_of}
-use Rattle.s3_session.specs.Session.{moment_if}
-use Rattle.s3_connection.specs.Connection.{Connected, IsNext, entries_with, standing_of, unsent_of}
-use Rattle.s3_connection.specs.Holds.{ConnectionsWrite, Holds}
+use Rattle.s3_connection.specs.Holds.{ConnectionsWrite}
 use Rattle.s3_connection.specs.Output.{Input, answer_of, answered_turn, past_of}
+use Rattle.s3_world.specs.Moments.{handed}
+use Rattle.s3_world.specs.Played.{Playing, Plays, standing_of, turn_of, written_by}
 use Rattle.s3_world.specs.Replaying.{HasCome, HasTaken, Replaying}
-
--- ---- all messages have one moment
-
-pub all_more : (moment : ℕ) (moments : List ℕ) (has : Bool) → AllByRecursion (λ (m : ℕ). m ≡ moment) moments
-    → AllByRecursion (λ (m : ℕ). m ≡ moment) (moments ++ moment_if has moment)
-all_more moment [] true all = (refl, tt)
-all_more moment [] false all = tt
-all_more moment (m ∷ moments) has all = (all.0, all_more moment moments has all.1)
-
--- ---- a piece, or a turn
+use Rattle.s3_world.proofs.PlayedLemmas.{plays_write, waits_for}
 
 abbrev input_of : List ℕ → Input
 input_of bytes = record { bytes = bytes; ended = false }
 
--- the same replay, of which a connection and a book went on so
-pub goes_on : (r : Replaying) (settings : Settings) (moment : ℕ) (bytes more : List ℕ) (connection : Connected) (book : Journal) (has : Bool)
-    → HasCome r settings moment bytes
-    → ((moments : List ℕ) → Holds r.connection r.settings (input_of bytes) moments (history_of r.book.entries) []
-    → Holds connection r.settings (input_of more) (moments ++ moment_if has r.moment) (history_of book.entries) [])
-    → IsNext connection.stage → book.least ≡ r.book.least → book.opening ≡ r.book.opening
-    → HasCome (record { settings = r.settings; moment = r.moment; connection = connection; book = book }) settings moment more
-goes_on r settings moment bytes more connection book has h on next least opens = record {
+-- nothing has come
+pub begun : (settings : Settings) (moment : ℕ) (played : Playing) (book : Journal) (moments : List ℕ) (least : ℕ) (store : stores.Standing)
+    → moments ≡ moment ∷ [] → ((s : Settings) → Plays played s moments (input_of []) [])
+    → book ≡ record { origin = book.origin; least = least; opening = store; entries = []; store = store }
+    → least ≡ settings.min_part → store ≡ stores.opened (opening settings.buckets)
+    → HasCome (record { settings = settings; played = played; book = book }) settings moment []
+begun settings moment played book moments least store one plays is least_is store_is = record {
+  under = refl;
+  plays = subst (λ (ms : List ℕ). Plays played settings ms (input_of []) (history_of book.entries)) one
+      (subst (λ (es : List Entry). Plays played settings moments (input_of []) es) (sym (ap (λ (j : Journal). history_of j.entries) is)) (plays settings));
+  least = ap (λ (j : Journal). j.least) is ∙ least_is;
+  opens = ap (λ (j : Journal). j.opening) is ∙ store_is;
+}
+
+-- the same replay, of which the connection and the book went on so
+pub goes_on : (r : Replaying) (settings : Settings) (moment : ℕ) (bytes more : List ℕ) (played : Playing) (book : Journal) → HasCome r settings moment bytes
+    → (Plays r.played r.settings (moment ∷ []) (input_of bytes) (history_of r.book.entries)
+    → Plays played r.settings (moment ∷ []) (input_of more) (history_of book.entries))
+    → book.least ≡ r.book.least → book.opening ≡ r.book.opening
+    → HasCome (record { settings = r.settings; played = played; book = book }) settings moment more
+goes_on r settings moment bytes more played book h on least opens = record {
   under = h.under;
-  at = h.at;
-  moments = h.moments ++ moment_if has moment;
-  all = all_more moment h.moments has h.all;
-  holds = subst (λ (m : ℕ). Holds connection settings (input_of more) (h.moments ++ moment_if has m) (history_of book.entries) []) h.at
-      (subst (λ (s : Settings). Holds connection s (input_of more) (h.moments ++ moment_if has r.moment) (history_of book.entries) []) h.under
-      (on h.moments (subst (λ (s : Settings). Holds r.connection s (input_of bytes) h.moments (history_of r.book.entries) []) (sym h.under) h.holds)));
-  next = next;
+  plays = subst (λ (s : Settings). Plays played s (moment ∷ []) (input_of more) (history_of book.entries)) h.under
+      (on (subst (λ (s : Settings). Plays r.played s (moment ∷ []) (input_of bytes) (history_of r.book.entries)) (sym h.under) h.plays));
   least = least ∙ h.least;
   opens = opens ∙ h.opens;
 }
 
-pub history_with : (old new : Journal) (seat : ℕ) (turn : Turn) (answered : Result Answer NoMemory)
-    → IfOk answered (λ answer. new.entries ≡ old.entries ++ recorded seat turn answer ∷ []) → OnErr answered (new ≡ old)
-    → entries_with (history_of old.entries) turn answered ≡ history_of new.entries
-history_with old new seat turn (Ok answer) entry same =
-    sym (ap history_of entry ∙ map-append (λ (r : Recorded). r.entry) old.entries (recorded seat turn answer ∷ []))
-history_with old new seat turn (Err e) entry same = sym (ap (λ (j : Journal). history_of j.entries) same)
-
-pub some_asked : (told asked : Option Turn) (turn : Turn) → told ≡ asked → told ≡ Some turn → asked ≢ None
-some_asked told asked turn value is none = cc
+-- or only the connection, with a piece that there may be no memory for
+pub came_on : {T E : Type 0} (r : Replaying) (settings : Settings) (moment : ℕ) (bytes more : List ℕ) (played : Playing) (result : Result T E) → HasCome r settings moment bytes
+    → (Plays r.played r.settings (moment ∷ []) (input_of bytes) (history_of r.book.entries)
+    → OnOk result (Plays played r.settings (moment ∷ []) (input_of more) (history_of r.book.entries)))
+    → OnOk result (HasCome (record { settings = r.settings; played = played; book = r.book }) settings moment more)
+came_on r settings moment bytes more played (Ok x) h on = goes_on r settings moment bytes more played r.book h on refl refl
+came_on r settings moment bytes more played (Err e) h on = tt
 
 -- ---- what it wrote
+
+-- a list of one moment hands out that
+all_handed : (moment n : ℕ) → AllByRecursion (λ (m : ℕ). m ≡ moment) (handed (moment ∷ []) n)
+all_handed moment zero = tt
+all_handed moment (suc n) = (refl, all_handed moment n)
 
 -- the turns that were answered, with their answers, are the entries, whichever turns wait
 answered_entries : (entries : List Entry) (waiting : List Turn) → entries_of (map answered_turn entries ++ waiting) (map answer_of entries) ≡ entries
@@ -72,40 +70,32 @@ answered_entries [] [] = refl
 answered_entries [] (turn ∷ turns) = refl
 answered_entries (e ∷ entries) waiting = ap (λ (es : List Entry). e ∷ es) (answered_entries entries waiting)
 
--- a connection that received these bytes and their end, and is idle, has written what a replay writes
-pub ended_replays : ConnectionsWrite → (c : Connected) (book : Journal) (settings : Settings) (moment : ℕ) (bytes moments : List ℕ)
-    → Holds c settings (record { bytes = bytes; ended = true }) moments (history_of book.entries) []
-    → AllByRecursion (λ (m : ℕ). m ≡ moment) moments → IsNext c.stage → is_waiting (standing_of c) ≡ false
-    → book.least ≡ settings.min_part → book.opening ≡ stores.opened (opening settings.buckets) → KeepsHistory book
-    → Replays settings moment bytes (unsent_of c)
-ended_replays write c book settings moment bytes moments holds all next idle least opens keeps =
-    let entries = history_of book.entries in
-    let wrote = write c settings (record { bytes = bytes; ended = true }) moments entries [] holds in
+-- it received these bytes and their end, and is idle: it has written what a replay writes
+pub written_replays : ConnectionsWrite → (r : Replaying) (settings : Settings) (moment : ℕ) (bytes : List ℕ) → HasTaken r settings moment bytes
+    → (p : Playing)
+    → ((s : Settings) (moments : List ℕ) (input : Input) (entries : List Entry) → Plays r.played s moments input entries
+    → Plays p s moments (record { bytes = input.bytes; ended = true }) entries)
+    → turn_of p ≡ turn_of r.played → KeepsHistory r.book
+    → Replays settings moment bytes (written_by p)
+written_replays write r settings moment bytes taken p ends turn keeps =
+    let h = taken.0 in
+    let entries = history_of r.book.entries in
+    let plays = ends settings (moment ∷ []) (input_of bytes) entries h.plays in
+    let wrote = plays_write write p settings (moment ∷ []) (record { bytes = bytes; ended = true }) entries plays in
     let legal : Legal settings.min_part (opening settings.buckets) 0 entries =
-    subst (λ (n : ℕ). Legal n (opening settings.buckets) 0 entries) least
-    (subst (λ (t : stores.Standing). Legal book.least t.state t.number entries) opens keeps.legal) in (
-      standing_of c,
-      idle,
+    subst (λ (n : ℕ). Legal n (opening settings.buckets) 0 entries) h.least
+    (subst (λ (t : stores.Standing). Legal r.book.least t.state t.number entries) h.opens keeps.legal) in (
+      standing_of p,
+      (waits_for p settings (moment ∷ []) (record { bytes = bytes; ended = true }) entries plays).1 (turn ∙ taken.1),
       record {
-        past = past_of bytes true moments entries wrote.0.waiting;
+        past = past_of bytes true (handed (moment ∷ []) wrote.1.count) entries wrote.0;
         came = refl;
         ended = refl;
-        moments = all;
-        writes = (wrote.0.whole next.0).writes;
-        legal = subst (Legal settings.min_part (opening settings.buckets) 0) (sym (answered_entries entries wrote.0.waiting)) legal;
+        moments = all_handed moment wrote.1.count;
+        writes = wrote.1.output.writes;
+        legal = subst (Legal settings.min_part (opening settings.buckets) 0) (sym (answered_entries entries wrote.0)) legal;
       },
     )
-
-pub written_replays : ConnectionsWrite → (r : Replaying) (settings : Settings) (moment : ℕ) (bytes : List ℕ) → HasTaken r settings moment bytes
-    → (c : Connected)
-    → ((s : Settings) (input : Input) (moments : List ℕ) (entries : List Entry) (sent : List ℕ) → Holds r.connection s input moments entries sent
-    → Holds c s (record { bytes = input.bytes; ended = true }) moments entries sent)
-    → (IsNext r.connection.stage → IsNext c.stage) → is_waiting (standing_of c) ≡ is_waiting (standing_of r.connection) → KeepsHistory r.book
-    → Replays settings moment bytes (unsent_of c)
-written_replays write r settings moment bytes taken c ends next waits keeps =
-    let h = taken.0 in
-    ended_replays write c r.book settings moment bytes h.moments (ends settings (input_of bytes) h.moments (history_of r.book.entries) [] h.holds)
-    h.all (next h.next) (waits ∙ taken.1) h.least h.opens keeps
 
 -- a copy of what was written is the output as well, and where there was no memory for one, something was written
 module _ {X E : Type 0} (settings : Settings) (moment : ℕ) (bytes out : List ℕ) (replays : Replays settings moment bytes out) where

@@ -13,7 +13,7 @@ use Rattle.s3_journal.specs.Book.{Journal}
 use Rattle.s3_journal.specs.Recorded.{entries_of_seat, history_of}
 use Rattle.s3_connection.specs.Output.{Input}
 use Rattle.s3_connection.specs.Holds.{ConnectionsWrite}
-use Rattle.s3_world.specs.Played.{IsIdle, Playing, Plays, standing_of, written_by}
+use Rattle.s3_world.specs.Played.{Playing, Plays, standing_of, written_by}
 use Rattle.s3_world.specs.Timed.{TimedOutputs}
 use Rattle.s3_world.proofs.PlayedLemmas.{plays_write}
 use Rattle.s3_world.specs.Events.{received}
@@ -33,8 +33,7 @@ begins settings connections book given fresh is =
     subst (λ (j : Journal). StandsAfter (record { settings = settings; connections = connections; book = j }) (each_moments given) []) (sym is)
     (record {
       each = fresh.count ∙ sym (length-map given (λ (v : Vec ℕ). v.items));
-      holds = λ c b at. (fresh.fresh c b at).holds settings;
-      idle = λ c b at. (fresh.fresh c b at).idle;
+      plays = λ c b at. fresh.fresh c b at settings;
       least = refl;
       opens = refl;
       keeps = record { legal = tt; leaves = refl; counts = refl };
@@ -49,40 +48,37 @@ written_one (x ∷ connections) zero b is = ap written_by (sym (same_some (slice
 written_one (x ∷ connections) (suc c) b is = written_one connections c b is
 
 module _ (write : ConnectionsWrite) (settings : Settings) (moments : List ℕ) (input : Input) (entries : List Entry) where
-  -- a connection of which nothing is under way, and what it writes
-  Rests : Option Playing → Type 0
-  Rests x = (b : Playing) → x ≡ Some b → Plays b settings moments input entries × IsIdle b
+  -- a connection, and what it writes
+  HavePlayed : Option Playing → Type 0
+  HavePlayed x = (b : Playing) → x ≡ Some b → Plays b settings moments input entries
 
   -- the turns of a connection that have no answer
-  waiting_in : (x : Option Playing) → Rests x → List Turn
-  unfolding Rests
-  waiting_in None rests = []
-  waiting_in (Some b) rests = let r = rests b refl in (plays_write write b settings moments input entries r.0 r.1).0
+  waiting_in : (x : Option Playing) → HavePlayed x → List Turn
+  unfolding HavePlayed
+  waiting_in None played = []
+  waiting_in (Some b) played = (plays_write write b settings moments input entries (played b refl)).0
 
-  outputs_in : (x : Option Playing) (rests : Rests x) (out : List ℕ) → ((b : Playing) → x ≡ Some b → written_by b ≡ out) → x ≢ None
-      → TimedOutputs (standing_in x) settings moments input entries (waiting_in x rests) out
+  outputs_in : (x : Option Playing) (played : HavePlayed x) (out : List ℕ) → ((b : Playing) → x ≡ Some b → written_by b ≡ out) → x ≢ None
+      → TimedOutputs (standing_in x) settings moments input entries (waiting_in x played) out
   unfolding waiting_in
-  outputs_in None rests out wrote some = absurd (some refl)
-  outputs_in (Some b) rests out wrote some =
-      let r = rests b refl in
-      let w = plays_write write b settings moments input entries r.0 r.1 in
+  outputs_in None played out wrote some = absurd (some refl)
+  outputs_in (Some b) played out wrote some =
+      let w = plays_write write b settings moments input entries (played b refl) in
       subst (TimedOutputs (standing_of b) settings moments input entries w.0) (wrote b refl) w.1
 
 pub worlds_run : ConnectionsWrite → WorldsRun
-unfolding Rests
+unfolding HavePlayed
 worlds_run write world moments happened s =
     let settings = world.settings in
-    let rests : (c : ℕ) → Rests write settings (moments_of c moments) (received c happened) (entries_of_seat c world.book.entries) (slice_get world.connections c) =
-    λ c b at. (s.holds c b at, s.idle c b at) in
     record {
       standing = λ c. standing_at world.connections c;
-      waiting = λ c. waiting_in write settings (moments_of c moments) (received c happened) (entries_of_seat c world.book.entries) (slice_get world.connections c) (rests c);
+      waiting = λ c. waiting_in write settings (moments_of c moments) (received c happened) (entries_of_seat c world.book.entries) (slice_get world.connections c) (s.plays c);
       legal = subst (λ (n : ℕ). Legal n (opening settings.buckets) 0 (history_of world.book.entries)) s.least
           (subst (λ (t : stores.Standing). Legal world.book.least t.state t.number (history_of world.book.entries)) s.opens s.keeps.legal);
       taken = s.taken;
       outputs = λ c less.
           (let count : c < length world.connections = subst (λ (n : ℕ). c < n) (sym s.each) less in
-          outputs_in write settings (moments_of c moments) (received c happened) (entries_of_seat c world.book.entries) (slice_get world.connections c) (rests c)
+          outputs_in write settings (moments_of c moments) (received c happened) (entries_of_seat c world.book.entries) (slice_get world.connections c) (s.plays c)
           (output_of c (written_by_all world.connections)) (written_one world.connections c) (λ none. there world.connections c count none));
       each = length-map world.connections written_by ∙ s.each;
     }

@@ -7,14 +7,9 @@ use Rattle.s3_journal.specs.Recorded.{Recorded}
 use Rattle.s3_session.specs.Output.{is_dead}
 use Rattle.s3_events.specs.declared.event.Event.{Event}
 use Rattle.s3_events.specs.declared.event.Event.TheVariants as events
+use Rattle.s3_events.specs.Script.{connection_of_event}
 use Rattle.s3_world.specs.Laws.{AreAlike}
 use Rattle.s3_world.specs.Run.{Runs, output_of}
-
--- whose event it is
-abbrev pub connection_of : Event → ℕ
-connection_of (events.Piece c bytes) = c
-connection_of (events.End c) = c
-connection_of (events.Turn c) = c
 
 abbrev pub is_turn : Event → Bool
 is_turn (events.Piece c bytes) = false
@@ -32,7 +27,7 @@ CutsAreAlike =
 abbrev pub MovesAreAlike : Type 0
 MovesAreAlike =
     (before later : List Event) (x y : Event)
-    → connection_of x ≢ connection_of y → (is_turn x && is_turn y) ≡ false
+    → connection_of_event x ≢ connection_of_event y → (is_turn x && is_turn y) ≡ false
     → AreAlike (before ++ x ∷ y ∷ later) (before ++ y ∷ x ∷ later)
 
 -- the output of a connection in which memory ran out ends with what stands for a reply then

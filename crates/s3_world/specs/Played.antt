@@ -27,12 +27,12 @@ written_by p = connections.unsent_of p.connection
 abbrev pub turn_of : Playing → Option Turn
 turn_of p = connections.turn_of p.connection
 
--- nothing of it is under way: no turn of it was taken, and it has gone on behind its last answer
-abbrev pub IsIdle : Playing → Type 0
-IsIdle p = IsNext p.connection.stage
-
 -- it received this, its messages had the first moments of the list, and the commands of the entries were answered
-pub record Plays (p : Playing) (settings : Settings) (moments : List ℕ) (input : Input) (entries : List Entry) : Type 0 where
+pub record Carries (p : Playing) (settings : Settings) (moments : List ℕ) (input : Input) (entries : List Entry) : Type 0 where
   pub count : ℕ
   pub hands : HasHanded moments count p.moments
   pub holds : Holds p.connection settings input (handed moments count) entries []
+
+-- the same, and nothing of it is under way: no turn of it was taken, and it has gone on behind its last answer
+abbrev pub Plays : Playing → Settings → List ℕ → Input → List Entry → Type 0
+Plays p settings moments input entries = Carries p settings moments input entries × IsNext p.connection.stage

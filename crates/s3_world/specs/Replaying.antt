@@ -1,36 +1,27 @@
 -- A connection over a store of its own, whose messages all have one moment, and what it has taken.
 -- `HasTaken` is what the clauses of a replay carry along. What it comes to is said where the replay ends: the output of the
 -- whole connection. So its inside need not be believed.
-use Rattle.std.specs.Prelude.{◌≡◌, ℕ, false, List, []}
-use Rattle.std.specs.List.{AllByRecursion}
+use Rattle.std.specs.Prelude.{◌≡◌, ℕ, false, List, [], ◌∷◌, None}
 use Rattle.s3_config.specs.Settings.{Settings}
 use Rattle.s3_records.specs.Catalogue.{opening}
 use Rattle.s3_store.specs.Steps.{opened}
 use Rattle.s3_journal.specs.Book.{Journal}
 use Rattle.s3_journal.specs.Recorded.{history_of}
-use Rattle.s3_session.specs.Output.{is_waiting}
-use Rattle.s3_connection.specs.Connection.{Connected, IsNext, standing_of}
-use Rattle.s3_connection.specs.Holds.{Holds}
+use Rattle.s3_world.specs.Played.{Playing, Plays, turn_of}
 
--- a replay: the settings, the moment of all messages, the connection, and the book of its store
+-- a replay: the settings, the connection, and the book of its store
 pub record Replaying : Type 0 where
   pub settings : Settings
-  pub moment : ℕ
-  pub connection : Connected
+  pub played : Playing
   pub book : Journal
 
 -- these bytes came, and their end did not: the commands were answered by its book, which was opened with the opening buckets
 pub record HasCome (replay : Replaying) (settings : Settings) (moment : ℕ) (bytes : List ℕ) : Type 0 where
   pub under : replay.settings ≡ settings
-  pub at : replay.moment ≡ moment
-  pub moments : List ℕ
-  pub all : AllByRecursion (λ (m : ℕ). m ≡ moment) moments
-  pub holds : Holds replay.connection settings (record { bytes = bytes; ended = false }) moments (history_of replay.book.entries) []
-  pub next : IsNext replay.connection.stage
+  pub plays : Plays replay.played settings (moment ∷ []) (record { bytes = bytes; ended = false }) (history_of replay.book.entries)
   pub least : replay.book.least ≡ settings.min_part
   pub opens : replay.book.opening ≡ opened (opening settings.buckets)
 
 -- it has taken these bytes, all of whose messages have one moment: they came, and no command waits
 abbrev pub HasTaken : Replaying → Settings → ℕ → List ℕ → Type 0
-HasTaken replay settings moment bytes =
-    HasCome replay settings moment bytes × (is_waiting (standing_of replay.connection) ≡ false)
+HasTaken replay settings moment bytes = HasCome replay settings moment bytes × (turn_of replay.played ≡ None)

@@ -2,26 +2,28 @@
 -- `StandsAfter` is what the clauses of a world carry along. What it comes to is a law, `worlds_run`: a run. So its inside need
 -- not be believed. A reader believes the law at the end; the others serve `StandsAfter` and the clauses of private functions
 -- alone.
-use Rattle.std.specs.Prelude.{◌≡◌, ◌≢◌, ℕ, Bool, true, false, List, [], ◌∷◌, ◌++◌, length, Option, Some, None, Result, Ok, Err}
+use Rattle.std.specs.Prelude.{◌≡◌, ◌≢◌, ◌⊎◌, ℕ, Bool, true, List, [], ◌∷◌, ◌++◌, length, Option, Some, None}
 use Rattle.std.specs.List.{slice_get}
 use Rattle.s3_config.specs.Settings.{Settings}
 use Rattle.s3_records.specs.Catalogue.{opening}
-use Rattle.s3_terms.specs.declared.memory.NoMemory.{NoMemory}
 use Rattle.s3_machine.specs.History.{Entry}
 use Rattle.s3_machine.specs.declared.command.Answer.{Answer}
 use Rattle.s3_machine.specs.declared.turn.Turn.{Turn}
 use Rattle.s3_store.specs.Steps.{opened}
-use Rattle.s3_session.specs.Output.{is_dead, is_waiting}
+use Rattle.s3_session.specs.Output.{is_dead}
 use Rattle.s3_journal.specs.Book.{Journal, KeepsHistory}
-use Rattle.s3_journal.specs.Recorded.{entries_of_seat, recorded}
+use Rattle.s3_journal.specs.Recorded.{Recorded, entries_of_seat, history_of, recorded}
 use Rattle.s3_events.specs.declared.event.Event.{Event}
-use Rattle.s3_connection.specs.Connection.{entries_with, nothing_received}
+use Rattle.s3_events.specs.declared.event.Event.TheVariants as events
+use Rattle.s3_events.specs.Script.{connection_of_event}
+use Rattle.s3_connection.specs.Connection as connections
+use Rattle.s3_connection.specs.Connection.{nothing_received}
 use Rattle.s3_connection.specs.Output.{Input}
 use Rattle.s3_world.specs.Events.{received, turns_given}
-use Rattle.s3_world.specs.Played.{IsIdle, Playing, Plays, standing_of, turn_of}
+use Rattle.s3_world.specs.Played.{Playing, Plays, standing_of, turn_of}
 use Rattle.s3_world.specs.Run.{AreTaken, Runs, moments_of}
 use Rattle.s3_world.specs.Shown.{standing_at, written_by_all}
-use Rattle.s3_world.specs.World.{Serving}
+use Rattle.s3_world.specs.World.{Serving, given_by}
 
 -- memory ran out in a connection
 abbrev pub is_lost_in : List Playing → ℕ → Bool
@@ -30,67 +32,57 @@ is_lost_in connections c = is_dead (standing_at connections c)
 -- a world stands so after these events
 pub record StandsAfter (world : Serving) (moments : List (List ℕ)) (happened : List Event) : Type 0 where
   pub each : length world.connections ≡ length moments
-  pub holds : (c : ℕ) (b : Playing) → slice_get world.connections c ≡ Some b
+  pub plays : (c : ℕ) (b : Playing) → slice_get world.connections c ≡ Some b
       → Plays b world.settings (moments_of c moments) (received c happened) (entries_of_seat c world.book.entries)
-  pub idle : (c : ℕ) (b : Playing) → slice_get world.connections c ≡ Some b → IsIdle b
   pub least : world.book.least ≡ world.settings.min_part
   pub opens : world.book.opening ≡ opened (opening world.settings.buckets)
   pub keeps : KeepsHistory world.book
   pub taken : AreTaken world.settings moments (is_lost_in world.connections) [] (turns_given happened) world.book.entries
 
 -- nothing came of a connection whose messages have these moments
-pub record IsFresh (b : Playing) (moments : List ℕ) : Type 0 where
-  pub holds : (settings : Settings) → Plays b settings moments nothing_received []
-  pub idle : IsIdle b
+abbrev pub IsFresh : Playing → List ℕ → Type 0
+IsFresh b moments = (settings : Settings) → Plays b settings moments nothing_received []
 
 -- so many of these connections were made, each for its list of moments
 pub record AreFresh (connections : List Playing) (moments : List (List ℕ)) (made : ℕ) : Type 0 where
   pub count : length connections ≡ made
   pub fresh : (c : ℕ) (b : Playing) → slice_get connections c ≡ Some b → IsFresh b (moments_of c moments)
 
--- what became of the connection of a number: where there is none, this holds
-abbrev pub IsChangedIn : Type 0 → (Playing → Playing → Type 0) → Option Playing → Option Playing → Type 0
-IsChangedIn Stays Change None None = Stays
-IsChangedIn Stays Change None (Some d) = ⊥
-IsChangedIn Stays Change (Some b) None = ⊥
-IsChangedIn Stays Change (Some b) (Some d) = Change b d
+-- what a connection has received with this event of its own
+abbrev pub heard : Event → Input → Input
+heard (events.Piece c bytes) input = connections.received input bytes.items
+heard (events.End c) input = record { bytes = input.bytes; ended = true }
+heard (events.Turn c) input = input
 
--- connections, of which only that of this number changed
-pub record IsChangedAt (c : ℕ) (old new : List Playing) (Stays : Type 0) (Change : Playing → Playing → Type 0) : Type 0 where
-  pub count : length new ≡ length old
-  pub others : (k : ℕ) → k ≢ c → slice_get new k ≡ slice_get old k
-  pub one : IsChangedIn Stays Change (slice_get old c) (slice_get new c)
+-- the entries that are made of a turn that is given: its own, or none where memory ran out at it, and then the connection is dead
+abbrev pub AreMade : ℕ → Option Turn → Playing → List Recorded → Type 0
+AreMade seat None d made = made ≡ []
+AreMade seat (Some turn) d made =
+    ((answer : Answer) × (made ≡ recorded seat turn answer ∷ [])) ⊎ ((made ≡ []) × (is_dead (standing_of d) ≡ true))
 
--- a connection received more
-pub record IsFedWith (settings : Settings) (more : Input → Input) (b d : Playing) : Type 0 where
-  pub holds : (moments : List ℕ) (input : Input) (entries : List Entry)
-      → Plays b settings moments input entries → Plays d settings moments (more input) entries
+-- a connection went on so with an event of its own, and these entries became those
+pub record GoesOn (settings : Settings) (e : Event) (b d : Playing) (before after : List Recorded) : Type 0 where
+  pub made : List Recorded
+  pub added : after ≡ before ++ made
+  pub are : AreMade (connection_of_event e) (given_by e (turn_of b)) d made
+  pub plays : (moments : List ℕ) (input : Input) (entries : List Entry) → Plays b settings moments input entries
+      → Plays d settings moments (heard e input) (entries ++ history_of made)
   pub dead : is_dead (standing_of b) ≡ true → is_dead (standing_of d) ≡ true
-  pub idle : IsIdle b → IsIdle d
 
--- the entry of a turn that was answered, or none where memory ran out at it, and then the connection is dead
-abbrev pub IsRecorded : ℕ → Playing → Journal → Journal → Turn → Result Answer NoMemory → Type 0
-IsRecorded seat d old new turn (Ok answer) =
-    new.entries ≡ old.entries ++ recorded seat turn answer ∷ []
-IsRecorded seat d old new turn (Err e) = (new.entries ≡ old.entries) × (is_dead (standing_of d) ≡ true)
+-- the connection of a number went on so; where there is none, no entry was made
+abbrev pub WentOn : Settings → Event → Option Playing → Option Playing → List Recorded → List Recorded → Type 0
+WentOn settings e None None before after = after ≡ before
+WentOn settings e None (Some d) before after = ⊥
+WentOn settings e (Some b) None before after = ⊥
+WentOn settings e (Some b) (Some d) before after = GoesOn settings e b d before after
 
--- the command of a connection that waited had its turn
-pub record HadTurn (settings : Settings) (seat : ℕ) (b d : Playing) (old new : Journal) (turn : Turn) : Type 0 where
-  pub answered : Result Answer NoMemory
-  pub waited : is_waiting (standing_of b) ≡ true
-  pub recorded : IsRecorded seat d old new turn answered
-  pub holds : (moments : List ℕ) (input : Input) (entries : List Entry)
-      → Plays b settings moments input entries → Plays d settings moments input (entries_with entries turn answered)
-  pub idle : IsIdle d
-
--- or none waited, and nothing changed
-abbrev pub IsTurnTaken : Settings → ℕ → Playing → Playing → Journal → Journal → Option Turn → Type 0
-IsTurnTaken settings seat b d old new None = (d ≡ b) × (new.entries ≡ old.entries) × (IsIdle b → is_waiting (standing_of b) ≡ false)
-IsTurnTaken settings seat b d old new (Some turn) = HadTurn settings seat b d old new turn
-
--- the command of a connection, if one waits, had its turn
-abbrev pub HasTaken : Settings → ℕ → Journal → Journal → Playing → Playing → Type 0
-HasTaken settings seat old new b d = IsTurnTaken settings seat b d old new (turn_of b)
+-- an event happened to its connection, and to no other
+pub record HasHappened (settings : Settings) (e : Event) (old new : List Playing) (before after : Journal) : Type 0 where
+  pub count : length new ≡ length old
+  pub others : (k : ℕ) → k ≢ connection_of_event e → slice_get new k ≡ slice_get old k
+  pub own : WentOn settings e (slice_get old (connection_of_event e)) (slice_get new (connection_of_event e)) before.entries after.entries
+  pub least : after.least ≡ before.least
+  pub opens : after.opening ≡ before.opening
 
 -- a world that stands after some events has made a run of them, whose outputs are what its connections wrote
 abbrev pub WorldsRun : Type 0

@@ -6,6 +6,7 @@ use Rattle.s3_machine.specs.declared.turn.Turn.{Turn}
 use Rattle.s3_journal.specs.Book.{Journal, MayLack}
 use Rattle.s3_events.specs.declared.event.Event.{Event}
 use Rattle.s3_events.specs.declared.event.Event.TheVariants as events
+use Rattle.s3_events.specs.Script.{connection_of_event}
 use Rattle.s3_world.specs.Played.{Playing}
 use Rattle.s3_world.specs.Shown.{waiting_at}
 
@@ -20,8 +21,11 @@ abbrev pub IsEntered : Bool → Journal → Journal → Option Turn → Type 0
 IsEntered in_memory old new None = Unit {0}
 IsEntered in_memory old new (Some turn) = (length new.entries ≡ length old.entries + 1) ⊎ MayLack in_memory old.least old.store turn
 
--- the turn that an event gives, if it gives one and a command waits for it
+-- the turn that an event gives to a connection, if it gives one and a command waits for it
+abbrev pub given_by : Event → Option Turn → Option Turn
+given_by (events.Piece c bytes) waits = None
+given_by (events.End c) waits = None
+given_by (events.Turn c) waits = waits
+
 abbrev pub turn_of_event : List Playing → Event → Option Turn
-turn_of_event connections (events.Piece c bytes) = None
-turn_of_event connections (events.End c) = None
-turn_of_event connections (events.Turn c) = waiting_at connections c
+turn_of_event connections event = given_by event (waiting_at connections (connection_of_event event))

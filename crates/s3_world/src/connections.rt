@@ -1,16 +1,17 @@
 //! What an event does to one of several connections.
 
 ghost use Rattle.std.specs.Prelude.{◌≡◌, ◌≢◌, ◌<◌, true, [], length, IfOk, OnOk, OnErr};
-ghost use Rattle.s3_config.specs.Settings.{Settings};
-ghost use Rattle.s3_connection.specs.Connection as sessions;
-ghost use Rattle.s3_world.specs.World.{IsEntered};
+ghost use Rattle.s3_events.specs.Script.{connection_of_event};
+ghost use Rattle.s3_world.specs.Events.{brings_bytes};
 ghost use Rattle.s3_world.specs.Run.{each_moments, output_of};
-ghost use Rattle.s3_world.specs.Shown.{waiting_at, written_by_all};
-ghost use Rattle.s3_world.specs.StandsAfter.{AreFresh, HasTaken, IsChangedAt, IsFedWith};
+ghost use Rattle.s3_world.specs.Shown.{written_by_all};
+ghost use Rattle.s3_world.specs.StandsAfter.{AreFresh, HasHappened};
+ghost use Rattle.s3_world.specs.World.{IsEntered, turn_of_event};
 
 use crate::played::Played;
 use s3_calendar::Moment;
 use s3_config::Config;
+use s3_events::Event;
 use s3_journal::Book;
 use s3_records::Records;
 use s3_terms::NoMemory;
@@ -54,53 +55,29 @@ pub(crate) fn all_of_one(
     }
 }
 
-/// Gives a piece to the connection of this number, if it is there.
-pub(crate) fn feed_one(
-    alloc: Global,
-    config: &Config,
-    connections: &mut [Played<'_>],
-    number: usize,
-    piece: &[u8],
-) -> Result<(), NoMemory>
-    ensures fed { OnOk result (IsChangedAt number connections.old connections.new (Unit {0})
-        (IsFedWith config.now (λ input. sessions.received input piece.now))) }
-    ensures same { OnErr result (connections.new ≡ connections.old) }
-    ensures memory { OnErr result (piece.now ≢ []) }
-    ensures there { OnErr result (number < length connections.old) }
-{
-    if number < connections.len() {
-        connections[number].feed(alloc, config, piece)
-    } else {
-        Ok(())
-    }
-}
-
-/// Says to the connection of this number, if it is there, that no more bytes come.
-pub(crate) fn end_one(connections: &mut [Played<'_>], number: usize)
-    ensures { (settings : Settings) → IsChangedAt number connections.old connections.new (Unit {0})
-        (IsFedWith settings (λ input. record input { ended = true })) }
-{
-    if number < connections.len() {
-        connections[number].end();
-    }
-}
-
-/// Gives the command of the connection of this number, if it is there and one waits, its turn at the book.
-pub(crate) fn turn_one<R: Records + Drop>(
+/// Does what an event says with its connection, if that is there.
+///
+/// # Errors
+///
+/// As `Played::meet`.
+pub(crate) fn meet_one<R: Records + Drop>(
     alloc: Global,
     config: &Config,
     connections: &mut [Played<'_>],
     book: &mut Book<R>,
-    number: u32,
-)
-    ensures taken { IsChangedAt number connections.old connections.new (book.new.entries ≡ book.old.entries)
-        (HasTaken config.now number book.old book.new) }
-    ensures entered { IsEntered R.is_in_memory book.old book.new (waiting_at connections.old number) }
-    ensures least { book.new.least ≡ book.old.least }
-    ensures opening { book.new.opening ≡ book.old.opening }
+    event: &Event,
+) -> Result<(), NoMemory>
+    ensures happened { OnOk result (HasHappened config.now event.now connections.old connections.new book.old book.new) }
+    ensures entered { IsEntered R.is_in_memory book.old book.new (turn_of_event connections.old event.now) }
+    ensures same { OnErr result (connections.new ≡ connections.old) }
+    ensures book { OnErr result (book.new ≡ book.old) }
+    ensures memory { OnErr result (brings_bytes event.now ≡ true) }
+    ensures there { OnErr result (connection_of_event event.now < length connections.old) }
 {
-    let place = number as usize;
-    if place < connections.len() {
-        connections[place].take_turn(alloc, config, book, u64::from(number));
+    let number = event.connection() as usize;
+    if number < connections.len() {
+        connections[number].meet(alloc, config, book, event)
+    } else {
+        Ok(())
     }
 }

@@ -1,18 +1,21 @@
 //! A connection of a world.
 
-ghost use Rattle.std.specs.Prelude.{◌≡◌, ◌≢◌, ◌<◌, ℕ, true, List, [], length, IfOk, OnOk, OnErr, None};
+ghost use Rattle.std.specs.Prelude.{◌≡◌, ◌≢◌, ◌<◌, ℕ, true, false, List, [], length, IfOk, OnOk, OnErr, None};
 ghost use Rattle.s3_config.specs.Settings.{Settings};
 ghost use Rattle.s3_machine.specs.History.{Entry};
+ghost use Rattle.s3_events.specs.declared.event.Event.{Event as Happening};
 ghost use Rattle.s3_session.specs.Output.{is_closed};
-ghost use Rattle.s3_connection.specs.Connection.{nothing_received, received, taken_of};
+ghost use Rattle.s3_connection.specs.Connection.{IsNext, nothing_received, received, taken_of};
 ghost use Rattle.s3_connection.specs.Output.{Input};
+ghost use Rattle.s3_world.specs.Events.{brings_bytes};
 ghost use Rattle.s3_world.specs.Moments.{behind_if, next_of};
-ghost use Rattle.s3_world.specs.World.{IsEntered};
-ghost use Rattle.s3_world.specs.StandsAfter.{HasTaken};
+ghost use Rattle.s3_world.specs.StandsAfter.{GoesOn};
+ghost use Rattle.s3_world.specs.World.{IsEntered, given_by};
 
 use s3_calendar::Moment;
 use s3_config::Config;
 use s3_connection::Connection;
+use s3_events::Event;
 use s3_journal::Book;
 use s3_records::Records;
 use s3_terms::NoMemory;
@@ -60,16 +63,46 @@ impl<'a> Model for Played<'a> {
 
 impl<'a> Played<'a> {
     ghost use Rattle.s3_world.specs.Played as rules;
-    ghost use Rattle.s3_world.specs.Played.{Plays, IsIdle};
+    ghost use Rattle.s3_world.specs.Played.{Carries, Plays};
 
     // A connection of which nothing came, whose messages have these moments. It takes no memory.
     pub(crate) fn new(alloc: Global, moments: &'a [Moment]) -> Played<'a>
         ensures begins { (settings : Settings) → Plays result settings moments.now nothing_received [] }
-        ensures idle { IsIdle result }
+        ensures none { rules.turn_of result ≡ None }
     {
         Played {
             connection: Connection::new(alloc),
             moments,
+        }
+    }
+
+    // Does what an event of it says. `NoMemory` comes for a piece that isn't empty, where there is no memory for it while a command
+    // waits; nothing has changed then.
+    pub(crate) fn meet<R: Records + Drop>(
+        &mut self,
+        alloc: Global,
+        config: &Config,
+        book: &mut Book<R>,
+        event: &Event,
+    ) -> Result<(), NoMemory>
+        ensures goes_on { OnOk result (GoesOn config.now event.now self.old self.new book.old.entries book.new.entries) }
+        ensures entered { IsEntered R.is_in_memory book.old book.new (given_by event.now (rules.turn_of self.old)) }
+        ensures least { book.new.least ≡ book.old.least }
+        ensures opens { book.new.opening ≡ book.old.opening }
+        ensures same { OnErr result (self.new ≡ self.old) }
+        ensures book { OnErr result (book.new ≡ book.old) }
+        ensures memory { OnErr result (brings_bytes event.now ≡ true) }
+    {
+        match event {
+            Event::Piece { bytes, .. } => self.feed(alloc, config, bytes.as_slice()),
+            Event::End { .. } => {
+                self.end();
+                Ok(())
+            }
+            Event::Turn { connection } => {
+                self.take_turn(alloc, config, book, u64::from(*connection));
+                Ok(())
+            }
         }
     }
 
@@ -80,12 +113,11 @@ impl<'a> Played<'a> {
         config: &Config,
         piece: &[u8],
     ) -> Result<(), NoMemory>
-        ensures holds { (moments : List ℕ) (input : Input) (entries : List Entry) → Plays self.old config.now moments input entries
+        ensures plays { (moments : List ℕ) (input : Input) (entries : List Entry) → Plays self.old config.now moments input entries
             → OnOk result (Plays self.new config.now moments (received input piece.now) entries) }
         ensures same { OnErr result (self.new ≡ self.old) }
         ensures memory { OnErr result (piece.now ≢ []) }
         ensures closed { is_closed (rules.standing_of self.old) ≡ true → rules.standing_of self.new ≡ rules.standing_of self.old }
-        ensures idle { IsIdle self.old → IsIdle self.new }
     {
         let now = next(self.moments);
         let has_moment = self.connection.piece(alloc, config, now, piece)?;
@@ -95,40 +127,43 @@ impl<'a> Played<'a> {
 
     // Says that no more bytes of it come.
     pub(crate) fn end(&mut self)
-        ensures holds { (settings : Settings) (moments : List ℕ) (input : Input) (entries : List Entry) → Plays self.old settings moments input entries
-            → Plays self.new settings moments (record input { ended = true }) entries }
+        ensures plays { (settings : Settings) (moments : List ℕ) (input : Input) (entries : List Entry) → Plays self.old settings moments input entries
+            → Plays self.new settings moments (record { bytes = input.bytes; ended = true }) entries }
         ensures closed { is_closed (rules.standing_of self.old) ≡ true → rules.standing_of self.new ≡ rules.standing_of self.old }
-        ensures idle { IsIdle self.old → IsIdle self.new }
+        ensures turn { rules.turn_of self.new ≡ rules.turn_of self.old }
     {
         self.connection.end();
     }
 
-    // Gives its command, if one waits, its turn at the book: it is answered as an entry of this seat, or, where memory runs out at it,
-    // as the connection says so; and the connection goes on.
+    // Gives its command, if one waits, its turn at the book, and answers whether one did: it is answered as an entry of this seat, or,
+    // where memory runs out at it, as the connection says so; and the connection goes on.
     pub(crate) fn take_turn<R: Records + Drop>(
         &mut self,
         alloc: Global,
         config: &Config,
         book: &mut Book<R>,
         seat: u64,
-    )
-        ensures taken { HasTaken config.now seat book.old book.new self.old self.new }
+    ) -> bool
+        ensures goes_on { GoesOn config.now (Happening.Turn seat) self.old self.new book.old.entries book.new.entries }
         ensures entered { IsEntered R.is_in_memory book.old book.new (rules.turn_of self.old) }
         ensures least { book.new.least ≡ book.old.least }
-        ensures opening { book.new.opening ≡ book.old.opening }
+        ensures opens { book.new.opening ≡ book.old.opening }
+        ensures none { result ≡ false → rules.turn_of self.new ≡ None }
     {
-        if let Some(turn) = self.connection.take_turn() {
-            let answered = book.enter(seat, turn);
-            self.connection.answer(alloc, answered);
-            self.go_on(alloc, config);
-        }
+        let Some(turn) = self.connection.take_turn() else {
+            return false;
+        };
+        let answered = book.enter(seat, turn);
+        self.connection.answer(alloc, answered);
+        self.go_on(alloc, config);
+        true
     }
 
     // Goes on behind an answer.
     fn go_on(&mut self, alloc: Global, config: &Config)
-        ensures holds { (moments : List ℕ) (input : Input) (entries : List Entry)
-            → Plays self.old config.now moments input entries → Plays self.new config.now moments input entries }
-        ensures idle { taken_of self.old.connection ≡ None → IsIdle self.new }
+        ensures carries { (moments : List ℕ) (input : Input) (entries : List Entry) → Carries self.old config.now moments input entries
+            → Carries self.new config.now moments input entries }
+        ensures idle { taken_of self.old.connection ≡ None → IsNext self.new.connection.stage }
         ensures closed { is_closed (rules.standing_of self.old) ≡ true → rules.standing_of self.new ≡ rules.standing_of self.old }
     {
         let now = next(self.moments);

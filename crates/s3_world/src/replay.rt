@@ -1,21 +1,22 @@
 //! A connection over a store of its own, whose bytes come in pieces.
 
-ghost use Rattle.std.specs.Prelude.{◌≡◌, ◌≢◌, ◌<◌, ◌++◌, ℕ, true, false, List, [], length, IfOk, OnOk, OnErr};
+ghost use Rattle.std.specs.Prelude.{◌≡◌, ◌≢◌, ◌<◌, ◌++◌, ℕ, false, List, [], length, IfOk, OnOk, OnErr, None};
 ghost use Rattle.s3_config.specs.Settings.{Settings};
-ghost use Rattle.s3_session.specs.Output.{is_waiting};
 ghost use Rattle.s3_session.specs.Replay.{Replays};
-ghost use Rattle.s3_connection.specs.Connection.{standing_of};
+ghost use Rattle.s3_world.specs.Played.{turn_of};
 ghost use Rattle.s3_world.specs.Replaying.{HasCome, HasTaken};
 
+use crate::played::Played;
 use s3_calendar::Moment;
 use s3_config::Config;
-use s3_connection::{Connection, connections_write};
+use s3_connection::connections_write;
 use s3_journal::Book;
 use s3_records::MapRecords;
 use s3_store::Store;
 use s3_terms::NoMemory;
 use std::alloc::Global;
 use std::marker::Model;
+use std::slice;
 
 // How many bytes go through the connection at once, at most: so many are kept at most while a command has its turn.
 const PIECE: usize = 65_536;
@@ -32,8 +33,7 @@ const SEAT: u64 = 0;
 pub struct Replay<'a> {
     alloc: Global,
     config: &'a Config,
-    moment: Moment,
-    connection: Connection,
+    played: Played<'a>,
     book: Book<MapRecords>,
 }
 
@@ -46,7 +46,7 @@ impl<'a> Model for Replay<'a> {
 
     ghost coded = { Prim.hlevel (codes, coded_standing) };
 
-    ghost view = { λ r. record { settings = r.config.now; moment = r.moment; connection = r.connection; book = r.book } };
+    ghost view = { λ r. record { settings = r.config.now; played = r.played; book = r.book } };
 }
 
 impl<'a> Replay<'a> {
@@ -55,22 +55,25 @@ impl<'a> Replay<'a> {
     /// # Errors
     ///
     /// `NoMemory` where there is no memory for a bucket to be opened.
-    pub fn new(alloc: Global, config: &'a Config, moment: Moment) -> Result<Replay<'a>, NoMemory>
-        ensures { IfOk result (λ replay. HasTaken replay config.now moment []) }
+    pub fn new(
+        alloc: Global,
+        config: &'a Config,
+        moment: &'a Moment,
+    ) -> Result<Replay<'a>, NoMemory>
+        ensures { IfOk result (λ replay. HasTaken replay config.now moment.now []) }
     {
         let store = Store::open(alloc, config.buckets())?;
         let book = Book::new(alloc, config.min_part(), store)?;
         Ok(Replay {
             alloc,
             config,
-            moment,
-            connection: Connection::new(alloc),
+            played: Played::new(alloc, slice::from_ref(moment)),
             book,
         })
     }
 
     /// Takes more of the connection's bytes, and gives the commands in them their turns. The cost is that of
-    /// `Connection::piece` and of the commands.
+    /// `Connection::piece` of `s3_connection` and of the commands.
     ///
     /// # Errors
     ///
@@ -109,25 +112,17 @@ impl<'a> Replay<'a> {
         ensures { (settings : Settings) (moment : ℕ) (before : List ℕ) → HasCome self.old settings moment before
             → OnOk result (HasCome self.new settings moment (before ++ piece.now)) }
     {
-        self.connection
-            .piece(self.alloc, self.config, self.moment, piece)?;
-        Ok(())
+        self.played.feed(self.alloc, self.config, piece)
     }
 
     // Gives the command that waits its turn, if one does: whether one did.
     fn turn(&mut self) -> bool
         ensures stays { (settings : Settings) (moment : ℕ) (bytes : List ℕ) → HasCome self.old settings moment bytes
             → HasCome self.new settings moment bytes }
-        ensures rests { (settings : Settings) (moment : ℕ) (bytes : List ℕ) → HasCome self.old settings moment bytes
-            → result ≡ false → is_waiting (standing_of self.new.connection) ≡ false }
+        ensures none { result ≡ false → turn_of self.new.played ≡ None }
     {
-        let Some(turn) = self.connection.take_turn() else {
-            return false;
-        };
-        let answered = self.book.enter(SEAT, turn);
-        self.connection.answer(self.alloc, answered);
-        self.connection.go_on(self.alloc, self.config, self.moment);
-        true
+        self.played
+            .take_turn(self.alloc, self.config, &mut self.book, SEAT)
     }
 
     /// All that the connection writes, whose bytes end here: from now on it takes none.
@@ -142,8 +137,8 @@ impl<'a> Replay<'a> {
             → OnErr result ((out : List ℕ) × Replays settings moment bytes out × (0 < length out)) }
     {
         connections_write();
-        self.connection.end();
+        self.played.end();
         let _store = self.book.store();
-        self.connection.all(self.alloc)
+        self.played.all(self.alloc)
     }
 }

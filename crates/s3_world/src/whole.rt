@@ -65,7 +65,7 @@ fn replayed(
 ) -> Result<Vec<u8>, NoMemory>
     ensures { IfOk result (λ out. Replays config.now moment bytes.now out.items) }
 {
-    let mut replay = Replay::new(alloc, config, moment)?;
+    let mut replay = Replay::new(alloc, config, &moment)?;
     let written = written_after(&mut replay, bytes);
     drop(replay);
     written

@@ -1,18 +1,17 @@
 //! Connections that share one store.
 
 ghost use Rattle.std.specs.Prelude.{◌≡◌, ◌≢◌, ◌++◌, ◌∷◌, ◌<◌, ℕ, true, List, [], length, IfOk, OnOk, OnErr};
-ghost use Rattle.std.specs.Global.{Vec as Bytes};
 ghost use Rattle.s3_records.specs.Catalogue.{opening};
 ghost use Rattle.s3_store.specs.Steps.{opened};
 ghost use Rattle.s3_events.specs.declared.event.Event.{Event as Happening};
-ghost use Rattle.s3_world.specs.Alike.{connection_of};
+ghost use Rattle.s3_events.specs.Script.{connection_of_event};
 ghost use Rattle.s3_world.specs.Events.{brings_bytes};
 ghost use Rattle.s3_world.specs.World.{IsEntered, turn_of_event};
 ghost use Rattle.s3_world.specs.Run.{each_moments, output_of};
-ghost use Rattle.s3_world.specs.Shown.{waiting_at, written_by_all};
+ghost use Rattle.s3_world.specs.Shown.{written_by_all};
 ghost use Rattle.s3_world.specs.StandsAfter.{StandsAfter};
 
-use crate::connections::{all_of_one, end_one, feed_one, fresh, turn_one};
+use crate::connections::{all_of_one, fresh, meet_one};
 use crate::played::Played;
 use s3_calendar::Moment;
 use s3_config::Config;
@@ -97,67 +96,19 @@ impl<'a, R: Records + Drop> World<'a, R> {
         ensures settings { self.new.settings ≡ self.old.settings }
         ensures same { OnErr result (self.new ≡ self.old) }
         ensures memory { OnErr result (brings_bytes event.now ≡ true) }
-        ensures there { OnErr result (connection_of event.now < length self.old.connections) }
-    {
-        match event {
-            Event::Piece { connection, bytes } => self.piece(*connection, bytes.as_slice()),
-            Event::End { connection } => {
-                self.end(*connection);
-                Ok(())
-            }
-            Event::Turn { connection } => {
-                self.turn(*connection);
-                Ok(())
-            }
-        }
-    }
-
-    // Gives a piece to a connection.
-    fn piece(&mut self, connection: u32, bytes: &[u8]) -> Result<(), NoMemory>
-        ensures stands { (moments : List (List ℕ)) (happened : List Happening) (piece : Bytes ℕ) → piece.items ≡ bytes.now
-            → StandsAfter self.old moments happened
-            → OnOk result (StandsAfter self.new moments (happened ++ Event.Piece connection piece ∷ [])) }
-        ensures settings { self.new.settings ≡ self.old.settings }
-        ensures same { OnErr result (self.new ≡ self.old) }
-        ensures memory { OnErr result (bytes.now ≢ []) }
-        ensures there { OnErr result (connection < length self.old.connections) }
-    {
-        let number = connection as usize;
-        feed_one(
-            self.alloc,
-            self.config,
-            &mut self.connections,
-            number,
-            bytes,
-        )
-    }
-
-    // Says that no more bytes of a connection come.
-    fn end(&mut self, connection: u32)
-        ensures stands { (moments : List (List ℕ)) (happened : List Happening) → StandsAfter self.old moments happened
-            → StandsAfter self.new moments (happened ++ Event.End connection ∷ []) }
-        ensures settings { self.new.settings ≡ self.old.settings }
-    {
-        end_one(&mut self.connections, connection as usize);
-    }
-
-    // Gives the command of a connection its turn at the store, if one waits.
-    fn turn(&mut self, connection: u32)
-        ensures stands { (moments : List (List ℕ)) (happened : List Happening) → StandsAfter self.old moments happened
-            → StandsAfter self.new moments (happened ++ Event.Turn connection ∷ []) }
-        ensures entered { IsEntered R.is_in_memory self.old.book self.new.book (waiting_at self.old.connections connection) }
-        ensures settings { self.new.settings ≡ self.old.settings }
+        ensures there { OnErr result (connection_of_event event.now < length self.old.connections) }
     {
         connections_write();
         outputs_are_one();
-        turn_one(
+        let met = meet_one(
             self.alloc,
             self.config,
             &mut self.connections,
             &mut self.book,
-            connection,
+            event,
         );
         let _store = self.book.store();
+        met
     }
 
     /// How many connections there are. It takes no memory.

@@ -16,7 +16,7 @@ loop-number-preserved c =
     let there = moments_at c.args.moments.now c.loop-number.number c.index-moments-number.result c.loop-number-test.true ∙ ap (λ (v : Vec ℕ). v.items) (sym {A = Vec ℕ} c.index-moments-number.is) in
     subst (λ (made : List Playing). AreFresh made moments (c.loop-number.number + 1)) (sym c.in_ok-push.ensures.items)
     (fresh_more c.loop-number.made.items moments c.loop-number.number c.new.result c.loop-number.invariant
-    (subst (IsFresh c.new.result) (sym (rw c.as_slice.ensures.value there)) (record { holds = c.new.ensures.begins; idle = c.new.ensures.idle })))
+    (subst (IsFresh c.new.result) (sym (rw c.as_slice.ensures.value there)) c.new.ensures.begins))
 
 pub returns : goal.returns
 returns c = subst (AreFresh c.loop-number.made.items (each_moments c.args.moments.now)) (omega arith) c.loop-number.invariant

@@ -1,12 +1,24 @@
-use Rattle.std.proofs.Common.{[], ◌∷◌, ◌++◌, subst, sym}
-use Rattle.s3_events.specs.declared.event.Event.{Event}
-use Rattle.s3_world.specs.StandsAfter.{StandsAfter}
+use Rattle.std.proofs.Common.{[], ◌∷◌, ◌++◌, List, subst, sym}
+use Rattle.s3_world.specs.Played.{Playing}
+use Rattle.s3_world.specs.World.{Serving}
+use Rattle.s3_world.specs.StandsAfter.{HasHappened, StandsAfter}
+use Rattle.s3_world.proofs.ChangeLemmas.{written_back}
+use Rattle.s3_world.proofs.PlayedLemmas.{timed_one}
+use Rattle.s3_world.proofs.WorldLemmas.{on_ok, stands_on}
 use Rattle.s3_world.proofs.world.World.step.Goals as goal
 
-pub returns-in-End-clause-stands : goal.returns-in-End-clause-stands
-returns-in-End-clause-stands g c moments happened s =
-    subst (λ (e : Event). StandsAfter c.end.new.self moments (happened ++ e ∷ [])) (sym c.in-End.is) (c.end.ensures.stands moments happened s)
-
-pub returns-in-Turn-clause-stands : goal.returns-in-Turn-clause-stands
-returns-in-Turn-clause-stands g c moments happened s =
-    subst (λ (e : Event). StandsAfter c.turn.new.self moments (happened ++ e ∷ [])) (sym c.in-Turn.is) (c.turn.ensures.stands moments happened s)
+pub returns-clause-stands : goal.returns-clause-stands
+returns-clause-stands g c moments happened s =
+    let settings = c.self.inside.config.now in
+    let before = c.self.inside.book in
+    let after = c.meet_one-met.new.book in
+    let new = c.meet_one-met.new.connections in
+    on_ok c.meet_one-met.result _ _
+    (λ (has : HasHappened settings c.args.event.now c.deref_mut.result.now new before after).
+    subst (λ (cs : List Playing). StandsAfter (record { settings = settings; connections = cs; book = after }) moments (happened ++ c.args.event.now ∷ []))
+    (sym (written_back c.self.inside.connections c.deref_mut.result.now new c.deref_mut.ensures.value has.count))
+    (stands_on (timed_one c.outputs_are_one.ensures) c.connections_write.ensures settings c.args.event.now c.self.inside.connections.items new before after moments happened
+    (subst (λ (w : Serving). StandsAfter w moments happened) (sym c.self.view_is) s)
+    (subst (λ (old : List Playing). HasHappened settings c.args.event.now old new before after) c.deref_mut.ensures.value has)
+    c.store-store.ensures.history))
+    c.meet_one-met.ensures.happened

@@ -1,0 +1,13 @@
+use Rattle.std.proofs.Common.{ap, ◌∙◌}
+use Rattle.s3_records.specs.Catalogue.{opening}
+use Rattle.s3_store.specs.Steps.{opened}
+use Rattle.s3_world.proofs.ReplayLemmas.{begun}
+use Rattle.s3_world.proofs.replay.Replay.new.Goals as goal
+
+pub returns : goal.returns
+returns c = (
+  begun c.args.config.now c.args.moment.now c.new-2.result c.in_ok-book.book c.from_ref.result.now c.min_part.result c.in_ok-store.store
+      c.from_ref.ensures.value c.new-2.ensures.begins c.in_ok-book.ensures c.min_part.ensures.value
+      (c.in_ok-store.ensures.value ∙ ap (λ names. opened (opening names)) c.buckets.ensures.value),
+  c.new-2.ensures.none,
+)
