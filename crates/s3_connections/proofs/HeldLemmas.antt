@@ -41,6 +41,6 @@ gone_nowhere now h = record {
 -- the account of one that stands so fits its entries
 pub fits_so : ConnectionsHaveWritten → (settings : Settings) (h : Held) → Stands settings h → Fits settings (account_of h) h.entries
 fits_so write settings h stands = record {
-  written = write settings h.connection h.traffic h.moments h.entries stands.0;
-  ends = stands.1;
+  written = write settings h.connection h.traffic h.moments h.entries stands.served;
+  ends = stands.ends;
 }

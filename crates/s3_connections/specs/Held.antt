@@ -21,9 +21,9 @@ pub record Held : Type 0 where
   pub outcome : Option Outcome
 
 -- it was served so, and if it has ended, as its outcome says
-abbrev pub Stands : Settings → Held → Type 0
-Stands settings h =
-    IsServed settings h.connection h.traffic h.moments h.entries × EndsSo settings h.traffic h.moments h.entries h.outcome
+pub record Stands (settings : Settings) (h : Held) : Type 0 where
+  pub served : IsServed settings h.connection h.traffic h.moments h.entries
+  pub ends : EndsSo settings h.traffic h.moments h.entries h.outcome
 
 -- what is told of it when it leaves
 abbrev pub account_of : Held → Account

@@ -1,5 +1,8 @@
 -- How long a connection may keep its place while nothing comes or goes.
-use Rattle.std.specs.Prelude.{ℕ, Bool, true, false, not, ◌&&◌, ◌||◌, nat_lt}
+use Rattle.std.specs.Prelude.{ℕ, Bool, true, false, not, ◌&&◌, ◌||◌, nat_lt, if◌then◌else◌}
+use Rattle.s3_devices.specs.declared.device.Wanted.TheVariants as wants
+use Rattle.s3_connections.specs.declared.outcome.Step.{Step}
+use Rattle.s3_connections.specs.declared.outcome.Step.TheVariants as steps
 use Rattle.s3_connections.specs.declared.time_limits.Awaited.{Awaited}
 use Rattle.s3_connections.specs.declared.time_limits.Awaited.TheVariants.{Message, Head, Body, Room, End}
 
@@ -21,7 +24,20 @@ abbrev pub is_same_head : Awaited → Awaited → Bool
 is_same_head Head Head = true
 is_same_head before awaited = false
 
+-- all is written
+abbrev pub is_end : Awaited → Bool
+is_end End = true
+is_end awaited = false
+
 -- the time of what is awaited begins now, by what was awaited before, and whether bytes have come or went: with each byte, but
--- for a head, which has its time from its first byte on, unless something was written in between
+-- for a head, which has its time from its first byte on, unless something was written in between; and for the end always
 abbrev pub begins_anew : Awaited → Awaited → Bool → Bool → Bool
-begins_anew before awaited has_read has_written = has_written || (has_read && not (is_same_head before awaited))
+begins_anew before awaited has_read has_written = is_end awaited || (has_written || (has_read && not (is_same_head before awaited)))
+
+-- what is awaited behind a step, by whether the head of a message was admitted whose body isn't whole, and whether a part of a message
+-- has come
+abbrev pub awaited_behind : Step → Bool → Bool → Awaited
+awaited_behind (steps.Ended outcome) in_body within = End
+awaited_behind (steps.Waits wants.Room) in_body within = Room
+awaited_behind (steps.Waits wants.Input) in_body within = if in_body then Body else (if within then Head else Message)
+awaited_behind steps.MayGoOn in_body within = if (within && not in_body) then Head else Body

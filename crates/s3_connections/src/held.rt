@@ -1,6 +1,6 @@
 //! A connection in the hands of a worker.
 
-ghost use Rattle.std.specs.Prelude.{◌≡◌, ◌<◌, [], length, None, IfOk};
+ghost use Rattle.std.specs.Prelude.{◌≡◌, ◌<◌, [], length, None, IfOk, IfSome};
 ghost use Rattle.s3_devices.specs.Recorded.{no_traffic};
 ghost use Rattle.s3_connections.specs.Account.{Fits};
 ghost use Rattle.s3_connections.specs.Held.{HasGoneOn, account_of, outcome_of};
@@ -11,11 +11,11 @@ use crate::laws::{connections_are_served, connections_end, connections_have_writ
 use crate::outcome::{Outcome, Step};
 use crate::pump::Pump;
 use crate::sharing::Sharing;
-use crate::socket::{Left, Socket};
+use crate::socket::Socket;
 use crate::time_limits::Awaited;
 use mio::{Registry, Token};
 use s3_calendar::Moment;
-use s3_devices::{Recorded, Wanted};
+use s3_devices::Recorded;
 use s3_history::Recorder;
 use s3_journal::Ground;
 use s3_records::MapRecords;
@@ -67,31 +67,30 @@ impl<'a, J: Ground, W: Wait> Held<'a, J, W> {
         ensures entries { IfOk result (λ held. held.entries ≡ []) }
         ensures outcome { IfOk result (λ held. held.outcome ≡ None) }
     {
-        let Some(socket) = Recorded::new(socket) else {
+        let Some((socket, moments)) = recorded(socket) else {
             return Err(NoMemory);
         };
         let seat = DeskHandle::open(sharing.rt(), sharing.desk())?;
-        Held::over(sharing.alloc(), socket, seat, now)
+        Ok(Held::over(sharing.alloc(), socket, moments, seat, now))
     }
 
     // The same over its socket and at its seat.
     fn over(
         alloc: Global,
         socket: Recorded<Socket>,
+        moments: Recorder<Moment>,
         seat: DeskHandle<'a, J, MapRecords, Account, W>,
         now: Instant,
-    ) -> Result<Held<'a, J, W>, NoMemory>
+    ) -> Held<'a, J, W>
         requires traffic { socket ≡ no_traffic }
+        requires moments { moments.entries ≡ [] }
         requires entries { seat.mine ≡ [] }
-        ensures traffic { IfOk result (λ held. held.traffic ≡ no_traffic) }
-        ensures entries { IfOk result (λ held. held.entries ≡ []) }
-        ensures outcome { IfOk result (λ held. held.outcome ≡ None) }
+        ensures traffic { result.traffic ≡ no_traffic }
+        ensures entries { result.entries ≡ [] }
+        ensures outcome { result.outcome ≡ None }
     {
         connections_are_served();
-        let Some(moments) = Recorder::new() else {
-            return Err(NoMemory);
-        };
-        Ok(Held {
+        Held {
             pump: Pump::new(alloc),
             socket,
             seat,
@@ -99,7 +98,7 @@ impl<'a, J: Ground, W: Wait> Held<'a, J, W> {
             outcome: None,
             awaited: Awaited::Message,
             since: now,
-        })
+        }
     }
 
     /// Has it reported under a token when it may go on.
@@ -135,13 +134,14 @@ impl<'a, J: Ground, W: Wait> Held<'a, J, W> {
             return false;
         }
         if let Awaited::End = self.awaited {
-            return self.drains(buffer, registry, token);
+            return self.socket.stream().drains(buffer, registry, token);
         }
         if self.outcome.is_some() {
             return false;
         }
         let step = self.step(sharing, moment, buffer);
-        self.stays(step, registry, token, now)
+        self.note(step, now);
+        self.socket.stream().stays(step, registry, token)
     }
 
     /// Gives its seat back, with the account of what it did. It waits for the store.
@@ -160,39 +160,6 @@ impl<'a, J: Ground, W: Wait> Held<'a, J, W> {
         tell(seat, &socket, &moments, outcome);
         drop(moments);
         drop(socket);
-    }
-
-    // Whether it stays behind a step.
-    fn stays(&mut self, step: Step, registry: &Registry, token: Token, now: Instant) -> bool
-        ensures { self.new ≡ self.old }
-    {
-        self.note(step, now);
-        match step {
-            Step::Waits(_) if !self.socket.stream().take_interrupted() => true,
-            Step::Waits(_) | Step::MayGoOn => self.is_reported_again(registry, token),
-            Step::Ended(Outcome::Closed) => self.leaves(registry, token, now),
-            Step::Ended(_) => false,
-        }
-    }
-
-    // Ends what it writes, and answers whether it waits for its peer's end.
-    fn leaves(&mut self, registry: &Registry, token: Token, now: Instant) -> bool
-        ensures { self.new ≡ self.old }
-    {
-        let socket = self.socket.stream();
-        let stays = !socket.is_ended() && socket.end_writing();
-        self.awaited = Awaited::End;
-        self.since = now;
-        stays && self.is_reported_again(registry, token)
-    }
-
-    // Drops what its peer sends, and answers whether more may come.
-    fn drains(&self, buffer: &mut [u8], registry: &Registry, token: Token) -> bool {
-        match self.socket.stream().drop_input(buffer) {
-            Left::Nothing => false,
-            Left::Later => true,
-            Left::More => self.is_reported_again(registry, token),
-        }
     }
 
     // Makes one step.
@@ -224,35 +191,12 @@ impl<'a, J: Ground, W: Wait> Held<'a, J, W> {
     fn note(&mut self, step: Step, now: Instant)
         ensures { self.new ≡ self.old }
     {
-        let awaited = match step {
-            Step::Waits(wanted) => self.awaited_for(wanted),
-            Step::MayGoOn if self.is_within_head() => Awaited::Head,
-            Step::MayGoOn | Step::Ended(_) => Awaited::Body,
-        };
+        let (is_in_body, is_within) = (self.pump.is_in_body(), self.pump.is_within_message());
+        let awaited = Awaited::behind(step, is_in_body, is_within);
         let socket = self.socket.stream();
         let (has_read, has_written) = (socket.take_read(), socket.take_written());
         self.since = awaited.since(self.awaited, self.since, has_read, has_written, now);
         self.awaited = awaited;
-    }
-
-    // Has it reported once more, and answers whether the system can.
-    fn is_reported_again(&self, registry: &Registry, token: Token) -> bool {
-        self.socket.stream().ask_again(registry, token).is_ok()
-    }
-
-    // What it waits for.
-    fn awaited_for(&self, wanted: Wanted) -> Awaited {
-        match wanted {
-            Wanted::Room => Awaited::Room,
-            Wanted::Input if self.pump.is_in_body() => Awaited::Body,
-            Wanted::Input if self.is_within_head() => Awaited::Head,
-            Wanted::Input => Awaited::Message,
-        }
-    }
-
-    // Whether a part of a head has come.
-    fn is_within_head(&self) -> bool {
-        self.pump.is_within_message() && !self.pump.is_in_body()
     }
 
     /// Since when it waits for the next message, or for its peer's end; `None` where a part of a message has come, or a reply isn't out.
@@ -267,6 +211,15 @@ impl<'a, J: Ground, W: Wait> Held<'a, J, W> {
     pub fn is_over(&self, now: Instant) -> bool {
         self.awaited.is_over(self.since, now)
     }
+}
+
+// A socket that tells what it gives and takes, and the moments of its messages, of which there are none yet.
+fn recorded(socket: Socket) -> Option<(Recorded<Socket>, Recorder<Moment>)>
+    ensures { IfSome result (λ both. (both.0 ≡ no_traffic) × (both.1.entries ≡ [])) }
+{
+    let socket = Recorded::new(socket)?;
+    let moments = Recorder::new()?;
+    Some((socket, moments))
 }
 
 // Gives a seat back, with the account of what was done at it.

@@ -2,6 +2,7 @@
 
 ghost use Rattle.std.specs.Prelude.{◌≡◌};
 
+use crate::outcome::{Outcome, Step};
 use mio::net::TcpStream;
 use mio::unix::SourceFd;
 use mio::{Interest, Registry, Token};
@@ -24,17 +25,6 @@ pub struct Socket {
     is_ended: Cell<bool>,
 }
 
-/// What is left of a socket whose bytes are dropped.
-#[derive(Clone, Copy, PartialEq, Eq)]
-pub(crate) enum Left {
-    /// Nothing: no more come.
-    Nothing,
-    /// Perhaps more, which it will report.
-    Later,
-    /// Perhaps more at once.
-    More,
-}
-
 impl Socket {
     /// A socket that just came. Small pieces go out at once, if the system does as it is told.
     pub fn new(stream: TcpStream) -> Socket {
@@ -54,10 +44,12 @@ impl Socket {
         registry.register(&mut SourceFd(&fd), token, both_ways())
     }
 
-    /// Has it reported once more, if it is ready.
-    pub(crate) fn ask_again(&self, registry: &Registry, token: Token) -> io::Result<()> {
+    // Has it reported once more, if it is ready, and answers whether the system can.
+    fn is_reported_again(&self, registry: &Registry, token: Token) -> bool {
         let fd = self.stream.as_raw_fd();
-        registry.reregister(&mut SourceFd(&fd), token, both_ways())
+        registry
+            .reregister(&mut SourceFd(&fd), token, both_ways())
+            .is_ok()
     }
 
     /// Whether bytes came since this was last asked.
@@ -70,37 +62,40 @@ impl Socket {
         self.has_written.replace(false)
     }
 
-    /// Whether a read or a write was interrupted since this was last asked.
-    pub(crate) fn take_interrupted(&self) -> bool {
-        self.is_interrupted.replace(false)
+    /// Whether its connection stays behind a step. One that may go on at once, or was interrupted, is reported again; one that is
+    /// closed ends what it writes, and stays until its peer has ended too.
+    pub(crate) fn stays(&self, step: Step, registry: &Registry, token: Token) -> bool {
+        match step {
+            Step::Waits(_) if !self.is_interrupted.replace(false) => true,
+            Step::Waits(_) | Step::MayGoOn => self.is_reported_again(registry, token),
+            Step::Ended(Outcome::Closed) => {
+                !self.is_ended.get()
+                    && self.ends_writing()
+                    && self.is_reported_again(registry, token)
+            }
+            Step::Ended(_) => false,
+        }
     }
 
-    /// Whether its end was read.
-    pub(crate) fn is_ended(&self) -> bool {
-        self.is_ended.get()
-    }
-
-    /// Tells the peer that nothing more is written, and answers whether that could be told.
-    pub(crate) fn end_writing(&self) -> bool {
+    // Tells the peer that nothing more is written, and answers whether that could be told.
+    fn ends_writing(&self) -> bool {
         self.stream.shutdown(Shutdown::Write).is_ok()
     }
 
-    /// Reads what has come and drops it.
-    pub(crate) fn drop_input(&self, buffer: &mut [u8]) -> Left {
+    /// Drops what has come, and answers whether more may come.
+    pub(crate) fn drains(&self, buffer: &mut [u8], registry: &Registry, token: Token) -> bool {
         for _ in 0..DROPPED {
             match (&self.stream).read(buffer) {
-                Ok(0) => return Left::Nothing,
+                Ok(0) => return false,
                 Ok(_) => {}
-                Err(e) => {
-                    return match e.kind() {
-                        ErrorKind::WouldBlock => Left::Later,
-                        ErrorKind::Interrupted => Left::More,
-                        _ => Left::Nothing,
-                    };
-                }
+                Err(e) => match e.kind() {
+                    ErrorKind::WouldBlock => return true,
+                    ErrorKind::Interrupted => break,
+                    _ => return false,
+                },
             }
         }
-        Left::More
+        self.is_reported_again(registry, token)
     }
 
     // Notes what came of a write.

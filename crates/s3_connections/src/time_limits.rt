@@ -3,8 +3,10 @@
 ghost use Rattle.std.specs.Prelude.{◌≡◌, ◌-◌, ◌/◌, if◌then◌else◌};
 ghost use Rattle.std.specs.Duration.{as_nanos};
 ghost use Rattle.std.specs.Time.{instant_nanos};
-ghost use Rattle.s3_connections.specs.Limits.{most_seconds, is_too_long, begins_anew};
+ghost use Rattle.s3_connections.specs.Limits.{awaited_behind, begins_anew, is_too_long, most_seconds};
 
+use crate::outcome::Step;
+use s3_devices::Wanted;
 use std::time::{Duration, Instant};
 
 /// What a connection waits for.
@@ -43,8 +45,22 @@ impl Awaited {
         }
     }
 
+    /// What a connection waits for behind a step: for the rest of a head where a part of a message has come and no head was admitted.
+    pub fn behind(step: Step, is_in_body: bool, is_within_message: bool) -> Awaited
+        ensures { result ≡ awaited_behind step is_in_body is_within_message }
+    {
+        match step {
+            Step::Ended(_) => Awaited::End,
+            Step::Waits(Wanted::Room) => Awaited::Room,
+            _ if is_within_message && !is_in_body => Awaited::Head,
+            Step::Waits(Wanted::Input) if !is_in_body => Awaited::Message,
+            Step::Waits(Wanted::Input) | Step::MayGoOn => Awaited::Body,
+        }
+    }
+
     /// Since when a connection waits for this, which waited for what it did `before` since a moment, where bytes have come or went
-    /// now. A head has its time from its first byte on; it is another one where something was written in between.
+    /// now. A head has its time from its first byte on; it is another one where something was written in between. The end has its time
+    /// from now on.
     pub fn since(
         self,
         before: Awaited,
@@ -56,6 +72,7 @@ impl Awaited {
         ensures { result ≡ (if begins_anew before self has_read has_written then now else since) }
     {
         match (before, self) {
+            (_, Awaited::End) => now,
             _ if has_written => now,
             (Awaited::Head, Awaited::Head) => since,
             _ if has_read => now,

@@ -3,6 +3,9 @@ use Rattle.std.specs.Prelude.{ℕ, List, map, Option, Some, None}
 use Rattle.std.specs.List.{slice_get}
 use Rattle.s3_machine.specs.declared.turn.Turn.{Turn}
 use Rattle.s3_session.specs.Output.{Standing, Reading}
+use Rattle.s3_connection.specs.declared.stage.Wants.{Wants}
+use Rattle.s3_connection.specs.declared.stage.Wants.TheVariants as wants
+use Rattle.s3_connection.specs.Connection.{wants_of}
 use Rattle.s3_world.specs.Played.{Playing, standing_of, turn_of, written_by}
 
 abbrev pub standing_in : Option Playing → Standing
@@ -20,6 +23,14 @@ turn_in (Some b) = turn_of b
 -- the turn that waits in a connection, if one does
 abbrev pub waiting_at : List Playing → ℕ → Option Turn
 waiting_at connections c = turn_in (slice_get connections c)
+
+abbrev pub wants_in : Option Playing → Wants
+wants_in None = wants.Input
+wants_in (Some b) = wants_of b.connection
+
+-- what a connection wants; bytes where there is none of this number
+abbrev pub wanted_at : List Playing → ℕ → Wants
+wanted_at connections c = wants_in (slice_get connections c)
 
 -- what the connections wrote, in the order of their numbers
 abbrev pub written_by_all : List Playing → List (List ℕ)

@@ -2,9 +2,10 @@
 
 ghost use Rattle.std.specs.Prelude.{◌≡◌, ◌≢◌, ◌<◌, true, [], length, IfOk, OnOk, OnErr};
 ghost use Rattle.s3_events.specs.Script.{connection_of_event};
+ghost use Rattle.s3_connection.specs.declared.stage.Wants.{Wants};
 ghost use Rattle.s3_world.specs.Events.{brings_bytes};
 ghost use Rattle.s3_world.specs.Run.{each_moments, output_of};
-ghost use Rattle.s3_world.specs.Shown.{written_by_all};
+ghost use Rattle.s3_world.specs.Shown.{wanted_at, written_by_all};
 ghost use Rattle.s3_world.specs.StandsAfter.{AreFresh, HasHappened};
 ghost use Rattle.s3_world.specs.World.{IsEntered, turn_of_event};
 
@@ -73,6 +74,7 @@ pub(crate) fn meet_one<R: Records + Drop>(
     ensures book { OnErr result (book.new ≡ book.old) }
     ensures memory { OnErr result (brings_bytes event.now ≡ true) }
     ensures there { OnErr result (connection_of_event event.now < length connections.old) }
+    ensures waits { OnErr result (wanted_at connections.old (connection_of_event event.now) ≢ Wants.Input) }
 {
     let number = event.connection() as usize;
     if number < connections.len() {

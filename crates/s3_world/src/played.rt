@@ -5,7 +5,8 @@ ghost use Rattle.s3_config.specs.Settings.{Settings};
 ghost use Rattle.s3_machine.specs.History.{Entry};
 ghost use Rattle.s3_events.specs.declared.event.Event.{Event as Happening};
 ghost use Rattle.s3_session.specs.Output.{is_closed};
-ghost use Rattle.s3_connection.specs.Connection.{IsNext, nothing_received, received, taken_of};
+ghost use Rattle.s3_connection.specs.declared.stage.Wants.{Wants};
+ghost use Rattle.s3_connection.specs.Connection.{IsNext, nothing_received, received, taken_of, wants_of};
 ghost use Rattle.s3_connection.specs.Output.{Input};
 ghost use Rattle.s3_world.specs.Events.{brings_bytes};
 ghost use Rattle.s3_world.specs.Moments.{behind_if, next_of};
@@ -92,6 +93,7 @@ impl<'a> Played<'a> {
         ensures same { OnErr result (self.new ≡ self.old) }
         ensures book { OnErr result (book.new ≡ book.old) }
         ensures memory { OnErr result (brings_bytes event.now ≡ true) }
+        ensures waits { OnErr result (wants_of self.old.connection ≢ Wants.Input) }
     {
         match event {
             Event::Piece { bytes, .. } => self.feed(alloc, config, bytes.as_slice()),
@@ -116,7 +118,7 @@ impl<'a> Played<'a> {
         ensures plays { (moments : List ℕ) (input : Input) (entries : List Entry) → Plays self.old config.now moments input entries
             → OnOk result (Plays self.new config.now moments (received input piece.now) entries) }
         ensures same { OnErr result (self.new ≡ self.old) }
-        ensures memory { OnErr result (piece.now ≢ []) }
+        ensures memory { OnErr result ((piece.now ≢ []) × (wants_of self.old.connection ≢ Wants.Input)) }
         ensures closed { is_closed (rules.standing_of self.old) ≡ true → rules.standing_of self.new ≡ rules.standing_of self.old }
     {
         let now = next(self.moments);

@@ -5,10 +5,11 @@ ghost use Rattle.s3_records.specs.Catalogue.{opening};
 ghost use Rattle.s3_store.specs.Steps.{opened};
 ghost use Rattle.s3_events.specs.declared.event.Event.{Event as Happening};
 ghost use Rattle.s3_events.specs.Script.{connection_of_event};
+ghost use Rattle.s3_connection.specs.declared.stage.Wants.{Wants};
 ghost use Rattle.s3_world.specs.Events.{brings_bytes};
 ghost use Rattle.s3_world.specs.World.{IsEntered, turn_of_event};
 ghost use Rattle.s3_world.specs.Run.{each_moments, output_of};
-ghost use Rattle.s3_world.specs.Shown.{written_by_all};
+ghost use Rattle.s3_world.specs.Shown.{wanted_at, written_by_all};
 ghost use Rattle.s3_world.specs.StandsAfter.{StandsAfter};
 
 use crate::connections::{all_of_one, fresh, meet_one};
@@ -97,6 +98,7 @@ impl<'a, R: Records + Drop> World<'a, R> {
         ensures same { OnErr result (self.new ≡ self.old) }
         ensures memory { OnErr result (brings_bytes event.now ≡ true) }
         ensures there { OnErr result (connection_of_event event.now < length self.old.connections) }
+        ensures waits { OnErr result (wanted_at self.old.connections (connection_of_event event.now) ≢ Wants.Input) }
     {
         connections_write();
         outputs_are_one();
