@@ -7,7 +7,7 @@ use Rattle.s3_terms.specs.declared.memory.NoMemory.{NoMemory}
 use Rattle.s3_machine.specs.History.{Entry}
 use Rattle.s3_machine.specs.declared.command.Answer.{Answer}
 use Rattle.s3_machine.specs.declared.turn.Turn.{Turn}
-use Rattle.s3_session.specs.Output.{Past, Standing, Reading, Waiting, Over, Dead, is_waiting, is_closed, nothing_yet}
+use Rattle.s3_session.specs.Output.{Past, Standing, Reading, Over, Dead, is_waiting, is_closed, nothing_yet}
 use Rattle.s3_session.specs.Session as sessions
 use Rattle.s3_session.specs.Session.{Connection, IsAnsweredTo, NeedsNext, answered}
 use Rattle.s3_session.specs.declared.session.Next.{Next}
@@ -17,9 +17,9 @@ use Rattle.s3_connection.specs.declared.stage.Stage.{Stage}
 use Rattle.s3_connection.specs.declared.stage.Stage.TheVariants as stages
 use Rattle.s3_connection.specs.declared.stage.Wants.TheVariants as wants
 use Rattle.s3_connection.specs.Connection.{Connected, IsFit, entries_with, is_reading_at, nothing_received, received, taken_at, wants_at}
-use Rattle.s3_connection.specs.Holds.{Holds, IsBehind, IsTurn, Took, Went}
+use Rattle.s3_connection.specs.Holds.{Holds, IsBehind, IsTurn, Took}
 use Rattle.s3_connection.specs.Output.{HasWaiting, Input, answer_of, answered_turn, past_of}
-use Rattle.s3_connection.proofs.FeedingLemmas.{fit_done, fit_reading, none_waits}
+use Rattle.s3_connection.proofs.FeedingLemmas.{fit_answered, fit_done, fit_reading, none_waits}
 
 pub holds_new : (settings : Settings) (session : Connection) → Stands session settings nothing_yet [] → sessions.standing_of session ≡ Reading → session.is_ended ≡ false
     → Holds (record { session = session; kept = []; stage = stages.Reading; is_ended = false }) settings nothing_received [] [] []
@@ -41,37 +41,22 @@ holds_new settings session stands reads goes_on = record {
 same_fit : (stage : Stage) (old new : Connection) (kept : List ℕ) (ended : Bool) → sessions.standing_of new ≡ sessions.standing_of old → new.is_ended ≡ old.is_ended
     → IsFit stage old kept ended → IsFit stage new kept ended
 same_fit stages.Reading old new kept ended same end fit = (same ∙ fit.0, end ∙ fit.1, fit.2, fit.3)
-same_fit (stages.Waiting turn) old new kept ended same end fit = (same ∙ fit.0, end ∙ fit.1)
-same_fit (stages.HandedOut turn) old new kept ended same end fit = (same ∙ fit.0, end ∙ fit.1)
-same_fit stages.Answered old new kept ended same end fit = (same ∙ fit.0, end ∙ fit.1)
 same_fit stages.Done old new kept ended same end fit = (ap is_waiting same ∙ fit.0, λ opened. end ∙ fit.1 (sym (ap is_closed same) ∙ opened), fit.2)
+same_fit _ old new kept ended same end fit = (same ∙ fit.0, end ∙ fit.1)
 
 -- a turn that is taken is the one that waited
-taken_turn : (turn : Turn) (taken : Stage) (waiting : List Turn) → taken_at taken ≡ Some turn → waiting ≡ turn ∷ [] → IsTurn taken waiting
-taken_turn turn (stages.HandedOut out) waiting is one = one ∙ ap (λ (t : Turn). t ∷ []) (sym (cc))
-taken_turn turn _ waiting is one = absurd (cc)
+put_at : (turn : Turn) (taken : Stage) (waiting : List Turn) (told : Bool) (session : Connection) (kept behind : List ℕ) (ended came : Bool) → taken_at taken ≡ Some turn
+    → waiting ≡ turn ∷ [] → IsFit (stages.Waiting turn) session kept ended → behind ≡ kept
+    → IsTurn taken waiting × IsFit taken session kept ended × IsBehind taken told kept behind came
+put_at turn (stages.HandedOut out) waiting told session kept behind ended came is one fit left = (one ∙ ap (λ (t : Turn). t ∷ []) (sym (cc)), fit, left)
+put_at turn _ waiting told session kept behind ended came is one fit left = absurd (cc)
 
-taken_left : (turn : Turn) (taken : Stage) (told : Bool) (kept behind : List ℕ) (ended : Bool) → taken_at taken ≡ Some turn → behind ≡ kept → IsBehind taken told kept behind ended
-taken_left turn (stages.HandedOut out) told kept behind ended is left = left
-taken_left turn _ told kept behind ended is left = absurd (cc)
-
-put_fit : (turn : Turn) (taken : Stage) (session : Connection) (kept : List ℕ) (ended : Bool) → taken_at taken ≡ Some turn → IsFit (stages.Waiting turn) session kept ended → IsFit taken session kept ended
-put_fit turn (stages.HandedOut out) session kept ended is fit = fit
-put_fit turn _ session kept ended is fit = absurd (cc)
-
--- the stage of a turn that was taken
-taken_is : (stage : Stage) (turn : Turn) (waiting : List Turn) → taken_at stage ≡ Some turn → IsTurn stage waiting → waiting ≡ turn ∷ []
-taken_is (stages.HandedOut out) turn waiting is one = one ∙ ap (λ (t : Turn). t ∷ []) (cc)
-taken_is _ turn waiting is one = absurd (cc)
-
-taken_fit : (stage : Stage) (turn : Turn) (session : Connection) (kept : List ℕ) (ended : Bool) → taken_at stage ≡ Some turn → IsFit stage session kept ended
-    → (sessions.standing_of session ≡ Waiting) × (session.is_ended ≡ false)
-taken_fit (stages.HandedOut out) turn session kept ended is fit = fit
-taken_fit _ turn session kept ended is fit = absurd (cc)
-
-taken_behind : (stage : Stage) (turn : Turn) (told : Bool) (kept behind : List ℕ) (ended : Bool) → taken_at stage ≡ Some turn → IsBehind stage told kept behind ended → behind ≡ kept
-taken_behind (stages.HandedOut out) turn told kept behind ended is left = left
-taken_behind _ turn told kept behind ended is left = absurd (cc)
+-- where a turn was taken
+taken_is : (stage : Stage) (turn : Turn) (waiting : List Turn) (told : Bool) (session : Connection) (kept behind : List ℕ) (ended came : Bool) → taken_at stage ≡ Some turn
+    → IsTurn stage waiting → IsFit stage session kept ended → IsBehind stage told kept behind came
+    → (waiting ≡ turn ∷ []) × (session.is_ended ≡ false) × (behind ≡ kept)
+taken_is (stages.HandedOut out) turn waiting told session kept behind ended came is one fit left = (one ∙ ap (λ (t : Turn). t ∷ []) (cc), fit.1, left)
+taken_is _ turn waiting told session kept behind ended came is one fit left = absurd (cc)
 
 module _ (c : Connected) (settings : Settings) (input : Input) (moments : List ℕ) (entries : List Entry) (sent : List ℕ)
     (h : Holds c settings input moments entries sent) where
@@ -125,28 +110,19 @@ module _ (c : Connected) (settings : Settings) (input : Input) (moments : List �
       })
 
   -- the piece is kept
-  kept_left : (stage : Stage) (piece kept : List ℕ) → (wants_at stage ≡ wants.Answer) ⊎ (wants_at stage ≡ wants.ToGoOn) → kept ≡ c.kept ++ piece → IsBehind stage h.told c.kept h.behind input.ended
-      → IsBehind stage h.told kept (h.behind ++ piece) input.ended
-  kept_left stages.Reading piece kept (inl keeps) added left = absurd (cc)
-  kept_left stages.Reading piece kept (inr keeps) added left = absurd (cc)
-  kept_left stages.Done piece kept (inl keeps) added left = absurd (cc)
-  kept_left stages.Done piece kept (inr keeps) added left = absurd (cc)
-  kept_left (stages.Waiting turn) piece kept keeps added left = ap (λ (b : List ℕ). b ++ piece) left ∙ sym added
-  kept_left (stages.HandedOut turn) piece kept keeps added left = ap (λ (b : List ℕ). b ++ piece) left ∙ sym added
-  kept_left stages.Answered piece kept keeps added left = ap (λ (b : List ℕ). b ++ piece) left ∙ sym added
-
-  kept_fit : (stage : Stage) (kept : List ℕ) → (wants_at stage ≡ wants.Answer) ⊎ (wants_at stage ≡ wants.ToGoOn) → IsFit stage c.session c.kept c.is_ended → IsFit stage c.session kept c.is_ended
-  kept_fit stages.Reading kept (inl keeps) fit = absurd (cc)
-  kept_fit stages.Reading kept (inr keeps) fit = absurd (cc)
-  kept_fit stages.Done kept (inl keeps) fit = absurd (cc)
-  kept_fit stages.Done kept (inr keeps) fit = absurd (cc)
-  kept_fit (stages.Waiting turn) kept keeps fit = fit
-  kept_fit (stages.HandedOut turn) kept keeps fit = fit
-  kept_fit stages.Answered kept keeps fit = fit
+  kept_at : (stage : Stage) (piece kept : List ℕ) → (wants_at stage ≡ wants.Answer) ⊎ (wants_at stage ≡ wants.ToGoOn) → kept ≡ c.kept ++ piece
+      → IsFit stage c.session c.kept c.is_ended → IsBehind stage h.told c.kept h.behind input.ended
+      → IsFit stage c.session kept c.is_ended × IsBehind stage h.told kept (h.behind ++ piece) input.ended
+  kept_at stages.Reading piece kept (inl keeps) added fit left = absurd (cc)
+  kept_at stages.Reading piece kept (inr keeps) added fit left = absurd (cc)
+  kept_at stages.Done piece kept (inl keeps) added fit left = absurd (cc)
+  kept_at stages.Done piece kept (inr keeps) added fit left = absurd (cc)
+  kept_at _ piece kept keeps added fit left = (fit, ap (λ (b : List ℕ). b ++ piece) left ∙ sym added)
 
   pub holds_kept : (piece kept : List ℕ) → (wants_at c.stage ≡ wants.Answer) ⊎ (wants_at c.stage ≡ wants.ToGoOn) → c.is_ended ≡ false → kept ≡ c.kept ++ piece
       → Holds (record c { kept = kept }) settings (received input piece) (moments ++ []) entries sent
   holds_kept piece kept keeps is added =
+      let at = kept_at c.stage piece kept keeps added h.fit h.left in
       subst (λ (i : Input). Holds (record c { kept = kept }) settings i (moments ++ []) entries sent) (sym (piece_received piece is))
       (record {
         taken = h.taken;
@@ -154,12 +130,12 @@ module _ (c : Connected) (settings : Settings) (input : Input) (moments : List �
         told = h.told;
         waiting = h.waiting;
         stands = stands_none;
-        fit = kept_fit c.stage kept keeps h.fit;
+        fit = at.0;
         waits = h.waits;
         turn = h.turn;
         came = longer piece;
         ended = h.ended;
-        left = kept_left c.stage piece kept keeps added h.left;
+        left = at.1;
       })
 
   -- where its session reads, and has not heard of the end, no turn waits
@@ -170,27 +146,64 @@ module _ (c : Connected) (settings : Settings) (input : Input) (moments : List �
       subst (λ (ts : List Turn). Stands c.session settings (past_of h.taken false moments entries ts) sent) none
       (subst (λ (t : Bool). Stands c.session settings (past_of h.taken t moments entries h.waiting) sent) told h.stands)
 
+  -- a session took what was offered behind what it had taken
+  holds_took : (later : Input) (offered : List ℕ) (session : Connection) (kept : List ℕ) (stage : Stage) (more : List ℕ) → later.bytes ≡ h.taken ++ offered
+      → later.ended ≡ c.is_ended → c.is_ended ≡ false → Took session kept stage settings h.taken offered (moments ++ more) entries sent → IsFit stage session kept false
+      → Holds (record { session = session; kept = kept; stage = stage; is_ended = c.is_ended }) settings later (moments ++ more) entries sent
+  holds_took later offered session kept stage more came ended is t fit = record {
+    taken = h.taken ++ t.more;
+    behind = t.behind;
+    told = false;
+    waiting = t.waiting;
+    stands = t.stands;
+    fit = subst (IsFit stage session kept) (sym is) fit;
+    waits = t.waits;
+    turn = t.turn;
+    came = came ∙ ap (λ (b : List ℕ). h.taken ++ b) t.offers ∙ sym (append_assoc h.taken t.more t.behind);
+    ended = ended;
+    left = subst (IsBehind stage false kept t.behind) (sym (ended ∙ is)) t.left;
+  }
+
   -- it read, and took the piece
   pub holds_read : (piece : List ℕ) (session : Connection) (kept : List ℕ) (stage : Stage) (more : List ℕ) → c.stage ≡ stages.Reading
       → Took session kept stage settings h.taken piece (moments ++ more) entries sent → IsFit stage session kept false
       → Holds (record { session = session; kept = kept; stage = stage; is_ended = c.is_ended }) settings (received input piece) (moments ++ more) entries sent
-  holds_read piece session kept stage more at t fit =
+  holds_read piece session kept stage more at =
       let is : c.is_ended ≡ false = (fit_reading c.stage c.session c.kept c.is_ended at h.fit).3 in
       let behind : h.behind ≡ [] = subst (λ (s : Stage). IsBehind s h.told c.kept h.behind input.ended) at h.left in
-      subst (λ (i : Input). Holds (record { session = session; kept = kept; stage = stage; is_ended = c.is_ended }) settings i (moments ++ more) entries sent) (sym (piece_received piece is))
-      (record {
-        taken = h.taken ++ t.more;
-        behind = t.behind;
-        told = false;
-        waiting = t.waiting;
-        stands = t.stands;
-        fit = subst (IsFit stage session kept) (sym is) fit;
-        waits = t.waits;
-        turn = t.turn;
-        came = longer piece ∙ ap (λ (b : List ℕ). h.taken ++ (b ++ piece)) behind ∙ ap (λ (b : List ℕ). h.taken ++ b) t.offers ∙ sym (append_assoc h.taken t.more t.behind);
-        ended = h.ended;
-        left = subst (IsBehind stage false kept t.behind) (sym (h.ended ∙ is)) t.left;
-      })
+      let same = piece_received piece is in
+      holds_took (received input piece) piece session kept stage more (ap (λ (i : Input). i.bytes) same ∙ longer piece ∙ ap (λ (b : List ℕ). h.taken ++ (b ++ piece)) behind)
+      (ap (λ (i : Input). i.ended) same ∙ h.ended) is
+
+  -- it goes on behind an answer: what is behind is kept, and of the end it hears later
+  answered_left : c.stage ≡ stages.Answered → h.behind ≡ c.kept
+  answered_left at = subst (λ (s : Stage). IsBehind s h.told c.kept h.behind input.ended) at h.left
+
+  pub holds_on : (session : Connection) (kept : List ℕ) (stage : Stage) (more : List ℕ) → c.stage ≡ stages.Answered → c.is_ended ≡ false
+      → Took session kept stage settings h.taken c.kept (moments ++ more) entries sent → IsFit stage session kept false
+      → Holds (record { session = session; kept = kept; stage = stage; is_ended = c.is_ended }) settings input (moments ++ more) entries sent
+  holds_on session kept stage more at =
+      holds_took input c.kept session kept stage more (h.came ∙ ap (λ (b : List ℕ). h.taken ++ b) (answered_left at)) h.ended
+
+  pub holds_reopened : c.stage ≡ stages.Answered → Holds (record c { is_ended = false }) settings (record input { ended = false }) moments entries sent
+  holds_reopened at = record {
+    taken = h.taken;
+    behind = h.behind;
+    told = h.told;
+    waiting = h.waiting;
+    stands = h.stands;
+    fit = subst (λ (s : Stage). IsFit s c.session c.kept false) (sym at) (fit_answered c.stage c.session c.kept c.is_ended at h.fit);
+    waits = h.waits;
+    turn = h.turn;
+    came = h.came;
+    ended = refl;
+    left = subst (λ (s : Stage). IsBehind s h.told c.kept h.behind false) (sym at) (answered_left at);
+  }
+
+  -- it had heard of the end, or not
+  pub holds_again : (d : Connected) (later : List ℕ) (told : Bool) → c.is_ended ≡ told
+      → Holds d settings (record input { ended = told }) later entries sent → Holds d settings input later entries sent
+  holds_again d later told is = subst (λ (e : Bool). Holds d settings (record input { ended = e }) later entries sent) (sym (h.ended ∙ is))
 
   -- it read, and hears of the end
   pub holds_over : (session : Connection) → c.stage ≡ stages.Reading
@@ -215,19 +228,11 @@ module _ (c : Connected) (settings : Settings) (input : Input) (moments : List �
       }
 
   -- it doesn't read, and keeps the end in mind
-  told_left : (stage : Stage) → is_reading_at stage ≡ false → IsBehind stage h.told c.kept h.behind input.ended → IsBehind stage h.told c.kept h.behind true
-  told_left stages.Reading other left = absurd (cc)
-  told_left (stages.Waiting turn) other left = left
-  told_left (stages.HandedOut turn) other left = left
-  told_left stages.Answered other left = left
-  told_left stages.Done other left = λ told. ((left told).0, refl)
-
-  told_fit : (stage : Stage) → is_reading_at stage ≡ false → IsFit stage c.session c.kept c.is_ended → IsFit stage c.session c.kept true
-  told_fit stages.Reading other fit = absurd (cc)
-  told_fit (stages.Waiting turn) other fit = fit
-  told_fit (stages.HandedOut turn) other fit = fit
-  told_fit stages.Answered other fit = fit
-  told_fit stages.Done other fit = fit
+  told_at : (stage : Stage) → is_reading_at stage ≡ false → IsFit stage c.session c.kept c.is_ended → IsBehind stage h.told c.kept h.behind input.ended
+      → IsFit stage c.session c.kept true × IsBehind stage h.told c.kept h.behind true
+  told_at stages.Reading other fit left = absurd (cc)
+  told_at stages.Done other fit left = (fit, λ told. ((left told).0, refl))
+  told_at _ other fit left = (fit, left)
 
   pub holds_told : is_reading_at c.stage ≡ false → Holds (record c { is_ended = true }) settings (record input { ended = true }) moments entries sent
   holds_told other = record {
@@ -236,29 +241,32 @@ module _ (c : Connected) (settings : Settings) (input : Input) (moments : List �
     told = h.told;
     waiting = h.waiting;
     stands = h.stands;
-    fit = told_fit c.stage other h.fit;
+    fit = (told_at c.stage other h.fit h.left).0;
     waits = h.waits;
     turn = h.turn;
     came = h.came;
     ended = refl;
-    left = told_left c.stage other h.left;
+    left = (told_at c.stage other h.fit h.left).1;
   }
 
   -- its turn is taken
   pub holds_taken : (turn : Turn) (taken : Stage) → c.stage ≡ stages.Waiting turn → taken_at taken ≡ Some turn → Holds (record c { stage = taken }) settings input moments entries sent
-  holds_taken turn taken at is = record {
-    taken = h.taken;
-    behind = h.behind;
-    told = h.told;
-    waiting = h.waiting;
-    stands = h.stands;
-    fit = put_fit turn taken c.session c.kept c.is_ended is (subst (λ (s : Stage). IsFit s c.session c.kept c.is_ended) at h.fit);
-    waits = h.waits;
-    turn = taken_turn turn taken h.waiting is (subst (λ (s : Stage). IsTurn s h.waiting) at h.turn);
-    came = h.came;
-    ended = h.ended;
-    left = taken_left turn taken h.told c.kept h.behind input.ended is (subst (λ (s : Stage). IsBehind s h.told c.kept h.behind input.ended) at h.left);
-  }
+  holds_taken turn taken at is =
+      let put = put_at turn taken h.waiting h.told c.session c.kept h.behind c.is_ended input.ended is (subst (λ (s : Stage). IsTurn s h.waiting) at h.turn)
+      (subst (λ (s : Stage). IsFit s c.session c.kept c.is_ended) at h.fit) (subst (λ (s : Stage). IsBehind s h.told c.kept h.behind input.ended) at h.left) in
+      record {
+        taken = h.taken;
+        behind = h.behind;
+        told = h.told;
+        waiting = h.waiting;
+        stands = h.stands;
+        fit = put.1;
+        waits = h.waits;
+        turn = put.0;
+        came = h.came;
+        ended = h.ended;
+        left = put.2;
+      }
 
   -- so much was sent
   pub holds_sent : (session : Connection) (more : List ℕ)
@@ -283,11 +291,11 @@ module _ (c : Connected) (settings : Settings) (input : Input) (moments : List �
 
 module _ (c : Connected) (settings : Settings) (input : Input) (moments : List ℕ) (entries : List Entry) (turn : Turn) (sent : List ℕ)
     (h : Holds c settings input moments entries sent) (is : taken_at c.stage ≡ Some turn) where
-  waiting_is : h.waiting ≡ turn ∷ []
-  waiting_is = taken_is c.stage turn h.waiting is h.turn
+  was : (h.waiting ≡ turn ∷ []) × (c.session.is_ended ≡ false) × (h.behind ≡ c.kept)
+  was = taken_is c.stage turn h.waiting h.told c.session c.kept h.behind c.is_ended input.ended is h.turn h.fit h.left
 
   told_is : h.told ≡ false
-  told_is = h.stands.end ∙ (taken_fit c.stage turn c.session c.kept c.is_ended is h.fit).1
+  told_is = h.stands.end ∙ was.1
 
   answered_ok : (answer : Answer) → answered (past_of h.taken h.told moments entries (turn ∷ [])) (Ok answer) ≡ past_of h.taken h.told moments (entries_with entries turn (Ok answer)) []
   answered_ok answer =
@@ -305,7 +313,7 @@ module _ (c : Connected) (settings : Settings) (input : Input) (moments : List �
     told = h.told;
     waiting = [];
     stands = subst (λ (p : Past). Stands session settings p sent) (answered_ok answer)
-        (subst (λ (ts : List Turn). Stands session settings (answered (past_of h.taken h.told moments entries ts) (Ok answer)) sent) waiting_is
+        (subst (λ (ts : List Turn). Stands session settings (answered (past_of h.taken h.told moments entries ts) (Ok answer)) sent) was.0
         (stands (past_of h.taken h.told moments entries h.waiting) h.stands));
     fit = fit;
     waits = waits;
@@ -313,7 +321,7 @@ module _ (c : Connected) (settings : Settings) (input : Input) (moments : List �
     came = h.came;
     ended = h.ended;
     left = subst (λ (t : Bool). IsBehind stage t kept h.behind input.ended) (sym told_is)
-        (subst (λ (b : List ℕ). IsBehind stage false kept b input.ended) (sym (taken_behind c.stage turn h.told c.kept h.behind input.ended is h.left)) left);
+        (subst (λ (b : List ℕ). IsBehind stage false kept b input.ended) (sym was.2) left);
   }
 
   -- memory ran out at it
@@ -365,7 +373,7 @@ module _ (c : Connected) (settings : Settings) (input : Input) (moments : List �
   holds_answered_more session (Ok answer) next stands to needs is_more end =
       let reads = more_replied (Ok answer) (sessions.standing_of session) to (subst (λ (n : Next). NeedsNext n (sessions.standing_of session)) is_more needs) in
       holds_replied session answer c.kept stages.Answered stands (none_replied answer (sessions.standing_of session) to) tt refl
-      (reads, end ∙ (taken_fit c.stage turn c.session c.kept c.is_ended is h.fit).1)
+      (reads, end ∙ was.1)
   holds_answered_more session (Err e) next stands to needs is_more end =
       let reads = more_replied (Err e) (sessions.standing_of session) to (subst (λ (n : Next). NeedsNext n (sessions.standing_of session)) is_more needs) in
       absurd (never_more e (sessions.standing_of session) to reads)
@@ -381,25 +389,3 @@ module _ (c : Connected) (settings : Settings) (input : Input) (moments : List �
       (fit_done session [] c.is_ended over.0 over.1 refl)
   holds_answered_close session (Err e) next stands to needs is_close =
       holds_died session [] stands (died_is e (sessions.standing_of session) to) refl
-
--- ---- it goes on behind an answer
-
-pub holds_went : (c : Connected) (settings : Settings) (input : Input) (moments more : List ℕ) (entries : List Entry) (sent : List ℕ)
-    (h : Holds c settings input moments entries sent) (session : Connection) (kept : List ℕ) (stage : Stage) → c.stage ≡ stages.Answered
-    → Went session kept stage settings h.taken c.kept (moments ++ more) entries sent c.is_ended → IsFit stage session kept c.is_ended
-    → Holds (record { session = session; kept = kept; stage = stage; is_ended = c.is_ended }) settings input (moments ++ more) entries sent
-holds_went c settings input moments more entries sent h session kept stage at w fit =
-    let behind : h.behind ≡ c.kept = subst (λ (s : Stage). IsBehind s h.told c.kept h.behind input.ended) at h.left in
-    record {
-      taken = h.taken ++ w.more;
-      behind = w.behind;
-      told = w.told;
-      waiting = w.waiting;
-      stands = w.stands;
-      fit = fit;
-      waits = w.waits;
-      turn = w.turn;
-      came = h.came ∙ ap (λ (b : List ℕ). h.taken ++ b) (behind ∙ w.offers) ∙ sym (append_assoc h.taken w.more w.behind);
-      ended = h.ended;
-      left = subst (IsBehind stage w.told kept w.behind) (sym h.ended) w.left;
-    }

@@ -37,20 +37,16 @@ module _ (write : SessionsWrite) (stay : OutputsStay) (c : Connected) (settings 
   writes_at : (stage : Stage) → IsFit stage c.session c.kept c.is_ended → IsBehind stage h.told c.kept h.behind input.ended → is_answered_at stage ≡ false
       → Writes (standing_of c) settings (past_of input.bytes input.ended moments entries h.waiting) (sent ++ unsent_of c)
   writes_at stages.Reading fit left whole = writes_same left (h.ended ∙ fit.3 ∙ sym (told_is ∙ fit.1))
-  writes_at (stages.Waiting turn) fit left whole = writes_over (λ reads. (let never = sym fit.0 ∙ reads in absurd (cc))) (told_is ∙ fit.1)
-  writes_at (stages.HandedOut turn) fit left whole = writes_over (λ reads. (let never = sym fit.0 ∙ reads in absurd (cc))) (told_is ∙ fit.1)
   writes_at stages.Answered fit left whole = absurd (cc)
   writes_at stages.Done fit left whole = elim (cases_Bool h.told) [
     | inl told ↦ writes_same (left told).0 ((left told).1 ∙ sym told)
     | inr unended ↦ writes_over (λ reads. (let over = fit.1 (ap is_closed reads) in let never = sym unended ∙ told_is ∙ over in absurd (cc))) unended
   ]
+  writes_at _ fit left whole = writes_over (λ reads. (let never = sym fit.0 ∙ reads in absurd (cc))) (told_is ∙ fit.1)
 
   ended_at : (stage : Stage) → IsFit stage c.session c.kept c.is_ended → IsBehind stage h.told c.kept h.behind input.ended → h.told ≡ true → (h.behind ≡ []) × (input.ended ≡ true)
-  ended_at stages.Reading fit left told = let never = sym told ∙ told_is ∙ fit.1 in absurd (cc)
-  ended_at (stages.Waiting turn) fit left told = let never = sym told ∙ told_is ∙ fit.1 in absurd (cc)
-  ended_at (stages.HandedOut turn) fit left told = let never = sym told ∙ told_is ∙ fit.1 in absurd (cc)
-  ended_at stages.Answered fit left told = let never = sym told ∙ told_is ∙ fit.1 in absurd (cc)
   ended_at stages.Done fit left told = left told
+  ended_at _ fit left told = let never = sym told ∙ told_is ∙ fit.1 in absurd (cc)
 
 pub written : SessionsWrite → OutputsStay → ConnectionsWrite
 written write stay c settings input moments entries sent h = (

@@ -31,53 +31,37 @@ unsent_of c = sessions.unsent_of c.session
 
 abbrev pub is_reading_at : Stage → Bool
 is_reading_at stages.Reading = true
-is_reading_at (stages.Waiting turn) = false
-is_reading_at (stages.HandedOut turn) = false
-is_reading_at stages.Answered = false
-is_reading_at stages.Done = false
+is_reading_at _ = false
 
 abbrev pub has_turn_at : Stage → Bool
-has_turn_at stages.Reading = false
 has_turn_at (stages.Waiting turn) = true
-has_turn_at (stages.HandedOut turn) = false
-has_turn_at stages.Answered = false
-has_turn_at stages.Done = false
+has_turn_at _ = false
 
 abbrev pub is_answered_at : Stage → Bool
-is_answered_at stages.Reading = false
-is_answered_at (stages.Waiting turn) = false
-is_answered_at (stages.HandedOut turn) = false
 is_answered_at stages.Answered = true
-is_answered_at stages.Done = false
+is_answered_at _ = false
 
 abbrev pub wants_at : Stage → Wants
 wants_at stages.Reading = wants.Input
-wants_at (stages.Waiting turn) = wants.Answer
-wants_at (stages.HandedOut turn) = wants.Answer
 wants_at stages.Answered = wants.ToGoOn
 wants_at stages.Done = wants.Nothing
+wants_at _ = wants.Answer
 
 -- what it wants, once all that it wrote is out
 abbrev pub wants_of : Connected → Wants
 wants_of c = wants_at c.stage
 
 abbrev pub turn_at : Stage → Option Turn
-turn_at stages.Reading = None
 turn_at (stages.Waiting turn) = Some turn
-turn_at (stages.HandedOut turn) = None
-turn_at stages.Answered = None
-turn_at stages.Done = None
+turn_at _ = None
 
 -- the turn that waits and was not taken
 abbrev pub turn_of : Connected → Option Turn
 turn_of c = turn_at c.stage
 
 abbrev pub taken_at : Stage → Option Turn
-taken_at stages.Reading = None
-taken_at (stages.Waiting turn) = None
 taken_at (stages.HandedOut turn) = Some turn.value
-taken_at stages.Answered = None
-taken_at stages.Done = None
+taken_at _ = None
 
 -- the turn that was taken, and has no answer yet
 abbrev pub taken_of : Connected → Option Turn

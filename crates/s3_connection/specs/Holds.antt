@@ -16,20 +16,16 @@ use Rattle.s3_connection.specs.Output.{HasWaiting, Input, Outputs, past_of}
 
 -- the turns that wait are the one that the stage knows
 abbrev pub IsTurn : Stage → List Turn → Type 0
-IsTurn stages.Reading turns = Unit {0}
 IsTurn (stages.Waiting turn) turns = turns ≡ turn ∷ []
 IsTurn (stages.HandedOut turn) turns = turns ≡ turn.value ∷ []
-IsTurn stages.Answered turns = Unit {0}
-IsTurn stages.Done turns = Unit {0}
+IsTurn _ turns = Unit {0}
 
 -- the bytes behind those that went through the session, by whether that heard of the end: none where it reads, those that are
 -- kept where a command waits or was answered, and any where no more is read, unless the end was told
 abbrev pub IsBehind : Stage → Bool → List ℕ → List ℕ → Bool → Type 0
 IsBehind stages.Reading told kept behind ended = behind ≡ []
-IsBehind (stages.Waiting turn) told kept behind ended = behind ≡ kept
-IsBehind (stages.HandedOut turn) told kept behind ended = behind ≡ kept
-IsBehind stages.Answered told kept behind ended = behind ≡ kept
 IsBehind stages.Done told kept behind ended = told ≡ true → (behind ≡ []) × (ended ≡ true)
+IsBehind _ told kept behind ended = behind ≡ kept
 
 -- it received this, its messages had these moments, the commands of its entries were answered, and so much is sent
 pub record Holds (c : Connected) (settings : Settings) (input : Input) (moments : List ℕ) (entries : List Entry) (sent : List ℕ) : Type 0 where
@@ -55,18 +51,6 @@ pub record Took (session : Connection) (kept : List ℕ) (stage : Stage) (settin
   pub turn : IsTurn stage waiting
   pub offers : offered ≡ more ++ behind
   pub left : IsBehind stage false kept behind false
-
--- the same, and the session heard of the end behind them where it reads on and the end has come
-pub record Went (session : Connection) (kept : List ℕ) (stage : Stage) (settings : Settings) (taken offered moments : List ℕ) (entries : List Entry) (sent : List ℕ) (ended : Bool) : Type 0 where
-  pub more : List ℕ
-  pub behind : List ℕ
-  pub told : Bool
-  pub waiting : List Turn
-  pub stands : Stands session settings (past_of (taken ++ more) told moments entries waiting) sent
-  pub waits : HasWaiting (sessions.standing_of session) waiting
-  pub turn : IsTurn stage waiting
-  pub offers : offered ≡ more ++ behind
-  pub left : IsBehind stage told kept behind ended
 
 -- What a connection that holds this wrote, sent or not, is its output: for all that it received, unless a turn was answered and
 -- it has still to go on; and for what it has taken of that, always.

@@ -10,7 +10,7 @@ ghost use Rattle.s3_session.specs.Session.{moment_if};
 ghost use Rattle.s3_connection.specs.Holds.{Holds};
 ghost use Rattle.s3_connection.specs.Output.{Input};
 
-use crate::feeding::{conclude, stage_before, take_kept};
+use crate::feeding::{stage_before, take_kept};
 use crate::kept::Kept;
 use crate::stage::{Stage, Wants};
 use s3_calendar::Moment;
@@ -232,7 +232,7 @@ impl Connection {
         }
     }
 
-    // Takes what is kept behind an answer.
+    // Takes what is kept behind an answer, and hears of the end behind that, if it has come.
     fn take_on(&mut self, alloc: Global, config: &Config, now: Moment) -> bool
         requires answered { self.old.stage ≡ Stage.Answered }
         ensures holds { (input : Input) (moments : List ℕ) (entries : List Entry) (sent : List ℕ)
@@ -241,8 +241,26 @@ impl Connection {
         ensures next { rules.IsNext self.new.stage }
         ensures end { self.new.is_ended ≡ self.old.is_ended }
     {
+        let is_ended = self.is_ended;
+        self.is_ended = false;
+        let has_moment = self.read_kept(alloc, config, now);
+        if is_ended {
+            self.end();
+        }
+        has_moment
+    }
+
+    // Takes what is kept behind an answer, where the end has not come.
+    fn read_kept(&mut self, alloc: Global, config: &Config, now: Moment) -> bool
+        requires answered { self.old.stage ≡ Stage.Answered }
+        requires goes_on { self.old.is_ended ≡ false }
+        ensures holds { (input : Input) (moments : List ℕ) (entries : List Entry) (sent : List ℕ)
+            → Holds self.old config.now input moments entries sent
+            → Holds self.new config.now input (moments ++ moment_if result now) entries sent }
+        ensures next { rules.IsNext self.new.stage }
+        ensures end { self.new.is_ended ≡ false }
+    {
         let (stage, has_moment) = take_kept(alloc, config, &mut self.session, &mut self.kept, now);
-        let stage = conclude(&mut self.session, stage, self.is_ended);
         self.stage.become_next(stage);
         has_moment
     }

@@ -8,7 +8,7 @@ ghost use Rattle.s3_session.specs.Session as rules;
 ghost use Rattle.s3_session.specs.Session.{Needs, moment_if, standing_of, turns_of};
 ghost use Rattle.s3_session.specs.Stands.{Stands};
 ghost use Rattle.s3_connection.specs.Connection.{IsFit, IsNext};
-ghost use Rattle.s3_connection.specs.Holds.{IsBehind, IsTurn, Took, Went};
+ghost use Rattle.s3_connection.specs.Holds.{IsBehind, IsTurn, Took};
 ghost use Rattle.s3_connection.specs.Output.{HasWaiting, past_of};
 
 use crate::kept::Kept;
@@ -120,22 +120,4 @@ fn stage_behind(alloc: Global, kept: &mut Kept, need: Need, len: usize) -> Stage
             Stage::Done
         }
     }
-}
-
-// Tells a session that reads the end, if it has come.
-pub(crate) fn conclude(session: &mut Session, stage: Stage, is_ended: bool) -> Stage
-    requires goes_on { session.old.is_ended ≡ false }
-    ensures went { (settings : Settings) (kept taken offered moments : List ℕ) (entries : List Entry) (sent : List ℕ)
-        → Took session.old kept stage settings taken offered moments entries sent
-        → IsFit stage session.old kept false
-        → Went session.new kept result settings taken offered moments entries sent is_ended }
-    ensures fit { (kept : List ℕ) → IsFit stage session.old kept false → IsFit result session.new kept is_ended }
-    ensures next { IsNext stage → IsNext result }
-{
-    if is_ended && stage.is_reading() {
-        session.end();
-        drop(stage);
-        return Stage::Done;
-    }
-    stage
 }

@@ -1,5 +1,5 @@
 -- What a connection that is served has written.
-use Rattle.std.proofs.Common.{◌≡◌, ◌⊎◌, ℕ, false, List, [], ◌++◌, refl, ap, subst, ◌∙◌, append-nil, inl, inr}
+use Rattle.std.proofs.Common.{◌≡◌, ℕ, false, List, [], ◌++◌, refl, ap, subst, ◌∙◌, append-nil, inl, inr}
 use Rattle.std.proofs.lemmas.Bool.{cases_Bool}
 use Rattle.s3_config.specs.Settings.{Settings}
 use Rattle.s3_machine.specs.History.{Entry}
@@ -34,17 +34,7 @@ have_written write settings c traffic moments entries s =
       output = w.output;
     }
 
--- a connection that wants nothing, or bytes, has no answer behind it
-not_answered : (stage : Stage) → (wants_at stage ≡ wanted.Nothing) ⊎ (wants_at stage ≡ wanted.Input) → is_answered_at stage ≡ false
-not_answered stages.Reading is = refl
-not_answered (stages.Waiting turn) (inl is) = absurd (cc)
-not_answered (stages.Waiting turn) (inr is) = absurd (cc)
-not_answered (stages.HandedOut turn) (inl is) = absurd (cc)
-not_answered (stages.HandedOut turn) (inr is) = absurd (cc)
-not_answered stages.Answered (inl is) = absurd (cc)
-not_answered stages.Answered (inr is) = absurd (cc)
-not_answered stages.Done is = refl
-
+-- what a connection does next that wants nothing, or bytes
 done_is : (stage : Stage) → wants_at stage ≡ wanted.Nothing → stage ≡ stages.Done
 done_is stages.Done is = refl
 done_is _ is = absurd (cc)
@@ -70,7 +60,7 @@ module _ (write : ConnectionsWrite) (settings : Settings) (c : Connected) (traff
       let at = done_is c.stage is in
       let fit = subst (λ (stage : Stage). IsFit stage c.session c.kept c.is_ended) at s.holds.fit in
       let left = subst (λ (stage : Stage). IsBehind stage s.holds.told c.kept s.holds.behind traffic.is_ended) at s.holds.left in
-      let out = whole_output (not_answered c.stage (inl is)) in
+      let out = whole_output (ap is_answered_at at) in
       record {
         standing = standing_of c;
         waiting = out.0;
@@ -86,7 +76,7 @@ module _ (write : ConnectionsWrite) (settings : Settings) (c : Connected) (traff
   has_failed_to_read is =
       let at = reading_is c.stage is in
       let fit = subst (λ (stage : Stage). IsFit stage c.session c.kept c.is_ended) at s.holds.fit in
-      let out = whole_output (not_answered c.stage (inr is)) in
+      let out = whole_output (ap is_answered_at at) in
       let reads = subst (λ (standing : Standing). Outputs standing settings (input_of traffic) moments entries out.0 traffic.sent) fit.0 out.1 in
       record {
         unended = s.holds.ended ∙ fit.3;

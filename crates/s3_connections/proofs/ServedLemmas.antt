@@ -21,6 +21,7 @@ use Rattle.s3_session.specs.Session.{moment_if}
 use Rattle.s3_connection.specs.Connection.{Connected, entries_with, is_answered_at, taken_at, taken_of, turn_at, wants_at}
 use Rattle.s3_connection.specs.Holds.{Holds}
 use Rattle.s3_devices.specs.Device.{Traffic}
+use Rattle.s3_history.proofs.LineLemmas.{prefix-trans}
 use Rattle.s3_connections.specs.Ended.{Fails, input_of}
 use Rattle.s3_connections.specs.Served.{GoesOn, HasHadTurn, HasMet, HasRead, HasSent, HasTaken, HaveMore, IsServed, stage_weight}
 
@@ -48,9 +49,6 @@ more_behind now old mid new a b = record {
 begins_itself : {A : Type 0} → (xs : List A) → IsPrefix xs xs
 begins_itself xs = ([], append-nil xs)
 
-begins_on : {A : Type 0} → (xs ys zs : List A) → IsPrefix xs ys → IsPrefix ys zs → IsPrefix xs zs
-begins_on {A = A} xs ys zs p q = (p.0 ++ q.0, sym (append_assoc xs p.0 q.0) ∙ ap (λ (begun : List A). begun ++ q.0) p.1 ∙ q.1)
-
 pub goes_on_none : (traffic : Traffic) (entries : List Entry) → GoesOn traffic traffic entries entries
 goes_on_none traffic entries = record {
   received = begins_itself traffic.received;
@@ -60,9 +58,9 @@ goes_on_none traffic entries = record {
 
 pub goes_on_after : (a b d : Traffic) (es fs gs : List Entry) → GoesOn a b es fs → GoesOn b d fs gs → GoesOn a d es gs
 goes_on_after a b d es fs gs p q = record {
-  received = begins_on a.received b.received d.received p.received q.received;
-  sent = begins_on a.sent b.sent d.sent p.sent q.sent;
-  entries = begins_on es fs gs p.entries q.entries;
+  received = prefix-trans a.received b.received d.received p.received q.received;
+  sent = prefix-trans a.sent b.sent d.sent p.sent q.sent;
+  entries = prefix-trans es fs gs p.entries q.entries;
 }
 
 pub sent_goes_on : (c d : Connected) (before after : Traffic) (entries : List Entry) → HasSent c d before after → GoesOn before after entries entries
@@ -143,11 +141,8 @@ goes_weight stages.Answered is = refl
 goes_weight _ is = absurd (cc)
 
 next_weight : (stage : Stage) → is_answered_at stage ≡ false → 0 < stage_weight stage
-next_weight stages.Reading is = omega arith
-next_weight (stages.Waiting turn) is = omega arith
-next_weight (stages.HandedOut turn) is = omega arith
 next_weight stages.Answered is = absurd (cc)
-next_weight stages.Done is = omega arith
+next_weight _ is = omega arith
 
 pub on_moves : (old new : Stage) → wants_at old ≡ wanted.ToGoOn → is_answered_at new ≡ false → stage_weight old < stage_weight new
 on_moves old new is next = let none = goes_weight old is in let some = next_weight new next in omega (arith, none, some)

@@ -1,23 +1,15 @@
 -- A history stays legal with one entry more that has the answer of its step.
-use Rattle.std.proofs.Common.{◌≡◌, ◌+◌, ℕ, suc, List, [], ◌∷◌, ◌++◌, length, refl, sym, ◌∙◌, ap, subst, arith}
+use Rattle.std.proofs.Common.{◌≡◌, ◌+◌, ℕ, List, [], ◌∷◌, ◌++◌, length, sym, ◌∙◌, ap, subst, arith}
 use Rattle.std.proofs.lemmas.List.{length-map, length_push, map-append}
 use Rattle.s3_history.specs.Log.{Origin}
-use Rattle.s3_machine.specs.History.{Entry, IsAnswer, Legal, after, after_entry}
+use Rattle.s3_machine.specs.History.{Entry, IsAnswer, Legal, after}
+use Rattle.s3_machine.proofs.HistoryLemmas.{Legal-push, after-push}
 use Rattle.s3_machine.specs.Step.{State, step}
 use Rattle.s3_machine.specs.declared.command.Answer.{Answer}
 use Rattle.s3_machine.specs.declared.turn.Turn.{Turn}
 use Rattle.s3_store.specs.Steps.{Standing, after_step, outcome_of}
 use Rattle.s3_journal.specs.Book.{Journal, KeepsHistory, told_or}
 use Rattle.s3_journal.specs.Recorded.{Recorded, history_of, recorded}
-
-legal_push : (least : ℕ) (s : State) (n m : ℕ) (es : List Entry) (e : Entry) → Legal least s n es → m ≡ n + length es → IsAnswer least (after least s es) m e
-    → Legal least s n (es ++ e ∷ [])
-legal_push least s n m [] e legal at is = let same : m ≡ n = omega (arith, at) in (subst (λ (k : ℕ). IsAnswer least s k e) same is, tt)
-legal_push least s n m (x ∷ es) e legal at is = (legal.0, legal_push least (after_entry least s x) (suc n) m es e legal.1 (omega (arith, at)) is)
-
-after_push : (least : ℕ) (s : State) (es : List Entry) (e : Entry) → after least s (es ++ e ∷ []) ≡ after_entry least (after least s es) e
-after_push least s [] e = refl
-after_push least s (x ∷ es) e = after_push least (after_entry least s x) es e
 
 abbrev answer_at : ℕ → ℕ → Turn → State → Answer
 answer_at least n turn s = record { number = n; outcome = (step least s n turn.moment turn.command).1 }
@@ -38,13 +30,15 @@ keeps_push book seat turn answer entries store origin keeps added right steps =
     let long : length es ≡ length book.entries = length-map book.entries (λ (r : Recorded). r.entry) in
     let is : IsAnswer book.least (after book.least book.opening.state es) book.store.number e =
     right ∙ ap (answer_at book.least book.store.number turn) (sym leaves) in
-    let legal = legal_push book.least book.opening.state book.opening.number book.store.number es e keeps.legal (omega (arith, count, long)) is in
+    let place : book.store.number ≡ book.opening.number + length es = omega (arith, count, long) in
+    let legal = Legal-push book.least book.opening.state book.opening.number es e keeps.legal
+    (subst (λ (k : ℕ). IsAnswer book.least (after book.least book.opening.state es) k e) place is) in
     let numbered = ap (λ (a : Answer). a.number) right in
     let longer = ap length added ∙ length_push book.entries (recorded seat turn answer) in
     let next = ap (λ (s : Standing). s.number) steps in
     record {
       legal = subst (λ (h : List Entry). Legal book.least book.opening.state book.opening.number h) (sym history) legal;
-      leaves = ap (after book.least book.opening.state) history ∙ after_push book.least book.opening.state es e
+      leaves = ap (after book.least book.opening.state) history ∙ after-push book.least book.opening.state es e
           ∙ ap (λ (s : State). (step book.least s answer.number turn.moment turn.command).0) leaves
           ∙ ap (λ (n : ℕ). (step book.least book.store.state n turn.moment turn.command).0) numbered
           ∙ sym (ap (λ (s : Standing). s.state) steps);

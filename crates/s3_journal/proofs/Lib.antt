@@ -1,5 +1,4 @@
 pub mod AmongLemmas
-pub mod BookLemmas
 pub mod CountLemmas
 pub mod GoneLemmas
 pub mod HistoryLemmas

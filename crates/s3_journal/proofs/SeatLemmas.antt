@@ -9,20 +9,22 @@ use Rattle.s3_journal.specs.Recorded.{Recorded, entries_of_seat, history_of}
 use Rattle.s3_journal.specs.Desk.{Base, IsAmong, IsLegal, IsSeat, Seated}
 use Rattle.s3_journal.proofs.AmongLemmas.{among_with_more, among_push, none_among}
 
-entries_of_seat-append : (seat : ℕ) (entries more : List Recorded) → entries_of_seat seat (entries ++ more) ≡ entries_of_seat seat entries ++ entries_of_seat seat more
-entries_of_seat-append seat entries more =
+-- the entries of a seat, with more entries
+pub seat_join : (seat : ℕ) (entries more : List Recorded) → entries_of_seat seat (entries ++ more) ≡ entries_of_seat seat entries ++ entries_of_seat seat more
+seat_join seat entries more =
     let own : Recorded → Bool = λ (r : Recorded). eqb r.seat seat in
     ap history_of (filter-append own entries more) ∙ map-append (λ (r : Recorded). r.entry) (filter own entries) (filter own more)
 
-own_entry : (seat : ℕ) (r : Recorded) → r.seat ≡ seat → entries_of_seat seat (r ∷ []) ≡ r.entry ∷ []
-own_entry seat r own = ap (λ (b : Bool). history_of (cond b (r ∷ []) [])) (eq-eqb r.seat seat own)
+-- of one entry, which is its own
+pub seat_own : (seat : ℕ) (r : Recorded) → r.seat ≡ seat → entries_of_seat seat (r ∷ []) ≡ r.entry ∷ []
+seat_own seat r own = ap (λ (b : Bool). history_of (cond b (r ∷ []) [])) (eq-eqb r.seat seat own)
 
 -- what is among a seat's entries stays so as the history grows
 pub among_later : (seat : ℕ) (mine : List Entry) (seen entries : List Recorded) → IsPrefix seen entries
     → IsAmong mine (entries_of_seat seat seen) → IsAmong mine (entries_of_seat seat entries)
 among_later seat mine seen entries later among =
     subst (λ (es : List Recorded). IsAmong mine (entries_of_seat seat es)) later.1
-    (subst (λ (part : List Entry). IsAmong mine part) (sym (entries_of_seat-append seat seen later.0))
+    (subst (λ (part : List Entry). IsAmong mine part) (sym (seat_join seat seen later.0))
     (among_with_more mine (entries_of_seat seat seen) (entries_of_seat seat later.0) among))
 
 -- and with one more entry of the seat's
@@ -30,7 +32,7 @@ among_next : (seat : ℕ) (mine : List Entry) (earlier : List Recorded) (r : Rec
     → IsAmong mine (entries_of_seat seat earlier) → IsAmong (mine ++ r.entry ∷ []) (entries_of_seat seat (earlier ++ r ∷ []))
 among_next seat mine earlier r own among =
     let part : entries_of_seat seat (earlier ++ r ∷ []) ≡ entries_of_seat seat earlier ++ r.entry ∷ [] =
-    entries_of_seat-append seat earlier (r ∷ []) ∙ ap (λ (one : List Entry). entries_of_seat seat earlier ++ one) (own_entry seat r own) in
+    seat_join seat earlier (r ∷ []) ∙ ap (λ (one : List Entry). entries_of_seat seat earlier ++ one) (seat_own seat r own) in
     subst (λ (es : List Entry). IsAmong (mine ++ r.entry ∷ []) es) (sym part) (among_push mine (entries_of_seat seat earlier) r.entry among)
 
 -- a new seat is one

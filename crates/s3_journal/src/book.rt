@@ -102,7 +102,8 @@ impl<R: Records + Drop> Book<R> {
         Ok(answer)
     }
 
-    /// The store as it is, to which the history leads.
+    /// The store as it is, to which the history leads. The history is legal, so that every law of `s3_machine` about legal histories
+    /// holds of it.
     pub fn store(&self) -> &Store<R>
         ensures value { result.now ≡ self.now.store }
         ensures history { KeepsHistory self.now }

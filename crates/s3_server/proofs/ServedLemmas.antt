@@ -1,5 +1,5 @@
 -- What a desk leaves is what its server has done.
-use Rattle.std.proofs.Common.{◌≡◌, ℕ, List, ap, sym, ◌∙◌, subst}
+use Rattle.std.proofs.Common.{◌≡◌, ℕ, List, ap, ◌∙◌, subst}
 use Rattle.s3_config.specs.Settings.{Settings}
 use Rattle.s3_records.specs.Catalogue.{opening}
 use Rattle.s3_machine.specs.History.{Legal}

@@ -1,5 +1,5 @@
 -- Why a server fails.
-use Rattle.std.specs.Prelude.{◌≡◌, ◌⊎◌, ⊤, ℕ, List, Option, Some, option_map}
+use Rattle.std.specs.Prelude.{◌≡◌, ◌⊎◌, ℕ, List, Option, Some, option_map}
 use Rattle.std.specs.Borrow.{Bor}
 use Rattle.s3_config.specs.Settings.{Settings}
 use Rattle.s3_options.specs.declared.options.ServeOptions.{ServeOptions}

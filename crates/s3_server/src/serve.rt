@@ -148,24 +148,9 @@ fn listening<'a, R: Net, W: Write>(
 ) -> Result<Vec<Means>, Fault<'a>>
     ensures refused { IfErr result (IsToldFault mode.now.address) }
 {
-    match listen(rt, mode.address) {
-        Ok(listener) => told_means(rt, alloc, mode, &listener, output),
-        Err(fault) => Err(fault),
-    }
-}
-
-// The same for a listener.
-fn told_means<'a, R: Net, W: Write>(
-    rt: &R,
-    alloc: Global,
-    mode: &ServeMode<'a>,
-    listener: &net::TcpListener,
-    output: &mut W,
-) -> Result<Vec<Means>, Fault<'a>>
-    ensures refused { IfErr result (IsToldFault mode.now.address) }
-{
-    let means = all_means(rt, alloc, mode, listener)?;
-    tell_address(alloc, mode, listener, output)?;
+    let listener = listen(rt, mode.address)?;
+    let means = all_means(rt, alloc, mode, &listener)?;
+    tell_address(alloc, mode, &listener, output)?;
     Ok(means)
 }
 

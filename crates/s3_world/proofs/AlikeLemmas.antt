@@ -28,9 +28,8 @@ same_on xs ys (e ∷ es) same = λ c.
     ∙ ap (received c) (append_assoc ys (e ∷ []) es)
 
 turn_same : (xs ys : List Event) (e : Event) → BringSame xs ys → turn_given xs e ≡ turn_given ys e
-turn_same xs ys (events.Piece c bytes) same = refl
-turn_same xs ys (events.End c) same = refl
 turn_same xs ys (events.Turn c) same = ap (λ (i : Input). record { connection = c; input = i } ∷ []) (same c)
+turn_same xs ys _ same = refl
 
 turns_same : (xs ys es : List Event) → BringSame xs ys → turns_given_after xs es ≡ turns_given_after ys es
 turns_same xs ys [] same = refl
@@ -108,14 +107,12 @@ moved_same before x y apart c = elim (eqb_tells (connection_of_event x) c) [
 ]
 
 turn_kept : (before : List Event) (x y : Event) → connection_of_event x ≢ connection_of_event y → turn_given (before ++ x ∷ []) y ≡ turn_given before y
-turn_kept before x (events.Piece k bytes) apart = refl
-turn_kept before x (events.End k) apart = refl
 turn_kept before x (events.Turn k) apart = ap (λ (i : Input). record { connection = k; input = i } ∷ []) (received_others k before x apart)
+turn_kept before x _ apart = refl
 
 no_turn : (before : List Event) (e : Event) → is_turn e ≡ false → turn_given before e ≡ []
-no_turn before (events.Piece k bytes) none = refl
-no_turn before (events.End k) none = refl
 no_turn before (events.Turn k) none = absurd cc
+no_turn before _ none = refl
 
 -- where the first is none, the turns are those of the second
 turns_moved : (before : List Event) (x y : Event) → connection_of_event x ≢ connection_of_event y → is_turn x ≡ false

@@ -79,10 +79,8 @@ written_back v now left is count = with_items_is v left (count ∙ ap length is 
 -- ---- one connection
 
 dead_closed : (standing : Standing) → is_dead standing ≡ true → is_closed standing ≡ true
-dead_closed standings.Reading dead = absurd (cc)
-dead_closed standings.Waiting dead = absurd (cc)
-dead_closed standings.Over dead = absurd (cc)
 dead_closed standings.Dead dead = refl
+dead_closed _ dead = absurd (cc)
 
 -- an event without a turn
 pub fed : (settings : Settings) (e : Event) (b d : Playing) (entries : List Recorded) → given_by e (turn_of b) ≡ None
@@ -118,10 +116,8 @@ no_turn settings seat b d entries none same =
     (fed settings (events.Turn seat) b b entries none (λ closed. refl) (λ moments input es h. h))
 
 waiting_lives : (standing : Standing) → is_waiting standing ≡ true → is_dead standing ≡ true → ⊥
-waiting_lives standings.Reading waits dead = cc
-waiting_lives standings.Waiting waits dead = cc
-waiting_lives standings.Over waits dead = cc
 waiting_lives standings.Dead waits dead = cc
+waiting_lives _ waits dead = cc
 
 abbrev made_by : ℕ → Turn → Result Answer NoMemory → List Recorded
 made_by seat turn (Ok answer) = recorded seat turn answer ∷ []

@@ -17,15 +17,13 @@ dead_behind settings ended None late waiting last dead = absurd dead
 
 dead_writes : (standing : Standing) (settings : Settings) (past : Past) (out : List ℕ) → is_dead standing ≡ true → Writes standing settings past out
     → (before : List ℕ) × (out ≡ before ++ internal_error)
-dead_writes standings.Reading settings past out dead writes = absurd cc
-dead_writes standings.Waiting settings past out dead writes = absurd cc
-dead_writes standings.Over settings past out dead writes = absurd cc
 dead_writes standings.Dead settings past out dead writes =
     let behind = dead_behind settings past.ended writes.left writes.late writes.waiting writes.last writes.behind in
     let answered = flat_map written_for writes.serves.exchanges in (
       answered ++ behind.0,
       writes.serves.joined ∙ ap (λ (text : List ℕ). answered ++ text) behind.1 ∙ sym (append_assoc answered behind.0 internal_error),
     )
+dead_writes _ settings past out dead writes = absurd cc
 
 pub deaths_show : DeathsShow
 deaths_show settings moments happened outs entries run c there dead =

@@ -55,10 +55,8 @@ asks_one (stages.Waiting asked) turn waiting is one = one ∙ ap (λ (t : Turn).
 asks_one _ turn waiting is one = absurd (cc)
 
 pub is_standing : (standing : Standing) → is_waiting standing ≡ true → standing ≡ standings.Waiting
-is_standing standings.Reading waits = absurd (cc)
 is_standing standings.Waiting waits = refl
-is_standing standings.Over waits = absurd (cc)
-is_standing standings.Dead waits = absurd (cc)
+is_standing _ waits = absurd (cc)
 
 -- a command waits just where its turn does
 waits_at : (stage : Stage) (session : Connection) (kept : List ℕ) (ended : Bool) → IsFit stage session kept ended → IsNext stage
@@ -73,10 +71,7 @@ waits_at stages.Done session kept ended fit next = (λ turn is. absurd (cc), λ 
 -- nothing is under way where it reads
 pub reads_next : (stage : Stage) → wants_at stage ≡ wants.Input → IsNext stage
 reads_next stages.Reading reads = (refl, refl)
-reads_next (stages.Waiting turn) reads = absurd (cc)
-reads_next (stages.HandedOut turn) reads = absurd (cc)
-reads_next stages.Answered reads = absurd (cc)
-reads_next stages.Done reads = absurd (cc)
+reads_next _ reads = absurd (cc)
 
 pub waits_for : (p : Playing) (settings : Settings) (moments : List ℕ) (input : Input) (entries : List Entry) → Plays p settings moments input entries
     → ((turn : Turn) → turn_of p ≡ Some turn → is_waiting (standing_of p) ≡ true) × (turn_of p ≡ None → is_waiting (standing_of p) ≡ false)

@@ -23,7 +23,8 @@ use Rattle.s3_world.specs.Run.{AreTaken, WaitsAt, moments_of}
 use Rattle.s3_world.specs.Shown.{standing_in}
 use Rattle.s3_world.specs.StandsAfter.{AreMade, GoesOn, HasHappened, StandsAfter, WentOn, heard, is_lost_in}
 use Rattle.s3_world.specs.World.{given_by}
-use Rattle.s3_world.proofs.EntryLemmas.{seat_join, seat_others, seat_own}
+use Rattle.s3_journal.proofs.SeatLemmas.{seat_join, seat_own}
+use Rattle.s3_world.proofs.EntryLemmas.{seat_others}
 use Rattle.s3_world.proofs.EventLemmas.{received_others, received_own, turns_more}
 use Rattle.s3_world.proofs.PlayedLemmas.{OneTimedOutput, asks_one, is_standing, plays_write, waits_for}
 use Rattle.s3_world.proofs.TakenLemmas.{taken_join}
@@ -67,9 +68,8 @@ made_waiting seat (Some turn) d made none are = absurd (none turn refl)
 
 -- a turn that is given waits
 given_waits : (e : Event) (waits : Option Turn) (turn : Turn) → given_by e waits ≡ Some turn → waits ≡ Some turn
-given_waits (events.Piece c bytes) waits turn given = absurd (cc)
-given_waits (events.End c) waits turn given = absurd (cc)
 given_waits (events.Turn c) waits turn given = given
+given_waits _ waits turn given = absurd (cc)
 
 -- ---- the turn that an event takes, if it takes one
 
@@ -80,9 +80,8 @@ module _ (one : OneTimedOutput) (write : ConnectionsWrite) (settings : Settings)
 
   -- where the connection isn't there
   taken_nowhere : (e : Event) → (connection_of_event e < length moments → ⊥) → Taken e []
-  taken_nowhere (events.Piece c bytes) none = refl
-  taken_nowhere (events.End c) none = refl
   taken_nowhere (events.Turn c) none = inl (inl (λ turn waits. none waits.0), refl)
+  taken_nowhere _ none = refl
 
   module _ (c : ℕ) (b d : Playing) (there : c < length moments)
       (plays : Plays b settings (moments_of c moments) (received c happened) (entries_of_seat c done))
@@ -129,9 +128,8 @@ module _ (one : OneTimedOutput) (write : ConnectionsWrite) (settings : Settings)
       → Plays b settings (moments_of (connection_of_event e) moments) (received (connection_of_event e) happened) (entries_of_seat (connection_of_event e) done)
       → (is_dead (standing_of b) ≡ true → lost (connection_of_event e) ≡ true) → (is_dead (standing_of d) ≡ true → lost (connection_of_event e) ≡ true)
       → AreMade (connection_of_event e) (given_by e (turn_of b)) d made → Taken e made
-  taken_there (events.Piece c bytes) b d made there plays stays dies are = are
-  taken_there (events.End c) b d made there plays stays dies are = are
   taken_there (events.Turn c) b d made there plays stays dies are = turn_taken c b d there plays stays dies (turn_of b) made refl are
+  taken_there _ b d made there plays stays dies are = are
 
 -- ---- the world
 

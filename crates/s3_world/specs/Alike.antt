@@ -12,9 +12,8 @@ use Rattle.s3_world.specs.Laws.{AreAlike}
 use Rattle.s3_world.specs.Run.{Runs, output_of}
 
 abbrev pub is_turn : Event → Bool
-is_turn (events.Piece c bytes) = false
-is_turn (events.End c) = false
 is_turn (events.Turn c) = true
+is_turn _ = false
 
 -- a piece may be cut in two
 abbrev pub CutsAreAlike : Type 0

@@ -7,15 +7,13 @@ use Rattle.s3_connection.specs.Output.{Input}
 
 -- the event says that no more bytes of a connection come
 abbrev pub is_end : ℕ → Event → Bool
-is_end connection (events.Piece c bytes) = false
 is_end connection (events.End c) = c == connection
-is_end connection (events.Turn c) = false
+is_end connection _ = false
 
 -- the bytes that it brings to a connection
 abbrev pub brought : ℕ → Event → List ℕ
 brought connection (events.Piece c bytes) = if (c == connection) then bytes.items else []
-brought connection (events.End c) = []
-brought connection (events.Turn c) = []
+brought connection _ = []
 
 -- a list has elements
 abbrev pub has_any : List ℕ → Bool
@@ -25,8 +23,7 @@ has_any (x ∷ xs) = true
 -- the event brings bytes
 abbrev pub brings_bytes : Event → Bool
 brings_bytes (events.Piece c bytes) = has_any bytes.items
-brings_bytes (events.End c) = false
-brings_bytes (events.Turn c) = false
+brings_bytes _ = false
 
 -- what a connection has received after these events: its pieces joined, up to its end
 abbrev pub received : ℕ → List Event → Input
@@ -42,9 +39,8 @@ pub record TurnAt : Type 0 where
 
 -- the turn that an event gives, after others
 abbrev pub turn_given : List Event → Event → List TurnAt
-turn_given before (events.Piece c bytes) = []
-turn_given before (events.End c) = []
 turn_given before (events.Turn c) = record { connection = c; input = received c before } ∷ []
+turn_given before _ = []
 
 -- the turns that events give, after others
 abbrev pub turns_given_after : List Event → List Event → List TurnAt

@@ -1,5 +1,5 @@
 -- What the connections of a world show, each by its number: what they wrote, how they stand, and the turns that wait.
-use Rattle.std.specs.Prelude.{ℕ, List, map, Option, Some, None}
+use Rattle.std.specs.Prelude.{ℕ, List, map, Option, Some, None, option_and_then, option_map, unwrap_or}
 use Rattle.std.specs.List.{slice_get}
 use Rattle.s3_machine.specs.declared.turn.Turn.{Turn}
 use Rattle.s3_session.specs.Output.{Standing, Reading}
@@ -16,21 +16,13 @@ standing_in (Some b) = standing_of b
 abbrev pub standing_at : List Playing → ℕ → Standing
 standing_at connections c = standing_in (slice_get connections c)
 
-abbrev pub turn_in : Option Playing → Option Turn
-turn_in None = None
-turn_in (Some b) = turn_of b
-
 -- the turn that waits in a connection, if one does
 abbrev pub waiting_at : List Playing → ℕ → Option Turn
-waiting_at connections c = turn_in (slice_get connections c)
-
-abbrev pub wants_in : Option Playing → Wants
-wants_in None = wants.Input
-wants_in (Some b) = wants_of b.connection
+waiting_at connections c = option_and_then turn_of (slice_get connections c)
 
 -- what a connection wants; bytes where there is none of this number
 abbrev pub wanted_at : List Playing → ℕ → Wants
-wanted_at connections c = wants_in (slice_get connections c)
+wanted_at connections c = unwrap_or (option_map (λ (b : Playing). wants_of b.connection) (slice_get connections c)) wants.Input
 
 -- what the connections wrote, in the order of their numbers
 abbrev pub written_by_all : List Playing → List (List ℕ)

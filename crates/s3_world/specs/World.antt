@@ -23,9 +23,8 @@ IsEntered in_memory old new (Some turn) = (length new.entries ≡ length old.ent
 
 -- the turn that an event gives to a connection, if it gives one and a command waits for it
 abbrev pub given_by : Event → Option Turn → Option Turn
-given_by (events.Piece c bytes) waits = None
-given_by (events.End c) waits = None
 given_by (events.Turn c) waits = waits
+given_by _ waits = None
 
 abbrev pub turn_of_event : List Playing → Event → Option Turn
 turn_of_event connections event = given_by event (waiting_at connections (connection_of_event event))

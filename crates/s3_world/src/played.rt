@@ -150,6 +150,7 @@ impl<'a> Played<'a> {
         ensures entered { IsEntered R.is_in_memory book.old book.new (rules.turn_of self.old) }
         ensures least { book.new.least ≡ book.old.least }
         ensures opens { book.new.opening ≡ book.old.opening }
+        ensures some { result ≡ true → rules.turn_of self.old ≢ None }
         ensures none { result ≡ false → rules.turn_of self.new ≡ None }
     {
         let Some(turn) = self.connection.take_turn() else {

@@ -2,7 +2,7 @@
 use crate::workers::asked::{is_body, turn};
 use crate::workers::served::book;
 use s3_config::Config;
-use s3_journal::{Book, books_keep_conditions, books_keep_promises};
+use s3_journal::Book;
 use s3_machine::Outcome;
 use s3_records::MapRecords;
 use std::alloc::Global;
@@ -71,8 +71,6 @@ fn are_answered(alloc: Global, book: &mut Book<MapRecords>, entries: u64) -> boo
 
 /// Whether two seats of a new book are answered as they have to be, with four entries.
 pub(crate) fn two_seats_are_answered(alloc: Global, config: &Config) -> bool {
-    books_keep_promises();
-    books_keep_conditions();
     match book(alloc, config) {
         Some(mut book) => {
             let are_answered = are_answered(alloc, &mut book, 4);

@@ -33,6 +33,9 @@ returns-clause-goes_on g c =
       c.go_on.ensures.idle c.answer.ensures.taken,
     )))
 
+pub returns-clause-some : goal.returns-clause-some
+returns-clause-some g c has = some_asked c.take_turn.result _ c.in-Some.turn (c.take_turn.ensures.value ∙ ap turn_of c.self.view_is) c.in-Some.is
+
 pub returns-clause-entered : goal.returns-clause-entered
 returns-clause-entered g c =
     entered_by g.R.Records.is_in_memory c.args.book.now c.enter-answered.new.self c.args.seat c.in-Some.turn c.take_turn.result _ c.enter-answered.result
