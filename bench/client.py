@@ -19,13 +19,12 @@ def code(key, text):
     return hmac.new(key, text.encode(), hashlib.sha256).digest()
 
 
-def request(address, method, key, body=b"", moment=None, more=None, query=None):
-    """One signed request, as bytes, with more header lines and with parameters, where some are given; no key stands for the bucket."""
+def signed_head(address, method, key, sha, length, moment=None, more=None, query=None):
+    """A signed head, as bytes; and what signs the chunks behind it: their key, the moment and the scope, and the signature."""
     stamp = time.strftime("%Y%m%dT%H%M%SZ", time.gmtime(moment))
     path = urllib.parse.quote(f"/{BUCKET}/{key}", safe="/~")
     asked = "&".join(sorted(f"{name}={urllib.parse.quote(value, safe='~')}" for name, value in (query or {}).items()))
     target = f"{path}?{asked}" if asked else path
-    sha = hashlib.sha256(body).hexdigest()
     signed = {"host": address, "x-amz-content-sha256": sha, "x-amz-date": stamp, **(more or {})}
     signed = dict(sorted(signed.items()))
     names = ";".join(signed)
@@ -37,11 +36,31 @@ def request(address, method, key, body=b"", moment=None, more=None, query=None):
     signature = code(by_scope, f"AWS4-HMAC-SHA256\n{stamp}\n{scope}\n{canonical}").hex()
     head = [f"{method} {target} HTTP/1.1", *(f"{name}: {value}" for name, value in signed.items())]
     if method in ("PUT", "POST"):
-        head.append(f"content-length: {len(body)}")
+        head.append(f"content-length: {length}")
     head.append(
         f"authorization: AWS4-HMAC-SHA256 Credential={ID}/{scope}, SignedHeaders={names}, Signature={signature}"
     )
-    return ("\r\n".join(head) + "\r\n\r\n").encode() + body
+    return ("\r\n".join(head) + "\r\n\r\n").encode(), (by_scope, f"{stamp}\n{scope}", signature)
+
+
+def request(address, method, key, body=b"", moment=None, more=None, query=None):
+    """One signed request, as bytes, with more header lines and with parameters, where some are given; no key stands for the bucket."""
+    sha = hashlib.sha256(body).hexdigest()
+    return signed_head(address, method, key, sha, len(body), moment, more, query)[0] + body
+
+
+def chunked(address, key, data, size):
+    """A signed put, as bytes, whose body comes in signed chunks of this size."""
+    pieces = [data[at : at + size] for at in range(0, len(data), size)] + [b""]
+    length = sum(len(f"{len(piece):x};chunk-signature=") + 64 + 4 + len(piece) for piece in pieces)
+    more = {"x-amz-decoded-content-length": str(len(data))}
+    head, (by, place, before) = signed_head(address, "PUT", key, "STREAMING-AWS4-HMAC-SHA256-PAYLOAD", length, more=more)
+    nothing, chunks = hashlib.sha256(b"").hexdigest(), []
+    for piece in pieces:
+        text = f"AWS4-HMAC-SHA256-PAYLOAD\n{place}\n{before}\n{nothing}\n{hashlib.sha256(piece).hexdigest()}"
+        before = code(by, text).hex()
+        chunks.append(f"{len(piece):x};chunk-signature={before}\r\n".encode() + piece + b"\r\n")
+    return head + b"".join(chunks)
 
 
 def place_of(address):

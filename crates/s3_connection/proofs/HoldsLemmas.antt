@@ -60,6 +60,18 @@ taken_is _ turn waiting told session kept behind ended came is one fit left = ab
 
 module _ (c : Connected) (settings : Settings) (input : Input) (moments : List ℕ) (entries : List Entry) (sent : List ℕ)
     (h : Holds c settings input moments entries sent) where
+  -- its session heard of the end only behind all that came
+  pub told_end : h.told ≡ c.session.is_ended
+  told_end = h.stands.end
+
+  told_in : (stage : Stage) → IsFit stage c.session c.kept c.is_ended → IsBehind stage h.told c.kept h.behind input.ended → h.told ≡ true
+      → (h.behind ≡ []) × (input.ended ≡ true)
+  told_in stages.Done fit left told = left told
+  told_in _ fit left told = let never = sym told ∙ told_end ∙ fit.1 in absurd (cc)
+
+  pub told_all : h.told ≡ true → (h.behind ≡ []) × (input.ended ≡ true)
+  told_all = told_in c.stage h.fit h.left
+
   -- no message has a moment
   pub holds_none : Holds c settings input (moments ++ []) entries sent
   holds_none = subst (λ (ms : List ℕ). Holds c settings input ms entries sent) (sym (append-nil moments)) h

@@ -1,3 +1,4 @@
+pub mod FaultLemmas
 pub mod FeedingLemmas
 pub mod HoldsLemmas
 pub mod OutputLemmas

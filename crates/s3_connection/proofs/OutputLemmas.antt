@@ -1,5 +1,5 @@
 -- What a connection has written.
-use Rattle.std.proofs.Common.{◌≡◌, ◌≢◌, ℕ, Bool, true, false, List, [], ◌∷◌, ◌++◌, map, refl, sym, ap, subst, ◌∙◌, append-nil, inl, inr}
+use Rattle.std.proofs.Common.{◌≡◌, ◌≢◌, ℕ, Bool, false, List, [], ◌∷◌, ◌++◌, map, refl, sym, ap, subst, ◌∙◌, append-nil, inl, inr}
 use Rattle.std.proofs.lemmas.Bool.{cases_Bool}
 use Rattle.s3_config.specs.Settings.{Settings}
 use Rattle.s3_machine.specs.History.{Entry}
@@ -12,11 +12,12 @@ use Rattle.s3_connection.specs.declared.stage.Stage.TheVariants as stages
 use Rattle.s3_connection.specs.Connection.{Connected, IsFit, is_answered_at, standing_of, unsent_of}
 use Rattle.s3_connection.specs.Holds.{ConnectionsWrite, Holds, IsBehind}
 use Rattle.s3_connection.specs.Output.{Input, OneOutput, answered_turn, past_of}
+use Rattle.s3_connection.proofs.HoldsLemmas.{told_all, told_end}
 
 module _ (write : SessionsWrite) (stay : OutputsStay) (c : Connected) (settings : Settings) (input : Input) (moments : List ℕ) (entries : List Entry) (sent : List ℕ)
     (h : Holds c settings input moments entries sent) where
   told_is : h.told ≡ c.session.is_ended
-  told_is = h.stands.end
+  told_is = told_end c settings input moments entries sent h
 
   writes_taken : Writes (standing_of c) settings (past_of h.taken h.told moments entries h.waiting) (sent ++ unsent_of c)
   writes_taken = write c.session settings (past_of h.taken h.told moments entries h.waiting) sent h.stands
@@ -44,10 +45,6 @@ module _ (write : SessionsWrite) (stay : OutputsStay) (c : Connected) (settings 
   ]
   writes_at _ fit left whole = writes_over (λ reads. (let never = sym fit.0 ∙ reads in absurd (cc))) (told_is ∙ fit.1)
 
-  ended_at : (stage : Stage) → IsFit stage c.session c.kept c.is_ended → IsBehind stage h.told c.kept h.behind input.ended → h.told ≡ true → (h.behind ≡ []) × (input.ended ≡ true)
-  ended_at stages.Done fit left told = left told
-  ended_at _ fit left told = let never = sym told ∙ told_is ∙ fit.1 in absurd (cc)
-
 pub written : SessionsWrite → OutputsStay → ConnectionsWrite
 written write stay c settings input moments entries sent h = (
   record {
@@ -56,7 +53,7 @@ written write stay c settings input moments entries sent h = (
     told = h.told;
     waiting = h.waiting;
     came = h.came;
-    ended = ended_at write stay c settings input moments entries sent h c.stage h.fit h.left;
+    ended = told_all c settings input moments entries sent h;
     output = record { waits = h.waits; writes = writes_taken write stay c settings input moments entries sent h };
     whole = λ went. record { waits = h.waits; writes = writes_at write stay c settings input moments entries sent h c.stage h.fit h.left went };
   },

@@ -2,10 +2,12 @@
 
 ghost use Rattle.std.specs.Prelude.{◌≡◌, ◌≢◌, ◌↔◌, ◌⊎◌, ◌<◌, ◌≤◌, ℕ, true, false, List, [], ◌++◌, length, take, drop, IfOk, OnOk, OnErr, IfSome, Some, None};
 ghost use Rattle.std.specs.Io.Slices.{io_slices_bytes};
+ghost use mathlib.Core.List.{IsPrefix};
 ghost use Rattle.s3_config.specs.Settings.{Settings};
 ghost use Rattle.s3_machine.specs.History.{Entry};
 ghost use Rattle.s3_machine.specs.declared.turn.Turn.{Turn};
-ghost use Rattle.s3_session.specs.Output.{Reading, Dead, is_closed, is_waiting};
+ghost use Rattle.s3_session.specs.Fault.{HasNoFault, IsFault};
+ghost use Rattle.s3_session.specs.Output.{Reading, Dead, is_closed, is_dead, is_waiting};
 ghost use Rattle.s3_session.specs.Session.{moment_if};
 ghost use Rattle.s3_connection.specs.Holds.{Holds};
 ghost use Rattle.s3_connection.specs.Output.{Input};
@@ -16,7 +18,7 @@ use crate::stage::{Stage, Wants};
 use s3_calendar::Moment;
 use s3_config::Config;
 use s3_machine::{Answer, Turn};
-use s3_session::{Fed, Next, Session};
+use s3_session::{Fault, Fed, Next, Session, faults_are_one};
 use s3_terms::NoMemory;
 use std::alloc::Global;
 use std::io::IoSlice;
@@ -277,6 +279,24 @@ impl Connection {
     /// memory.
     pub fn is_in_body(&self) -> bool {
         self.session.in_body()
+    }
+
+    /// The first of its messages that was refused, if one was: of all that it received, unless a turn was answered and it has still to
+    /// go on. It takes no memory.
+    pub fn fault(&self) -> Option<Fault>
+        ensures some { (settings : Settings) (input : Input) (moments : List ℕ) (entries : List Entry) (sent : List ℕ)
+            → Holds self.now settings input moments entries sent
+            → IfSome result (λ fault. IsFault settings input.bytes input.ended moments fault.message fault.code) }
+
+        // More moments make none, but where a command waits, behind which messages may stand.
+        ensures none { (settings : Settings) (input : Input) (moments : List ℕ) (entries : List Entry) (sent given : List ℕ)
+            → Holds self.now settings input moments entries sent
+            → is_dead (rules.standing_of self.now) ≡ false → rules.wants_of self.now ≢ Wants.ToGoOn
+            → IsPrefix moments given → (is_waiting (rules.standing_of self.now) ≡ true → given ≡ moments)
+            → result ≡ None → HasNoFault settings input.bytes input.ended given }
+    {
+        faults_are_one();
+        self.session.fault()
     }
 
     /// A beginning of what it has written and not sent, as long as it stands together; it is empty only where all is

@@ -21,7 +21,6 @@ use Rattle.s3_session.specs.Session.{moment_if}
 use Rattle.s3_connection.specs.Connection.{Connected, entries_with, is_answered_at, taken_at, taken_of, turn_at, wants_at}
 use Rattle.s3_connection.specs.Holds.{Holds}
 use Rattle.s3_devices.specs.Device.{Traffic}
-use Rattle.s3_history.proofs.LineLemmas.{prefix-trans}
 use Rattle.s3_connections.specs.Ended.{Fails, input_of}
 use Rattle.s3_connections.specs.Served.{GoesOn, HasHadTurn, HasMet, HasRead, HasSent, HasTaken, HaveMore, IsServed, stage_weight}
 
@@ -49,6 +48,9 @@ more_behind now old mid new a b = record {
 begins_itself : {A : Type 0} → (xs : List A) → IsPrefix xs xs
 begins_itself xs = ([], append-nil xs)
 
+begins_on : {A : Type 0} → (xs ys zs : List A) → IsPrefix xs ys → IsPrefix ys zs → IsPrefix xs zs
+begins_on {A = A} xs ys zs p q = (p.0 ++ q.0, sym (append_assoc xs p.0 q.0) ∙ ap (λ (begun : List A). begun ++ q.0) p.1 ∙ q.1)
+
 pub goes_on_none : (traffic : Traffic) (entries : List Entry) → GoesOn traffic traffic entries entries
 goes_on_none traffic entries = record {
   received = begins_itself traffic.received;
@@ -58,9 +60,9 @@ goes_on_none traffic entries = record {
 
 pub goes_on_after : (a b d : Traffic) (es fs gs : List Entry) → GoesOn a b es fs → GoesOn b d fs gs → GoesOn a d es gs
 goes_on_after a b d es fs gs p q = record {
-  received = prefix-trans a.received b.received d.received p.received q.received;
-  sent = prefix-trans a.sent b.sent d.sent p.sent q.sent;
-  entries = prefix-trans es fs gs p.entries q.entries;
+  received = begins_on a.received b.received d.received p.received q.received;
+  sent = begins_on a.sent b.sent d.sent p.sent q.sent;
+  entries = begins_on es fs gs p.entries q.entries;
 }
 
 pub sent_goes_on : (c d : Connected) (before after : Traffic) (entries : List Entry) → HasSent c d before after → GoesOn before after entries entries

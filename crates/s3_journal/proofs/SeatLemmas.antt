@@ -10,13 +10,13 @@ use Rattle.s3_journal.specs.Desk.{Base, IsAmong, IsLegal, IsSeat, Seated}
 use Rattle.s3_journal.proofs.AmongLemmas.{among_with_more, among_push, none_among}
 
 -- the entries of a seat, with more entries
-pub seat_join : (seat : ℕ) (entries more : List Recorded) → entries_of_seat seat (entries ++ more) ≡ entries_of_seat seat entries ++ entries_of_seat seat more
+seat_join : (seat : ℕ) (entries more : List Recorded) → entries_of_seat seat (entries ++ more) ≡ entries_of_seat seat entries ++ entries_of_seat seat more
 seat_join seat entries more =
     let own : Recorded → Bool = λ (r : Recorded). eqb r.seat seat in
     ap history_of (filter-append own entries more) ∙ map-append (λ (r : Recorded). r.entry) (filter own entries) (filter own more)
 
 -- of one entry, which is its own
-pub seat_own : (seat : ℕ) (r : Recorded) → r.seat ≡ seat → entries_of_seat seat (r ∷ []) ≡ r.entry ∷ []
+seat_own : (seat : ℕ) (r : Recorded) → r.seat ≡ seat → entries_of_seat seat (r ∷ []) ≡ r.entry ∷ []
 seat_own seat r own = ap (λ (b : Bool). history_of (cond b (r ∷ []) [])) (eq-eqb r.seat seat own)
 
 -- what is among a seat's entries stays so as the history grows

@@ -7,7 +7,7 @@ ghost use Rattle.s3_store.specs.Steps.{after_step, outcome_of};
 
 use crate::entry::Entry;
 use s3_history::{AsItself, Recorder};
-use s3_machine::{Answer, Turn};
+use s3_machine::{Answer, Turn, one_more_entry};
 use s3_records::Records;
 use s3_store::Store;
 use s3_terms::NoMemory;
@@ -88,6 +88,7 @@ impl<R: Records + Drop> Book<R> {
         ensures err { OnErr result (self.new ≡ self.old) }
         ensures memory { OnErr result (MayLack R.is_in_memory self.old.least self.old.store turn) }
     {
+        one_more_entry();
         let asked = Snapshot::of(&turn);
         let Turn { command, moment } = turn;
         let answer = self

@@ -78,7 +78,7 @@ module _ (settings : Settings) (session : Connection) (past : Past) (sent : List
   reads_only (stages.Body incoming) at is r = refl
   reads_only (stages.Waiting context) at is r = let never = is in absurd (cc)
   reads_only (stages.Closed closings.Replied) at is r = let never = is in absurd (cc)
-  reads_only (stages.Closed (closings.Refused moment)) at is r = let never = is in absurd (cc)
+  reads_only (stages.Closed (closings.Refused moment code)) at is r = let never = is in absurd (cc)
   reads_only (stages.Closed (closings.Died moment)) at is r = let never = is in absurd (cc)
 
   -- and where memory did not run out, no other

@@ -29,36 +29,36 @@ use Rattle.s3_session.proofs.ReplayLemmas.{replayed_moments, replayed_legal, rep
 
 -- ---- what stands behind the messages that were answered, by the verdict there
 
-abbrev standing_of : Verdict → Standing
-standing_of verdicts.Open = Reading
-standing_of (verdicts.Refused code head_only) = Over
-standing_of (verdicts.Sound context command) = Waiting
+abbrev pub standing_told : Verdict → Standing
+standing_told verdicts.Open = Reading
+standing_told (verdicts.Refused code head_only) = Over
+standing_told (verdicts.Sound context command) = Waiting
 
-abbrev waiting_at : Verdict → List Turn
+abbrev pub waiting_at : Verdict → List Turn
 waiting_at verdicts.Open = []
 waiting_at (verdicts.Refused code head_only) = []
 waiting_at (verdicts.Sound context command) = record { command = command; moment = context.moment } ∷ []
 
 -- what is written last: only a refusal has a text
-abbrev Concludes : ℕ → Verdict → List ℕ → Type 0
+abbrev pub Concludes : ℕ → Verdict → List ℕ → Type 0
 Concludes moment verdicts.Open text = text ≡ []
 Concludes moment (verdicts.Refused code head_only) text = PrintsRefusal code moment head_only text
 Concludes moment (verdicts.Sound context command) text = text ≡ []
 
 -- at this moment a verdict tells how the connection stands, which turn waits, and what is written
-record Told (standing : Standing) (settings : Settings) (ended : Bool) (rest : List ℕ) (moment : ℕ) (waiting : List Turn) (last : List ℕ) : Type 0 where
-  decision : Decision
-  before : List ℕ
-  text : List ℕ
-  judged : Judges settings moment ended rest decision
-  invites : Invites settings moment rest before
-  stands : standing ≡ standing_of decision.0
-  waits : waiting ≡ waiting_at decision.0
-  concludes : Concludes moment decision.0 text
-  joined : last ≡ before ++ text
+pub record Told (standing : Standing) (settings : Settings) (ended : Bool) (rest : List ℕ) (moment : ℕ) (waiting : List Turn) (last : List ℕ) : Type 0 where
+  pub decision : Decision
+  pub before : List ℕ
+  pub text : List ℕ
+  pub judged : Judges settings moment ended rest decision
+  pub invites : Invites settings moment rest before
+  pub stands : standing ≡ standing_told decision.0
+  pub waits : waiting ≡ waiting_at decision.0
+  pub concludes : Concludes moment decision.0 text
+  pub joined : last ≡ before ++ text
 
 -- the moment of the message, if it has one, was this one
-abbrev Agrees : ℕ → List ℕ → Type 0
+abbrev pub Agrees : ℕ → List ℕ → Type 0
 Agrees moment [] = Unit {0}
 Agrees moment (m ∷ later) = m ≡ moment
 
@@ -141,7 +141,7 @@ module _ (settings : Settings) (ended : Bool) (rest late : List ℕ) (moment : �
         joined = x.joined;
       }
 
-  told : (p : Standing) → is_dead p ≡ false → Behind p settings ended (Some rest) late waiting last → Agrees moment late
+  pub told : (p : Standing) → is_dead p ≡ false → Behind p settings ended (Some rest) late waiting last → Agrees moment late
       → Told p settings ended rest moment waiting last
   told Reading live x agrees = told_open x agrees
   told Waiting live x agrees = told_waiting x agrees
@@ -197,7 +197,7 @@ module _ (one : OneVerdict) (invited : OneInvitation) (replies : RepliesAreUniqu
       (subst (λ (d : Decision). Concludes moment d.0 x.text) same x.concludes) y.concludes in (
         x.joined ∙ ap (λ t. x.before ++ t) texts ∙ ap (λ b. b ++ y.text) befores ∙ sym y.joined,
         x.waits ∙ ap (λ (d : Decision). waiting_at d.0) same ∙ sym y.waits,
-        x.stands ∙ ap (λ (d : Decision). standing_of d.0) same ∙ sym y.stands,
+        x.stands ∙ ap (λ (d : Decision). standing_told d.0) same ∙ sym y.stands,
       )
 
   behind_once : (left : Option (List ℕ)) (p q : Standing) (moment : ℕ) (late later : List ℕ) (waiting other : List Turn) (last end : List ℕ)
@@ -298,7 +298,7 @@ module _ (one : OneVerdict) (invited : OneInvitation) (replies : RepliesAreUniqu
       let here = subst (λ (l : Option (List ℕ)). Behind p settings ended l late waiting last) is behind in
       let t = told settings ended bytes late moment waiting last p live here agrees in
       let same = one settings moment ended bytes t.decision (verdicts.Sound context command, rest) t.judged judged in
-      let never = subst (λ (q : Standing). is_waiting q ≡ false) (t.stands ∙ ap (λ (d : Decision). standing_of d.0) same) idle in
+      let never = subst (λ (q : Standing). is_waiting q ≡ false) (t.stands ∙ ap (λ (d : Decision). standing_told d.0) same) idle in
       absurd (cc)
 
   -- at one moment, histories of the store that are legal answer the same to the same bytes

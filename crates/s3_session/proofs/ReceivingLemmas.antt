@@ -105,19 +105,22 @@ module _ (settings : Settings) (context : Context) (rest last : List ℕ) (old n
       })
   goes_on_here (progress.Whole command) need judged whole invites asks = asked_here command need judged whole invites asks
   goes_on_here (progress.Refused code) need judged whole invites (closes, stage, printed) =
-      at_stage settings new rest context.moment (stages.Closed (closings.Refused context.moment)) (turns_of need) _ stage (record {
-        moment = context.moment;
-        code = code;
-        head_only = context.head_only;
-        before = last;
-        text = added (unsent_of old) (unsent_of new);
-        asked = refl;
-        none = ap turns_of closes;
-        judged = judged;
-        invites = invites;
-        printed = printed;
-        joined = refl;
-      })
+      at_stage settings new rest context.moment (stages.Closed (closings.Refused context.moment code)) (turns_of need) _ stage ((
+        record {
+          moment = context.moment;
+          code = code;
+          head_only = context.head_only;
+          before = last;
+          text = added (unsent_of old) (unsent_of new);
+          asked = refl;
+          none = ap turns_of closes;
+          judged = judged;
+          invites = invites;
+          printed = printed;
+          joined = refl;
+        },
+        refl,
+      ))
   goes_on_here progress.Died need tt whole invites dying = dead_here settings new rest context.moment old need last whole (inr invites) dying
 
 -- a piece of a body
@@ -244,25 +247,28 @@ module _ (settings : Settings) (moment : ℕ) (rest piece : List ℕ) (old new :
   -- a refusal, of which nothing of the piece is a part
   pub begins_refused : (text : Option (Bor (List ℕ))) → IfSome text (λ (t : Bor (List ℕ)). t.now ≡ skip_pairs rest)
       → (code : Code) (head_only : Bool) → Opens settings moment (option_copied text) (opening.Refused code head_only)
-      → new.stage ≡ stages.Closed (closings.Refused moment)
+      → new.stage ≡ stages.Closed (closings.Refused moment code)
       → PrintsRefusal code moment head_only (added (unsent_of old) (unsent_of new))
       → (need : Need) → need ≡ needs.Close → IsFed settings old new rest [] piece 0 need
   begins_refused text is code head_only opens stage printed need closes =
       let told = text_refused settings moment rest found_whole code head_only (opened_text settings moment rest code head_only (opens_said settings moment rest text (opening.Refused code head_only) is opens)) in
       record {
-        here = rw (append-nil rest) (at_stage settings new rest moment (stages.Closed (closings.Refused moment)) (turns_of need) (added (unsent_of old) (unsent_of new)) stage (record {
-          moment = moment;
-          code = code;
-          head_only = head_only;
-          before = [];
-          text = added (unsent_of old) (unsent_of new);
-          asked = refl;
-          none = ap turns_of closes;
-          judged = told.0;
-          invites = told.1;
-          printed = printed;
-          joined = refl;
-        }));
+        here = rw (append-nil rest) (at_stage settings new rest moment (stages.Closed (closings.Refused moment code)) (turns_of need) (added (unsent_of old) (unsent_of new)) stage ((
+          record {
+            moment = moment;
+            code = code;
+            head_only = head_only;
+            before = [];
+            text = added (unsent_of old) (unsent_of new);
+            asked = refl;
+            none = ap turns_of closes;
+            judged = told.0;
+            invites = told.1;
+            printed = printed;
+            joined = refl;
+          },
+          refl,
+        )));
         all = λ more. (let same = sym closes ∙ more in absurd (cc));
         at_once = λ _. nothing_taken settings (moment_at new.stage) rest piece;
       }
@@ -329,25 +335,28 @@ module _ (settings : Settings) (rest piece : List ℕ) (old new : Connection) (n
     subst (λ (f : Found). FoundInvites settings moment (rest ++ take n piece) f []) (sym is) refl,
   )
 
-  pub reads_large : (moment : ℕ) → found.TooLarge ≡ found_in (rest ++ take n piece) → new.stage ≡ stages.Closed (closings.Refused moment)
+  pub reads_large : (moment : ℕ) → found.TooLarge ≡ found_in (rest ++ take n piece) → new.stage ≡ stages.Closed (closings.Refused moment HeadTooLarge)
       → PrintsRefusal HeadTooLarge moment false (added (unsent_of old) (unsent_of new))
       → need ≡ needs.Close → ((m : ℕ) → m < n → found_in (rest ++ take m piece) ≡ found.NeedMore) → IsFed settings old new rest [] piece n need
   reads_large moment is stage printed closes before =
       let told = too_large moment (sym is) in
       record {
-        here = at_stage settings new (rest ++ take n piece) moment (stages.Closed (closings.Refused moment)) (turns_of need) (added (unsent_of old) (unsent_of new)) stage (record {
-          moment = moment;
-          code = HeadTooLarge;
-          head_only = false;
-          before = [];
-          text = added (unsent_of old) (unsent_of new);
-          asked = refl;
-          none = ap turns_of closes;
-          judged = told.0;
-          invites = told.1;
-          printed = printed;
-          joined = refl;
-        });
+        here = at_stage settings new (rest ++ take n piece) moment (stages.Closed (closings.Refused moment HeadTooLarge)) (turns_of need) (added (unsent_of old) (unsent_of new)) stage ((
+          record {
+            moment = moment;
+            code = HeadTooLarge;
+            head_only = false;
+            before = [];
+            text = added (unsent_of old) (unsent_of new);
+            asked = refl;
+            none = ap turns_of closes;
+            judged = told.0;
+            invites = told.1;
+            printed = printed;
+            joined = refl;
+          },
+          refl,
+        ));
         all = λ more. (let same = sym closes ∙ more in absurd (cc));
         at_once = λ _ m less. searching settings (moment_at new.stage) rest piece m (before m less);
       }

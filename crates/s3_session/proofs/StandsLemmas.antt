@@ -1,7 +1,7 @@
 -- How a connection stands after each call, by all that went through it.
-use Rattle.std.proofs.Common.{◌≡◌, ◌≢◌, ℕ, Bool, true, false, List, [], ◌∷◌, ◌++◌, map, take, drop, refl, sym, ap, subst, ◌∙◌, inl, inr, append-nil, append_assoc, MatchBool, Option, Some, None, option_map}
+use Rattle.std.proofs.Common.{◌≡◌, ◌≢◌, ℕ, ◌+◌, min, Bool, true, false, List, [], ◌∷◌, ◌++◌, length, map, take, drop, arith, refl, sym, ap, subst, ◌∙◌, inl, inr, append-nil, append_assoc, MatchBool, Option, Some, None, option_map}
 use Rattle.std.specs.List.{AllByRecursion, flat_map}
-use Rattle.std.proofs.lemmas.List.{map_push, flat_map_more, take-append-drop}
+use Rattle.std.proofs.lemmas.List.{length_push, map_push, flat_map_more, take-append-drop}
 use Rattle.s3_config.specs.Settings.{Settings}
 use Rattle.s3_terms.specs.declared.code.Code.{Code}
 use Rattle.s3_http_heads.specs.Find.{found_in, skip_pairs, text_length}
@@ -17,10 +17,11 @@ use Rattle.s3_replies.specs.Replies.{Prints, PrintsRefusal, internal_error}
 use Rattle.s3_session.specs.Verdict as verdicts
 use Rattle.s3_session.specs.Decision.{Decision, Judges, FoundJudged}
 use Rattle.s3_session.specs.Invitation.{Invites, FoundInvites}
+use Rattle.s3_session.specs.Fault.{most_counted}
 use Rattle.s3_session.specs.Walk.{Message, Walks}
 use Rattle.s3_session.specs.Output.{Behind, Exchange, IsDead, IsRefused, IsReplied, IsWaiting, Past, Serves, Standing, Reading, Waiting, Over, Dead, message_of, nothing_yet, turn_of, written_for}
 use Rattle.s3_session.specs.Laws.{InvitationsStay, OutputsStay, VerdictsStay}
-use Rattle.s3_session.specs.Stands.{SessionsWrite, Here, HereOr, IsCutTo, IsFed, IsReady, Stands, StandsAt, is_in_body}
+use Rattle.s3_session.specs.Stands.{SessionsWrite, Here, HereOr, IsCutTo, IsFed, IsReady, IsRefusedWith, Stands, StandsAt, is_in_body}
 use Rattle.s3_machine.specs.declared.turn.Turn.{Turn}
 use Rattle.s3_session.specs.declared.incoming.Incoming.{Incoming}
 use Rattle.s3_session.specs.declared.session.Need.{Need}
@@ -65,7 +66,7 @@ module _ (judge : PayloadsJudge) (settings : Settings) (session : Connection) (e
   here_behind (stages.Waiting context) rest h =
       record { context = context; command = h.command; after = []; asked = refl; one = h.one; judged = h.judged; invites = h.invites }
   here_behind (stages.Closed closings.Replied) rest h = absurd h
-  here_behind (stages.Closed (closings.Refused moment)) rest h = h
+  here_behind (stages.Closed (closings.Refused moment code)) rest h = h.0
   here_behind (stages.Closed (closings.Died moment)) rest h = h
 
   pub stands_behind : (left : Option (List ℕ)) → HereOr settings session ended left waiting last
@@ -152,7 +153,7 @@ module _ (stay : VerdictsStay) (invited : InvitationsStay) (settings : Settings)
   }
 
 -- where a command waits or no more is read, more bytes and their end change nothing
-behind_stays : VerdictsStay → InvitationsStay → HeadsStay → (settings : Settings) (more : List ℕ) (ended : Bool) (standing : Standing) (left : Option (List ℕ)) (late : List ℕ) (waiting : List Turn) (last : List ℕ)
+pub behind_stays : VerdictsStay → InvitationsStay → HeadsStay → (settings : Settings) (more : List ℕ) (ended : Bool) (standing : Standing) (left : Option (List ℕ)) (late : List ℕ) (waiting : List Turn) (last : List ℕ)
     → standing ≢ Reading → Behind standing settings false left late waiting last
     → Behind standing settings ended (option_map (λ (rest : List ℕ). rest ++ more) left) late waiting last
 behind_stays stay invited heads settings more ended Reading left late waiting last over b = absurd (over refl)
@@ -190,7 +191,8 @@ gave_receiving old new incoming at moment = rw (at, moment) refl
 
 module _ (stay : VerdictsStay) (invited : InvitationsStay) (settings : Settings) (old new : Connection) (past : Past) (sent piece : List ℕ) (taken : ℕ) (need : Need)
     (unended : past.ended ≡ false) (longer : IsLonger (unsent_of old) (unsent_of new))
-    (later : moment_at new.stage ≡ moment_at old.stage ++ gave_between old new) (end : new.is_ended ≡ false) where
+    (later : moment_at new.stage ≡ moment_at old.stage ++ gave_between old new) (end : new.is_ended ≡ false) (count : new.answered ≡ old.answered)
+    (counted : old.answered ≡ min (length past.answers) most_counted) where
   fed_by : (left : Option (List ℕ)) (rest : List ℕ) (waiting : List Turn) (last : List ℕ) → left ≡ Some rest → waiting ≡ []
       → Serves settings past (sent ++ unsent_of old) left (moment_at old.stage) waiting last
       → IsFed settings old new rest last piece taken need
@@ -219,6 +221,7 @@ module _ (stay : VerdictsStay) (invited : InvitationsStay) (settings : Settings)
         };
         here = subst (λ e. Here settings new e (rest ++ bytes) (turns_of need) (last ++ added (unsent_of old) (unsent_of new))) (sym unended) f.here;
         end = unended ∙ sym end;
+        counted = count ∙ counted;
       }
 
 -- ---- what a call finds
@@ -295,17 +298,25 @@ module _ (settings : Settings) (old new : Connection) (past : Past) (sent : List
               ∙ flat_map_more written_for [] s.exchanges x ∙ sym (append-nil (flat_map written_for (s.exchanges ++ x ∷ [])));
         }
 
-    pub stands_replied : (closes : Bool) → context.closes ≡ closes → IsReady closes new
+    -- it is one more that was answered
+    counts : new.answered ≡ min (old.answered + 1) most_counted → new.answered ≡ min (length (past.answers ++ answer ∷ [])) most_counted
+    counts count =
+        let before = h.counted in
+        let more = length_push past.answers answer in
+        omega (arith, count, before, more)
+
+    pub stands_replied : (closes : Bool) → context.closes ≡ closes → IsReady closes new → new.answered ≡ min (old.answered + 1) most_counted
         → Stands new settings (record past { answers = past.answers ++ answer ∷ [] }) sent
-    stands_replied true closing ready = record {
+    stands_replied true closing ready count = record {
       left = None;
       waiting = [];
       last = [];
       serves = serves_answer None (moment_at new.stage) (rw ready refl) (rw closing (refl, refl));
       here = (ready, refl, refl);
       end = h.end ∙ sym end;
+      counted = counts count;
     }
-    stands_replied false staying ready = record {
+    stands_replied false staying ready count = record {
       left = Some [];
       waiting = [];
       last = [];
@@ -313,13 +324,14 @@ module _ (settings : Settings) (old new : Connection) (past : Past) (sent : List
       here = subst (λ (s : Stage). StandsAt s settings new past.ended [] [] []) (sym ready.0)
           (record { searched = λ _. ready.1; found = empty_found; none = refl; nothing = refl });
       end = h.end ∙ sym end;
+      counted = counts count;
     }
 
   -- memory ran out at its turn
-  pub stands_died : new.stage ≡ stages.Closed (closings.Died context.moment) → unsent_of new ≡ unsent_of old ++ internal_error
+  pub stands_died : new.stage ≡ stages.Closed (closings.Died context.moment) → unsent_of new ≡ unsent_of old ++ internal_error → new.answered ≡ old.answered
       → Stands new settings past sent
   unfolding asking
-  stands_died stage written =
+  stands_died stage written count =
       let s = h.serves in
       let a = asking in
       let dead : IsDead settings past.ended a.0 (context.moment ∷ []) h.waiting (h.last ++ internal_error) = record {
@@ -348,6 +360,7 @@ module _ (settings : Settings) (old new : Connection) (past : Past) (sent : List
         };
         here = subst (λ (l : Option (List ℕ)). HereOr settings new past.ended l h.waiting (h.last ++ internal_error)) (sym a.1) here;
         end = h.end ∙ sym end;
+        counted = count ∙ h.counted;
       }
 
 -- ---- what is sent
@@ -358,7 +371,7 @@ module _ (settings : Settings) (old new : Connection) (ended : Bool) (stage_same
   here_at (stages.Body incoming) rest h = record { goes_on = h.goes_on; body = h.body; invites = h.invites; none = h.none }
   here_at (stages.Waiting context) rest h = record { command = h.command; one = h.one; judged = h.judged; invites = h.invites }
   here_at (stages.Closed closings.Replied) rest h = h
-  here_at (stages.Closed (closings.Refused moment)) rest h = h
+  here_at (stages.Closed (closings.Refused moment code)) rest h = h
   here_at (stages.Closed (closings.Died moment)) rest h = h
 
   here_left : (left : Option (List ℕ)) → HereOr settings old ended left waiting last → HereOr settings new ended left waiting last
@@ -366,9 +379,9 @@ module _ (settings : Settings) (old new : Connection) (ended : Bool) (stage_same
   here_left None h = (stage_same ∙ h.0, h.1, h.2)
 
 pub stands_sent : (settings : Settings) (old new : Connection) (past : Past) (sent : List ℕ) (count : ℕ) → new.stage ≡ old.stage → new.search ≡ old.search
-    → new.is_ended ≡ old.is_ended → unsent_of new ≡ drop count (unsent_of old)
+    → new.is_ended ≡ old.is_ended → new.answered ≡ old.answered → unsent_of new ≡ drop count (unsent_of old)
     → Stands old settings past sent → Stands new settings past (sent ++ take count (unsent_of old))
-stands_sent settings old new past sent count stage searches ends rest h =
+stands_sent settings old new past sent count stage searches ends counts rest h =
     let joined : (sent ++ take count (unsent_of old)) ++ unsent_of new ≡ sent ++ unsent_of old =
     append_assoc sent (take count (unsent_of old)) (unsent_of new)
     ∙ ap (λ (u : List ℕ). sent ++ u) (ap (λ (u : List ℕ). take count (unsent_of old) ++ u) rest ∙ take-append-drop count (unsent_of old)) in
@@ -379,6 +392,7 @@ stands_sent settings old new past sent count stage searches ends rest h =
       serves = rw (joined, stage) h.serves;
       here = here_left settings old new past.ended stage searches h.waiting h.last h.left h.here;
       end = h.end ∙ sym ends;
+      counted = counts ∙ h.counted;
     }
 
 -- ---- the end of the bytes
@@ -405,7 +419,7 @@ module _ (stay : VerdictsStay) (invited : InvitationsStay) (heads : HeadsStay) (
 
   -- the end of the bytes refuses a message whose body isn't whole
   module _ (old new : Connection) (past : Past) (sent : List ℕ) (incoming : Incoming) (h : Stands old settings past sent)
-      (at : old.stage ≡ stages.Body incoming) (unended : past.ended ≡ false) (end : new.is_ended ≡ true)
+      (at : old.stage ≡ stages.Body incoming) (unended : past.ended ≡ false) (end : new.is_ended ≡ true) (count : new.answered ≡ old.answered)
       (cut : (rest : List ℕ) → IsInBody settings incoming rest → IsCutTo settings incoming.context rest old new)
       (longer : IsLonger (unsent_of old) (unsent_of new)) where
     pub stands_cut : Stands new settings (record past { ended = true }) sent
@@ -413,19 +427,22 @@ module _ (stay : VerdictsStay) (invited : InvitationsStay) (heads : HeadsStay) (
         let a = receiving_at settings old past.ended incoming h.left h.waiting h.last at h.here in
         let s = serves_end past (sent ++ unsent_of old) h.left (moment_at old.stage) h.waiting h.last unended h.serves in
         let k = cut a.0 a.2.body in
-        let refused : IsRefused settings true a.0 (incoming.context.moment ∷ []) h.waiting (h.last ++ added (unsent_of old) (unsent_of new)) = record {
-          moment = incoming.context.moment;
-          code = k.code;
-          head_only = incoming.context.head_only;
-          before = h.last;
-          text = added (unsent_of old) (unsent_of new);
-          asked = refl;
-          none = a.2.none;
-          judged = k.judged;
-          invites = a.2.invites;
-          printed = k.printed;
-          joined = refl;
-        } in
+        let refused : IsRefusedWith k.code settings true a.0 (incoming.context.moment ∷ []) h.waiting (h.last ++ added (unsent_of old) (unsent_of new)) = (
+          record {
+            moment = incoming.context.moment;
+            code = k.code;
+            head_only = incoming.context.head_only;
+            before = h.last;
+            text = added (unsent_of old) (unsent_of new);
+            asked = refl;
+            none = a.2.none;
+            judged = k.judged;
+            invites = a.2.invites;
+            printed = k.printed;
+            joined = refl;
+          },
+          refl,
+        ) in
         let here = subst (λ (g : Stage). StandsAt g settings new true a.0 h.waiting (h.last ++ added (unsent_of old) (unsent_of new))) (sym k.stage) refused in
         record {
           left = h.left;
@@ -444,12 +461,14 @@ module _ (stay : VerdictsStay) (invited : InvitationsStay) (heads : HeadsStay) (
           };
           here = subst (λ (l : Option (List ℕ)). HereOr settings new true l h.waiting (h.last ++ added (unsent_of old) (unsent_of new))) (sym a.1) here;
           end = sym end;
+          counted = count ∙ h.counted;
         }
 
   -- and leaves all others as they are
   module _ (old new : Connection) (stage_same : new.stage ≡ old.stage) where
     here_end : (stage : Stage) (rest : List ℕ) (waiting : List Turn) (last : List ℕ) → is_in_body stage ≡ false
         → StandsAt stage settings old false rest waiting last → StandsAt stage settings new true rest waiting last
+    unfolding refused_more
     here_end stages.Reading rest waiting last other h = record { searched = λ is. (let never = is in absurd (cc)); found = h.found; none = h.none; nothing = h.nothing }
     here_end (stages.Body incoming) rest waiting last other h = let never = other in absurd (cc)
     here_end (stages.Waiting context) rest waiting last other h =
@@ -461,8 +480,8 @@ module _ (stay : VerdictsStay) (invited : InvitationsStay) (heads : HeadsStay) (
           invites = h.invites;
         }
     here_end (stages.Closed closings.Replied) rest waiting last other h = absurd h
-    here_end (stages.Closed (closings.Refused moment)) rest waiting last other h =
-        subst (λ (b : List ℕ). IsRefused settings true b (moment ∷ []) waiting last) (append-nil rest) (refused_more stay invited settings true [] rest (moment ∷ []) waiting last h)
+    here_end (stages.Closed (closings.Refused moment code)) rest waiting last other h =
+        subst (λ (b : List ℕ). IsRefusedWith code settings true b (moment ∷ []) waiting last) (append-nil rest) (refused_more stay invited settings true [] rest (moment ∷ []) waiting last h.0, h.1)
     here_end (stages.Closed (closings.Died moment)) rest waiting last other h =
         subst (λ (b : List ℕ). IsDead settings true b (moment ∷ []) waiting last) (append-nil rest) (dead_more stay invited settings true [] heads rest (moment ∷ []) waiting last h)
 
@@ -472,9 +491,9 @@ module _ (stay : VerdictsStay) (invited : InvitationsStay) (heads : HeadsStay) (
         subst (λ (g : Stage). StandsAt g settings new true rest waiting last) (sym stage_same) (here_end old.stage rest waiting last other h)
     here_or_end None waiting last other h = (stage_same ∙ h.0, h.1, h.2)
 
-    pub stands_end : (past : Past) (sent : List ℕ) → is_in_body old.stage ≡ false → unsent_of new ≡ unsent_of old → new.is_ended ≡ true → past.ended ≡ false
+    pub stands_end : (past : Past) (sent : List ℕ) → is_in_body old.stage ≡ false → unsent_of new ≡ unsent_of old → new.is_ended ≡ true → new.answered ≡ old.answered → past.ended ≡ false
         → Stands old settings past sent → Stands new settings (record past { ended = true }) sent
-    stands_end past sent other same end unended h =
+    stands_end past sent other same end count unended h =
         let s = serves_end past (sent ++ unsent_of old) h.left (moment_at old.stage) h.waiting h.last unended h.serves in
         record {
           left = h.left;
@@ -483,13 +502,14 @@ module _ (stay : VerdictsStay) (invited : InvitationsStay) (heads : HeadsStay) (
           serves = rw (same, stage_same) s;
           here = here_or_end h.left h.waiting h.last other (subst (λ e. HereOr settings old e h.left h.waiting h.last) unended h.here);
           end = sym end;
+          counted = count ∙ h.counted;
         }
 
 -- ---- a connection of which nothing came
 
 pub stands_first : (settings : Settings) (session : Connection) → session.stage ≡ stages.Reading → search.Stands session.search [] → unsent_of session ≡ []
-    → session.is_ended ≡ false → Stands session settings nothing_yet []
-stands_first settings session stage searches nothing end = record {
+    → session.is_ended ≡ false → session.answered ≡ 0 → Stands session settings nothing_yet []
+stands_first settings session stage searches nothing end none = record {
   left = Some [];
   waiting = [];
   last = [];
@@ -504,31 +524,32 @@ stands_first settings session stage searches nothing end = record {
   };
   here = subst (λ (g : Stage). StandsAt g settings session false [] [] []) (sym stage) (record { searched = λ _. searches; found = empty_found; none = refl; nothing = refl });
   end = sym end;
+  counted = none;
 }
 
 -- ---- a piece at a connection that has no whole head, and at one that reads a body
 
 module _ (stay : VerdictsStay) (invited : InvitationsStay) (settings : Settings) (old new : Connection) (past : Past) (sent piece : List ℕ) (taken : ℕ) (need : Need) where
   pub fed_reading : (h : Stands old settings past sent) → old.stage ≡ stages.Reading → old.is_ended ≡ false → IsLonger (unsent_of old) (unsent_of new)
-      → new.is_ended ≡ false
+      → new.is_ended ≡ false → new.answered ≡ old.answered
       → ((rest : List ℕ) → search.Stands old.search rest → IsFed settings old new rest [] piece taken need)
       → Stands new settings (fed past (take taken piece) (gave_between old new) (turns_of need)) sent
-  fed_reading h at goes_on longer end feeds =
+  fed_reading h at goes_on longer end count feeds =
       let unended = h.end ∙ goes_on in
       let a = reading_at settings old past.ended h.left h.waiting h.last at h.here in
       let later : moment_at new.stage ≡ moment_at old.stage ++ gave_between old new = rw at refl in
       let piece_fed = subst (λ (l : List ℕ). IsFed settings old new a.0 l piece taken need) (sym a.2.nothing) (feeds a.0 (a.2.searched unended)) in
-      fed_by stay invited settings old new past sent piece taken need unended longer later end h.left a.0 h.waiting h.last a.1 a.2.none h.serves piece_fed
+      fed_by stay invited settings old new past sent piece taken need unended longer later end count h.counted h.left a.0 h.waiting h.last a.1 a.2.none h.serves piece_fed
 
   pub fed_receiving : (incoming : Incoming) (h : Stands old settings past sent) → old.stage ≡ stages.Body incoming → old.is_ended ≡ false → IsLonger (unsent_of old) (unsent_of new)
-      → new.is_ended ≡ false → moment_at new.stage ≡ incoming.context.moment ∷ []
+      → new.is_ended ≡ false → new.answered ≡ old.answered → moment_at new.stage ≡ incoming.context.moment ∷ []
       → ((rest last : List ℕ) → IsInBody settings incoming rest → Invites settings incoming.context.moment rest last → IsFed settings old new rest last piece taken need)
       → Stands new settings (fed past (take taken piece) (gave_between old new) (turns_of need)) sent
-  fed_receiving incoming h at goes_on longer end moment feeds =
+  fed_receiving incoming h at goes_on longer end count moment feeds =
       let unended = h.end ∙ goes_on in
       let a = receiving_at settings old past.ended incoming h.left h.waiting h.last at h.here in
       let later : moment_at new.stage ≡ moment_at old.stage ++ gave_between old new = rw (at, moment) refl in
-      fed_by stay invited settings old new past sent piece taken need unended longer later end h.left a.0 h.waiting h.last a.1 a.2.none h.serves
+      fed_by stay invited settings old new past sent piece taken need unended longer later end count h.counted h.left a.0 h.waiting h.last a.1 a.2.none h.serves
       (feeds a.0 h.last a.2.body a.2.invites)
 
 -- one stage has one body

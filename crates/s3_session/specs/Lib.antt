@@ -1,6 +1,7 @@
 pub mod Admission
 pub mod Admitting
 pub mod Decision
+pub mod Fault
 pub mod Incoming
 pub mod Invitation
 pub mod Laws

@@ -1,7 +1,8 @@
 -- A connection as those see it who hold it: how it stands behind the messages that it has answered, what is unsent, and what
 -- its calls bring. How it stands inside, after all that went through it, is another file's (`Stands`).
-use Rattle.std.specs.Prelude.{◌≡◌, ◌<◌, ℕ, take, Bool, true, false, List, [], ◌∷◌, ◌++◌, drop, length, Result, Ok, Err}
+use Rattle.std.specs.Prelude.{◌≡◌, ◌≢◌, ◌⊎◌, ◌<◌, ℕ, take, Bool, true, false, List, [], ◌∷◌, ◌++◌, drop, length, Option, Some, None, Result, Ok, Err}
 use Rattle.s3_config.specs.Settings.{Settings}
+use Rattle.s3_terms.specs.declared.code.Code.{Code}
 use Rattle.s3_terms.specs.declared.memory.NoMemory.{NoMemory}
 use Rattle.s3_http_heads.specs.declared.search.HeadSearch.{HeadSearch}
 use Rattle.s3_machine.specs.declared.command.Answer.{Answer}
@@ -17,12 +18,14 @@ use Rattle.s3_session.specs.declared.session.Need.TheVariants as needs
 use Rattle.s3_session.specs.declared.session.Next.{Next}
 use Rattle.s3_session.specs.declared.session.Next.TheVariants as nexts
 
--- a connection: the search for its next head, where it stands, what it has still to send, and whether its bytes have ended
+-- a connection: the search for its next head, where it stands, what it has still to send, whether its bytes have ended, and how many
+-- of its messages were answered
 pub record Connection : Type 0 where
   pub search : HeadSearch
   pub stage : Stage
   pub outbox : Sending
   pub is_ended : Bool
+  pub answered : ℕ
 
 -- where more may be written, the last text isn't in, and for a command that waits there is room for its reply
 abbrev pub IsFit : Stage → Sending → Type 0
@@ -37,7 +40,7 @@ standing_at stages.Reading = standings.Reading
 standing_at (stages.Body incoming) = standings.Reading
 standing_at (stages.Waiting context) = standings.Waiting
 standing_at (stages.Closed closings.Replied) = standings.Over
-standing_at (stages.Closed (closings.Refused moment)) = standings.Over
+standing_at (stages.Closed (closings.Refused moment code)) = standings.Over
 standing_at (stages.Closed (closings.Died moment)) = standings.Dead
 
 abbrev pub standing_of : Connection → Standing
@@ -53,8 +56,18 @@ moment_at stages.Reading = []
 moment_at (stages.Body incoming) = incoming.context.moment ∷ []
 moment_at (stages.Waiting context) = context.moment ∷ []
 moment_at (stages.Closed closings.Replied) = []
-moment_at (stages.Closed (closings.Refused moment)) = moment ∷ []
+moment_at (stages.Closed (closings.Refused moment code)) = moment ∷ []
 moment_at (stages.Closed (closings.Died moment)) = moment ∷ []
+
+-- the code of the message that was refused, if one was
+abbrev pub refused_at : Stage → Option Code
+refused_at (stages.Closed (closings.Refused moment code)) = Some code
+refused_at _ = None
+
+-- These bytes and this end are behind all that went through it, and it hears of them no more: there are none, or a command waits or no
+-- more is read.
+abbrev pub IsUnheard : Standing → Past → List ℕ → Bool → Type 0
+IsUnheard standing past more ended = ((more ≡ []) × (ended ≡ past.ended)) ⊎ ((past.ended ≡ false) × (standing ≢ standings.Reading))
 
 -- what was added to a list
 abbrev pub added : {A : Type 0} → List A → List A → List A

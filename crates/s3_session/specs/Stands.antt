@@ -2,7 +2,7 @@
 -- `Stands` is what the clauses of the session carry along. What it comes to is a law, `sessions_write`: the output of the
 -- connection. So its inside need not be believed. A reader believes the law at the end; the others serve `Stands` and the
 -- clauses of private functions alone.
-use Rattle.std.specs.Prelude.{◌≡◌, ◌<◌, ◌⊎◌, ℕ, take, Bool, true, false, List, [], ◌∷◌, ◌++◌, length, Option, Some, None}
+use Rattle.std.specs.Prelude.{◌≡◌, ◌<◌, ◌⊎◌, ℕ, min, take, Bool, true, false, List, [], ◌∷◌, ◌++◌, length, Option, Some, None}
 use Rattle.s3_config.specs.Settings.{Settings}
 use Rattle.s3_terms.specs.declared.code.Code.{Code}
 use Rattle.s3_http_heads.specs.Find.{found_in}
@@ -15,6 +15,7 @@ use Rattle.s3_replies.specs.declared.context.Context.{Context}
 use Rattle.s3_replies.specs.Replies.{PrintsRefusal, internal_error}
 use Rattle.s3_session.specs.Verdict as verdicts
 use Rattle.s3_session.specs.Decision.{Judges}
+use Rattle.s3_session.specs.Fault.{most_counted}
 use Rattle.s3_session.specs.Invitation.{Invites}
 use Rattle.s3_session.specs.Incoming.{IsInBody}
 use Rattle.s3_session.specs.Output.{Past, Serves, Writes, IsOpen, IsRefused, IsDead, is_dead}
@@ -56,12 +57,16 @@ pub record IsAsking (settings : Settings) (session : Connection) (context : Cont
   pub judged : Judges settings context.moment ended rest (verdicts.Sound context command, [])
   pub invites : Invites settings context.moment rest last
 
+-- a message was refused with this code
+abbrev pub IsRefusedWith : Code → Settings → Bool → List ℕ → List ℕ → List Turn → List ℕ → Type 0
+IsRefusedWith code settings ended rest late waiting last = (refused : IsRefused settings ended rest late waiting last) × (refused.code ≡ code)
+
 abbrev pub StandsAt : Stage → Settings → Connection → Bool → List ℕ → List Turn → List ℕ → Type 0
 StandsAt stages.Reading settings session ended rest waiting last = IsReading session ended rest waiting last
 StandsAt (stages.Body incoming) settings session ended rest waiting last = IsReceiving settings session incoming ended rest waiting last
 StandsAt (stages.Waiting context) settings session ended rest waiting last = IsAsking settings session context ended rest waiting last
 StandsAt (stages.Closed closings.Replied) settings session ended rest waiting last = ⊥
-StandsAt (stages.Closed (closings.Refused moment)) settings session ended rest waiting last = IsRefused settings ended rest (moment ∷ []) waiting last
+StandsAt (stages.Closed (closings.Refused moment code)) settings session ended rest waiting last = IsRefusedWith code settings ended rest (moment ∷ []) waiting last
 StandsAt (stages.Closed (closings.Died moment)) settings session ended rest waiting last = IsDead settings ended rest (moment ∷ []) waiting last
 
 -- a session stands so before these bytes, with the turn that waits and the text that is written for them
@@ -80,6 +85,7 @@ pub record Stands (session : Connection) (settings : Settings) (past : Past) (se
   pub serves : Serves settings past (sent ++ unsent_of session) left (moment_at session.stage) waiting last
   pub here : HereOr settings session past.ended left waiting last
   pub end : past.ended ≡ session.is_ended
+  pub counted : session.answered ≡ min (length past.answers) most_counted
 
 -- with fewer than so many bytes of a piece behind these nothing is decided yet
 abbrev pub IsUndecided : Settings → List ℕ → List ℕ → List ℕ → ℕ → Type 0
@@ -115,7 +121,7 @@ GoesOn context (progress.Open incoming) old new need =
 GoesOn context (progress.Whole command) old new need = Asks context command old new need
 GoesOn context (progress.Refused code) old new need =
     (need ≡ needs.Close)
-    × (new.stage ≡ stages.Closed (closings.Refused context.moment))
+    × (new.stage ≡ stages.Closed (closings.Refused context.moment code))
     × PrintsRefusal code context.moment context.head_only (added (unsent_of old) (unsent_of new))
 GoesOn context progress.Died old new need = IsDying context.moment old new need
 
@@ -128,7 +134,7 @@ IsReady false new = (new.stage ≡ stages.Reading) × search.Stands new.search [
 pub record IsCutTo (settings : Settings) (context : Context) (rest : List ℕ) (old new : Connection) : Type 0 where
   pub code : Code
   pub judged : Judges settings context.moment true rest (verdicts.Refused code context.head_only, [])
-  pub stage : new.stage ≡ stages.Closed (closings.Refused context.moment)
+  pub stage : new.stage ≡ stages.Closed (closings.Refused context.moment code)
   pub printed : PrintsRefusal code context.moment context.head_only (added (unsent_of old) (unsent_of new))
 
 -- a session that stands after all this has written the output of the connection, sent or not

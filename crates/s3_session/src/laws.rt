@@ -1,6 +1,7 @@
 //! What is known of all connections: laws, with nothing to run.
 
 ghost use Rattle.s3_session.specs.ReadBack.{EveryReplay, StoredIsReadBack, VersionsAreReadBack, OnlyStoredIsReadBack, OnlyStoredIsShown, PutsAreReadBack, PutVersionsAreReadBack, CopiesAreReadBack, CopyVersionsAreReadBack, CompletionsAreReadBack, CompletionVersionsAreReadBack, PayloadsAreBrought, PayloadsAreSent};
+ghost use Rattle.s3_session.specs.Fault.{FaultsStay, OneFault};
 ghost use Rattle.s3_session.specs.Laws.{HeadlessAreSilent, HeadsAreDecided, InvitationsStay, OneInvitation, OneOutput, OneVerdict, OneWriting, OutputsStay, VerdictsExist, VerdictsStay, SoundMessages, SoundIsJudged};
 ghost use Rattle.s3_session.specs.Stands.{SessionsWrite};
 
@@ -39,6 +40,16 @@ pub fn verdicts_exist()
     ensures { VerdictsExist }
 {
     verdicts_are_final();
+}
+
+/// A law: a connection has at most one first fault, and it stays that, whatever bytes follow. There is nothing to run.
+pub fn faults_are_one()
+    ensures one { OneFault }
+    ensures stay { FaultsStay }
+{
+    verdicts_are_one();
+    verdicts_stay();
+    invitations_are_final();
 }
 
 /// A law: a sound verdict is about a whole message at the front of the bytes, whose head is admitted, whose body

@@ -1,19 +1,24 @@
 //! A connection as a machine: it is fed with bytes as they come, asks for a turn where a command waits, is given
 //! the answer, and hands out what it writes.
 
-ghost use Rattle.std.specs.Prelude.{◌≡◌, ◌+◌, ◌<◌, ◌≤◌, ℕ, Bool, true, false, List, [], ◌∷◌, ◌++◌, length, take, drop, if◌then◌else◌, IfOk, OnOk, OnErr};
+ghost use Rattle.std.specs.Prelude.{◌≡◌, ◌+◌, ◌<◌, ◌≤◌, ℕ, Bool, true, false, List, [], ◌∷◌, ◌++◌, length, take, drop, if◌then◌else◌, IfOk, OnOk, OnErr, IfSome, None};
 ghost use Rattle.std.specs.Io.Slices.{io_slices_bytes};
+ghost use mathlib.Core.List.{IsPrefix};
 ghost use Rattle.s3_config.specs.Settings.{Settings};
 ghost use Rattle.s3_http_heads.specs.Search.{Stands, Holds};
 ghost use Rattle.s3_replies.specs.Replies.{Prints, PrintsRefusal, continue_line, internal_error};
+ghost use Rattle.s3_session.specs.Fault.{HasNoFault, IsFault};
 ghost use Rattle.s3_session.specs.Incoming.{IsIncoming, IsInBody};
 ghost use Rattle.s3_session.specs.Invitation.{Invites};
 ghost use Rattle.s3_session.specs.Output.{HasText, Past, Reading, ReadsBody, is_closed, is_dead, is_waiting, nothing_yet};
 ghost use Rattle.s3_session.specs.Session.{Connection, NeedsNext, standing_of};
 ghost use Rattle.s3_session.specs.Stands.{IsReady};
 
+use crate::fault::{Fault, refused_code};
 use crate::incoming::{Incoming, Progress};
-use crate::laws::{inputs_fix_outputs, invitations_are_final, sessions_write, verdicts_stay};
+use crate::laws::{
+    inputs_fix_outputs, invitations_are_final, sessions_write, verdicts_are_one, verdicts_stay,
+};
 use crate::opening::{Opening, open_text};
 use crate::reply::AnswerTo;
 use s3_calendar::Moment;
@@ -67,8 +72,8 @@ pub enum Next {
 pub(crate) enum Closing {
     // A reply closed the connection.
     Replied,
-    // A message of this moment was refused.
-    Refused(Moment),
+    // A message of this moment was refused with this code.
+    Refused(Moment, Code),
     // Memory ran out for a message of this moment.
     Died(Moment),
 }
@@ -111,6 +116,8 @@ pub struct Session {
     stage: Stage,
     outbox: Outbox,
     is_ended: bool,
+    // How many messages were answered; the greatest number where there were more.
+    answered: u64,
     // The signing key of the last head that was verified. No clause sees it: it saves time and decides nothing.
     kept: KeptKey,
 }
@@ -120,7 +127,7 @@ impl Model for Session {
 
     ghost Value = { Connection };
 
-    ghost view = { λ s. record { search = s.search; stage = s.stage; outbox = s.outbox; is_ended = s.is_ended } };
+    ghost view = { λ s. record { search = s.search; stage = s.stage; outbox = s.outbox; is_ended = s.is_ended; answered = s.answered } };
 
     ghost invariant = { λ s. IsFit s.stage s.outbox };
 }
@@ -141,6 +148,7 @@ impl Session {
             stage: Stage::Reading,
             outbox: Outbox::new(alloc),
             is_ended: false,
+            answered: 0,
             kept: KeptKey::new(),
         }
     }
@@ -211,6 +219,7 @@ impl Session {
         ensures needs { rules.Needs result.need (rules.standing_of self.new) }
         ensures longer { rules.IsLonger (rules.unsent_of self.old) (rules.unsent_of self.new) }
         ensures end { self.new.is_ended ≡ false }
+        ensures count { self.new.answered ≡ self.old.answered }
     {
         let (len, found) = self.search.feed(piece);
         match found {
@@ -254,6 +263,7 @@ impl Session {
         ensures needs { rules.Needs result.1 (rules.standing_of self.new) }
         ensures longer { rules.IsLonger (rules.unsent_of self.old) (rules.unsent_of self.new) }
         ensures end { self.new.is_ended ≡ self.old.is_ended }
+        ensures count { self.new.answered ≡ self.old.answered }
     {
         searches_find();
         payloads_are_judged();
@@ -284,6 +294,7 @@ impl Session {
         ensures written { OnOk result (rules.unsent_of self.new ≡ rules.unsent_of self.old ++ (if invited then continue_line else [])) }
         ensures same { OnErr result (rules.unsent_of self.new ≡ rules.unsent_of self.old) }
         ensures end { self.new.is_ended ≡ self.old.is_ended }
+        ensures count { self.new.answered ≡ self.old.answered }
     {
         if invited {
             self.outbox.make_room()?;
@@ -303,6 +314,7 @@ impl Session {
         ensures needs { rules.Needs result.1 (rules.standing_of self.new) }
         ensures longer { rules.IsLonger (rules.unsent_of self.old) (rules.unsent_of self.new) }
         ensures end { self.new.is_ended ≡ self.old.is_ended }
+        ensures count { self.new.answered ≡ self.old.answered }
     {
         invitations_are_final();
         s3_http_heads::verdicts_stay();
@@ -318,6 +330,7 @@ impl Session {
         ensures needs { rules.Needs result (rules.standing_of self.new) }
         ensures longer { rules.IsLonger (rules.unsent_of self.old) (rules.unsent_of self.new) }
         ensures end { self.new.is_ended ≡ self.old.is_ended }
+        ensures count { self.new.answered ≡ self.old.answered }
     {
         match progress {
             Progress::Open(incoming) => {
@@ -343,6 +356,7 @@ impl Session {
         ensures needs { rules.Needs result (rules.standing_of self.new) }
         ensures longer { rules.IsLonger (rules.unsent_of self.old) (rules.unsent_of self.new) }
         ensures end { self.new.is_ended ≡ self.old.is_ended }
+        ensures count { self.new.answered ≡ self.old.answered }
     {
         let moment = context.moment;
         match self.outbox.make_room() {
@@ -361,14 +375,18 @@ impl Session {
     // Writes the refusal of a message of this moment, and ends.
     fn refuse(&mut self, code: Code, moment: Moment, head_only: bool)
         requires { self.old.outbox.is_ended ≡ false }
-        ensures stage { self.new.stage ≡ Stage.Closed (Closing.Refused moment) }
+        ensures stage { self.new.stage ≡ Stage.Closed (Closing.Refused moment code) }
         ensures longer { rules.IsLonger (rules.unsent_of self.old) (rules.unsent_of self.new) }
         ensures printed { PrintsRefusal code moment head_only (rules.added (rules.unsent_of self.old) (rules.unsent_of self.new)) }
         ensures end { self.new.is_ended ≡ self.old.is_ended }
+        ensures count { self.new.answered ≡ self.old.answered }
     {
         let text = refusal(code, moment, head_only);
         self.outbox.end_with(text.as_slice());
-        go_to(&mut self.stage, Stage::Closed(Closing::Refused(moment)));
+        go_to(
+            &mut self.stage,
+            Stage::Closed(Closing::Refused(moment, code)),
+        );
     }
 
     // Writes what stands for a reply to a message of this moment, for which memory ran out, and ends.
@@ -377,6 +395,7 @@ impl Session {
         ensures stage { self.new.stage ≡ Stage.Closed (Closing.Died moment) }
         ensures written { rules.unsent_of self.new ≡ rules.unsent_of self.old ++ internal_error }
         ensures end { self.new.is_ended ≡ self.old.is_ended }
+        ensures count { self.new.answered ≡ self.old.answered }
     {
         self.outbox.end_with(internal_error_reply());
         go_to(&mut self.stage, Stage::Closed(Closing::Died(moment)));
@@ -399,6 +418,7 @@ impl Session {
         };
         match answered {
             Ok(answer) => {
+                self.answered = self.answered.saturating_add(1);
                 self.make_ready(context.closes);
                 self.reply(answer, &context);
                 next_behind(context.closes)
@@ -416,6 +436,7 @@ impl Session {
         ensures ready { inside.IsReady closes self.new }
         ensures outbox { self.new.outbox ≡ self.old.outbox }
         ensures end { self.new.is_ended ≡ self.old.is_ended }
+        ensures count { self.new.answered ≡ self.old.answered }
     {
         if closes {
             go_to(&mut self.stage, Stage::Closed(Closing::Replied));
@@ -434,6 +455,7 @@ impl Session {
         ensures printed { Prints answer context.now (rules.added (rules.unsent_of self.old) (rules.unsent_of self.new)) }
         ensures longer { rules.IsLonger (rules.unsent_of self.old) (rules.unsent_of self.new) }
         ensures end { self.new.is_ended ≡ self.old.is_ended }
+        ensures count { self.new.answered ≡ self.old.answered }
     {
         let context = *context;
         self.outbox.print(AnswerTo { answer, context });
@@ -470,6 +492,7 @@ impl Session {
         ensures lives { is_dead (rules.standing_of self.new) ≡ false }
         ensures longer { rules.IsLonger (rules.unsent_of self.old) (rules.unsent_of self.new) }
         ensures end { self.new.is_ended ≡ self.old.is_ended }
+        ensures count { self.new.answered ≡ self.old.answered }
     {
         let Stage::Body(incoming) = mem::replace(&mut self.stage, Stage::Reading) else {
             unreachable!()
@@ -499,6 +522,28 @@ impl Session {
         ensures { result ≡ inside.is_in_body self.now.stage }
     {
         matches!(self.stage, Stage::Body(_))
+    }
+
+    /// The first of its messages that was refused, if one was. It takes no memory.
+    pub fn fault(&self) -> Option<Fault>
+        ensures some { (settings : Settings) (past : Past) (sent : List ℕ) → inside.Stands self.now settings past sent
+            → IfSome result (λ fault. IsFault settings past.bytes past.ended past.moments fault.message fault.code) }
+
+        // What it doesn't hear makes none; nor do more moments, but where a command waits, behind which messages may stand.
+        ensures none { (settings : Settings) (past : Past) (sent more : List ℕ) (ended : Bool) (moments : List ℕ) → inside.Stands self.now settings past sent
+            → is_dead (rules.standing_of self.now) ≡ false → rules.IsUnheard (rules.standing_of self.now) past more ended
+            → IsPrefix past.moments moments → (is_waiting (rules.standing_of self.now) ≡ true → moments ≡ past.moments)
+            → result ≡ None → HasNoFault settings (past.bytes ++ more) ended moments }
+    {
+        verdicts_are_one();
+        verdicts_stay();
+        invitations_are_final();
+        s3_http_heads::verdicts_stay();
+        payloads_are_judged();
+        Some(Fault {
+            message: self.answered,
+            code: refused_code(&self.stage)?,
+        })
     }
 
     /// A beginning of what it has written and not sent, as long as it stands together; it is empty only where all is

@@ -3,6 +3,7 @@ pub mod ChangeLemmas
 pub mod DeathLemmas
 pub mod EntryLemmas
 pub mod EventLemmas
+pub mod FaultLemmas
 pub mod FreshLemmas
 pub mod MomentsLemmas
 pub mod PlayedLemmas

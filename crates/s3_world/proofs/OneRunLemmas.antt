@@ -16,8 +16,7 @@ use Rattle.s3_world.specs.Run.{AreTaken, HasNoEntry, WaitsAt, moments_of, output
 use Rattle.s3_world.specs.Laws.{OneRun}
 use Rattle.s3_world.specs.Timed.{TimedOutputs}
 use Rattle.s3_world.proofs.PlayedLemmas.{OneTimedOutput, timed_one}
-use Rattle.s3_machine.proofs.HistoryLemmas.{Legal-append}
-use Rattle.s3_world.proofs.EntryLemmas.{history_more}
+use Rattle.s3_world.proofs.EntryLemmas.{answer_there, history_more}
 
 -- the answer to a turn
 abbrev given : ℕ → State → ℕ → Turn → Answer
@@ -51,9 +50,9 @@ module _ (one : OneTimedOutput) (settings : Settings) (moments : List (List ℕ)
         let least = settings.min_part in
         let first = opening settings.buckets in
         let a : IsAnswer least (after least first (history_of done)) (0 + length (history_of done)) r.entry =
-        (Legal-append least first 0 (history_of done) (r.entry ∷ history_of rest) (subst (Legal least first 0) (history_more done (r ∷ rest)) legal)).1.0 in
+        answer_there least first 0 (history_of done) r.entry (history_of rest) (subst (Legal least first 0) (history_more done (r ∷ rest)) legal) in
         let b : IsAnswer least (after least first (history_of done)) (0 + length (history_of done)) s.entry =
-        (Legal-append least first 0 (history_of done) (s.entry ∷ history_of others) (subst (Legal least first 0) (history_more done (s ∷ others)) legal')).1.0 in
+        answer_there least first 0 (history_of done) s.entry (history_of others) (subst (Legal least first 0) (history_more done (s ∷ others)) legal') in
         a ∙ ap (λ (t : Turn). given least (after least first (history_of done)) (0 + length (history_of done)) t) same ∙ sym b
 
     -- the entries are one, after the same entries

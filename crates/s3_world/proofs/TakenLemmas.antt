@@ -5,7 +5,7 @@ use Rattle.s3_machine.specs.History.{Entry}
 use Rattle.s3_journal.specs.Recorded.{Recorded, entries_of_seat}
 use Rattle.s3_world.specs.Events.{TurnAt}
 use Rattle.s3_world.specs.Run.{AreTaken, HasNoEntry}
-use Rattle.s3_journal.proofs.SeatLemmas.{seat_join}
+use Rattle.s3_world.proofs.EntryLemmas.{seat_join}
 
 -- memory may have run out in more connections since then, and those in which it had run out have none of the entries that were made
 module _ (settings : Settings) (moments : List (List ℕ)) (lost more : ℕ → Bool) (grows : (c : ℕ) → lost c ≡ true → more c ≡ true)

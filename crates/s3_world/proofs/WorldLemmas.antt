@@ -23,8 +23,7 @@ use Rattle.s3_world.specs.Run.{AreTaken, WaitsAt, moments_of}
 use Rattle.s3_world.specs.Shown.{standing_in}
 use Rattle.s3_world.specs.StandsAfter.{AreMade, GoesOn, HasHappened, StandsAfter, WentOn, heard, is_lost_in}
 use Rattle.s3_world.specs.World.{given_by}
-use Rattle.s3_journal.proofs.SeatLemmas.{seat_join, seat_own}
-use Rattle.s3_world.proofs.EntryLemmas.{seat_others}
+use Rattle.s3_world.proofs.EntryLemmas.{seat_join, seat_others, seat_own}
 use Rattle.s3_world.proofs.EventLemmas.{received_others, received_own, turns_more}
 use Rattle.s3_world.proofs.PlayedLemmas.{OneTimedOutput, asks_one, is_standing, plays_write, waits_for}
 use Rattle.s3_world.proofs.TakenLemmas.{taken_join}

@@ -1,5 +1,6 @@
 pub mod Alike
 pub mod Events
+pub mod Faults
 pub mod Laws
 pub mod Moments
 pub mod Played

@@ -3,7 +3,9 @@
 ghost use Rattle.std.specs.Prelude.{◌≡◌, ◌≢◌, ◌<◌, true, [], length, IfOk, OnOk, OnErr};
 ghost use Rattle.s3_events.specs.Script.{connection_of_event};
 ghost use Rattle.s3_connection.specs.declared.stage.Wants.{Wants};
+ghost use Rattle.std.specs.List.{slice_get};
 ghost use Rattle.s3_world.specs.Events.{brings_bytes};
+ghost use Rattle.s3_world.specs.Faults.{TellsIn};
 ghost use Rattle.s3_world.specs.Run.{each_moments, output_of};
 ghost use Rattle.s3_world.specs.Shown.{wanted_at, written_by_all};
 ghost use Rattle.s3_world.specs.StandsAfter.{AreFresh, HasHappened};
@@ -15,6 +17,7 @@ use s3_config::Config;
 use s3_events::Event;
 use s3_journal::Book;
 use s3_records::Records;
+use s3_session::Fault;
 use s3_terms::NoMemory;
 use std::alloc::Global;
 
@@ -53,6 +56,17 @@ pub(crate) fn all_of_one(
         connections[number].all(alloc)
     } else {
         Ok(Vec::new(alloc))
+    }
+}
+
+/// The first message of the connection of this number that was refused, if one was.
+pub(crate) fn fault_of_one(connections: &[Played<'_>], number: usize) -> Option<Fault>
+    ensures { TellsIn (slice_get connections.now number) result }
+{
+    if number < connections.len() {
+        connections[number].fault()
+    } else {
+        None
     }
 }
 

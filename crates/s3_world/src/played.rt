@@ -9,6 +9,7 @@ ghost use Rattle.s3_connection.specs.declared.stage.Wants.{Wants};
 ghost use Rattle.s3_connection.specs.Connection.{IsNext, nothing_received, received, taken_of, wants_of};
 ghost use Rattle.s3_connection.specs.Output.{Input};
 ghost use Rattle.s3_world.specs.Events.{brings_bytes};
+ghost use Rattle.s3_world.specs.Faults.{Tells};
 ghost use Rattle.s3_world.specs.Moments.{behind_if, next_of};
 ghost use Rattle.s3_world.specs.StandsAfter.{GoesOn};
 ghost use Rattle.s3_world.specs.World.{IsEntered, given_by};
@@ -19,6 +20,7 @@ use s3_connection::Connection;
 use s3_events::Event;
 use s3_journal::Book;
 use s3_records::Records;
+use s3_session::Fault;
 use s3_terms::NoMemory;
 use std::alloc::Global;
 use std::marker::Model;
@@ -172,6 +174,13 @@ impl<'a> Played<'a> {
         let now = next(self.moments);
         let has_moment = self.connection.go_on(alloc, config, now);
         self.moments = left(self.moments, has_moment);
+    }
+
+    // The first of its messages that was refused, if one was.
+    pub(crate) fn fault(&self) -> Option<Fault>
+        ensures { Tells self.now result }
+    {
+        self.connection.fault()
     }
 
     // A copy of all that it wrote. `NoMemory` comes where it wrote something.

@@ -1,18 +1,20 @@
 //! Connections that share one store.
 
-ghost use Rattle.std.specs.Prelude.{◌≡◌, ◌≢◌, ◌++◌, ◌∷◌, ◌<◌, ℕ, true, List, [], length, IfOk, OnOk, OnErr};
+ghost use Rattle.std.specs.Prelude.{◌≡◌, ◌≢◌, ◌++◌, ◌∷◌, ◌<◌, ℕ, true, List, [], length, IfOk, OnOk, OnErr, IfSome, None, false};
 ghost use Rattle.s3_records.specs.Catalogue.{opening};
 ghost use Rattle.s3_store.specs.Steps.{opened};
 ghost use Rattle.s3_events.specs.declared.event.Event.{Event as Happening};
 ghost use Rattle.s3_events.specs.Script.{connection_of_event};
 ghost use Rattle.s3_connection.specs.declared.stage.Wants.{Wants};
-ghost use Rattle.s3_world.specs.Events.{brings_bytes};
+ghost use Rattle.s3_session.specs.Output.{is_dead};
+ghost use Rattle.s3_world.specs.Events.{brings_bytes, received};
+ghost use Rattle.s3_world.specs.Faults.{FaultOf, HasNoFaultOf};
 ghost use Rattle.s3_world.specs.World.{IsEntered, turn_of_event};
-ghost use Rattle.s3_world.specs.Run.{each_moments, output_of};
-ghost use Rattle.s3_world.specs.Shown.{wanted_at, written_by_all};
+ghost use Rattle.s3_world.specs.Run.{each_moments, moments_of, output_of};
+ghost use Rattle.s3_world.specs.Shown.{standing_at, waiting_at, wanted_at, written_by_all};
 ghost use Rattle.s3_world.specs.StandsAfter.{StandsAfter};
 
-use crate::connections::{all_of_one, fresh, meet_one};
+use crate::connections::{all_of_one, fault_of_one, fresh, meet_one};
 use crate::played::Played;
 use s3_calendar::Moment;
 use s3_config::Config;
@@ -20,6 +22,7 @@ use s3_connection::{connections_write, outputs_are_one};
 use s3_events::Event;
 use s3_journal::Book;
 use s3_records::Records;
+use s3_session::Fault;
 use s3_store::Store;
 use s3_terms::NoMemory;
 use std::alloc::Global;
@@ -126,6 +129,18 @@ impl<'a, R: Records + Drop> World<'a, R> {
         ensures { result ≡ length self.now.book.entries }
     {
         self.book.entries()
+    }
+
+    /// The first message of a connection that was refused, if one was; none where it isn't there. It takes no memory.
+    pub fn fault(&self, connection: u32) -> Option<Fault>
+        ensures some { (moments : List (List ℕ)) (happened : List Happening) → StandsAfter self.now moments happened
+            → IfSome result (λ fault. FaultOf self.now.settings (moments_of connection moments) (received connection happened) fault.message fault.code) }
+        ensures none { (moments : List (List ℕ)) (happened : List Happening) → StandsAfter self.now moments happened
+            → connection < length moments → is_dead (standing_at self.now.connections connection) ≡ false
+            → waiting_at self.now.connections connection ≡ None
+            → result ≡ None → HasNoFaultOf self.now.settings (moments_of connection moments) (received connection happened) }
+    {
+        fault_of_one(&self.connections, connection as usize)
     }
 
     /// A copy of all that a connection wrote; nothing where it isn't there.

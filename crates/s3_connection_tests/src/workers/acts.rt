@@ -42,6 +42,7 @@ pub(crate) enum Sent {
     Hello,
     WorldAndGet,
     Get,
+    NoHead,
     Nothing,
 }
 
@@ -52,6 +53,7 @@ impl Sent {
             Sent::Hello => HELLO,
             Sent::WorldAndGet => WORLD_AND_GET,
             Sent::Get => GET,
+            Sent::NoHead => b"no request line\r\n\r\n",
             Sent::Nothing => b"",
         }
     }

@@ -4,20 +4,24 @@ use s3_calendar::Moment;
 use s3_config::Config;
 use s3_events::{Event, read_events};
 use s3_records::MapRecords;
+use s3_session::Fault;
 use s3_store::Store;
+use s3_terms::Code;
 use s3_world::{World, run};
 use std::alloc::Global;
 use std::mem::drop;
 
-// Events, what is written for the first connection and for the second, and how many entries there are.
+// Events, what is written for the first connection and for the second, how many entries there are, and which message of each is
+// refused since it has no head that can be read.
 struct Row {
     name: &'static str,
     acts: &'static [Act],
     outs: [&'static [u8]; 2],
     entries: u64,
+    refused: [Option<u64>; 2],
 }
 
-static ROWS: [Row; 4] = [
+static ROWS: [Row; 5] = [
     Row {
         name: "two puts of one key, the second connection first",
         acts: &[
@@ -37,6 +41,7 @@ static ROWS: [Row; 4] = [
              Accept-Ranges: bytes\r\nContent-Type: binary/octet-stream\r\nContent-Length: 5\r\n\r\nhello",
         ],
         entries: 3,
+        refused: [None, None],
     },
     Row {
         name: "two puts of one key, the first connection first",
@@ -57,6 +62,7 @@ static ROWS: [Row; 4] = [
              Accept-Ranges: bytes\r\nContent-Type: binary/octet-stream\r\nContent-Length: 5\r\n\r\nworld",
         ],
         entries: 3,
+        refused: [None, None],
     },
     Row {
         name: "pieces, ends and turns behind the end",
@@ -77,6 +83,7 @@ static ROWS: [Row; 4] = [
             b"",
         ],
         entries: 1,
+        refused: [None, None],
     },
     Row {
         name: "a connection that isn't there",
@@ -88,6 +95,30 @@ static ROWS: [Row; 4] = [
         ],
         outs: [b"", b""],
         entries: 0,
+        refused: [None, None],
+    },
+    Row {
+        name: "messages that are refused",
+        acts: &[
+            Act::Send(0, Sent::Hello),
+            Act::Turn(0),
+            Act::Send(0, Sent::NoHead),
+            Act::Send(0, Sent::Get),
+            Act::Send(1, Sent::NoHead),
+            Act::Turn(1),
+        ],
+        outs: [
+            b"HTTP/1.1 200 OK\r\nDate: Fri, 24 May 2013 00:00:00 GMT\r\nx-amz-request-id: 0000000000000000\r\n\
+             ETag: \"5d41402abc4b2a76b9719d911017c592\"\r\nContent-Length: 0\r\n\r\n\
+             HTTP/1.1 400 Bad Request\r\nDate: Fri, 24 May 2013 00:00:00 GMT\r\nConnection: close\r\n\
+             x-amz-request-id: 0000000000000000\r\nContent-Type: application/json\r\nContent-Length: 59\r\n\r\n\
+             {\"Code\":\"MalformedHead\",\"Message\":\"The head is malformed.\"}",
+            b"HTTP/1.1 400 Bad Request\r\nDate: Fri, 24 May 2013 00:00:00 GMT\r\nConnection: close\r\n\
+             x-amz-request-id: 0000000000000000\r\nContent-Type: application/json\r\nContent-Length: 59\r\n\r\n\
+             {\"Code\":\"MalformedHead\",\"Message\":\"The head is malformed.\"}",
+        ],
+        entries: 1,
+        refused: [Some(1), Some(0)],
     },
 ];
 
@@ -102,11 +133,27 @@ fn has_written(world: &World<'_, MapRecords>, connection: u32, wanted: &[u8]) ->
     }
 }
 
+// Which message of a connection is refused since it has no head that can be read.
+fn malformed(world: &World<'_, MapRecords>, connection: u32) -> Option<u64> {
+    match world.fault(connection) {
+        Some(
+            Fault {
+                message,
+                code: Code::MalformedHead,
+            },
+        ) => Some(message),
+        _ => None,
+    }
+}
+
 // Whether a world is as the row says.
 fn is_as(world: &World<'_, MapRecords>, row: &Row) -> bool {
+    let refused = row.refused;
     has_written(world, 0, row.outs[0])
         && has_written(world, 1, row.outs[1])
         && world.entries() == row.entries
+        && malformed(world, 0) == refused[0]
+        && malformed(world, 1) == refused[1]
 }
 
 // Whether these events come out as the row says.

@@ -17,7 +17,7 @@ invariant_of-self-2 g c =
     let added : c.record.new.self.entries ≡ old.recorder.entries ++ recorded seat turn answer ∷ [] =
     c.record.ensures.entry ∙ ap (λ (t : Turn). old.recorder.entries ++ recorded seat t c.of.result.value ∷ []) c.of-asked.ensures
     ∙ ap (λ (a : Answer). old.recorder.entries ++ recorded seat turn a ∷ []) c.of.ensures in
-    let keeps = keeps_push was seat turn answer c.record.new.self.entries c.apply.new.self c.record.new.self.origin c.self.invariant.1 added c.in_ok-answer.ensures.answer c.in_ok-answer.ensures.state in
+    let keeps = keeps_push c.one_more_entry.ensures.legal c.one_more_entry.ensures.leaves was seat turn answer c.record.new.self.entries c.apply.new.self c.record.new.self.origin c.self.invariant.1 added c.in_ok-answer.ensures.answer c.in_ok-answer.ensures.state in
     subst (λ (s : Standing). (old.opening.entries ≡ s ∷ [])
     × KeepsHistory (record { origin = c.record.new.self.origin; least = old.least_part; opening = s; entries = c.record.new.self.entries; store = c.apply.new.self })
     × (old.first ≡ s.number))
