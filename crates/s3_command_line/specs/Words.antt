@@ -61,9 +61,10 @@ with_settings a =
 -- `s3d replay`
 abbrev pub replay_app : App
 replay_app =
-    with_rule (with_rule (with_settings (new_app (codes "replay")))
+    with_rule (with_rule (with_rule (with_settings (new_app (codes "replay")))
     (option_rule (codes "moment")))
-    (flag_rule (codes "events"))
+    (flag_rule (codes "events")))
+    (flag_rule (codes "faults"))
 
 -- `s3d sign`
 abbrev pub sign_app : App
@@ -140,6 +141,7 @@ pub record HasReplayOptions (rows : List Row) (o : ReplayOptions) : Type 0 where
   pub common : HasOptions rows o.common
   pub moment : option_map (λ text. text.now) o.moment ≡ first_of (codes "moment") rows
   pub events : o.events ≡ is_set (first_of (codes "events") rows)
+  pub faults : o.faults ≡ is_set (first_of (codes "faults") rows)
 
 -- the options of a server are those of some matches
 pub record HasServeOptions (rows : List Row) (o : ServeOptions) : Type 0 where

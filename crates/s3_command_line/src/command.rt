@@ -87,7 +87,7 @@ static SETTINGS: [Argument; 5] = [
 ];
 
 // The further options of `s3d replay`.
-static REPLAYING: [Argument; 2] = [
+static REPLAYING: [Argument; 3] = [
     Argument {
         name: "moment",
         value: "T",
@@ -98,6 +98,12 @@ static REPLAYING: [Argument; 2] = [
         name: "events",
         value: "",
         help: "Reads event lines of several connections, each with moments of its own",
+        kind: Kind::Flag,
+    },
+    Argument {
+        name: "faults",
+        value: "",
+        help: "Tells of each connection the first message that is refused; only with event lines",
         kind: Kind::Flag,
     },
 ];

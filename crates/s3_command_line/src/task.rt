@@ -87,6 +87,7 @@ fn replay_options<'a>(matches: &ArgMatches<'a>) -> ReplayOptions<'a>
         common: common_options(matches),
         moment: matches.get_str("moment"),
         events: is_set(matches.get_str("events")),
+        faults: is_set(matches.get_str("faults")),
     }
 }
 

@@ -7,7 +7,7 @@ ghost use Rattle.s3_config.specs.Settings.{Settings};
 ghost use Rattle.s3_machine.specs.History.{Entry};
 ghost use Rattle.s3_machine.specs.declared.turn.Turn.{Turn};
 ghost use Rattle.s3_session.specs.Fault.{HasNoFault, IsFault};
-ghost use Rattle.s3_session.specs.Output.{Reading, Dead, is_closed, is_dead, is_waiting};
+ghost use Rattle.s3_session.specs.Output.{Reading, Over, Dead, is_closed, is_dead, is_waiting};
 ghost use Rattle.s3_session.specs.Session.{moment_if};
 ghost use Rattle.s3_connection.specs.Holds.{Holds};
 ghost use Rattle.s3_connection.specs.Output.{Input};
@@ -281,12 +281,13 @@ impl Connection {
         self.session.in_body()
     }
 
-    /// The first of its messages that was refused, if one was: of all that it received, unless a turn was answered and it has still to
-    /// go on. It takes no memory.
+    /// The first of its messages that was refused, if one was: of all that it received but what is kept, while a command waits or
+    /// before it has gone on behind an answer. It takes no memory.
     pub fn fault(&self) -> Option<Fault>
         ensures some { (settings : Settings) (input : Input) (moments : List ℕ) (entries : List Entry) (sent : List ℕ)
             → Holds self.now settings input moments entries sent
             → IfSome result (λ fault. IsFault settings input.bytes input.ended moments fault.message fault.code) }
+        ensures over { result ≢ None → rules.standing_of self.now ≡ Over }
 
         // More moments make none, but where a command waits, behind which messages may stand.
         ensures none { (settings : Settings) (input : Input) (moments : List ℕ) (entries : List Entry) (sent given : List ℕ)

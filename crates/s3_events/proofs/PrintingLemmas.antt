@@ -1,6 +1,6 @@
 -- Digits and lines of outputs, one after another.
-use Rattle.std.proofs.Common.{◌≡◌, ℕ, ◌+◌, ◌/◌, ◌%◌, ◌<◌, List, [], ◌∷◌, ◌++◌, length, get_or, take, refl, sym, ◌∙◌, ap, arith, append_assoc, append-nil}
-use Rattle.std.specs.Prelude.{slice_index}
+use Rattle.std.proofs.Common.{◌≡◌, ℕ, ◌+◌, ◌/◌, ◌%◌, ◌<◌, List, [], ◌∷◌, ◌++◌, length, get_or, take, Result, Ok, Err, refl, subst, sym, ◌∙◌, ap, arith, append_assoc, append-nil}
+use Rattle.std.specs.Prelude.{OnOk, slice_index}
 use Rattle.std.proofs.lemmas.List.{take_more}
 use Rattle.hex.specs.Hex.{encode_with, encode_lower, lower_digits}
 use Rattle.s3_events.specs.Printing.{output_line, outputs_from, outputs_text}
@@ -28,7 +28,16 @@ printed_more c (first ∷ outputs) output =
     ∙ sym (append_assoc (output_line c first) (outputs_from (c + 1) outputs) (output_line (c + 1 + length outputs) output))
     ∙ ap (λ (n : ℕ). (output_line c first ++ outputs_from (c + 1) outputs) ++ output_line n output) (omega arith)
 
-pub one_printed_more : (before : List (List ℕ)) (text after output : List ℕ) (c : ℕ) → text ≡ outputs_text before → c ≡ length before → after ≡ text ++ output_line c output → after ≡ outputs_text (before ++ output ∷ [])
+one_printed_more : (before : List (List ℕ)) (text after output : List ℕ) (c : ℕ) → text ≡ outputs_text before → c ≡ length before → after ≡ text ++ output_line c output → after ≡ outputs_text (before ++ output ∷ [])
 one_printed_more before text after output c all is more =
     let at : c ≡ 0 + length before = omega arith in
     rw (more, all, at) (sym (printed_more 0 before output))
+
+-- so where a line was added, and stays
+pub one_line_more : {T E : Type 0} (added r : Result T E) (before : List (List ℕ)) (text between after output : List ℕ) (c : ℕ)
+    → OnOk added (between ≡ text ++ output_line c output) → OnOk added (after ≡ between) → r ≡ added
+    → text ≡ outputs_text before → c ≡ length before → OnOk r (after ≡ outputs_text (before ++ output ∷ []))
+one_line_more {T = T} {E = E} (Ok x) r before text between after output c more stays same all is =
+    subst (λ (r : Result T E). OnOk r (after ≡ outputs_text (before ++ output ∷ []))) (sym same) (one_printed_more before text after output c all is (stays ∙ more))
+one_line_more {T = T} {E = E} (Err e) r before text between after output c more stays same all is =
+    subst (λ (r : Result T E). OnOk r (after ≡ outputs_text (before ++ output ∷ []))) (sym same) tt

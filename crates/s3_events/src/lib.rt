@@ -1,5 +1,5 @@
 //! Events of several connections: the lines that spell them, and the lines that tell what each connection was
-//! answered.
+//! answered, and which of its messages was refused.
 #![tactic(auto)]
 
 mod checked;
@@ -11,6 +11,6 @@ mod script;
 
 pub use error::EventsError;
 pub use event::Event;
-pub use printing::print_output;
+pub use printing::{print_fault, print_output};
 pub use reading::read_events;
 pub use script::Script;

@@ -1,6 +1,7 @@
 //! An example of events: what happens to the connections of one store, and what they are answered.
 
 use crate::cut::{Cut, recut};
+use crate::trimmed::leave_same;
 use s3_devices::{Recorded, Streams};
 use s3_settings::Files;
 use s3_tasks::{Ran, run_words};
@@ -32,10 +33,9 @@ struct Example<'a> {
     answers: &'a [u8],
 }
 
-// What these events are answered, where the program does its work, which may wait.
-fn answers<W: Wait>(waits: &W, rt: &HostRuntime, bucket: &str, events: &[u8]) -> Option<Vec<u8>> {
-    let alloc = rt.alloc();
-    let words = [
+// The words of a run over a store with this bucket.
+fn words(bucket: &str) -> [&str; 9] {
+    [
         "s3d",
         "replay",
         "--events",
@@ -45,7 +45,28 @@ fn answers<W: Wait>(waits: &W, rt: &HostRuntime, bucket: &str, events: &[u8]) ->
         "5",
         "--bucket",
         bucket,
-    ];
+    ]
+}
+
+// The same, where first faults are told too.
+fn words_with_faults(bucket: &str) -> [&str; 10] {
+    [
+        "s3d",
+        "replay",
+        "--events",
+        "--faults",
+        "--keys",
+        "keys",
+        "--min-part",
+        "5",
+        "--bucket",
+        bucket,
+    ]
+}
+
+// What these events are answered with these words, where the program does its work, which may wait.
+fn answers<W: Wait>(waits: &W, rt: &HostRuntime, words: &[&str], events: &[u8]) -> Option<Vec<u8>> {
+    let alloc = rt.alloc();
     let mut device = Recorded::new(Streams {
         input: events,
         output: Vec::new(alloc),
@@ -53,7 +74,7 @@ fn answers<W: Wait>(waits: &W, rt: &HostRuntime, bucket: &str, events: &[u8]) ->
     match run_words(
         waits,
         alloc,
-        &words,
+        words,
         &SystemFiles(rt),
         &mut device,
         &mut rt.stderr(),
@@ -68,7 +89,7 @@ fn is_answered<W: Wait>(waits: &W, rt: &HostRuntime, example: Example, cut: Cut)
     let Ok(events) = recut(rt.alloc(), example.events, cut) else {
         return false;
     };
-    match answers(waits, rt, example.bucket, events.as_slice()) {
+    match answers(waits, rt, &words(example.bucket), events.as_slice()) {
         Some(answers) => answers.as_slice() == example.answers,
         None => false,
     }
@@ -95,7 +116,20 @@ fn file(rt: &HostRuntime, name: &str, ending: &str) -> Option<Vec<u8>> {
     fs::read(rt, path.as_str()).ok()
 }
 
-/// Whether the example of this name is answered as its file of answers says, in each way; the bucket that is there from the
+// Whether these faults, if there is a file of them, are told behind what an example is answered.
+fn tells<W: Wait>(waits: &W, rt: &HostRuntime, example: Example, faults: Option<Vec<u8>>) -> bool {
+    let Some(faults) = faults else {
+        return true;
+    };
+    let words = words_with_faults(example.bucket);
+    match answers(waits, rt, &words, example.events) {
+        Some(text) => text.strip_prefix(example.answers) == Some(faults.as_slice()),
+        None => false,
+    }
+}
+
+/// Whether the example of this name is answered as its file of answers says, in each way, tells the first faults that
+/// its file of these says, if there is one, and leaves the same without what is refused; the bucket that is there from the
 /// start is what stands behind a dot of its name, or `pail`.
 pub(crate) fn holds<W: Wait>(waits: &W, rt: &HostRuntime, name: &str) -> bool {
     let (_, bucket) = name.split_once('.').unwrap_or((name, BUCKET));
@@ -107,6 +141,8 @@ pub(crate) fn holds<W: Wait>(waits: &W, rt: &HostRuntime, name: &str) -> bool {
                 answers: answers.as_slice(),
             };
             is_answered_each_way(waits, rt, example)
+                && tells(waits, rt, example, file(rt, name, ".faults"))
+                && leave_same(rt.alloc(), bucket, example.events)
         }
         _ => false,
     }

@@ -3,8 +3,9 @@
 //!
 //! An example is data, and adding one touches nothing else. There are two forms. What is answered to the events of
 //! `NAME.events`, by `s3d replay --events`, stands in `NAME.out`: with the bytes in the pieces of the file, byte by byte and,
-//! where the file is short, with one cut more, at each place in turn. In `NAME.scenario` stand the requests of connections,
-//! and what each of these is answered (`scenario.rt`).
+//! where the file is short, with one cut more, at each place in turn. What `--faults` tells behind that may stand in
+//! `NAME.faults`. Without what is refused they leave the same (`trimmed.rt`). In `NAME.scenario` stand the requests of
+//! connections, and what each of these is answered (`scenario.rt`).
 #![tactic(auto)]
 
 mod body;
@@ -12,6 +13,7 @@ mod cut;
 mod events;
 mod request;
 mod scenario;
+mod trimmed;
 
 use std::fs;
 use std::io::Write;

@@ -25,6 +25,8 @@ pub struct ReplayOptions<'a> {
     pub moment: Option<&'a str>,
     /// Whether the input is event lines.
     pub events: bool,
+    /// Whether the first faults of connections are told.
+    pub faults: bool,
 }
 
 /// The options of `s3d serve`.

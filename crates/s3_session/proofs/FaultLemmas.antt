@@ -44,6 +44,9 @@ refused_is : (stage : Stage) (code : Code) → refused_at stage ≡ Some code �
 refused_is (stages.Closed (closings.Refused moment told)) code is = (moment, ap (λ (c : Code). stages.Closed (closings.Refused moment c)) (cc))
 refused_is _ code is = absurd (cc)
 
+pub over_told : (stage : Stage) (code : Code) → refused_at stage ≡ Some code → standing_at stage ≡ Over
+over_told stage code is = ap standing_at (refused_is stage code is).1
+
 few_late : (stage : Stage) → length (moment_at stage) ≤ 1
 few_late stages.Reading = omega arith
 few_late (stages.Body incoming) = omega arith
@@ -69,7 +72,7 @@ over_refused (stages.Closed (closings.Refused moment code)) settings session end
 over_refused (stages.Closed (closings.Died moment)) settings session ended rest waiting last over h = absurd (cc)
 
 -- a moment that comes first of some is that of the message that has the first of them
-agrees_first : (moment : ℕ) (more late later : List ℕ) → moment ∷ more ≡ late ++ later → Agrees moment late
+pub agrees_first : (moment : ℕ) (more late later : List ℕ) → moment ∷ more ≡ late ++ later → Agrees moment late
 agrees_first moment more [] later same = tt
 agrees_first moment more (k ∷ late) later same = cc
 
@@ -144,7 +147,7 @@ module _ (settings : Settings) (session : Connection) (past : Past) (sent : List
               ∙ ap (λ (ms : List ℕ). ms ++ r.moment ∷ []) (moments_same xs)
               ∙ sym (h.serves.moments ∙ ap (λ (ms : List ℕ). map (λ (x : Exchange). x.context.moment) xs ++ ms) (ap moment_at at ∙ r.asked)),
         );
-        place = h.counted ∙ ap (λ (n : ℕ). min n most_counted) (ap length h.serves.answers ∙ length-map xs (λ (x : Exchange). x.answer) ∙ sym (length-map xs message_of));
+        counted = h.counted ∙ ap (λ (n : ℕ). min n most_counted) (ap length h.serves.answers ∙ length-map xs (λ (x : Exchange). x.answer) ∙ sym (length-map xs message_of));
       }
 
   -- and where none was, there is none
@@ -238,7 +241,7 @@ pub one_fault : OneVerdict → OneFault
 one_fault one settings bytes ended moments n m c d f g =
     let same = same_place one settings ended c d f.head_only g.head_only f.moment g.moment f.given.0 g.given.0 f.rest g.rest f.judged g.judged
     f.messages g.messages bytes f.walk g.walk (f.given.1 ∙ sym g.given.1) in
-    (f.place ∙ ap (λ (k : ℕ). min k most_counted) same.0 ∙ sym g.place, same.1)
+    (f.counted ∙ ap (λ (k : ℕ). min k most_counted) same.0 ∙ sym g.counted, same.1)
 
 pub faults_stay : VerdictsStay → InvitationsStay → FaultsStay
 faults_stay stay invited settings bytes more ended moments number code f = record {
@@ -249,5 +252,5 @@ faults_stay stay invited settings bytes more ended moments number code f = recor
   walk = walks_on stay invited settings ended bytes more f.messages (Some f.rest) f.walk;
   judged = stay settings f.moment ended f.rest more (verdicts.Refused code f.head_only) [] f.judged (λ is. absurd (cc));
   given = f.given;
-  place = f.place;
+  counted = f.counted;
 }

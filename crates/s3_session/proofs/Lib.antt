@@ -1,5 +1,6 @@
 pub mod AtOnceLemmas
 pub mod EarlyLemmas
+pub mod FaultEndLemmas
 pub mod FaultLemmas
 pub mod FrontLemmas
 pub mod InBodyLemmas

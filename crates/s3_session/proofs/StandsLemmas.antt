@@ -85,7 +85,7 @@ sessions_write judge session settings past sent h = record {
 }
 
 -- a message is refused only where something was found
-refused_found : (settings : Settings) (moment : ℕ) (ended : Bool) (rest : List ℕ) (code : Code) (head_only : Bool)
+pub refused_found : (settings : Settings) (moment : ℕ) (ended : Bool) (rest : List ℕ) (code : Code) (head_only : Bool)
     → Judges settings moment ended rest (verdicts.Refused code head_only, []) → found_in rest ≢ found.NeedMore
 unfolding Judges
 refused_found settings moment ended rest code head_only judged none =

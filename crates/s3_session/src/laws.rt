@@ -1,7 +1,7 @@
 //! What is known of all connections: laws, with nothing to run.
 
 ghost use Rattle.s3_session.specs.ReadBack.{EveryReplay, StoredIsReadBack, VersionsAreReadBack, OnlyStoredIsReadBack, OnlyStoredIsShown, PutsAreReadBack, PutVersionsAreReadBack, CopiesAreReadBack, CopyVersionsAreReadBack, CompletionsAreReadBack, CompletionVersionsAreReadBack, PayloadsAreBrought, PayloadsAreSent};
-ghost use Rattle.s3_session.specs.Fault.{FaultsStay, OneFault};
+ghost use Rattle.s3_session.specs.Fault.{FaultsEnd, FaultsStay, OneFault, RefusedIsNothing};
 ghost use Rattle.s3_session.specs.Laws.{HeadlessAreSilent, HeadsAreDecided, InvitationsStay, OneInvitation, OneOutput, OneVerdict, OneWriting, OutputsStay, VerdictsExist, VerdictsStay, SoundMessages, SoundIsJudged};
 ghost use Rattle.s3_session.specs.Stands.{SessionsWrite};
 
@@ -46,6 +46,18 @@ pub fn verdicts_exist()
 pub fn faults_are_one()
     ensures one { OneFault }
     ensures stay { FaultsStay }
+{
+    verdicts_are_one();
+    verdicts_stay();
+    invitations_are_final();
+}
+
+/// A law: and what stands behind the first message that is refused changes nothing of what a connection writes, nor of how it
+/// stands, as long as memory does not run out; nor does that message itself change which commands wait, or were answered. There
+/// is nothing to run.
+pub fn faults_end()
+    ensures end { FaultsEnd }
+    ensures alone { RefusedIsNothing }
 {
     verdicts_are_one();
     verdicts_stay();

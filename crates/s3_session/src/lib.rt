@@ -13,7 +13,7 @@ mod session;
 pub use admission::{Admission, admit};
 pub use fault::Fault;
 pub use laws::{
-    completions_are_read_back, copies_are_read_back, faults_are_one, heads_decide,
+    completions_are_read_back, copies_are_read_back, faults_are_one, faults_end, heads_decide,
     inputs_fix_outputs, invitations_are_final, outputs_are_one, outputs_stay, puts_are_read_back,
     sessions_write, sound_verdicts_are_exact, stored_is_read_back, verdicts_are_one,
     verdicts_exist, verdicts_stay,

@@ -1,7 +1,7 @@
 //! A connection as a machine: it is fed with bytes as they come, asks for a turn where a command waits, is given
 //! the answer, and hands out what it writes.
 
-ghost use Rattle.std.specs.Prelude.{◌≡◌, ◌+◌, ◌<◌, ◌≤◌, ℕ, Bool, true, false, List, [], ◌∷◌, ◌++◌, length, take, drop, if◌then◌else◌, IfOk, OnOk, OnErr, IfSome, None};
+ghost use Rattle.std.specs.Prelude.{◌≡◌, ◌≢◌, ◌+◌, ◌<◌, ◌≤◌, ℕ, Bool, true, false, List, [], ◌∷◌, ◌++◌, length, take, drop, if◌then◌else◌, IfOk, OnOk, OnErr, IfSome, None};
 ghost use Rattle.std.specs.Io.Slices.{io_slices_bytes};
 ghost use mathlib.Core.List.{IsPrefix};
 ghost use Rattle.s3_config.specs.Settings.{Settings};
@@ -10,7 +10,7 @@ ghost use Rattle.s3_replies.specs.Replies.{Prints, PrintsRefusal, continue_line,
 ghost use Rattle.s3_session.specs.Fault.{HasNoFault, IsFault};
 ghost use Rattle.s3_session.specs.Incoming.{IsIncoming, IsInBody};
 ghost use Rattle.s3_session.specs.Invitation.{Invites};
-ghost use Rattle.s3_session.specs.Output.{HasText, Past, Reading, ReadsBody, is_closed, is_dead, is_waiting, nothing_yet};
+ghost use Rattle.s3_session.specs.Output.{HasText, Over, Past, Reading, ReadsBody, is_closed, is_dead, is_waiting, nothing_yet};
 ghost use Rattle.s3_session.specs.Session.{Connection, NeedsNext, standing_of};
 ghost use Rattle.s3_session.specs.Stands.{IsReady};
 
@@ -528,8 +528,9 @@ impl Session {
     pub fn fault(&self) -> Option<Fault>
         ensures some { (settings : Settings) (past : Past) (sent : List ℕ) → inside.Stands self.now settings past sent
             → IfSome result (λ fault. IsFault settings past.bytes past.ended past.moments fault.message fault.code) }
+        ensures over { result ≢ None → rules.standing_of self.now ≡ Over }
 
-        // What it doesn't hear makes none; nor do more moments, but where a command waits, behind which messages may stand.
+        // Else none is refused, whatever it hears of no more and whatever moments follow; where a command waits, up to its message.
         ensures none { (settings : Settings) (past : Past) (sent more : List ℕ) (ended : Bool) (moments : List ℕ) → inside.Stands self.now settings past sent
             → is_dead (rules.standing_of self.now) ≡ false → rules.IsUnheard (rules.standing_of self.now) past more ended
             → IsPrefix past.moments moments → (is_waiting (rules.standing_of self.now) ≡ true → moments ≡ past.moments)

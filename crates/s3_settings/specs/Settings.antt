@@ -48,15 +48,16 @@ pub record IsSetupOf (o : Options) (s : Setup) : Type 0 where
   pub body_limit : option_number o.body_limit.now ≡ Some s.body_limit
   pub bucket : option_map (λ name. name.now) o.bucket ≡ s.bucket
 
--- what a replay's own options ask for: one moment for everything, or events; both or neither asks for nothing
-abbrev pub mode_of : Option (List ℕ) → Bool → Option ReplayMode
-mode_of (Some text) false = option_map AtMoment (option_moment (Some text))
-mode_of None true = Some Events
-mode_of moment events = None
+-- what a replay's own options ask for: one moment for everything, or events, with faults or without; both or neither asks for
+-- nothing, and so do faults without events
+abbrev pub mode_of : Option (List ℕ) → Bool → Bool → Option ReplayMode
+mode_of (Some text) false false = option_map AtMoment (option_moment (Some text))
+mode_of None true faults = Some (Events faults)
+mode_of moment events faults = None
 
 -- the same of the options
 abbrev pub replay_mode : ReplayOptions → Option ReplayMode
-replay_mode o = mode_of (option_map (λ text. text.now) o.moment) o.events
+replay_mode o = mode_of (option_map (λ text. text.now) o.moment) o.events o.faults
 
 -- the settings that a setup and some keys make
 abbrev pub settings_of : Setup → List Credentials → Settings

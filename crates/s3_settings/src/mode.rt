@@ -14,21 +14,24 @@ use s3_options::ReplayOptions;
 pub enum ReplayMode {
     /// The input is the bytes of one connection, and everything happens at this moment.
     AtMoment(Moment),
-    /// The input is event lines.
-    Events,
+    /// The input is event lines; and the first faults of connections are told, where `faults` says so.
+    Events { faults: bool },
 }
 
 impl ReplayMode {
-    /// What the options ask for; `BadSetting` where they ask for both or neither, or for a moment out of its form.
+    /// What the options ask for; `BadSetting` where they ask for both a moment and events or for neither, for faults without
+    /// events, or for a moment out of its form.
     pub fn read<'a>(options: &ReplayOptions<'a>) -> Result<ReplayMode, Fault<'a>>
         ensures value { IfOk result (λ mode. replay_mode options.now ≡ Some mode) }
         ensures refused { IfErr result (λ fault. (fault ≡ BadSetting) × (replay_mode options.now ≡ None)) }
     {
         if options.moment.is_none() && options.events {
-            return Ok(ReplayMode::Events);
+            return Ok(ReplayMode::Events {
+                faults: options.faults,
+            });
         }
         match option_moment(options.moment) {
-            Some(moment) if !options.events => Ok(ReplayMode::AtMoment(moment)),
+            Some(moment) if !options.events && !options.faults => Ok(ReplayMode::AtMoment(moment)),
             _ => Err(Fault::BadSetting),
         }
     }

@@ -1,4 +1,5 @@
 pub mod EventsLemmas
+pub mod FaultsLemmas
 pub mod ReadingLemmas
 pub mod RunLemmas
 pub mod SignLemmas

@@ -1,3 +1,4 @@
+pub mod Faults
 pub mod Mode
 pub mod Reading
 pub mod Run

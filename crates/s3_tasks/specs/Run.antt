@@ -1,5 +1,5 @@
 -- What a run of `s3d` does, over the traffic of its device, whose two sides are the input and the output.
-use Rattle.std.specs.Prelude.{◌≡◌, ◌⊎◌, IsTrue, ℕ, Bool, true, false, ◌&&◌, List, Option, Some, is_some}
+use Rattle.std.specs.Prelude.{◌≡◌, ◌⊎◌, IsTrue, ℕ, Bool, true, false, ◌&&◌, List, ◌++◌, Option, Some, is_some, option_map}
 use Rattle.s3_config.specs.Settings.{Settings}
 use Rattle.s3_settings.specs.declared.fault.Fault.{Fault}
 use Rattle.s3_settings.specs.declared.fault.Fault.TheVariants.{CannotRead, BadKeysLine, BadEventLine, BadSetting, CannotListen, InputFailed, OutputFailed, OutOfMemory}
@@ -12,15 +12,18 @@ use Rattle.s3_settings.specs.Devices.{AppendsBeginning, FailsToGive, GivesAll, G
 use Rattle.s3_settings.specs.Fault.{line_of}
 use Rattle.s3_settings.specs.Settings.{replay_mode, are_options, IsSetupOf, IsConfigured, HasSettings, HasConfigFault}
 use Rattle.s3_session.specs.Replay.{Replays}
+use Rattle.s3_session.specs.declared.fault.Fault.{Fault as FirstFault}
 use Rattle.s3_text.specs.Lines.{lines_of, IsFirstBadLine}
 use Rattle.s3_events.specs.declared.script.Script.{Script}
 use Rattle.s3_events.specs.Lines.{AreEventLines}
 use Rattle.s3_events.specs.Printing.{outputs_text}
 use Rattle.s3_events.specs.Script.{IsScriptOf}
 use Rattle.s3_journal.specs.Recorded.{Recorded}
+use Rattle.s3_world.specs.Faults.{AreTold}
 use Rattle.s3_world.specs.Run.{Runs, each_moments}
 use Rattle.s3_command_line.specs.declared.task.Task.{Task}
 use Rattle.s3_command_line.specs.declared.task.Task.TheVariants.{Replay, Sign}
+use Rattle.s3_tasks.specs.Faults.{faults_text}
 use Rattle.s3_tasks.specs.Sign.{IsTextOf, IsSignFault}
 use Rattle.s3_command_line.specs.Words.{IsReadFrom}
 
@@ -35,16 +38,35 @@ pub record IsScriptAnswered (settings : Settings) (script : Script) (out : List 
   pub runs : Runs settings (each_moments script.moments.items) script.events.items outs entries
   pub printed : out ≡ outputs_text outs
 
+-- the same with faults: behind those lines stand those of the first faults that are told of the connections of the run
+pub record IsScriptAnsweredWithFaults (settings : Settings) (script : Script) (out : List ℕ) : Type 0 where
+  pub outs : List (List ℕ)
+  pub entries : List Recorded
+  pub runs : Runs settings (each_moments script.moments.items) script.events.items outs entries
+  pub told : List (Option FirstFault)
+  pub faults : AreTold settings (each_moments script.moments.items) script.events.items outs entries runs told
+  pub printed : out ≡ outputs_text outs ++ faults_text told
+
+-- one of them, as faults are wanted or not
+abbrev pub IsScriptAnsweredAs : Bool → Settings → Script → List ℕ → Type 0
+IsScriptAnsweredAs false settings script out = IsScriptAnswered settings script out
+IsScriptAnsweredAs true settings script out = IsScriptAnsweredWithFaults settings script out
+
 -- the bytes are event lines, and the text is what the script is answered that they make
-pub record IsEventsAnswered (settings : Settings) (bytes out : List ℕ) : Type 0 where
+pub record IsEventsAnswered (faults : Bool) (settings : Settings) (bytes out : List ℕ) : Type 0 where
   pub script : Script
   pub spells : IsScriptOf (lines_of bytes) script
-  pub answered : IsScriptAnswered settings script out
+  pub answered : IsScriptAnsweredAs faults settings script out
 
 -- the text is what bytes are answered: as those of one connection at a moment, or as event lines
 abbrev pub IsAnswered : Settings → ReplayMode → List ℕ → List ℕ → Type 0
 IsAnswered settings (AtMoment moment) bytes out = Replays settings moment bytes out
-IsAnswered settings Events bytes out = IsEventsAnswered settings bytes out
+IsAnswered settings (Events faults) bytes out = IsEventsAnswered faults settings bytes out
+
+-- the input is event lines
+abbrev pub reads_events : ReplayMode → Bool
+reads_events (AtMoment moment) = false
+reads_events (Events faults) = true
 
 -- the text is what all the input is answered, read as the options say and under the settings that they and the keys file
 -- make
@@ -74,7 +96,7 @@ IsReplayFault known old new options BadSetting =
 IsReplayFault known old new options (CannotRead path) = (new ≡ old) × HasModeAndConfigFault known options (CannotRead path)
 IsReplayFault known old new options (BadKeysLine number) = (new ≡ old) × HasModeAndConfigFault known options (BadKeysLine number)
 IsReplayFault known old new options (BadEventLine number) =
-    GivesBadLine old new number × (replay_mode options ≡ Some Events) × HasSettings known options.common
+    GivesBadLine old new number × (option_map reads_events (replay_mode options) ≡ Some true) × HasSettings known options.common
 IsReplayFault known old new options (CannotListen address) = ⊥
 IsReplayFault known old new options InputFailed =
     FailsToGive old new × (is_some (replay_mode options) ≡ true) × HasSettings known options.common

@@ -1,31 +1,34 @@
 //! The events of several connections, which the input spells line by line, are run, and what the connections wrote is
-//! printed.
+//! printed, and their first faults where these are wanted.
 
-ghost use Rattle.std.specs.Prelude.{◌≡◌, ◌<◌, ◌+◌, ◌++◌, length, take, IfOk, OnOk, IfErr};
+ghost use Rattle.std.specs.Prelude.{◌≡◌, ◌<◌, ◌+◌, ◌++◌, ℕ, List, length, take, IfOk, OnOk, IfErr};
 ghost use Rattle.s3_text.specs.Lines.{lines_of};
 ghost use Rattle.s3_events.specs.Printing.{outputs_text};
 ghost use Rattle.s3_events.specs.Script.{IsScriptOf};
+ghost use Rattle.s3_events.specs.declared.event.Event.{Event as Happening};
 ghost use Rattle.s3_settings.specs.Devices.{GivesAll};
 ghost use Rattle.s3_settings.specs.declared.mode.ReplayMode.TheVariants.{Events as InEvents};
 ghost use Rattle.s3_world.specs.Run.{Runs, each_moments};
 ghost use Rattle.s3_world.specs.Shown.{written_by_all};
-ghost use Rattle.s3_tasks.specs.Run.{IsEventsAnswered, IsScriptAnswered};
-ghost use Rattle.s3_tasks.specs.Reading.{IsAnswerFault, IsLinesFault, IsReadingFault};
+ghost use Rattle.s3_world.specs.StandsAfter.{StandsAfter};
+ghost use Rattle.s3_tasks.specs.Run.{IsEventsAnswered, IsScriptAnsweredAs};
+ghost use Rattle.s3_tasks.specs.Reading.{IsAnswerFault, IsLinesFault, IsReadingFault, TellsFirst};
 
 use crate::run::PIECE;
 use s3_config::Config;
 use s3_devices::Device;
-use s3_events::{EventsError, Script, print_output, read_events};
+use s3_events::{EventsError, Script, print_fault, print_output, read_events};
 use s3_records::MapRecords;
 use s3_settings::{Fault, read_piece};
 use s3_store::Store;
 use s3_terms::NoMemory;
-use s3_world::{World, run};
+use s3_world::{World, run, worlds_run};
 use std::alloc::Global;
 use std::sync::Wait;
 
 /// What the connections are answered whose events all the input spells, under some settings: a line each, in the order of
-/// their numbers. All lines are read before the first event happens. It may wait for the device, and then never return.
+/// their numbers; and behind these, where `faults` says so, a line for each first fault, in the same order. All lines are read
+/// before the first event happens. It may wait for the device, and then never return.
 ///
 /// # Errors
 ///
@@ -35,14 +38,15 @@ pub fn events_answered<'a, R: Wait, D: Device>(
     rt: &R,
     alloc: Global,
     config: &Config,
+    faults: bool,
     device: &mut D,
 ) -> Result<Vec<u8>, Fault<'a>>
-    ensures value { IfOk result (λ text. GivesAll (λ bytes. IsEventsAnswered config.now bytes text.items) (D.traffic device.old) (D.traffic device.new)) }
-    ensures refused { IfErr result (IsAnswerFault InEvents (D.traffic device.old) (D.traffic device.new)) }
+    ensures value { IfOk result (λ text. GivesAll (λ bytes. IsEventsAnswered faults config.now bytes text.items) (D.traffic device.old) (D.traffic device.new)) }
+    ensures refused { IfErr result (IsAnswerFault (InEvents faults) (D.traffic device.old) (D.traffic device.new)) }
 {
     let mut text = Vec::new(alloc);
     read_all(rt, &mut text, device)?;
-    lines_answered(alloc, config, text.as_slice())
+    lines_answered(alloc, config, faults, text.as_slice())
 }
 
 // Adds all that the device gives to a text, in pieces as they are read.
@@ -64,13 +68,18 @@ fn read_all<'a, R: Wait, D: Device>(
     unreachable!()
 }
 
-// What event lines are answered.
-fn lines_answered<'a>(alloc: Global, config: &Config, text: &[u8]) -> Result<Vec<u8>, Fault<'a>>
-    ensures value { IfOk result (λ out. IsEventsAnswered config.now text.now out.items) }
+// What event lines are answered, with the first faults where these are wanted.
+fn lines_answered<'a>(
+    alloc: Global,
+    config: &Config,
+    faults: bool,
+    text: &[u8],
+) -> Result<Vec<u8>, Fault<'a>>
+    ensures value { IfOk result (λ out. IsEventsAnswered faults config.now text.now out.items) }
     ensures refused { IfErr result (IsLinesFault text.now) }
 {
     let script = script_of(alloc, text)?;
-    let out = script_answered(alloc, config, &script)?;
+    let out = script_answered(alloc, config, faults, &script)?;
     Ok(out)
 }
 
@@ -86,12 +95,23 @@ fn script_of<'a>(alloc: Global, text: &[u8]) -> Result<Script, Fault<'a>>
     }
 }
 
-// What a script is answered.
-fn script_answered(alloc: Global, config: &Config, script: &Script) -> Result<Vec<u8>, NoMemory>
-    ensures { IfOk result (λ out. IsScriptAnswered config.now script.now out.items) }
+// What a script is answered, with the first faults where these are wanted.
+fn script_answered(
+    alloc: Global,
+    config: &Config,
+    faults: bool,
+    script: &Script,
+) -> Result<Vec<u8>, NoMemory>
+    ensures { IfOk result (λ out. IsScriptAnsweredAs faults config.now script.now out.items) }
 {
+    worlds_run();
     let world = world_of(alloc, config, script)?;
-    printed(alloc, &world)
+    let text = printed(alloc, &world)?;
+    if faults {
+        with_faults(text, &world)
+    } else {
+        Ok(text)
+    }
 }
 
 // The world after the events of a script, over a store of its own.
@@ -100,8 +120,10 @@ fn world_of<'a>(
     config: &'a Config,
     script: &'a Script,
 ) -> Result<World<'a, MapRecords>, NoMemory>
-    ensures { IfOk result (λ world. Runs config.now (each_moments script.now.moments.items) script.now.events.items
+    ensures runs { IfOk result (λ world. Runs config.now (each_moments script.now.moments.items) script.now.events.items
         (written_by_all world.connections) world.book.entries) }
+    ensures stands { IfOk result (λ world. StandsAfter world (each_moments script.now.moments.items) script.now.events.items) }
+    ensures settings { IfOk result (λ world. world.settings ≡ config.now) }
 {
     let store = Store::open(alloc, config.buckets())?;
     let (moments, events) = (script.moments.as_slice(), script.events.as_slice());
@@ -112,14 +134,22 @@ fn world_of<'a>(
 fn printed(alloc: Global, world: &World<'_, MapRecords>) -> Result<Vec<u8>, NoMemory>
     ensures { IfOk result (λ text. text.items ≡ outputs_text (written_by_all world.now.connections)) }
 {
-    let Ok(count) = u32::try_from(world.connections()) else {
-        return Err(NoMemory);
-    };
+    let count = count_of(world)?;
     let mut text = Vec::new(alloc);
     for connection in 0..count {
         print_one(&mut text, world, connection)?;
     }
     Ok(text)
+}
+
+// How many connections there are.
+fn count_of(world: &World<'_, MapRecords>) -> Result<u32, NoMemory>
+    ensures { IfOk result (λ count. count ≡ length world.now.connections) }
+{
+    match u32::try_from(world.connections()) {
+        Ok(count) => Ok(count),
+        Err(_) => Err(NoMemory),
+    }
 }
 
 // Adds the line of what a connection wrote behind those of the connections before it.
@@ -134,4 +164,34 @@ fn print_one(
 {
     let output = world.out(connection)?;
     print_output(text, connection, output.as_slice())
+}
+
+// The text with the lines of the first faults of the connections behind it.
+fn with_faults(text: Vec<u8>, world: &World<'_, MapRecords>) -> Result<Vec<u8>, NoMemory>
+    ensures { (moments : List (List ℕ)) (happened : List Happening) → StandsAfter world.now moments happened
+        → IfOk result (λ with. TellsFirst world.now moments happened (length world.now.connections) text.items with.items) }
+{
+    let count = count_of(world)?;
+    let mut text = text;
+    for connection in 0..count {
+        tell_one(&mut text, world, connection)?;
+    }
+    Ok(text)
+}
+
+// Adds the line of the first fault of a connection, if it has one, behind those of the connections before it.
+fn tell_one(
+    text: &mut Vec<u8>,
+    world: &World<'_, MapRecords>,
+    connection: u32,
+) -> Result<(), NoMemory>
+    requires { connection < length world.now.connections }
+    ensures { (moments : List (List ℕ)) (happened : List Happening) (before : List ℕ) → StandsAfter world.now moments happened
+        → TellsFirst world.now moments happened connection before text.old.items
+        → OnOk result (TellsFirst world.now moments happened (connection + 1) before text.new.items) }
+{
+    match world.fault(connection) {
+        Some(fault) => print_fault(text, connection, fault.message, fault.code),
+        None => Ok(()),
+    }
 }

@@ -195,7 +195,7 @@ fn answered<'a, R: Wait, D: Device>(
 {
     match mode {
         ReplayMode::AtMoment(moment) => answers(rt, alloc, config, moment, device),
-        ReplayMode::Events => events_answered(rt, alloc, config, device),
+        ReplayMode::Events { faults } => events_answered(rt, alloc, config, faults, device),
     }
 }
 

@@ -49,7 +49,7 @@ module _ {X : Type 0} (p : X → Bool) (f : X → List ℕ) where
 
 -- ---- what a connection received
 
-same_either : {A : Type 0} (b : Bool) (x : A) → cond b x x ≡ x
+pub same_either : {A : Type 0} (b : Bool) (x : A) → cond b x x ≡ x
 same_either true x = refl
 same_either false x = refl
 
@@ -59,11 +59,11 @@ end_brings c (events.Piece k bytes) = refl
 end_brings c (events.End k) = same_either (eqb k c) []
 end_brings c (events.Turn k) = refl
 
-abbrev input_of : List ℕ → Bool → Input
+abbrev pub input_of : List ℕ → Bool → Input
 input_of bytes ended = record { bytes = bytes; ended = ended }
 
 -- behind its end nothing is received
-received_ended : (c : ℕ) (before : List Event) (e : Event) → (received c before).ended ≡ true → received c (before ++ e ∷ []) ≡ received c before
+pub received_ended : (c : ℕ) (before : List Event) (e : Event) → (received c before).ended ≡ true → received c (before ++ e ∷ []) ≡ received c before
 received_ended c before e ended =
     ap (λ (b : List ℕ). input_of b (list_any (is_end c) (before ++ e ∷ []))) (gathered_stay (is_end c) (brought c) before (e ∷ []) ended)
     ∙ ap (input_of (received c before).bytes) (list_any-append (is_end c) before (e ∷ []) ∙ ap (λ (b : Bool). b || list_any (is_end c) (e ∷ [])) ended ∙ sym ended)
@@ -73,7 +73,7 @@ or_nothing true = refl
 or_nothing false = refl
 
 -- before its end, what an event brings and whether it ends it
-received_on : (c : ℕ) (before : List Event) (e : Event) → (received c before).ended ≡ false
+pub received_on : (c : ℕ) (before : List Event) (e : Event) → (received c before).ended ≡ false
     → received c (before ++ e ∷ []) ≡ record { bytes = (received c before).bytes ++ brought c e; ended = is_end c e }
 received_on c before e on =
     ap (λ (b : List ℕ). input_of b (list_any (is_end c) (before ++ e ∷ []))) (gathered_more (is_end c) (brought c) before e on ∙ ap (λ (b : List ℕ). (received c before).bytes ++ b) (end_brings c e))
@@ -84,7 +84,7 @@ received_on c before e on =
 abbrev pub heard_by : ℕ → Event → Input → Input
 heard_by c e input = cond (eqb (connection_of_event e) c) (heard e input) input
 
-heard_ended : (c : ℕ) (e : Event) (bytes : List ℕ) → heard_by c e (input_of bytes true) ≡ input_of bytes true
+pub heard_ended : (c : ℕ) (e : Event) (bytes : List ℕ) → heard_by c e (input_of bytes true) ≡ input_of bytes true
 heard_ended c (events.Piece k piece) bytes = same_either (eqb k c) (input_of bytes true)
 heard_ended c (events.End k) bytes = same_either (eqb k c) (input_of bytes true)
 heard_ended c (events.Turn k) bytes = same_either (eqb k c) (input_of bytes true)
@@ -98,7 +98,7 @@ end_on : (mine : Bool) (bytes : List ℕ) → input_of (bytes ++ []) mine ≡ co
 end_on true bytes = ap (λ (b : List ℕ). input_of b true) (append-nil bytes)
 end_on false bytes = ap (λ (b : List ℕ). input_of b false) (append-nil bytes)
 
-heard_on : (c : ℕ) (e : Event) (bytes : List ℕ) → input_of (bytes ++ brought c e) (is_end c e) ≡ heard_by c e (input_of bytes false)
+pub heard_on : (c : ℕ) (e : Event) (bytes : List ℕ) → input_of (bytes ++ brought c e) (is_end c e) ≡ heard_by c e (input_of bytes false)
 heard_on c (events.Piece k piece) bytes = piece_on (eqb k c) bytes piece.items
 heard_on c (events.End k) bytes = end_on (eqb k c) bytes
 heard_on c (events.Turn k) bytes = ap (λ (b : List ℕ). input_of b false) (append-nil bytes) ∙ sym (same_either (eqb k c) (input_of bytes false))

@@ -1,14 +1,13 @@
 -- The first fault of a connection of a world.
-use Rattle.std.proofs.Common.{◌≡◌, ◌≢◌, ◌<◌, ◌+◌, ℕ, true, false, Option, Some, None, IfSome, List, [], ◌++◌, length, refl, append_assoc, sym, ap, subst, ◌∙◌, option_and_then}
+use Rattle.std.proofs.Common.{◌≡◌, ◌≢◌, ◌<◌, ◌+◌, ℕ, true, false, Option, Some, None, IfSome, List, [], ◌++◌, length, refl, append_assoc, sym, ap, subst, ◌∙◌}
 use mathlib.Core.List.{IsPrefix}
 use Rattle.std.specs.List.{slice_get}
 use Rattle.std.proofs.lemmas.Bool.{true≢false}
 use Rattle.s3_config.specs.Settings.{Settings}
 use Rattle.s3_terms.specs.declared.code.Code.{Code}
 use Rattle.s3_machine.specs.History.{Entry}
-use Rattle.s3_machine.specs.declared.turn.Turn.{Turn}
 use Rattle.s3_session.specs.Fault.{HasNoFault, IsFault}
-use Rattle.s3_session.specs.Output.{is_dead, is_waiting}
+use Rattle.s3_session.specs.Output.{Over, is_dead, is_waiting}
 use Rattle.s3_session.specs.declared.fault.Fault.{Fault}
 use Rattle.s3_events.specs.declared.event.Event.{Event}
 use Rattle.s3_connection.specs.declared.stage.Stage.{Stage}
@@ -21,13 +20,12 @@ use Rattle.s3_journal.specs.Recorded.{entries_of_seat}
 use Rattle.s3_world.specs.Events.{received}
 use Rattle.s3_world.specs.Faults.{FaultOf, HasNoFaultOf, Tells, TellsIn}
 use Rattle.s3_world.specs.Moments.{handed}
-use Rattle.s3_world.specs.Played.{Playing, Plays, standing_of, turn_of}
+use Rattle.s3_world.specs.Played.{Playing, standing_of}
 use Rattle.s3_world.specs.Run.{moments_of}
 use Rattle.s3_world.specs.Shown.{standing_in}
 use Rattle.s3_world.specs.StandsAfter.{StandsAfter}
 use Rattle.s3_world.specs.World.{Serving}
 use Rattle.s3_world.proofs.MomentsLemmas.{begins, begins_too}
-use Rattle.s3_world.proofs.PlayedLemmas.{waits_for}
 use Rattle.s3_world.proofs.WorldLemmas.{there}
 
 -- nothing is under way where it has not to go on
@@ -36,7 +34,7 @@ next_wants stages.Answered next wants = cc
 next_wants _ next wants = cc
 
 -- a fault of some moments is one of more
-more_moments : (settings : Settings) (input : Input) (few many : List ℕ) (number : ℕ) (code : Code) → IsPrefix few many
+pub more_moments : (settings : Settings) (input : Input) (few many : List ℕ) (number : ℕ) (code : Code) → IsPrefix few many
     → IsFault settings input.bytes input.ended few number code → IsFault settings input.bytes input.ended many number code
 more_moments settings input few many number code front f = record {
   messages = f.messages;
@@ -49,7 +47,7 @@ more_moments settings input few many number code front f = record {
     f.given.0 ++ front.0,
     sym (append_assoc _ f.given.0 front.0) ∙ ap (λ (ms : List ℕ). ms ++ front.0) f.given.1 ∙ front.1,
   );
-  place = f.place;
+  counted = f.counted;
 }
 
 some_of : (settings : Settings) (moments : List ℕ) (input : Input) (count : ℕ) (told : Option Fault)
@@ -62,19 +60,25 @@ some_of settings moments input count None f = tt
 pub tells : (p : Playing) (told : Option Fault)
     → ((settings : Settings) (input : Input) (moments : List ℕ) (entries : List Entry) (sent : List ℕ) → Holds p.connection settings input moments entries sent
     → IfSome told (λ fault. IsFault settings input.bytes input.ended moments fault.message fault.code))
+    → (told ≢ None → standing_of p ≡ Over)
     → ((settings : Settings) (input : Input) (moments : List ℕ) (entries : List Entry) (sent given : List ℕ) → Holds p.connection settings input moments entries sent
     → is_dead (standing_of p) ≡ false → wants_of p.connection ≢ wants.ToGoOn → IsPrefix moments given
     → (is_waiting (standing_of p) ≡ true → given ≡ moments) → told ≡ None → HasNoFault settings input.bytes input.ended given)
     → Tells p told
-tells p told some none = record {
+tells p told some over none = record {
   some = λ settings moments input entries plays.
       some_of settings moments input plays.0.count told (some settings input (handed moments plays.0.count) entries [] plays.0.holds);
-  none = λ settings moments input entries plays lives idle is number code fault.
-      (let rests = (waits_for p settings moments input entries plays).1 idle in
-      none settings input (handed moments plays.0.count) entries [] (handed moments (plays.0.count + fault.0)) plays.0.holds lives
+  over = over;
+  none = λ settings moments input entries plays lives rests is number code fault.
+      (none settings input (handed moments plays.0.count) entries [] (handed moments (plays.0.count + fault.0)) plays.0.holds lives
       (next_wants p.connection.stage plays.1.0) (begins plays.0.count fault.0 moments) (λ waits. absurd (true≢false (sym waits ∙ rests))) is
       number code (more_moments settings input (handed moments fault.0) (handed moments (plays.0.count + fault.0)) number code (begins_too plays.0.count fault.0 moments) fault.1));
 }
+
+-- it is over, where it is there and a fault of it is told
+pub over_in : (x : Option Playing) (told : Option Fault) → TellsIn x told → told ≢ None → standing_in x ≡ Over
+over_in None told none some = absurd (some none)
+over_in (Some p) told t some = t.over some
 
 -- so of the connection of a number
 module _ (world : Serving) (moments : List (List ℕ)) (happened : List Event) (s : StandsAfter world moments happened) (c : ℕ) (told : Option Fault) where
@@ -89,13 +93,11 @@ module _ (world : Serving) (moments : List (List ℕ)) (happened : List Event) (
   some_told t = some_in (slice_get world.connections c) refl t
 
   none_in : (x : Option Playing) → slice_get world.connections c ≡ x → TellsIn x told → c < length moments → is_dead (standing_in x) ≡ false
-      → ((p : Playing) → x ≡ Some p → turn_of p ≡ None) → told ≡ None → HasNoFaultOf world.settings (moments_of c moments) (received c happened)
+      → is_waiting (standing_in x) ≡ false → told ≡ None → HasNoFaultOf world.settings (moments_of c moments) (received c happened)
   none_in None is t less lives idle none number code fault = absurd (there world.connections c (subst (λ (n : ℕ). c < n) (sym s.each) less) is)
   none_in (Some p) is t less lives idle none number code fault =
-      t.none world.settings (moments_of c moments) (received c happened) (entries_of_seat c world.book.entries) (s.plays c p is) lives (idle p refl) none number code fault
+      t.none world.settings (moments_of c moments) (received c happened) (entries_of_seat c world.book.entries) (s.plays c p is) lives idle none number code fault
 
   pub no_fault : TellsIn (slice_get world.connections c) told → c < length moments → is_dead (standing_in (slice_get world.connections c)) ≡ false
-      → option_and_then turn_of (slice_get world.connections c) ≡ None → told ≡ None → HasNoFaultOf world.settings (moments_of c moments) (received c happened)
-  no_fault t less lives idle none =
-      none_in (slice_get world.connections c) refl t less lives
-      (λ p is. (ap (option_and_then turn_of) (sym is) ∙ idle)) none
+      → is_waiting (standing_in (slice_get world.connections c)) ≡ false → told ≡ None → HasNoFaultOf world.settings (moments_of c moments) (received c happened)
+  no_fault t less lives idle none = none_in (slice_get world.connections c) refl t less lives idle none

@@ -5,10 +5,17 @@ pub mod EntryLemmas
 pub mod EventLemmas
 pub mod FaultLemmas
 pub mod FreshLemmas
+pub mod KeptLemmas
 pub mod MomentsLemmas
+pub mod PartLemmas
 pub mod PlayedLemmas
 pub mod ReplayLemmas
 pub mod OneRunLemmas
+pub mod RefusedLemmas
 pub mod RunLemmas
+pub mod ShareLemmas
+pub mod StepLemmas
 pub mod TakenLemmas
+pub mod TrialLemmas
+pub mod TrimLemmas
 pub mod WorldLemmas

@@ -3,7 +3,7 @@ use Rattle.std.proofs.Common.{◌≡◌, ◌<◌, ◌≤◌, ℕ, zero, suc, ◌
 use mathlib.Core.List.{IsPrefix}
 use Rattle.s3_world.specs.Moments.{HasHanded, behind, handed, next_of}
 
-handed_next : (moments : List ℕ) (n : ℕ) → handed moments (suc n) ≡ next_of moments ∷ handed (behind moments) n
+pub handed_next : (moments : List ℕ) (n : ℕ) → handed moments (suc n) ≡ next_of moments ∷ handed (behind moments) n
 handed_next [] n = refl
 handed_next (last ∷ []) n = refl
 handed_next (moment ∷ next ∷ later) n = refl
@@ -46,3 +46,13 @@ begins (suc a) b moments =
 
 pub begins_too : (a b : ℕ) (moments : List ℕ) → IsPrefix (handed moments b) (handed moments (a + b))
 begins_too a b moments = subst (λ (n : ℕ). IsPrefix (handed moments b) (handed moments n)) (omega arith) (begins b a moments)
+
+-- what the moments that a list hands out begin with are such
+pub handed_front : (moments : List ℕ) (count : ℕ) (front more : List ℕ) → front ++ more ≡ handed moments count → front ≡ handed moments (length front)
+handed_front moments count [] more is = refl
+handed_front moments zero (x ∷ front) more is = absurd (cc)
+handed_front moments (suc n) (x ∷ front) more is =
+    let whole = is ∙ handed_next moments n in
+    let first : x ≡ next_of moments = cc in
+    let rest = handed_front (behind moments) n front more (cc) in
+    ap (λ (m : ℕ). m ∷ front) first ∙ ap (λ (ms : List ℕ). next_of moments ∷ ms) rest ∙ sym (handed_next moments (length front))

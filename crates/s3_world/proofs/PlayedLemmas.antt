@@ -19,7 +19,7 @@ use Rattle.s3_world.specs.Timed.{TimedOutputs}
 use Rattle.s3_world.proofs.MomentsLemmas.{begins, begins_too, handed_one}
 
 -- a moment was handed out or not
-handed_if : (moments : List ℕ) (count : ℕ) (has : Bool) (left : List ℕ) → HasHanded moments count left
+pub handed_if : (moments : List ℕ) (count : ℕ) (has : Bool) (left : List ℕ) → HasHanded moments count left
     → (more : ℕ) × HasHanded moments more (behind_if has left) × (handed moments more ≡ handed moments count ++ moment_if has (next_of left))
 handed_if moments count true left before = let one = handed_one moments count left before in (count + 1, one.0, one.1)
 handed_if moments count false left before = (count, before, sym (append-nil (handed moments count)))

@@ -69,19 +69,21 @@ module _ (write : ConnectionsWrite) (settings : Settings) (moments : List ℕ) (
 pub worlds_run : ConnectionsWrite → WorldsRun
 unfolding HavePlayed
 worlds_run write world moments happened s =
-    let settings = world.settings in
-    record {
-      standing = λ c. standing_at world.connections c;
-      waiting = λ c. waiting_in write settings (moments_of c moments) (received c happened) (entries_of_seat c world.book.entries) (slice_get world.connections c) (s.plays c);
-      legal = subst (λ (n : ℕ). Legal n (opening settings.buckets) 0 (history_of world.book.entries)) s.least
-          (subst (λ (t : stores.Standing). Legal world.book.least t.state t.number (history_of world.book.entries)) s.opens s.keeps.legal);
-      taken = s.taken;
-      outputs = λ c less.
-          (let count : c < length world.connections = subst (λ (n : ℕ). c < n) (sym s.each) less in
-          outputs_in write settings (moments_of c moments) (received c happened) (entries_of_seat c world.book.entries) (slice_get world.connections c) (s.plays c)
-          (output_of c (written_by_all world.connections)) (written_one world.connections c) (λ none. there world.connections c count none));
-      each = length-map world.connections written_by ∙ s.each;
-    }
+    let settings = world.settings in (
+      record {
+        standing = λ c. standing_at world.connections c;
+        waiting = λ c. waiting_in write settings (moments_of c moments) (received c happened) (entries_of_seat c world.book.entries) (slice_get world.connections c) (s.plays c);
+        legal = subst (λ (n : ℕ). Legal n (opening settings.buckets) 0 (history_of world.book.entries)) s.least
+            (subst (λ (t : stores.Standing). Legal world.book.least t.state t.number (history_of world.book.entries)) s.opens s.keeps.legal);
+        taken = s.taken;
+        outputs = λ c less.
+            (let count : c < length world.connections = subst (λ (n : ℕ). c < n) (sym s.each) less in
+            outputs_in write settings (moments_of c moments) (received c happened) (entries_of_seat c world.book.entries) (slice_get world.connections c) (s.plays c)
+            (output_of c (written_by_all world.connections)) (written_one world.connections c) (λ none. there world.connections c count none));
+        each = length-map world.connections written_by ∙ s.each;
+      },
+      λ c. refl,
+    )
 
 -- ---- what one wrote
 

@@ -9,6 +9,8 @@ pub mod Run
 pub mod Shown
 pub mod StandsAfter
 pub mod Timed
+pub mod Trimmed
+pub mod Trying
 pub mod World
 pub use Rattle.s3_session.specs.Replay
 pub use Rattle.s3_connection.specs.Output

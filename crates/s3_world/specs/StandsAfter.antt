@@ -84,8 +84,11 @@ pub record HasHappened (settings : Settings) (e : Event) (old new : List Playing
   pub least : after.least ≡ before.least
   pub opens : after.opening ≡ before.opening
 
--- a world that stands after some events has made a run of them, whose outputs are what its connections wrote
+-- a world that stands after some events has made a run of them, in which its connections stand as they do, and whose outputs are what
+-- they wrote
 abbrev pub WorldsRun : Type 0
 WorldsRun =
     (world : Serving) (moments : List (List ℕ)) (happened : List Event)
-    → StandsAfter world moments happened → Runs world.settings moments happened (written_by_all world.connections) world.book.entries
+    → StandsAfter world moments happened
+    → (run : Runs world.settings moments happened (written_by_all world.connections) world.book.entries)
+    × ((c : ℕ) → run.standing c ≡ standing_at world.connections c)

@@ -5,8 +5,8 @@ ghost use Rattle.s3_world.specs.StandsAfter.{WorldsRun};
 
 use s3_connection::{connections_write, outputs_are_one};
 
-/// A law: a world that stands after some events has made a run of them, whose outputs are what its connections wrote. There is
-/// nothing to run.
+/// A law: a world that stands after some events has made a run of them, in which its connections stand as they do, and whose
+/// outputs are what they wrote. There is nothing to run.
 pub fn worlds_run()
     ensures { WorldsRun }
 {

@@ -1,6 +1,7 @@
 //! Connections that share one store: their bytes come in pieces, and their commands have their turns, in any order
 //! of events (`World`). What a run of them is stands in `specs/Run.antt`; the laws say what holds of all runs. And one connection
-//! over a store of its own, whose commands have their turns at once (`Replay`, `replay_one`).
+//! over a store of its own, whose commands have their turns at once (`Replay`, `replay_one`). And events without what is
+//! refused (`trim`), which leave the same entries.
 #![tactic(auto)]
 
 mod alike;
@@ -9,6 +10,10 @@ mod laws;
 mod played;
 mod replay;
 mod running;
+mod share;
+mod trial;
+mod trimmed;
+mod trimming;
 mod whole;
 mod world;
 
@@ -16,5 +21,7 @@ pub use alike::{cuts_and_moves_are_alike, deaths_show};
 pub use laws::{runs_are_one, worlds_run};
 pub use replay::Replay;
 pub use running::run;
+pub use trimmed::{refused_leaves_nothing, trims_are_one};
+pub use trimming::trim;
 pub use whole::replay_one;
 pub use world::World;

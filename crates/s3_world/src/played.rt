@@ -26,7 +26,7 @@ use std::alloc::Global;
 use std::marker::Model;
 
 // The moment that a list hands out next: its first, or moment 0 where it has none.
-fn next(moments: &[Moment]) -> Moment
+pub(crate) fn next(moments: &[Moment]) -> Moment
     ensures { result ≡ next_of moments.now }
 {
     if let Some(moment) = moments.first() {
@@ -39,7 +39,7 @@ fn next(moments: &[Moment]) -> Moment
 }
 
 // What hands out the moments behind that, if it was handed out: the last one of a list comes again and again.
-fn left(moments: &[Moment], has_moment: bool) -> &[Moment]
+pub(crate) fn left(moments: &[Moment], has_moment: bool) -> &[Moment]
     ensures { result.now ≡ behind_if has_moment moments.now }
 {
     if has_moment && moments.len() > 1 {

@@ -33,6 +33,8 @@ pub fn run<'a, R: Records + Drop>(
     requires opening { store ≡ opened (opening config.now.buckets) }
     ensures runs { IfOk result (λ world.
         Runs config.now (each_moments moments.now) events.now (written_by_all world.connections) world.book.entries) }
+    ensures stands { IfOk result (λ world. StandsAfter world (each_moments moments.now) events.now) }
+    ensures settings { IfOk result (λ world. world.settings ≡ config.now) }
 {
     worlds_run();
     let mut world = World::new(alloc, config, store, moments)?;

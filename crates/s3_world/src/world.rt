@@ -6,12 +6,12 @@ ghost use Rattle.s3_store.specs.Steps.{opened};
 ghost use Rattle.s3_events.specs.declared.event.Event.{Event as Happening};
 ghost use Rattle.s3_events.specs.Script.{connection_of_event};
 ghost use Rattle.s3_connection.specs.declared.stage.Wants.{Wants};
-ghost use Rattle.s3_session.specs.Output.{is_dead};
+ghost use Rattle.s3_session.specs.Output.{Over, is_dead, is_waiting};
 ghost use Rattle.s3_world.specs.Events.{brings_bytes, received};
 ghost use Rattle.s3_world.specs.Faults.{FaultOf, HasNoFaultOf};
 ghost use Rattle.s3_world.specs.World.{IsEntered, turn_of_event};
 ghost use Rattle.s3_world.specs.Run.{each_moments, moments_of, output_of};
-ghost use Rattle.s3_world.specs.Shown.{standing_at, waiting_at, wanted_at, written_by_all};
+ghost use Rattle.s3_world.specs.Shown.{standing_at, wanted_at, written_by_all};
 ghost use Rattle.s3_world.specs.StandsAfter.{StandsAfter};
 
 use crate::connections::{all_of_one, fault_of_one, fresh, meet_one};
@@ -131,13 +131,15 @@ impl<'a, R: Records + Drop> World<'a, R> {
         self.book.entries()
     }
 
-    /// The first message of a connection that was refused, if one was; none where it isn't there. It takes no memory.
+    /// The first message of a connection that was refused, if one was; none where it isn't there, or where memory ran out in it.
+    /// What is kept while a command waits isn't judged yet. It takes no memory.
     pub fn fault(&self, connection: u32) -> Option<Fault>
         ensures some { (moments : List (List ℕ)) (happened : List Happening) → StandsAfter self.now moments happened
             → IfSome result (λ fault. FaultOf self.now.settings (moments_of connection moments) (received connection happened) fault.message fault.code) }
+        ensures over { result ≢ None → standing_at self.now.connections connection ≡ Over }
         ensures none { (moments : List (List ℕ)) (happened : List Happening) → StandsAfter self.now moments happened
             → connection < length moments → is_dead (standing_at self.now.connections connection) ≡ false
-            → waiting_at self.now.connections connection ≡ None
+            → is_waiting (standing_at self.now.connections connection) ≡ false
             → result ≡ None → HasNoFaultOf self.now.settings (moments_of connection moments) (received connection happened) }
     {
         fault_of_one(&self.connections, connection as usize)

@@ -1,7 +1,8 @@
-//! Texts of event lines, right and wrong, and the lines of outputs.
+//! Texts of event lines, right and wrong, and the lines of outputs and of refused messages.
 use crate::checks::check;
 use itoa::Buffer;
-use s3_events::{Event, EventsError, Script, print_output, read_events};
+use s3_events::{Event, EventsError, Script, print_fault, print_output, read_events};
+use s3_terms::Code;
 use std::alloc::Global;
 use std::mem::drop;
 
@@ -112,11 +113,20 @@ static READINGS: [(&str, &str); 43] = [
 // Connections, each with its output.
 static OUTPUTS: [(u32, &[u8]); 3] = [(0, b""), (1, b"\x00\xfe"), (2, b"jK")];
 
-// Whether they are printed so.
+// Connections, each with a message that is refused, and why.
+static FAULTS: [(u32, u64, Code); 2] = [
+    (0, 10, Code::MalformedHead),
+    (63, u64::MAX, Code::SignatureDoesNotMatch),
+];
+
+// Whether outputs and refused messages are printed so.
 fn are_printed(alloc: Global, wanted: &[u8]) -> bool {
     let mut out = Vec::new(alloc);
     for (connection, output) in &OUTPUTS {
         drop(print_output(&mut out, *connection, *output));
+    }
+    for (connection, message, code) in &FAULTS {
+        drop(print_fault(&mut out, *connection, *message, *code));
     }
     out.as_slice() == wanted
 }
@@ -128,7 +138,10 @@ fn readings_and_outputs(rt: HostRuntime) {
     }
     check(
         &rt,
-        are_printed(rt.alloc(), b"0 \n1 00fe\n2 6a4b\n"),
-        "printed outputs",
+        are_printed(
+            rt.alloc(),
+            b"0 \n1 00fe\n2 6a4b\nrefused 0 10 MalformedHead\nrefused 63 18446744073709551615 SignatureDoesNotMatch\n",
+        ),
+        "printed outputs and faults",
     );
 }

@@ -46,8 +46,12 @@ const FAULTS: &str = "\
     s3d replay --keys keys --moment 12x|bad setting;\
     s3d replay --keys keys --moment 0 --events|bad setting;\
     s3d replay --keys shelf --moment 0 --events|bad setting;\
+    s3d replay --keys shelf --faults|bad setting;\
+    s3d replay --keys shelf --moment 0 --faults|bad setting;\
+    s3d replay --keys shelf --moment 0 --events --faults|bad setting;\
     s3d replay --keys keys --events --region US|bad setting;\
     s3d replay --keys shelf --events|cannot read shelf;\
+    s3d replay --keys shelf --faults --events|cannot read shelf;\
     s3d replay --keys keys --moment |bad setting;\
     s3d replay --keys keys --moment +12|bad setting;\
     s3d replay --keys keys --moment 0000000000000|bad setting;\

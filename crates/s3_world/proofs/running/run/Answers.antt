@@ -11,5 +11,7 @@ returns g c =
     record {
       runs = subst (λ (settings : Settings). Runs settings moments c.args.events.now (written_by_all world.connections) world.book.entries)
           (c.in_ok-step_all.ensures.settings ∙ c.in_ok-world.ensures.settings)
-          (c.worlds_run.ensures world moments c.args.events.now (c.in_ok-step_all.ensures.stands moments c.in_ok-world.ensures.begins));
+          (c.worlds_run.ensures world moments c.args.events.now (c.in_ok-step_all.ensures.stands moments c.in_ok-world.ensures.begins)).0;
+      stands = c.in_ok-step_all.ensures.stands moments c.in_ok-world.ensures.begins;
+      settings = c.in_ok-step_all.ensures.settings ∙ c.in_ok-world.ensures.settings;
     }
