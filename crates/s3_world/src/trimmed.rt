@@ -6,10 +6,11 @@ use s3_connection::outputs_are_one;
 use s3_session::{faults_end, outputs_stay};
 
 /// A law: where memory runs out in no connection, events leave the same entries, and the same outputs of the connections of which all
-/// is kept for which they wrote something, without connections of which no message is sound, and without a message of others that is
-/// refused, or what stands behind it. So a message that isn't verified, or is refused for any other reason before the store, makes no
-/// entry and changes nothing that another connection writes, whoever sends it and whenever it comes. Memory ran out in no
-/// connection where no output ends with the reply that says so (`deaths_show`). There is nothing to run.
+/// is kept for which they wrote something, without connections of which no message is sound, and of others without what stands behind
+/// the byte that refuses a message, or without all that stands behind whole sound messages, where the next message is refused. So such
+/// a message makes no entry and changes nothing that another connection writes, whoever sends it and whenever it comes. That the
+/// messages in front of it are sound by themselves is asked for there (`IsRefusedAt`). Memory ran out in no connection where no
+/// output ends with the reply that says so (`deaths_show`). There is nothing to run.
 pub fn refused_leaves_nothing()
     ensures runs { KeptRuns }
     ensures same { RefusedLeavesNothing }
@@ -19,8 +20,9 @@ pub fn refused_leaves_nothing()
     faults_end();
 }
 
-/// A law: events have one list of trimmed events; and two lists of events with the same trimmed events leave the same entries, and the same outputs of the connections of which
-/// an event is left in these, where memory runs out in no connection. There is nothing to run.
+/// A law: events have one list of trimmed events; and two lists of events with the same trimmed events leave the same entries, and
+/// the same outputs of the connections of which an event is left in these, where memory runs out in no connection. There is nothing
+/// to run.
 pub fn trims_are_one()
     ensures one { OneTrim }
     ensures run { OneTrimOneRun }
