@@ -84,11 +84,12 @@ sign_app =
 -- `s3d serve`
 abbrev pub serve_app : App
 serve_app =
-    with_rule (with_rule (with_rule (with_rule (with_settings (new_app (codes "serve")))
+    with_rule (with_rule (with_rule (with_rule (with_rule (with_settings (new_app (codes "serve")))
     (required_rule (codes "listen")))
     (default_rule (codes "workers") default_workers))
     (default_rule (codes "max-connections") default_max_connections))
-    (option_rule (codes "connections"))
+    (option_rule (codes "connections")))
+    (option_rule (codes "log"))
 
 -- `s3d` before it has a subcommand
 abbrev pub bare_app : App
@@ -150,6 +151,7 @@ pub record HasServeOptions (rows : List Row) (o : ServeOptions) : Type 0 where
   pub workers : o.workers.now ≡ unwrap_or (first_of (codes "workers") rows) default_workers
   pub max_connections : o.max_connections.now ≡ unwrap_or (first_of (codes "max-connections") rows) default_max_connections
   pub connections : option_map (λ text. text.now) o.connections ≡ first_of (codes "connections") rows
+  pub log : option_map (λ text. text.now) o.log ≡ first_of (codes "log") rows
 
 -- the options of a signing are those of some matches
 pub record HasSignOptions (rows : List Row) (o : SignOptions) : Type 0 where

@@ -173,7 +173,7 @@ static SIGNING: [Argument; 10] = [
 ];
 
 // The further options of `s3d serve`.
-static SERVING: [Argument; 4] = [
+static SERVING: [Argument; 5] = [
     Argument {
         name: "listen",
         value: "ADDR",
@@ -196,6 +196,12 @@ static SERVING: [Argument; 4] = [
         name: "connections",
         value: "N",
         help: "Ends after so many connections",
+        kind: Kind::Optional,
+    },
+    Argument {
+        name: "log",
+        value: "FILE",
+        help: "Appends a line for each message to FILE, or to the standard error where FILE is -",
         kind: Kind::Optional,
     },
 ];

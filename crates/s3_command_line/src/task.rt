@@ -114,6 +114,7 @@ fn serve_options<'a>(matches: &ArgMatches<'a>) -> ServeOptions<'a>
             .get_str("max-connections")
             .unwrap_or(MAX_CONNECTIONS),
         connections: matches.get_str("connections"),
+        log: matches.get_str("log"),
     }
 }
 

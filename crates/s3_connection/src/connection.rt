@@ -4,6 +4,8 @@ ghost use Rattle.std.specs.Prelude.{◌≡◌, ◌≢◌, ◌↔◌, ◌⊎◌, 
 ghost use Rattle.std.specs.Io.Slices.{io_slices_bytes};
 ghost use mathlib.Core.List.{IsPrefix};
 ghost use Rattle.s3_config.specs.Settings.{Settings};
+ghost use Rattle.s3_http_heads.specs.Find.{skip_pairs};
+ghost use Rattle.s3_http_heads.specs.Search as heads;
 ghost use Rattle.s3_machine.specs.History.{Entry};
 ghost use Rattle.s3_machine.specs.declared.turn.Turn.{Turn};
 ghost use Rattle.s3_session.specs.Fault.{HasNoFault, IsFault};
@@ -279,6 +281,19 @@ impl Connection {
     /// memory.
     pub fn is_in_body(&self) -> bool {
         self.session.in_body()
+    }
+
+    /// What has come of the head of the message at hand, until that is answered; `None` where memory ran out for it. It takes no
+    /// memory.
+    pub fn head(&self) -> Option<&[u8]>
+        ensures { (bytes : List ℕ) → heads.Holds self.now.session.search bytes → IfSome result (λ text. text.now ≡ skip_pairs bytes) }
+    {
+        self.session.head()
+    }
+
+    /// Whether the signature of the message at hand was verified: for the log of a server. It takes no memory.
+    pub fn is_verified(&self) -> bool {
+        self.session.is_verified()
     }
 
     /// The first of its messages that was refused, if one was: of all that it received but what is kept, while a command waits or

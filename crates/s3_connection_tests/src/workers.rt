@@ -8,6 +8,7 @@ mod asked;
 mod connections;
 mod gate_overlap;
 mod journal;
+mod lines;
 mod old_bytes;
 mod play;
 mod seats;

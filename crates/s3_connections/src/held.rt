@@ -18,6 +18,7 @@ use s3_calendar::Moment;
 use s3_devices::Recorded;
 use s3_history::Recorder;
 use s3_journal::Ground;
+use s3_log::MessageLog;
 use s3_records::MapRecords;
 use s3_terms::NoMemory;
 use std::alloc::Global;
@@ -25,7 +26,7 @@ use std::io;
 use std::marker::Model;
 use std::mem::drop;
 use std::sync::Wait;
-use std::time::Instant;
+use std::time::{Clock, Instant};
 
 // How many moves a connection makes before others have theirs.
 const MOVES: u32 = 16;
@@ -42,6 +43,7 @@ pub struct Held<'a, J: Ground, W: Wait> {
     outcome: Option<Outcome>,
     awaited: Awaited,
     since: Instant,
+    told: MessageLog<'a, W>,
 }
 
 impl<'a, J: Ground, W: Wait> Model for Held<'a, J, W> {
@@ -55,12 +57,13 @@ impl<'a, J: Ground, W: Wait> Model for Held<'a, J, W> {
         (record { connection = h.pump; traffic = h.socket; moments = h.moments.entries; entries = h.seat.mine; outcome = h.outcome }) };
 }
 
-impl<'a, J: Ground, W: Wait> Held<'a, J, W> {
-    /// A connection which came at a moment, with a seat of its own. It waits for the store. `NoMemory` comes where there is no room for
-    /// a seat more.
+impl<'a, J: Ground, W: Wait + Clock> Held<'a, J, W> {
+    /// The connection of this number, which came at a moment, with a seat of its own. It waits for the store. `NoMemory` comes where
+    /// there is no room for a seat more.
     pub fn new(
         sharing: &Sharing<'a, J, W>,
         socket: Socket,
+        number: u64,
         now: Instant,
     ) -> Result<Held<'a, J, W>, NoMemory>
         ensures traffic { IfOk result (λ held. held.traffic ≡ no_traffic) }
@@ -71,7 +74,8 @@ impl<'a, J: Ground, W: Wait> Held<'a, J, W> {
             return Err(NoMemory);
         };
         let seat = DeskHandle::open(sharing.rt(), sharing.desk())?;
-        Ok(Held::over(sharing.alloc(), socket, moments, seat, now))
+        let told = MessageLog::new(sharing.rt(), sharing.alloc(), sharing.log(), number, now);
+        Ok(Held::over(sharing.alloc(), socket, moments, seat, told, now))
     }
 
     // The same over its socket and at its seat.
@@ -80,6 +84,7 @@ impl<'a, J: Ground, W: Wait> Held<'a, J, W> {
         socket: Recorded<Socket>,
         moments: Recorder<Moment>,
         seat: DeskHandle<'a, J, MapRecords, Account, W>,
+        told: MessageLog<'a, W>,
         now: Instant,
     ) -> Held<'a, J, W>
         requires traffic { socket ≡ no_traffic }
@@ -98,6 +103,7 @@ impl<'a, J: Ground, W: Wait> Held<'a, J, W> {
             outcome: None,
             awaited: Awaited::Message,
             since: now,
+            told,
         }
     }
 
@@ -139,13 +145,14 @@ impl<'a, J: Ground, W: Wait> Held<'a, J, W> {
         if self.outcome.is_some() {
             return false;
         }
-        let step = self.step(sharing, moment, buffer);
+        let step = self.step(sharing, moment, buffer, now);
         self.note(step, now);
         self.socket.stream().stays(step, registry, token)
     }
 
     /// Gives its seat back, with the account of what it did. It waits for the store.
-    pub fn leave(self) {
+    pub fn leave(mut self) {
+        self.tell_left();
         connections_have_written();
         let Held {
             pump,
@@ -155,6 +162,7 @@ impl<'a, J: Ground, W: Wait> Held<'a, J, W> {
             outcome,
             awaited: _,
             since: _,
+            told: _,
         } = self;
         drop(pump);
         tell(seat, &socket, &moments, outcome);
@@ -162,19 +170,34 @@ impl<'a, J: Ground, W: Wait> Held<'a, J, W> {
         drop(socket);
     }
 
-    // Makes one step.
-    fn step(&mut self, sharing: &Sharing<'a, J, W>, moment: Moment, buffer: &mut [u8]) -> Step
+    // Tells of the message whose reply isn't out, if there is one.
+    fn tell_left(&mut self)
+        ensures { self.new ≡ self.old }
+    {
+        self.told.leaves();
+    }
+
+    // Makes one step, which was found ready at a time.
+    fn step(
+        &mut self,
+        sharing: &Sharing<'a, J, W>,
+        moment: Moment,
+        buffer: &mut [u8],
+        now: Instant,
+    ) -> Step
         requires room { 0 < length buffer.old }
         requires goes { self.old.outcome ≡ None }
         ensures goes_on { HasGoneOn moment self.old self.new }
         ensures outcome { self.new.outcome ≡ outcome_of result }
     {
         connections_end();
+        self.told.is_at(now);
         let step = self.pump.step(
             sharing.alloc(),
             sharing.config(),
             &mut self.seat,
             &mut self.moments,
+            &mut self.told,
             &mut self.socket,
             buffer,
             moment,

@@ -13,6 +13,9 @@ use s3_config::Config;
 use s3_connection::{Connection, Wants};
 use s3_devices::{Device, Reading, Wanted, Writing};
 use s3_history::{AsItself, Recorder};
+use s3_log::{Told, Witness, told_of};
+use s3_machine::Answer;
+use s3_terms::{Code, NoMemory};
 use std::alloc::Global;
 use std::marker::Model;
 
@@ -62,16 +65,17 @@ impl Pump {
     /// kept is taken, while anything of it isn't out. The messages whose heads become whole meanwhile have this moment, which is
     /// told to the recorder.
     ///
-    /// `buffer` is what the device is read into; it isn't needed between two steps. The settings have to be the same at every
+    /// The witness is told what becomes of its messages. `buffer` is what the device is read into; it isn't needed between two steps. The settings have to be the same at every
     /// step of a connection, and nobody else may use its device, its handle or its recorder: its promises are about one.
     ///
     /// Takes time and memory as `Connection::piece` does for what it reads, and the handle's.
-    pub fn step<N: StoreHandle, D: Device>(
+    pub fn step<N: StoreHandle, D: Device, L: Witness>(
         &mut self,
         alloc: Global,
         config: &Config,
         handle: &mut N,
         moments: &mut Recorder<Moment>,
+        witness: &mut L,
         device: &mut D,
         buffer: &mut [u8],
         now: Moment,
@@ -94,7 +98,7 @@ impl Pump {
             ≤ rules.progress_of self.new (D.traffic device.new) (N.entries handle.new) }
     {
         for _ in 0..moves {
-            match self.act(alloc, config, handle, moments, device, buffer, now) {
+            match self.act(alloc, config, handle, moments, witness, device, buffer, now) {
                 Step::MayGoOn => {}
                 stopped => return stopped,
             }
@@ -103,12 +107,13 @@ impl Pump {
     }
 
     // Makes one move.
-    fn act<N: StoreHandle, D: Device>(
+    fn act<N: StoreHandle, D: Device, L: Witness>(
         &mut self,
         alloc: Global,
         config: &Config,
         handle: &mut N,
         moments: &mut Recorder<Moment>,
+        witness: &mut L,
         device: &mut D,
         buffer: &mut [u8],
         now: Moment,
@@ -126,16 +131,16 @@ impl Pump {
             < rules.progress_of self.new (D.traffic device.new) (N.entries handle.new) }
     {
         if self.has_unsent() {
-            return self.write(device);
+            return self.write(witness, device);
         }
         match self.connection.wants() {
-            Wants::Input => self.read(alloc, config, moments, device, buffer, now),
+            Wants::Input => self.read(alloc, config, moments, witness, device, buffer, now),
             Wants::Answer => {
-                self.turn(alloc, handle);
+                self.turn(alloc, handle, witness);
                 Step::MayGoOn
             }
             Wants::ToGoOn => {
-                self.go_on(alloc, config, moments, now);
+                self.go_on(alloc, config, moments, witness, now);
                 Step::MayGoOn
             }
             Wants::Nothing => Step::Ended(Outcome::Closed),
@@ -151,7 +156,7 @@ impl Pump {
     }
 
     // Writes some of what is unsent.
-    fn write<D: Device>(&mut self, device: &mut D) -> Step
+    fn write<D: Device, L: Witness>(&mut self, witness: &mut L, device: &mut D) -> Step
         requires some { connections.unsent_of self.old ≢ [] }
         ensures sent { rules.HasSent self.old self.new (D.traffic device.old) (D.traffic device.new) }
         ensures met { rules.HasMet result (D.traffic device.old) (D.traffic device.new) }
@@ -161,6 +166,7 @@ impl Pump {
         match device.write(&self.connection.parts()) {
             Writing::Took(count) => {
                 self.connection.sent(count);
+                witness.wrote(count, !self.has_unsent());
                 Step::MayGoOn
             }
             Writing::Later => Step::Waits(Wanted::Room),
@@ -169,11 +175,12 @@ impl Pump {
     }
 
     // Reads a piece, and gives it to the connection, or tells it the end.
-    fn read<D: Device>(
+    fn read<D: Device, L: Witness>(
         &mut self,
         alloc: Global,
         config: &Config,
         moments: &mut Recorder<Moment>,
+        witness: &mut L,
         device: &mut D,
         buffer: &mut [u8],
         now: Moment,
@@ -191,13 +198,15 @@ impl Pump {
         match device.read(buffer) {
             Reading::Bytes(len) => {
                 if let Ok(is_given) = self.connection.piece(alloc, config, now, &buffer[..len]) {
-                    tell(moments, now, is_given);
+                    tell(moments, witness, now, is_given);
                 }
+                self.tell_ended(witness, true);
                 self.is_within = matches!(self.connection.wants(), Wants::Input);
                 Step::MayGoOn
             }
             Reading::End => {
                 self.connection.end();
+                self.tell_ended(witness, false);
                 Step::MayGoOn
             }
             Reading::Later => Step::Waits(Wanted::Input),
@@ -206,7 +215,7 @@ impl Pump {
     }
 
     // Takes the turn that waits, and answers it.
-    fn turn<N: StoreHandle>(&mut self, alloc: Global, handle: &mut N)
+    fn turn<N: StoreHandle, L: Witness>(&mut self, alloc: Global, handle: &mut N, witness: &mut L)
         requires waits { connections.wants_of self.old ≡ Wants.Answer }
         ensures answered { rules.HasHadTurn self.old self.new (N.entries handle.old) (N.entries handle.new) }
         ensures entries { IsPrefix (N.entries handle.old) (N.entries handle.new) }
@@ -217,6 +226,7 @@ impl Pump {
         match self.connection.take_turn() {
             Some(turn) => {
                 let answered = handle.call(turn);
+                self.tell_answered(witness, &answered);
                 self.connection.answer(alloc, answered);
             }
             None => {}
@@ -224,24 +234,54 @@ impl Pump {
     }
 
     // Goes on behind an answer.
-    fn go_on(&mut self, alloc: Global, config: &Config, moments: &mut Recorder<Moment>, now: Moment)
+    fn go_on<L: Witness>(
+        &mut self,
+        alloc: Global,
+        config: &Config,
+        moments: &mut Recorder<Moment>,
+        witness: &mut L,
+        now: Moment,
+    )
         requires answered { connections.wants_of self.old ≡ Wants.ToGoOn }
         ensures took { rules.HasTaken config.now now self.old self.new [] moments.old.entries moments.new.entries }
         ensures moves { taken_of self.old ≡ None → rules.stage_weight self.old.stage < rules.stage_weight self.new.stage }
     {
         let has_kept = self.connection.has_kept();
         let is_given = self.connection.go_on(alloc, config, now);
-        tell(moments, now, is_given);
+        tell(moments, witness, now, is_given);
+        self.tell_ended(witness, is_given);
         self.is_within = has_kept && matches!(self.connection.wants(), Wants::Input);
+    }
+
+    // Tells what the message at hand was answered.
+    fn tell_answered<L: Witness>(&self, witness: &mut L, answered: &Result<Answer, NoMemory>) {
+        let told = told_of(answered);
+        witness.ends(self.connection.head(), self.connection.is_verified(), told);
+    }
+
+    // Tells that the message at hand was refused, if one was; or that memory ran out for it, where no more is read for another reason
+    // and it had begun.
+    fn tell_ended<L: Witness>(&self, witness: &mut L, had_begun: bool) {
+        if !matches!(self.connection.wants(), Wants::Nothing) {
+            return;
+        }
+        let code = match self.connection.fault() {
+            Some(fault) => fault.code,
+            None if had_begun => Code::InternalError,
+            None => return,
+        };
+        let told = Told::refused(code);
+        witness.ends(self.connection.head(), self.connection.is_verified(), told);
     }
 }
 
-// Tells the recorder a moment that a message has, if it does.
-fn tell(moments: &mut Recorder<Moment>, now: Moment, is_given: bool)
+// Tells the recorder a moment that a message has, if it does, and the witness that it begins.
+fn tell<L: Witness>(moments: &mut Recorder<Moment>, witness: &mut L, now: Moment, is_given: bool)
     ensures told { moments.new.entries ≡ moments.old.entries ++ moment_if is_given now }
     ensures origin { moments.new.origin ≡ moments.old.origin }
 {
     if is_given {
         moments.record::<Moment, AsItself>(&now);
+        witness.begins(now);
     }
 }

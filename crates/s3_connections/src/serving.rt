@@ -13,6 +13,7 @@ use s3_calendar::Moment;
 use s3_config::Config;
 use s3_devices::Device;
 use s3_history::Recorder;
+use s3_log::Nobody;
 use std::alloc::Global;
 use std::sync::Wait;
 
@@ -74,7 +75,17 @@ fn serve_on<R: Wait, N: StoreHandle, D: Device>(
     ensures fails { Fails result (D.traffic device.old) (D.traffic device.new) }
 {
     for _ in rt.forever() {
-        match pump.step(alloc, config, handle, moments, device, buffer, now, MOVES) {
+        match pump.step(
+            alloc,
+            config,
+            handle,
+            moments,
+            &mut Nobody,
+            device,
+            buffer,
+            now,
+            MOVES,
+        ) {
             Step::Ended(outcome) => return outcome,
             Step::Waits(wanted) => device.wait(wanted),
             Step::MayGoOn => {}

@@ -5,18 +5,21 @@ ghost use Rattle.std.specs.Prelude.{◌≡◌};
 use crate::account::Account;
 use s3_config::Config;
 use s3_journal::{Desk, Ground};
+use s3_log::Log;
 use s3_records::MapRecords;
 use std::alloc::Global;
 use std::marker::Model;
 use std::sync::Wait;
 
-/// What all connections of a server share: its settings, which are those that its store stands on, and the store.
+/// What all connections of a server share: its settings, which are those that its store stands on, the store, and the log, if
+/// there is one.
 #[derive(Drop)]
 pub struct Sharing<'a, J: Ground, W: Wait> {
     rt: &'a W,
     alloc: Global,
     config: &'a Config,
     desk: &'a Desk<J, MapRecords, Account>,
+    log: Option<&'a Log>,
 }
 
 impl<'a, J: Ground, W: Wait> Model for Sharing<'a, J, W> {
@@ -36,6 +39,7 @@ impl<'a, J: Ground, W: Wait> Sharing<'a, J, W> {
         alloc: Global,
         config: &'a Config,
         desk: &'a Desk<J, MapRecords, Account>,
+        log: Option<&'a Log>,
     ) -> Sharing<'a, J, W>
         requires { config.now ≡ J.base.settings }
     {
@@ -44,6 +48,7 @@ impl<'a, J: Ground, W: Wait> Sharing<'a, J, W> {
             alloc,
             config,
             desk,
+            log,
         }
     }
 
@@ -62,6 +67,11 @@ impl<'a, J: Ground, W: Wait> Sharing<'a, J, W> {
         ensures { result.now ≡ J.base.settings }
     {
         self.config
+    }
+
+    /// The log.
+    pub fn log(&self) -> Option<&'a Log> {
+        self.log
     }
 
     // The store.

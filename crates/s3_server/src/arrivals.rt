@@ -153,17 +153,26 @@ impl<'a, J: Ground, W: Wait + Clock> Worker<'a, J, W> {
     // Holds the connection that was taken, for which a place is taken.
     fn take_in(&mut self, now: &Now) {
         let is_held = match self.arrivals.taken.take() {
-            Some(stream) if self.places.count_one().is_some() => self.held.holds(
-                self.sharing,
-                self.poll.registry(),
-                Socket::new(stream),
-                now.instant,
-            ),
-            _ => false,
+            Some(stream) => self.holds(stream, now),
+            None => false,
         };
         if !is_held {
             self.places.give_place();
         }
+    }
+
+    // Whether it holds this connection, which is counted.
+    fn holds(&mut self, stream: TcpStream, now: &Now) -> bool {
+        let Some(number) = self.places.count_one() else {
+            return false;
+        };
+        self.held.holds(
+            self.sharing,
+            self.poll.registry(),
+            Socket::new(stream),
+            number,
+            now.instant,
+        )
     }
 
     // Whether it has taken a place for the connection that was taken: a free one, or that of the connection which has waited longest

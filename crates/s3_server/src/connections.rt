@@ -8,7 +8,7 @@ use s3_journal::Ground;
 use slab::Slab;
 use std::alloc::Global;
 use std::sync::Wait;
-use std::time::{Duration, Instant};
+use std::time::{Clock, Duration, Instant};
 
 // How many milliseconds a connection has waited for its next message at least before it is let go for another one.
 const LEAST_IDLE: u64 = 1000;
@@ -19,7 +19,7 @@ pub(crate) struct Connections<'a, J: Ground, W: Wait> {
     held: Slab<Held<'a, J, W>>,
 }
 
-impl<'a, J: Ground, W: Wait> Connections<'a, J, W> {
+impl<'a, J: Ground, W: Wait + Clock> Connections<'a, J, W> {
     /// None.
     pub(crate) fn new(alloc: Global) -> Connections<'a, J, W> {
         Connections {
@@ -37,16 +37,17 @@ impl<'a, J: Ground, W: Wait> Connections<'a, J, W> {
         self.held.capacity()
     }
 
-    /// Whether it holds a connection that came, which is reported from now on; one for which there is no memory, or which the system
+    /// Whether it holds a connection that came as the one of this number, which is reported from now on; one for which there is no memory, or which the system
     /// can't report, is let go.
     pub(crate) fn holds(
         &mut self,
         sharing: &Sharing<'a, J, W>,
         registry: &Registry,
         socket: Socket,
+        number: u64,
         now: Instant,
     ) -> bool {
-        let Some(key) = self.add(sharing, socket, now) else {
+        let Some(key) = self.add(sharing, socket, number, now) else {
             return false;
         };
         if self.is_registered(registry, key) {
@@ -57,8 +58,14 @@ impl<'a, J: Ground, W: Wait> Connections<'a, J, W> {
     }
 
     // The key of a further one, unless there is no memory for it.
-    fn add(&mut self, sharing: &Sharing<'a, J, W>, socket: Socket, now: Instant) -> Option<usize> {
-        let Ok(held) = Held::new(sharing, socket, now) else {
+    fn add(
+        &mut self,
+        sharing: &Sharing<'a, J, W>,
+        socket: Socket,
+        number: u64,
+        now: Instant,
+    ) -> Option<usize> {
+        let Ok(held) = Held::new(sharing, socket, number, now) else {
             return None;
         };
         match self.held.insert(held) {

@@ -7,6 +7,7 @@ mod arrivals;
 mod connections;
 mod limits;
 mod listener;
+mod logging;
 mod places;
 mod serve;
 mod worker;

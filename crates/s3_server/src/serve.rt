@@ -9,15 +9,17 @@ ghost use Rattle.s3_settings.specs.Devices.{AppendsBeginning};
 ghost use Rattle.s3_settings.specs.Fault.{line_of};
 ghost use Rattle.s3_settings.specs.declared.fault.Fault.{Fault};
 ghost use Rattle.s3_connections.specs.Account.{Fits};
-ghost use Rattle.s3_server.specs.Serve.{IsServeFault, IsToldFault, IsListenFault};
+ghost use Rattle.s3_server.specs.Serve.{IsServeFault, IsModeFault, IsToldFault, IsListenFault};
 ghost use Rattle.s3_server.specs.Served.{HasServed, HasServedAs};
 
 use crate::listener::listen;
+use crate::logging::Logging;
 use crate::places::Places;
 use crate::worker::{Means, NoMeans, Worker};
 use s3_config::Config;
 use s3_connections::{Account, Sharing};
 use s3_journal::{Closed, Desk, Ground, Start};
+use s3_log::{Log, LogWriter};
 use s3_options::ServeOptions;
 use s3_records::MapRecords;
 use s3_settings::{Fault, Files, ServeMode, server_settings, write_flushed};
@@ -40,12 +42,12 @@ const FAILED: u8 = 1;
 /// Serves as the options say, and answers the exit status: 0 after the last connection, and 1 otherwise, with one line on
 /// `errors`. A worker whose waiting fails ends with its connections, and the others go on; after the last such worker the status is
 /// 0 too. `output` is told `listening ADDR`, with the port that was taken, and at the end `entries K`, the number of commands that the
-/// store answered.
+/// store answered. The log that the options ask for is told of each message by one line, or of its loss.
 ///
 /// A server that ended has served what `HasServedAs` says: there is one legal history from the opening of the store; each connection has
 /// the entries in it that its own commands made; there are no others; and what each connection wrote is what its own bytes and entries
 /// make, or a beginning of that. Which connections come is the system's to say.
-pub fn serve_words<R: Wait + Threads + Net + Clock + Sync, F: Files, W: Write, E: Write>(
+pub fn serve_words<R: Wait + Threads + Net + Clock + Sync, F: Files + Sync, W: Write, E: Write>(
     rt: &R,
     alloc: Global,
     options: &ServeOptions<'_>,
@@ -68,34 +70,60 @@ pub fn serve_words<R: Wait + Threads + Net + Clock + Sync, F: Files, W: Write, E
     }
 }
 
+// What one thread does.
+#[derive(Drop)]
+enum Job {
+    // The work of a worker.
+    Work(Means),
+    // The writing of the log.
+    Write(LogWriter),
+}
+
 // Serves as the options say.
-fn serve<'a, R: Wait + Threads + Net + Clock + Sync, F: Files, W: Write>(
+fn serve<'a, R: Wait + Threads + Net + Clock + Sync, F: Files + Sync, W: Write>(
     rt: &R,
     alloc: Global,
     options: &ServeOptions<'a>,
-    files: &F,
+    files: &'a F,
     output: &mut W,
 ) -> Result<(), Fault<'a>>
     ensures served { OnOk result (HasServedAs (F.known files.now) options.now) }
     ensures refused { IfErr result (IsServeFault (F.known files.now) options.now) }
 {
     let (mode, config) = server_settings(alloc, options, files)?;
-    serve_mode(rt, alloc, &mode, &config, output)
+    serve_mode(rt, alloc, &mode, &config, files, output)
 }
 
 // Serves with these settings.
-fn serve_mode<'a, R: Wait + Threads + Net + Clock + Sync, W: Write>(
+fn serve_mode<'a, R: Wait + Threads + Net + Clock + Sync, F: Files + Sync, W: Write>(
     rt: &R,
     alloc: Global,
     mode: &ServeMode<'a>,
     config: &Config,
+    files: &'a F,
+    output: &mut W,
+) -> Result<(), Fault<'a>>
+    ensures served { OnOk result (HasServed config.now) }
+    ensures refused { IfErr result (IsModeFault mode.now) }
+{
+    let logging = Logging::asked(alloc, mode, files)?;
+    serve_logged(rt, alloc, mode, config, logging.as_ref(), output)
+}
+
+// Serves with this log, if there is one.
+fn serve_logged<'a, R: Wait + Threads + Net + Clock + Sync, F: Files + Sync, W: Write>(
+    rt: &R,
+    alloc: Global,
+    mode: &ServeMode<'a>,
+    config: &Config,
+    logging: Option<&Logging<'a, F>>,
     output: &mut W,
 ) -> Result<(), Fault<'a>>
     ensures served { OnOk result (HasServed config.now) }
     ensures refused { IfErr result (IsToldFault mode.now.address) }
 {
     let start = start(alloc, config)?;
-    let entries = serve_start(rt, alloc, mode, config, start, output)?;
+    let entries = serve_start(rt, alloc, mode, config, logging, start, output)?;
     tell_entries(alloc, entries, output)
 }
 
@@ -109,11 +137,12 @@ fn start(alloc: Global, config: &Config) -> Result<Start<MapRecords>, NoMemory>
 }
 
 // Serves from there, and answers how many commands were answered.
-fn serve_start<'a, R: Wait + Threads + Net + Clock + Sync, W: Write>(
+fn serve_start<'a, R: Wait + Threads + Net + Clock + Sync, F: Files + Sync, W: Write>(
     rt: &R,
     alloc: Global,
     mode: &ServeMode<'a>,
     config: &Config,
+    logging: Option<&Logging<'a, F>>,
     start: Start<MapRecords>,
     output: &mut W,
 ) -> Result<u64, Fault<'a>>
@@ -123,9 +152,9 @@ fn serve_start<'a, R: Wait + Threads + Net + Clock + Sync, W: Write>(
     ensures refused { IfErr result (IsToldFault mode.now.address) }
 {
     match listening(rt, alloc, mode, output) {
-        Ok(means) => {
+        Ok(jobs) => {
             let places = Places::new(mode.connections, mode.most_held);
-            entries_of(run_all(rt, alloc, config, &places, start, means))
+            entries_of(run_all(rt, alloc, config, &places, logging, start, jobs))
         }
         Err(fault) => Err(fault),
     }
@@ -139,34 +168,38 @@ fn entries_of<'a>(entries: Result<u64, NoMemory>) -> Result<u64, Fault<'a>>
     Ok(entries?)
 }
 
-// What the workers work with, on the address that was asked for, once it is told.
+// What is to be done, on the address that was asked for, once it is told.
 fn listening<'a, R: Net, W: Write>(
     rt: &R,
     alloc: Global,
     mode: &ServeMode<'a>,
     output: &mut W,
-) -> Result<Vec<Means>, Fault<'a>>
+) -> Result<Vec<Job>, Fault<'a>>
     ensures refused { IfErr result (IsToldFault mode.now.address) }
 {
     let listener = listen(rt, mode.address)?;
-    let means = all_means(rt, alloc, mode, &listener)?;
+    let jobs = all_jobs(rt, alloc, mode, &listener)?;
     tell_address(alloc, mode, &listener, output)?;
-    Ok(means)
+    Ok(jobs)
 }
 
-// What the workers work with.
-fn all_means<'a, R: Net>(
+// What is to be done: a worker's work each, and behind them the writing of the log. It stands last, so that it doesn't stand in
+// front of a worker for which the system makes no thread.
+fn all_jobs<'a, R: Net>(
     rt: &R,
     alloc: Global,
     mode: &ServeMode<'a>,
     listener: &net::TcpListener,
-) -> Result<Vec<Means>, Fault<'a>>
+) -> Result<Vec<Job>, Fault<'a>>
     ensures refused { IfErr result (IsListenFault mode.now.address) }
 {
     let mut all = Vec::new(alloc);
     for _ in 0..mode.workers {
         let means = one_means(rt, alloc, mode, listener)?;
-        all.push(means)?;
+        all.push(Job::Work(means))?;
+    }
+    if mode.log.is_some() {
+        all.push(Job::Write(LogWriter::new(alloc)?))?;
     }
     Ok(all)
 }
@@ -187,30 +220,32 @@ fn one_means<'a, R: Net>(
     }
 }
 
-// Has a worker work with each of these, in a thread of its own, and answers how many commands the store answered.
-fn run_all<R: Wait + Threads + Clock + Sync>(
+// Has each of these done in a thread of its own, and answers how many commands the store answered.
+fn run_all<R: Wait + Threads + Clock + Sync, F: Files + Sync>(
     rt: &R,
     alloc: Global,
     config: &Config,
     places: &Places,
+    logging: Option<&Logging<'_, F>>,
     start: Start<MapRecords>,
-    means: Vec<Means>,
+    jobs: Vec<Job>,
 ) -> Result<u64, NoMemory>
     requires settings { start.base.settings ≡ config.now }
     requires store { start.base.store ≡ opened (opening config.now.buckets) }
     ensures served { OnOk result (HasServed config.now) }
 {
-    run::<Brand, R>(rt, alloc, config, places, start, means)
+    run::<Brand, R, F>(rt, alloc, config, places, logging, start, jobs)
 }
 
 // The same at the desk of a brand.
-fn run<J: Ground + Send + Sync, R: Wait + Threads + Clock + Sync>(
+fn run<J: Ground + Send + Sync, R: Wait + Threads + Clock + Sync, F: Files + Sync>(
     rt: &R,
     alloc: Global,
     config: &Config,
     places: &Places,
+    logging: Option<&Logging<'_, F>>,
     start: Start<MapRecords>,
-    means: Vec<Means>,
+    jobs: Vec<Job>,
 ) -> Result<u64, NoMemory>
     requires name { J.name ≡ start.name }
     requires base { J.base ≡ start.base }
@@ -220,7 +255,7 @@ fn run<J: Ground + Send + Sync, R: Wait + Threads + Clock + Sync>(
     ensures served { OnOk result (HasServed config.now) }
 {
     let desk = Desk::<J, MapRecords, Account>::open(alloc, start)?;
-    work_all(rt, alloc, config, places, &desk, means)?;
+    work_all(rt, alloc, config, places, &desk, logging, jobs)?;
     entries_left::<J>(config, desk.close())
 }
 
@@ -242,39 +277,74 @@ fn entries_left<J: Ground>(
     }
 }
 
-// Has all workers work to their end.
-fn work_all<J: Ground + Send + Sync, R: Wait + Threads + Clock + Sync>(
+// Has all of these done.
+fn work_all<J: Ground + Send + Sync, R: Wait + Threads + Clock + Sync, F: Files + Sync>(
     rt: &R,
     alloc: Global,
     config: &Config,
     places: &Places,
     desk: &Desk<J, MapRecords, Account>,
-    means: Vec<Means>,
+    logging: Option<&Logging<'_, F>>,
+    jobs: Vec<Job>,
 ) -> Result<(), NoMemory>
     requires settings { J.base.settings ≡ config.now }
 {
     let worked = thread::map_vec(
         rt,
-        means,
-        &|means: Means| { works(rt, alloc, config, places, desk, means) },
+        jobs,
+        &|job: Job| { does(rt, alloc, config, places, desk, logging, job) },
     )?;
     drop(worked);
     Ok(())
 }
 
-// Has a worker with these means work to its end.
+// Does one of these to its end.
+fn does<J: Ground, R: Wait + Clock, F: Files>(
+    rt: &R,
+    alloc: Global,
+    config: &Config,
+    places: &Places,
+    desk: &Desk<J, MapRecords, Account>,
+    logging: Option<&Logging<'_, F>>,
+    job: Job,
+)
+    requires settings { J.base.settings ≡ config.now }
+{
+    match job {
+        Job::Work(means) => works(rt, alloc, config, places, desk, log_of(logging), means),
+        Job::Write(writer) => {
+            if let Some(logging) = logging {
+                logging.write(rt, alloc, writer);
+            }
+        }
+    }
+}
+
+// The log, if there is one.
+fn log_of<'l, F: Files>(logging: Option<&'l Logging<'_, F>>) -> Option<&'l Log> {
+    match logging {
+        Some(logging) => Some(logging.log()),
+        None => None,
+    }
+}
+
+// Has a worker with these means work to its end. It tells no more then.
 fn works<J: Ground, R: Wait + Clock>(
     rt: &R,
     alloc: Global,
     config: &Config,
     places: &Places,
     desk: &Desk<J, MapRecords, Account>,
+    log: Option<&Log>,
     means: Means,
 )
     requires settings { J.base.settings ≡ config.now }
 {
-    let sharing = Sharing::new(rt, alloc, config, desk);
+    let sharing = Sharing::new(rt, alloc, config, desk, log);
     works_at(&sharing, places, means);
+    if let Some(log) = log {
+        log.leave(rt);
+    }
 }
 
 // The same at a store that is shared. There is no worker without a clock.

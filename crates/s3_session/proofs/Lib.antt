@@ -1,3 +1,4 @@
+pub mod AloneLemmas
 pub mod AtOnceLemmas
 pub mod EarlyLemmas
 pub mod FaultEndLemmas

@@ -1,6 +1,6 @@
 -- What a verdict on a connection's bytes says of them (RFC 9112, sections 2.1 and 6.2), and that the
 -- bytes fix what is written.
-use Rattle.std.specs.Prelude.{◌≡◌, ◌≢◌, ℕ, Bool, true, false, List, [], ◌++◌, Ok}
+use Rattle.std.specs.Prelude.{◌≡◌, ◌≢◌, ℕ, Bool, true, false, List, [], ◌++◌, Some, Ok}
 use mathlib.Core.List.{IsPrefix}
 use Rattle.s3_config.specs.Settings.{Settings}
 use Rattle.s3_http_heads.specs.Find.{found_in}
@@ -19,6 +19,7 @@ use Rattle.s3_session.specs.Decision.{Decision, Judges, context_of, open_yet}
 use Rattle.s3_session.specs.Invitation.{Invites}
 use Rattle.s3_session.specs.Output.{Past, Standing, Reading, Writes, is_dead}
 use Rattle.s3_session.specs.Replay.{LiveReplays, Replays}
+use Rattle.s3_session.specs.Walk.{Message, Walks}
 
 -- settings, moment, bytes and whether they end leave at most one verdict, with one rest
 abbrev pub OneVerdict : Type 0
@@ -87,6 +88,24 @@ SoundIsJudged =
     (settings : Settings) (moment : ℕ) (ended : Bool) (bytes rest : List ℕ) (context : Context) (command : Command)
     → IsSound settings moment bytes context command rest
     → Judges settings moment ended bytes (verdicts.Sound context command, rest)
+
+-- a sound message is sound by its own bytes alone, without the rest behind them, and the same is written before its
+-- body is read
+abbrev pub SoundAlone : Type 0
+SoundAlone =
+    (settings : Settings) (moment : ℕ) (ended : Bool) (bytes rest : List ℕ) (context : Context) (command : Command)
+    → Judges settings moment ended bytes (verdicts.Sound context command, rest)
+    → (whole : List ℕ)
+    × (bytes ≡ whole ++ rest)
+    × Judges settings moment false whole (verdicts.Sound context command, [])
+    × ((text : List ℕ) → Invites settings moment bytes text → Invites settings moment whole text)
+
+-- and sound messages that stand one behind another are so by their own bytes alone
+abbrev pub SoundWalksAlone : Type 0
+SoundWalksAlone =
+    (settings : Settings) (ended : Bool) (bytes rest : List ℕ) (messages : List Message)
+    → Walks settings ended bytes messages (Some rest)
+    → (front : List ℕ) × (bytes ≡ front ++ rest) × Walks settings false front messages (Some [])
 
 -- Two connections under the same settings, whose bytes are the same, of which both or neither have ended, whose messages had
 -- the first moments of one list, to which the same answers were given, and in which memory did not run out, have written the

@@ -1,15 +1,17 @@
 //! Whether a head is admitted: what has to hold before its body is looked at.
 
-ghost use Rattle.std.specs.Prelude.{◌≡◌};
+ghost use Rattle.std.specs.Prelude.{◌≡◌, ◌⊎◌, true, IfOk, IsOk};
+ghost use Rattle.s3_signing.specs.Verdict.{head_verdict};
 ghost use Rattle.s3_session.specs.Admission.{admission_of};
 ghost use Rattle.s3_session.specs.Admitting as rules;
 
+use crate::signer::HeadSigner;
 use s3_calendar::Moment;
 use s3_config::Config;
 use s3_http_heads::{Head, framing};
 use s3_payloads::PayloadReader;
 use s3_requests::{Plan, route};
-use s3_signing::{KeptKey, verify_head};
+use s3_signing::verify_head;
 use s3_terms::Code;
 use std::alloc::Global;
 
@@ -26,20 +28,24 @@ pub struct Admission {
 
 /// Judges a head that has been read: its framing, its signature, what it announces of its body, and its
 /// routing, in this order (`docs/PROTOCOL.md`, "Refusals"). The refusal is the first fault; `InternalError`
-/// says that memory ran out, past all that shows before the signature. `kept` is what `verify_head` keeps.
+/// says that memory ran out, past all that shows before the signature. `signer` is told whether it was verified, and keeps what
+/// `verify_head` does.
 #[tactic(auto, unfolding(crate::specs::Admission::admission_of, crate::specs::Admitting::early_admission, s3_signing::specs::Verdict::head_verdict), using(crate::proofs::SoundLemmas::announced_size))]
 pub fn admit(
     alloc: Global,
     config: &Config,
     head: &Head,
     moment: Moment,
-    kept: &mut KeptKey,
+    signer: &mut HeadSigner,
 ) -> Result<Admission, Code>
-    ensures { rules.Admits (rules.early_admission config.now head.now moment) result
+    ensures admits { rules.Admits (rules.early_admission config.now head.now moment) result
         (admission_of config.now head.now moment) }
+    ensures admitted { IfOk result (λ _. signer.new.is_verified ≡ true) }
+    ensures verified { signer.new.is_verified ≡ true → (signer.old.is_verified ≡ true) ⊎ IsOk (head_verdict config.now head.now moment) }
 {
     let length = framing(head, config.body_limit())?;
-    let verified = verify_head(alloc, config, head, moment, kept)?;
+    let verified = verify_head(alloc, config, head, moment, &mut signer.key)?;
+    signer.is_verified = true;
     let reader = PayloadReader::new(alloc, config, head, length, verified)?;
     let plan = route(alloc, head)?;
     Ok(Admission {

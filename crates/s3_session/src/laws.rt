@@ -2,7 +2,7 @@
 
 ghost use Rattle.s3_session.specs.ReadBack.{EveryReplay, StoredIsReadBack, VersionsAreReadBack, OnlyStoredIsReadBack, OnlyStoredIsShown, PutsAreReadBack, PutVersionsAreReadBack, CopiesAreReadBack, CopyVersionsAreReadBack, CompletionsAreReadBack, CompletionVersionsAreReadBack, PayloadsAreBrought, PayloadsAreSent};
 ghost use Rattle.s3_session.specs.Fault.{FaultsEnd, FaultsStay, OneFault, RefusedIsNothing};
-ghost use Rattle.s3_session.specs.Laws.{HeadlessAreSilent, HeadsAreDecided, InvitationsStay, OneInvitation, OneOutput, OneVerdict, OneWriting, OutputsStay, VerdictsExist, VerdictsStay, SoundMessages, SoundIsJudged};
+ghost use Rattle.s3_session.specs.Laws.{HeadlessAreSilent, HeadsAreDecided, InvitationsStay, OneInvitation, OneOutput, OneVerdict, OneWriting, OutputsStay, VerdictsExist, VerdictsStay, SoundAlone, SoundMessages, SoundIsJudged, SoundWalksAlone};
 ghost use Rattle.s3_session.specs.Stands.{SessionsWrite};
 
 use s3_http_heads::{texts_say_one_thing, verdict_is_exact};
@@ -74,6 +74,18 @@ pub fn sound_verdicts_are_exact()
     verdict_is_exact();
     verdicts_are_final();
     accepted_bodies_are_whole();
+}
+
+/// A law: a sound message is sound by its own bytes alone: without what stands behind it, it asks for the same, and
+/// the same is written before its body is read. So are several, one behind another. There is nothing to run.
+pub fn sound_messages_stand_alone()
+    ensures alone { SoundAlone }
+    ensures walks { SoundWalksAlone }
+{
+    sound_verdicts_are_exact();
+    verdict_is_exact();
+    verdicts_stay();
+    invitations_are_final();
 }
 
 /// A law: settings, moment and bytes leave one text that is written before the body of the message at their

@@ -8,11 +8,11 @@ ghost use Rattle.s3_session.specs.Invitation.{may_be_invited};
 
 use crate::admission::admit;
 use crate::incoming::Incoming;
+use crate::signer::HeadSigner;
 use s3_calendar::Moment;
 use s3_config::Config;
 use s3_http_heads::Head;
 use s3_replies::Context;
-use s3_signing::KeptKey;
 use s3_terms::Code;
 use std::alloc::Global;
 
@@ -33,15 +33,16 @@ pub(crate) fn open_text(
     config: &Config,
     text: Option<&[u8]>,
     moment: Moment,
-    kept: &mut KeptKey,
+    signer: &mut HeadSigner,
 ) -> Opening
     ensures { rules.Opens config.now moment (option_copied text.entry) result }
 {
+    signer.begins();
     let Some(text) = text else {
         return Opening::Died;
     };
     match Head::read(alloc, text) {
-        Ok(head) => open_head(alloc, config, &head, moment, kept),
+        Ok(head) => open_head(alloc, config, &head, moment, signer),
         Err(Code::MalformedHead) => Opening::Refused {
             code: Code::MalformedHead,
             head_only: false,
@@ -56,11 +57,11 @@ fn open_head(
     config: &Config,
     head: &Head,
     moment: Moment,
-    kept: &mut KeptKey,
+    signer: &mut HeadSigner,
 ) -> Opening
     ensures { rules.HeadOpens head.now moment (admission_of config.now head.now moment) result }
 {
-    match admit(alloc, config, head, moment, kept) {
+    match admit(alloc, config, head, moment, signer) {
         Ok(admission) => {
             let invited = may_be_invited(head, admission.length);
             let context = context_of(head, moment);

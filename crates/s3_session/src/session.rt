@@ -21,6 +21,7 @@ use crate::laws::{
 };
 use crate::opening::{Opening, open_text};
 use crate::reply::AnswerTo;
+use crate::signer::HeadSigner;
 use s3_calendar::Moment;
 use s3_config::Config;
 use s3_http_heads::{Found, HeadSearch, searches_find};
@@ -28,7 +29,6 @@ use s3_machine::{Answer, Command, Turn};
 use s3_outbox::Outbox;
 use s3_payloads::payloads_are_judged;
 use s3_replies::{Context, continue_reply, internal_error_reply, refusal};
-use s3_signing::KeptKey;
 use s3_terms::{Code, NoMemory};
 use std::alloc::Global;
 use std::io::IoSlice;
@@ -112,14 +112,14 @@ fn next_behind(closes: bool) -> Next
 /// It makes no call of the system: the caller moves the bytes. `docs/ARCHITECTURE.md` has a table of its states.
 #[derive(Drop)]
 pub struct Session {
-    search: HeadSearch,
+    pub(crate) search: HeadSearch,
     stage: Stage,
     outbox: Outbox,
     is_ended: bool,
     // How many messages were answered; the greatest number where there were more.
     answered: u64,
-    // The signing key of the last head that was verified. No clause sees it: it saves time and decides nothing.
-    kept: KeptKey,
+    // What is kept of heads that were verified. No clause sees it: it decides nothing that is written.
+    pub(crate) signer: HeadSigner,
 }
 
 impl Model for Session {
@@ -149,7 +149,7 @@ impl Session {
             outbox: Outbox::new(alloc),
             is_ended: false,
             answered: 0,
-            kept: KeptKey::new(),
+            signer: HeadSigner::new(),
         }
     }
 
@@ -267,7 +267,7 @@ impl Session {
     {
         searches_find();
         payloads_are_judged();
-        match open_text(alloc, config, self.search.text(), moment, &mut self.kept) {
+        match open_text(alloc, config, self.search.text(), moment, &mut self.signer) {
             Opening::Admitted(incoming, invited) => match self.invite(invited) {
                 Ok(()) => self.read_body(alloc, incoming, piece),
                 Err(NoMemory) => {

@@ -3,11 +3,12 @@ use Rattle.std.specs.Prelude.{◌≡◌, ◌⊎◌, ⊤, ℕ, List, [], ◌∷�
 use Rattle.std.specs.Fmt.{decimal}
 use Rattle.s3_text.specs.Characters.{line_feed}
 use Rattle.s3_settings.specs.declared.fault.Fault.{Fault}
-use Rattle.s3_settings.specs.declared.fault.Fault.TheVariants.{CannotRead, BadKeysLine, BadEventLine, BadSetting, CannotListen, InputFailed, OutputFailed, OutOfMemory}
+use Rattle.s3_settings.specs.declared.fault.Fault.TheVariants.{CannotRead, CannotWrite, BadKeysLine, BadEventLine, BadSetting, CannotListen, InputFailed, OutputFailed, OutOfMemory}
 
 -- the text of a fault
 abbrev pub text_of : Fault → List ℕ
 text_of (CannotRead path) = codes "cannot read " ++ path.now
+text_of (CannotWrite path) = codes "cannot write " ++ path.now
 text_of (BadKeysLine number) = codes "bad keys line " ++ decimal number
 text_of (BadEventLine number) = codes "bad event line " ++ decimal number
 text_of BadSetting = codes "bad setting"

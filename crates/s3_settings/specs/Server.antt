@@ -45,6 +45,7 @@ pub record IsServeModeOf (o : ServeOptions) (mode : ServeMode) : Type 0 where
   pub workers : up_to greatest_workers (option_number o.workers.now) ≡ Some mode.workers
   pub most_held : up_to greatest_held (option_number o.max_connections.now) ≡ Some mode.most_held
   pub connections : connections_asked (option_map (λ text. text.now) o.connections) ≡ Some mode.connections
+  pub log : option_map (λ text. text.now) o.log ≡ option_map (λ text. text.now) mode.log
 
 -- a server runs as the options say, under the settings that they and the keys file make
 pub record IsServer (known : List ℕ → Option (List ℕ)) (o : ServeOptions) (mode : ServeMode) (settings : Settings) : Type 0 where

@@ -19,6 +19,8 @@ use std::io::{self, Write};
 pub enum Fault<'a> {
     /// The file at this path could not be read.
     CannotRead(&'a str),
+    /// Nothing could be written to the file at this path.
+    CannotWrite(&'a str),
     /// The line of the keys file with this number, from 1, is no credential.
     BadKeysLine(usize),
     /// The event line with this number, from 1, is wrong.
@@ -44,6 +46,7 @@ impl<'a> Fault<'a> {
     {
         match self {
             Fault::CannotRead(path) => ("cannot read ", path),
+            Fault::CannotWrite(path) => ("cannot write ", path),
             Fault::BadKeysLine(number) => ("bad keys line ", digits.format(*number)),
             Fault::BadEventLine(number) => ("bad event line ", digits.format(*number)),
             Fault::BadSetting => ("bad setting", ""),

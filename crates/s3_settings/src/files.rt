@@ -1,4 +1,4 @@
-//! Files that are read whole.
+//! Files that are read whole, or appended to.
 
 ghost use Rattle.std.specs.Prelude.{◌≡◌, ◌≢◌, ℕ, List, Option, None, IfOk, IfErr, IfSome};
 ghost use Rattle.std.specs.IoError.{error_kind};
@@ -8,7 +8,7 @@ use crate::fault::Fault;
 use std::alloc::Global;
 use std::io::{self, ErrorKind};
 
-/// Files that are read whole, each under its path.
+/// Files that are read whole or appended to, each under its path.
 pub trait Files {
     // The bytes of the file at a path, where they are known.
     ghost known: { Self → List ℕ → Option (List ℕ) } = { λ _ _. None };
@@ -18,6 +18,12 @@ pub trait Files {
     fn read(&self, alloc: Global, path: &str) -> io::Result<Vec<u8>>
         ensures bytes { IfOk result (λ bytes. IfSome (known self.now path.now) (λ text. bytes.items ≡ text)) }
         ensures unknown { IfErr result (λ error. error_kind error ≢ ErrorKind.OutOfMemory → known self.now path.now ≡ None) };
+
+    /// Appends these bytes to the file at a path, which is made where it isn't there; the path `-` is the standard error.
+    /// They may be written in part where it fails.
+    fn append(&self, _path: &str, _bytes: &[u8]) -> io::Result<()> {
+        Err(io::Error::from(ErrorKind::Unsupported))
+    }
 }
 
 /// All bytes of the file at a path.

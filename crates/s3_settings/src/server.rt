@@ -30,6 +30,8 @@ pub struct ServeMode<'a> {
     pub most_held: u64,
     /// After how many connections it ends, from 1; without a number it goes on.
     pub connections: Option<u64>,
+    /// The path of the file that tells of its messages, or `-` for the standard error; without one nothing tells of them.
+    pub log: Option<&'a str>,
 }
 
 impl<'a> ServeMode<'a> {
@@ -56,6 +58,7 @@ impl<'a> ServeMode<'a> {
             workers,
             most_held,
             connections,
+            log: options.log,
         })
     }
 }

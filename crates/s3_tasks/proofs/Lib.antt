@@ -1,3 +1,4 @@
+pub mod ConfigLemmas
 pub mod EventsLemmas
 pub mod FaultsLemmas
 pub mod ReadingLemmas

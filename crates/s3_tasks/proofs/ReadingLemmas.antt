@@ -3,7 +3,7 @@ use Rattle.std.proofs.Common.{◌≡◌, ◌∙◌, ℕ, Bool, List, ◌++◌, t
 use Rattle.std.specs.Prelude.{IfErr, IfOk}
 use Rattle.s3_devices.specs.Device.{Traffic}
 use Rattle.s3_settings.specs.declared.fault.Fault.{Fault}
-use Rattle.s3_settings.specs.declared.fault.Fault.TheVariants.{CannotRead, BadKeysLine, BadEventLine, BadSetting, CannotListen, InputFailed, OutputFailed, OutOfMemory}
+use Rattle.s3_settings.specs.declared.fault.Fault.TheVariants.{CannotRead, CannotWrite, BadKeysLine, BadEventLine, BadSetting, CannotListen, InputFailed, OutputFailed, OutOfMemory}
 use Rattle.s3_settings.specs.declared.mode.ReplayMode.{ReplayMode}
 use Rattle.s3_settings.specs.Devices.{Gives, GivesAll, GivesSome, Reads}
 use Rattle.s3_world.specs.Replaying.{HasTaken, Replaying}
@@ -42,6 +42,7 @@ gives_memory P old new (Err fault) is all = subst (IsReadingFault old new) (sym 
 -- what can't be read has no answer
 reading_answer : (mode : ReplayMode) (old new : Traffic) (fault : Fault) → IsReadingFault old new fault → IsAnswerFault mode old new fault
 reading_answer mode old new (CannotRead path) why = absurd why
+reading_answer mode old new (CannotWrite path) why = absurd why
 reading_answer mode old new (BadKeysLine number) why = absurd why
 reading_answer mode old new (BadEventLine number) why = absurd why
 reading_answer mode old new BadSetting why = absurd why

@@ -5,7 +5,7 @@ use Rattle.std.specs.Borrow.{Bor}
 use Rattle.std.specs.List.{list_all}
 use Rattle.s3_config.specs.Settings.{Settings}
 use Rattle.s3_settings.specs.declared.fault.Fault.{Fault}
-use Rattle.s3_settings.specs.declared.fault.Fault.TheVariants.{CannotRead, BadKeysLine, BadEventLine, BadSetting, CannotListen, InputFailed, OutputFailed, OutOfMemory}
+use Rattle.s3_settings.specs.declared.fault.Fault.TheVariants.{CannotRead, CannotWrite, BadKeysLine, BadEventLine, BadSetting, CannotListen, InputFailed, OutputFailed, OutOfMemory}
 use Rattle.s3_settings.specs.declared.settings.Setup.{Setup}
 use Rattle.s3_tasks.specs.declared.sign.Draft.{Draft}
 use Rattle.s3_options.specs.declared.options.SignOptions.{SignOptions}
@@ -36,6 +36,7 @@ first_right o setup moment timed asked = rw (timed, asked.valid) refl
 -- the options are right, and there are no settings
 config_fault : (known : List ℕ → Option (List ℕ)) (o : SignOptions) (setup : Setup) (moment : ℕ) (draft : Draft) (fault : Fault) → moment_of_signing o ≡ Some moment → IsSetupOf o.common setup → IsDraftOf o draft → IsConfigFault (known setup.keys.now) setup fault → IsSignFault known o fault
 config_fault known o setup moment draft (CannotRead path) timed asked drafted h = inl (draft, ap is_some timed, drafted, (setup, asked, h))
+config_fault known o setup moment draft (CannotWrite path) timed asked drafted h = absurd h
 config_fault known o setup moment draft (BadKeysLine number) timed asked drafted h = (draft, ap is_some timed, drafted, (setup, asked, h))
 config_fault known o setup moment draft (BadEventLine number) timed asked drafted h = absurd h
 config_fault known o setup moment draft BadSetting timed asked drafted h = inr (inl (draft, ap is_some timed, drafted, (setup, asked, h)))
@@ -47,6 +48,7 @@ config_fault known o setup moment draft OutOfMemory timed asked drafted h = firs
 -- there are settings, and there is no request
 request_fault : (known : List ℕ → Option (List ℕ)) (o : SignOptions) (draft : Draft) (settings : Settings) (stamp : List ℕ) (fault : Fault) → IsPrepared known o draft settings stamp → IsRequestFault known settings draft stamp fault → IsSignFault known o fault
 request_fault known o draft settings stamp (CannotRead path) ready h = inr (draft, settings, stamp, ready, h)
+request_fault known o draft settings stamp (CannotWrite path) ready h = absurd h
 request_fault known o draft settings stamp (BadKeysLine number) ready h = absurd h
 request_fault known o draft settings stamp (BadEventLine number) ready h = absurd h
 request_fault known o draft settings stamp BadSetting ready h = inr (inr (draft, settings, stamp, ready, h))

@@ -2,7 +2,7 @@
 use Rattle.std.specs.Prelude.{◌≡◌, ◌⊎◌, IsTrue, ℕ, Bool, true, false, ◌&&◌, List, ◌++◌, Option, Some, is_some, option_map}
 use Rattle.s3_config.specs.Settings.{Settings}
 use Rattle.s3_settings.specs.declared.fault.Fault.{Fault}
-use Rattle.s3_settings.specs.declared.fault.Fault.TheVariants.{CannotRead, BadKeysLine, BadEventLine, BadSetting, CannotListen, InputFailed, OutputFailed, OutOfMemory}
+use Rattle.s3_settings.specs.declared.fault.Fault.TheVariants.{CannotRead, CannotWrite, BadKeysLine, BadEventLine, BadSetting, CannotListen, InputFailed, OutputFailed, OutOfMemory}
 use Rattle.s3_options.specs.declared.options.ReplayOptions.{ReplayOptions}
 use Rattle.s3_settings.specs.declared.mode.ReplayMode.{ReplayMode}
 use Rattle.s3_settings.specs.declared.mode.ReplayMode.TheVariants.{AtMoment, Events}
@@ -94,6 +94,7 @@ abbrev pub IsReplayFault : (List ℕ → Option (List ℕ)) → Traffic → Traf
 IsReplayFault known old new options BadSetting =
     (new ≡ old) × ((are_replay_options options ≡ false) ⊎ HasModeAndConfigFault known options BadSetting)
 IsReplayFault known old new options (CannotRead path) = (new ≡ old) × HasModeAndConfigFault known options (CannotRead path)
+IsReplayFault known old new options (CannotWrite path) = ⊥
 IsReplayFault known old new options (BadKeysLine number) = (new ≡ old) × HasModeAndConfigFault known options (BadKeysLine number)
 IsReplayFault known old new options (BadEventLine number) =
     GivesBadLine old new number × (option_map reads_events (replay_mode options) ≡ Some true) × HasSettings known options.common

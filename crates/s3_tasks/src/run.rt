@@ -164,6 +164,7 @@ fn task_text<'a, R: Wait, F: Files, D: Device>(
 }
 
 // What all the input is answered, read as the options say.
+#[tactic(auto, using(crate::proofs::ConfigLemmas::config_fault))]
 fn replay<'a, R: Wait, F: Files, D: Device>(
     rt: &R,
     alloc: Global,

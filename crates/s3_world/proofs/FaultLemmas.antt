@@ -1,13 +1,17 @@
 -- The first fault of a connection of a world.
-use Rattle.std.proofs.Common.{◌≡◌, ◌≢◌, ◌<◌, ◌+◌, ℕ, true, false, Option, Some, None, IfSome, List, [], ◌++◌, length, refl, append_assoc, sym, ap, subst, ◌∙◌}
+use Rattle.std.proofs.Common.{◌≡◌, ◌≢◌, ◌<◌, ◌+◌, ℕ, true, false, Option, Some, None, IfSome, List, [], ◌++◌, length, take, drop, refl, append_assoc, sym, ap, subst, ◌∙◌, arith}
 use mathlib.Core.List.{IsPrefix}
 use Rattle.std.specs.List.{slice_get}
 use Rattle.std.proofs.lemmas.Bool.{true≢false}
+use Rattle.std.proofs.lemmas.List.{drop_at, length-append, take_at}
 use Rattle.s3_config.specs.Settings.{Settings}
 use Rattle.s3_terms.specs.declared.code.Code.{Code}
 use Rattle.s3_machine.specs.History.{Entry}
+use Rattle.s3_session.specs.Decision.{Judges, refused_message}
 use Rattle.s3_session.specs.Fault.{HasNoFault, IsFault}
+use Rattle.s3_session.specs.Laws.{SoundWalksAlone}
 use Rattle.s3_session.specs.Output.{Over, is_dead, is_waiting}
+use Rattle.s3_session.specs.Walk.{Walks}
 use Rattle.s3_session.specs.declared.fault.Fault.{Fault}
 use Rattle.s3_events.specs.declared.event.Event.{Event}
 use Rattle.s3_connection.specs.declared.stage.Stage.{Stage}
@@ -24,6 +28,7 @@ use Rattle.s3_world.specs.Played.{Playing, standing_of}
 use Rattle.s3_world.specs.Run.{moments_of}
 use Rattle.s3_world.specs.Shown.{standing_in}
 use Rattle.s3_world.specs.StandsAfter.{StandsAfter}
+use Rattle.s3_world.specs.Trimmed.{FaultsHavePlaces}
 use Rattle.s3_world.specs.World.{Serving}
 use Rattle.s3_world.proofs.MomentsLemmas.{begins, begins_too}
 use Rattle.s3_world.proofs.WorldLemmas.{there}
@@ -101,3 +106,28 @@ module _ (world : Serving) (moments : List (List ℕ)) (happened : List Event) (
   pub no_fault : TellsIn (slice_get world.connections c) told → c < length moments → is_dead (standing_in (slice_get world.connections c)) ≡ false
       → is_waiting (standing_in (slice_get world.connections c)) ≡ false → told ≡ None → HasNoFaultOf world.settings (moments_of c moments) (received c happened)
   no_fault t less lives idle none = none_in (slice_get world.connections c) refl t less lives idle none
+
+-- the messages in front of a fault are sound by their own bytes alone
+pub faults_have_places : SoundWalksAlone → FaultsHavePlaces
+faults_have_places alone settings moments input number code (count, f) =
+    let a = alone settings input.ended input.bytes f.rest f.messages f.walk in
+    let place = length a.0 in
+    let front : take place input.bytes ≡ a.0 = ap (take place) a.1 ∙ take_at a.0 f.rest place refl in
+    let behind : drop place input.bytes ≡ f.rest = ap (drop place) a.1 ∙ drop_at a.0 f.rest place refl in (
+      place,
+      omega (arith, ap length a.1, length-append a.0 f.rest),
+      (
+        count,
+        record {
+          messages = f.messages;
+          moment = f.moment;
+          code = code;
+          head_only = f.head_only;
+          sound = subst (λ (b : List ℕ). Walks settings false b f.messages (Some [])) (sym front) a.2;
+          refused = subst (λ (b : List ℕ). Judges settings f.moment input.ended b (refused_message code f.head_only)) (sym behind) f.judged;
+          given = f.given;
+        },
+      ),
+      refl,
+      f.counted,
+    )

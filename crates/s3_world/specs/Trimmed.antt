@@ -1,5 +1,5 @@
 -- Events without what is refused: how much of the events of each connection is kept, and what that leaves.
-use Rattle.std.specs.Prelude.{◌≡◌, ◌⊎◌, ◌≤◌, ◌<◌, ℕ, ◌-◌, ◌==◌, ⊤, Bool, true, false, if◌then◌else◌, List, [], ◌∷◌, ◌++◌, length, map, take, drop}
+use Rattle.std.specs.Prelude.{◌≡◌, ◌⊎◌, ◌≤◌, ◌<◌, ℕ, min, ◌-◌, ◌==◌, ⊤, Bool, true, false, if◌then◌else◌, List, [], ◌∷◌, ◌++◌, length, map, take, drop}
 use Rattle.std.specs.List.{list_any}
 use Rattle.s3_config.specs.Settings.{Settings}
 use Rattle.s3_terms.specs.declared.code.Code.{Code}
@@ -9,7 +9,7 @@ use Rattle.s3_events.specs.Lines.{ATurn, MoreBytes, Said, TheEnd}
 use Rattle.s3_events.specs.Script.{connection_of_event, said_of_event}
 use Rattle.s3_events.specs.declared.event.Event.{Event}
 use Rattle.s3_events.specs.declared.event.Event.TheVariants as events
-use Rattle.s3_session.specs.Fault.{IsRefusedBehind}
+use Rattle.s3_session.specs.Fault.{IsRefusedBehind, most_counted}
 use Rattle.s3_connection.specs.Output.{Input}
 use Rattle.s3_world.specs.Events.{received}
 use Rattle.s3_world.specs.Faults.{FaultOf}
@@ -124,6 +124,18 @@ abbrev pub has_event : ℕ → List Event → Bool
 has_event connection happened = list_any (λ e. connection_of_event e == connection) happened
 
 -- ---- what is refused leaves no trace
+
+-- Each first fault of a connection has a place from which on all may be dropped: the message that stands there is
+-- refused with that code, and those in front of it are sound by their own bytes alone, and are as many as is counted.
+abbrev pub FaultsHavePlaces : Type 0
+FaultsHavePlaces =
+    (settings : Settings) (moments : List ℕ) (input : Input) (number : ℕ) (code : Code)
+    → FaultOf settings moments input number code
+    → (place : ℕ)
+    × (place ≤ length input.bytes)
+    × (refused : IsRefusedAt settings moments input place)
+    × (refused.1.code ≡ code)
+    × (number ≡ min (length refused.1.messages) most_counted)
 
 -- Where memory doesn't run out, what is kept of events has a run with the same entries, and with the same outputs of the connections
 -- of which all is kept for which they wrote something. Dropped are connections of which no message is sound, and of others a message

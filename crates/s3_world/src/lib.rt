@@ -21,7 +21,7 @@ pub use alike::{cuts_and_moves_are_alike, deaths_show};
 pub use laws::{runs_are_one, worlds_run};
 pub use replay::Replay;
 pub use running::run;
-pub use trimmed::{refused_leaves_nothing, trims_are_one};
+pub use trimmed::{faults_have_places, refused_leaves_nothing, trims_are_one};
 pub use trimming::trim;
 pub use whole::replay_one;
 pub use world::World;

@@ -12,6 +12,8 @@ use s3_server::serve_words;
 use s3_settings::Files;
 use s3_tasks::{Ran, run_words};
 use std::alloc::Global;
+use std::fs::OpenOptions;
+use std::io::Write;
 use std::process::ExitCode;
 use std::{env, fs, io};
 
@@ -22,6 +24,19 @@ struct SystemFiles<'a>(&'a HostRuntime);
 impl Files for SystemFiles<'_> {
     fn read(&self, _alloc: Global, path: &str) -> io::Result<Vec<u8>> {
         fs::read(self.0, path)
+    }
+
+    fn append(&self, path: &str, bytes: &[u8]) -> io::Result<()> {
+        if path == "-" {
+            let mut errors = self.0.stderr();
+            errors.write_all(bytes)?;
+            return errors.flush();
+        }
+        let mut file = OpenOptions::new()
+            .append(true)
+            .create(true)
+            .open(self.0, path)?;
+        file.write_all(bytes)
     }
 }
 

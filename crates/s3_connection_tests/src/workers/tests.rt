@@ -2,6 +2,7 @@
 use crate::checks::{check, check_none};
 use crate::workers::connections::first_other_connection;
 use crate::workers::journal::two_seats_are_answered;
+use crate::workers::lines::messages_are_told;
 use crate::workers::seats::{old_bytes_are_sent, seats_work};
 use crate::workers::served::config;
 use crate::workers::turns::two_take_turns;
@@ -38,6 +39,9 @@ fn first_other<R: Threads + Wait + Clock + Sync>(
     }
     if !parts_are_told(alloc, config) {
         return Some("whether a part of a message has come");
+    }
+    if !messages_are_told(rt, alloc, config) {
+        return Some("lines of a log");
     }
     if let Some(name) = first_other_world(alloc, config) {
         return Some(name);

@@ -6,6 +6,7 @@ use s3_config::Config;
 use s3_connections::{BookHandle, Pump};
 use s3_devices::Recorded;
 use s3_history::Recorder;
+use s3_log::Nobody;
 use s3_records::MapRecords;
 use std::alloc::Global;
 use std::mem::drop;
@@ -91,7 +92,18 @@ fn serve_all(
             handle.seat = served.number;
             let (moments, device) = (&mut served.moments, &mut served.device);
             let buffer = &mut [0; 16];
-            served.pump.step(alloc, config, handle, moments, device, buffer, moment(), 1);
+            let pump = &mut served.pump;
+            pump.step(
+                alloc,
+                config,
+                handle,
+                moments,
+                &mut Nobody,
+                device,
+                buffer,
+                moment(),
+                1,
+            );
         }
     }
 }

@@ -5,6 +5,7 @@ use s3_config::Config;
 use s3_connections::{BookHandle, Pump, Step};
 use s3_devices::{Recorded, Wanted};
 use s3_history::Recorder;
+use s3_log::Nobody;
 use s3_records::MapRecords;
 use std::alloc::Global;
 use std::mem::drop;
@@ -40,6 +41,7 @@ fn is_within(
         config,
         handle,
         &mut moments,
+        &mut Nobody,
         &mut device,
         buffer,
         moment(),

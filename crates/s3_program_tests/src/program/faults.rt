@@ -31,11 +31,14 @@ const USAGES: &str = "\
     s3d replay --help|Usage: s3d replay [OPTIONS] --keys <FILE>\n;\
     s3d replay --keys keys --unknown|error: unexpected argument '--unknown' found\n;\
     s3d replay --keys keys a:b|error: unexpected argument 'a:b' found\n;\
+    s3d replay --keys keys --moment 0 --log x|error: unexpected argument '--log' found\n;\
     s3d sign --help|--host <H> [NAME:VALUE]...\n;\
     s3d sign --keys keys --id id --moment 0 --method GET --target /|not provided:\n  --host <H>\n;\
+    s3d sign --keys keys --id id --moment 0 --method GET --target / --host h --log x|error: unexpected argument '--log' found\n;\
     s3d serve --help|Usage: s3d serve [OPTIONS] --keys <FILE> --listen <ADDR>\n;\
     s3d serve --keys keys|not provided:\n  --listen <ADDR>\n;\
     s3d serve --keys keys --listen localhost:0 --events|error: unexpected argument '--events' found\n;\
+    s3d serve --keys keys --listen localhost:0 --log|error: a value is required for '--log <FILE>' but none was supplied\n;\
     s3d --version|s3d 0.1.0\n;\
     s3d remove|error: unrecognized subcommand 'remove'\n";
 

@@ -14,6 +14,9 @@ const SERVERS: &str = "\
     s3d serve --keys keys --listen a --workers 001 --max-connections 1 --connections 1|a 1 1 1;\
     s3d serve --keys keys --listen a --connections 999999999999|a 8 1024 999999999999;\
     s3d serve --keys keys --listen a --bucket pail --max-connections 65536 --region eu-west-1|a 8 65536;\
+    s3d serve --keys keys --listen a --log log|a 8 1024 to log;\
+    s3d serve --keys keys --listen a --connections 3 --log -|a 8 1024 3 to -;\
+    s3d serve --keys keys --listen a --log |a 8 1024 to ;\
     s3d serve --keys shelf --listen a --workers 0|bad setting;\
     s3d serve --keys shelf --listen a --workers 65|bad setting;\
     s3d serve --keys shelf --listen a --workers 1x|bad setting;\
@@ -30,6 +33,15 @@ const SERVERS: &str = "\
 
 // How a server runs, in words.
 fn mode_text(alloc: Global, mode: &ServeMode) -> Option<String> {
+    let text = numbers_text(alloc, mode)?;
+    match mode.log {
+        Some(path) => format!(in alloc; "{text} to {path}").ok(),
+        None => Some(text),
+    }
+}
+
+// Its address and its numbers.
+fn numbers_text(alloc: Global, mode: &ServeMode) -> Option<String> {
     let text = match mode.connections {
         Some(count) => {
             format!(in alloc;
@@ -83,4 +95,13 @@ fn servers(rt: HostRuntime) {
     for row in SERVERS.split(';') {
         check(&rt, is_row(&rt, rt.alloc(), row) == Some(true), row);
     }
+}
+
+#[test]
+fn unwritable_log(rt: HostRuntime) {
+    let is_told = match fault_text(rt.alloc(), &Fault::CannotWrite("log")) {
+        Some(text) => text.as_str() == "cannot write log",
+        None => false,
+    };
+    check(&rt, is_told, "cannot write log");
 }

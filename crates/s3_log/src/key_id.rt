@@ -1,0 +1,115 @@
+//! The id of the access key that signed a head.
+
+ghost use Rattle.std.specs.Prelude.{◌≡◌, ◌++◌, find, option_map, IfOk};
+ghost use Rattle.std.specs.Option.{option_copied};
+ghost use Rattle.s3_text.specs.Characters.{ampersand, line_feed};
+ghost use Rattle.s3_text.specs.Cut.{parts_at};
+ghost use Rattle.s3_log.specs.KeyId as rules;
+
+use crate::request::query;
+use percent_encoding::percent_decode;
+use s3_authorization::Authorization;
+use s3_http_heads::{is_named, trimmed};
+use s3_terms::NoMemory;
+use s3_text::{after_first, before_first, cut_once};
+use std::alloc::Global;
+
+// The name of the parameter of a presigned target, with the `=` behind it.
+const CREDENTIAL: &[u8] = b"X-Amz-Credential=";
+
+/// The id of the access key by which a head is signed that was verified: of its Authorization line, or else of its query.
+/// Takes time by the length of the head.
+pub(crate) fn key_id(alloc: Global, head: &[u8]) -> Result<Vec<u8>, NoMemory>
+    ensures { IfOk result (λ id. id.items ≡ rules.key_id head.now) }
+{
+    match authorization_line(head) {
+        Some(line) => id_in_line(alloc, line),
+        None => id_in_query(alloc, query(head)),
+    }
+}
+
+// The first Authorization line.
+fn authorization_line(head: &[u8]) -> Option<&[u8]>
+    ensures { option_copied result ≡ find rules.is_authorization (parts_at line_feed head.now) }
+{
+    let mut rest = head;
+    while let Some((line, behind)) = cut_once(rest, b'\n') {
+        if is_authorization(line) {
+            return Some(line);
+        }
+        rest = behind;
+    }
+    if is_authorization(rest) {
+        Some(rest)
+    } else {
+        None
+    }
+}
+
+// Whether a line is an Authorization line.
+fn is_authorization(line: &[u8]) -> bool
+    ensures { result ≡ rules.is_authorization line.now }
+{
+    is_named(before_first(line, b':'), b"authorization")
+}
+
+// The id that an Authorization line tells.
+fn id_in_line(alloc: Global, line: &[u8]) -> Result<Vec<u8>, NoMemory>
+    ensures { IfOk result (λ id. id.items ≡ rules.id_in_line line.now) }
+{
+    match Authorization::read(value_in(line)) {
+        Ok(authorization) => Ok(Vec::from_slice(alloc, authorization.id())?),
+        Err(_) => Ok(Vec::new(alloc)),
+    }
+}
+
+// The value of a header line.
+fn value_in(line: &[u8]) -> &[u8]
+    ensures { result.now ≡ rules.value_in line.now }
+{
+    trimmed(after_first(before_first(line, b'\r'), b':'))
+}
+
+// The id that a query tells.
+fn id_in_query(alloc: Global, query: &[u8]) -> Result<Vec<u8>, NoMemory>
+    ensures { IfOk result (λ id. id.items ≡ rules.id_in_query query.now) }
+{
+    match credential_in(query) {
+        Some(part) => id_in_credential(alloc, after_first(part, b'=')),
+        None => Ok(Vec::new(alloc)),
+    }
+}
+
+// The parameter of a query that tells the credential.
+fn credential_in(query: &[u8]) -> Option<&[u8]>
+    ensures { option_copied result ≡ find rules.is_credential (parts_at ampersand query.now) }
+{
+    let mut rest = query;
+    while let Some((part, behind)) = cut_once(rest, b'&') {
+        if is_credential(part) {
+            return Some(part);
+        }
+        rest = behind;
+    }
+    if is_credential(rest) {
+        Some(rest)
+    } else {
+        None
+    }
+}
+
+// Whether a parameter tells the credential.
+fn is_credential(part: &[u8]) -> bool
+    ensures { result ≡ rules.is_credential part.now }
+{
+    part.starts_with(CREDENTIAL)
+}
+
+// The id in front of the scope of a credential, which is percent-encoded.
+fn id_in_credential(alloc: Global, credential: &[u8]) -> Result<Vec<u8>, NoMemory>
+    ensures { IfOk result (λ id. id.items ≡ rules.id_in_credential credential.now) }
+{
+    let mut decoded = Vec::new(alloc);
+    percent_decode(credential).append_to(&mut decoded)?;
+    Ok(Vec::from_slice(alloc, before_first(&decoded, b'/'))?)
+}

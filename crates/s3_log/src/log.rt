@@ -1,0 +1,113 @@
+//! The log, and its writer.
+
+ghost use Rattle.std.specs.Prelude.{◌≡◌, []};
+
+use crate::line::lost_line;
+use crate::lines::Lines;
+use crate::pending::{Given, Pending};
+use s3_settings::Files;
+use s3_terms::NoMemory;
+use std::alloc::Global;
+use std::sync::{Mutex, Wait};
+use std::thread;
+use std::time::{Clock, Duration};
+
+// How many milliseconds a writer waits for more.
+const PAUSE: u64 = 50;
+
+/// The lines that a server tells, which wait here for their writer: 4 MiB at most, beside which further ones are lost and counted.
+/// Whoever tells one waits for the lock alone.
+#[derive(Drop)]
+pub struct Log {
+    pending: Mutex<Pending>,
+}
+
+impl Log {
+    /// One that has so many tellers. It takes all the memory that lines wait in.
+    pub fn new(alloc: Global, tellers: u64) -> Result<Log, NoMemory> {
+        Ok(Log {
+            pending: Mutex::new(Pending::new(alloc, tellers)?),
+        })
+    }
+
+    /// Tells a line.
+    pub fn add(&self, rt: &impl Wait, line: &[u8]) {
+        self.pending.lock(rt).add(line);
+    }
+
+    /// Counts a line as lost.
+    pub fn lose(&self, rt: &impl Wait) {
+        self.pending.lock(rt).lose();
+    }
+
+    /// One of the tellers tells no more.
+    pub fn leave(&self, rt: &impl Wait) {
+        self.pending.lock(rt).leave();
+    }
+
+    // Gives the lines that wait, in exchange for room that has none.
+    fn give(&self, rt: &impl Wait, room: &mut Lines) -> Given
+        requires { room.old ≡ [] }
+    {
+        self.pending.lock(rt).give(room)
+    }
+}
+
+/// Who writes the lines of a log to its file.
+#[derive(Drop)]
+pub struct LogWriter {
+    lines: Lines,
+    // How many lines were lost of which nothing is written yet.
+    lost: u64,
+}
+
+impl LogWriter {
+    /// One that has written nothing. It takes all its memory but that of the line which tells of losses.
+    pub fn new(alloc: Global) -> Result<LogWriter, NoMemory> {
+        Ok(LogWriter {
+            lines: Lines::new(alloc)?,
+            lost: 0,
+        })
+    }
+
+    /// Writes what is told to the file at a path, until the last teller has left: every 50 milliseconds what waits then, in one write to the
+    /// file that has the path at that time, so that a file which was moved away is left alone from then on. What can't be written is
+    /// lost. In front of the next lines stands how many were lost.
+    pub fn write<R: Wait + Clock, F: Files>(
+        &mut self,
+        rt: &R,
+        alloc: Global,
+        log: &Log,
+        files: &F,
+        path: &str,
+    ) {
+        for _ in rt.forever() {
+            self.lines.clear();
+            let given = log.give(rt, &mut self.lines);
+            self.write_given(alloc, files, path, given);
+            if given.is_last {
+                break;
+            }
+            thread::sleep(rt, Duration::from_millis(PAUSE));
+        }
+    }
+
+    // Writes the lines that were given, or counts them as lost.
+    fn write_given<F: Files>(&mut self, alloc: Global, files: &F, path: &str, given: Given) {
+        self.lost = self.lost.saturating_add(given.lost);
+        if self.lost > 0 && self.tells_loss(alloc, files, path) {
+            self.lost = 0;
+        }
+        if given.count > 0 && files.append(path, self.lines.as_slice()).is_err() {
+            self.lost = self.lost.saturating_add(given.count);
+        }
+    }
+
+    // Writes how many lines were lost, and answers whether it could.
+    fn tells_loss<F: Files>(&self, alloc: Global, files: &F, path: &str) -> bool {
+        match lost_line(alloc, self.lost) {
+            Ok(line) => files.append(path, &line).is_ok(),
+            Err(NoMemory) => false,
+        }
+    }
+}

@@ -1,0 +1,85 @@
+//! What comes of a message, as its line tells it.
+
+ghost use Rattle.std.specs.Prelude.{◌≡◌};
+ghost use Rattle.s3_log.specs.Result as rules;
+
+use s3_conditions::Selection;
+use s3_machine::{Answer, Outcome};
+use s3_terms::{Code, NoMemory, Status};
+
+/// What comes of a message.
+#[derive(Clone, Copy)]
+pub struct Told {
+    /// The status of its reply.
+    pub status: Status,
+    /// Why it was refused, if it was.
+    pub code: Option<Code>,
+}
+
+impl Told {
+    /// It was refused with this code.
+    pub fn refused(code: Code) -> Told
+        ensures { result ≡ rules.refused_with code }
+    {
+        Told {
+            status: code.status(),
+            code: Some(code),
+        }
+    }
+}
+
+/// What comes of a message whose command was answered so; where memory ran out at it, `InternalError`.
+pub fn told_of(answered: &Result<Answer, NoMemory>) -> Told
+    ensures { rules.IsToldOf answered.now result }
+{
+    match answered {
+        Ok(answer) => Told {
+            status: status_of(&answer.outcome),
+            code: code_of(&answer.outcome),
+        },
+        Err(NoMemory) => Told::refused(Code::InternalError),
+    }
+}
+
+// The status of the reply to what came of a command.
+fn status_of(outcome: &Outcome) -> Status
+    ensures { rules.HasStatus outcome.now result }
+{
+    match outcome {
+        Outcome::Told { .. }
+        | Outcome::BucketMade { .. }
+        | Outcome::BucketFound
+        | Outcome::VersioningSet
+        | Outcome::BucketVersioning { .. }
+        | Outcome::Put { .. }
+        | Outcome::Copied { .. }
+        | Outcome::PartPut { .. }
+        | Outcome::Completed { .. } => Status::Ok,
+        Outcome::BucketDropped | Outcome::UploadDropped | Outcome::Deleted { .. } => {
+            Status::NoContent
+        }
+        Outcome::Got { selection, .. } => status_with(*selection),
+        Outcome::Refused { code, .. } => code.status(),
+    }
+}
+
+// The status of the reply that shows this of a version.
+fn status_with(selection: Selection) -> Status
+    ensures { result ≡ rules.status_with selection }
+{
+    match selection {
+        Selection::Whole => Status::Ok,
+        Selection::Part { .. } => Status::PartialContent,
+        Selection::Unchanged => Status::NotModified,
+    }
+}
+
+// Why the machine refused, if it did.
+fn code_of(outcome: &Outcome) -> Option<Code>
+    ensures { result ≡ rules.code_in outcome.now }
+{
+    match outcome {
+        Outcome::Refused { code, .. } => Some(*code),
+        _ => None,
+    }
+}

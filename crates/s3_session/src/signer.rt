@@ -1,0 +1,32 @@
+//! What is kept of the heads that were verified.
+
+ghost use Rattle.std.specs.Prelude.{◌≡◌, false};
+
+use s3_signing::KeptKey;
+
+/// The signing key of the last head that was verified, which saves time and decides nothing, and whether the head of the message
+/// at hand was verified.
+#[derive(Drop)]
+pub struct HeadSigner {
+    pub(crate) key: KeptKey,
+    pub(crate) is_verified: bool,
+}
+
+impl HeadSigner {
+    /// None was verified.
+    pub fn new() -> HeadSigner
+        ensures { result.is_verified ≡ false }
+    {
+        HeadSigner {
+            key: KeptKey::new(),
+            is_verified: false,
+        }
+    }
+
+    // The head of the next message is at hand, which isn't verified yet.
+    pub(crate) fn begins(&mut self)
+        ensures { self.new.is_verified ≡ false }
+    {
+        self.is_verified = false;
+    }
+}
