@@ -2,28 +2,18 @@
 use Rattle.std.specs.Prelude.{ℕ, Bool, nat_eq, find, List, [], codes, Option, Some, None}
 use Rattle.std.specs.List.{starts_with}
 use Rattle.std.specs.Str.{bytes_eq, str_to_ascii_lowercase}
-use Rattle.httparse.specs.Grammar.{trim_ows}
 use Rattle.percent_encoding.specs.Percent.{percent_decode}
-use Rattle.s3_authorization.specs.Authorization.{Parts, authorization_of}
-use Rattle.s3_text.specs.Characters.{ampersand, carriage_return, colon, equals_sign, line_feed, slash}
+use Rattle.s3_text.specs.Characters.{ampersand, colon, equals_sign, line_feed, slash}
 use Rattle.s3_text.specs.Cut.{parts_at}
-use Rattle.s3_log.specs.Request.{before, behind, query_of}
+use Rattle.s3_log.specs.Request.{before, behind}
 
 -- a line is an Authorization line: the case of a name doesn't count
 abbrev pub is_authorization : List ℕ → Bool
 is_authorization line = bytes_eq (str_to_ascii_lowercase (before colon line)) (codes "authorization")
 
--- the value of a line, which may have the first byte of its end (CR)
-abbrev pub value_in : List ℕ → List ℕ
-value_in line = trim_ows (behind colon (before carriage_return line))
-
--- the id of its parts, if it has such
-abbrev pub id_in : Option Parts → List ℕ
-id_in None = []
-id_in (Some parts) = parts.id
-
+-- the id that it tells, which begins its credential: `AWS4-HMAC-SHA256 Credential=id/..`
 abbrev pub id_in_line : List ℕ → List ℕ
-id_in_line line = id_in (authorization_of (value_in line))
+id_in_line line = before slash (behind equals_sign line)
 
 -- a parameter tells the credential
 abbrev pub is_credential : List ℕ → Bool
@@ -46,5 +36,5 @@ abbrev pub id_by : Option (List ℕ) → List ℕ → List ℕ
 id_by (Some line) query = id_in_line line
 id_by None query = id_in_query query
 
-abbrev pub key_id : List ℕ → List ℕ
-key_id head = id_by (find is_authorization (parts_at line_feed head)) (query_of head)
+abbrev pub key_id : List ℕ → List ℕ → List ℕ
+key_id head query = id_by (find is_authorization (parts_at line_feed head)) query

@@ -6,10 +6,8 @@ ghost use Rattle.s3_text.specs.Characters.{ampersand, line_feed};
 ghost use Rattle.s3_text.specs.Cut.{parts_at};
 ghost use Rattle.s3_log.specs.KeyId as rules;
 
-use crate::request::query;
 use percent_encoding::percent_decode;
-use s3_authorization::Authorization;
-use s3_http_heads::{is_named, trimmed};
+use s3_http_heads::is_named;
 use s3_terms::NoMemory;
 use s3_text::{after_first, before_first, cut_once};
 use std::alloc::Global;
@@ -19,12 +17,12 @@ const CREDENTIAL: &[u8] = b"X-Amz-Credential=";
 
 /// The id of the access key by which a head is signed that was verified: of its Authorization line, or else of its query.
 /// Takes time by the length of the head.
-pub(crate) fn key_id(alloc: Global, head: &[u8]) -> Result<Vec<u8>, NoMemory>
-    ensures { IfOk result (λ id. id.items ≡ rules.key_id head.now) }
+pub(crate) fn key_id(alloc: Global, head: &[u8], query: &[u8]) -> Result<Vec<u8>, NoMemory>
+    ensures { IfOk result (λ id. id.items ≡ rules.key_id head.now query.now) }
 {
     match authorization_line(head) {
-        Some(line) => id_in_line(alloc, line),
-        None => id_in_query(alloc, query(head)),
+        Some(line) => Ok(Vec::from_slice(alloc, id_in_line(line))?),
+        None => id_in_query(alloc, query),
     }
 }
 
@@ -54,20 +52,10 @@ fn is_authorization(line: &[u8]) -> bool
 }
 
 // The id that an Authorization line tells.
-fn id_in_line(alloc: Global, line: &[u8]) -> Result<Vec<u8>, NoMemory>
-    ensures { IfOk result (λ id. id.items ≡ rules.id_in_line line.now) }
+fn id_in_line(line: &[u8]) -> &[u8]
+    ensures { result.now ≡ rules.id_in_line line.now }
 {
-    match Authorization::read(value_in(line)) {
-        Ok(authorization) => Ok(Vec::from_slice(alloc, authorization.id())?),
-        Err(_) => Ok(Vec::new(alloc)),
-    }
-}
-
-// The value of a header line.
-fn value_in(line: &[u8]) -> &[u8]
-    ensures { result.now ≡ rules.value_in line.now }
-{
-    trimmed(after_first(before_first(line, b'\r'), b':'))
+    before_first(after_first(line, b'='), b'/')
 }
 
 // The id that a query tells.

@@ -5,9 +5,10 @@ ghost use Rattle.s3_documents.specs.Printed.{begun, fields_of, value_of};
 ghost use Rattle.s3_documents.specs.Tree.{Fields, leaves, tree_text};
 ghost use Rattle.s3_text.specs.Characters.{line_feed};
 ghost use Rattle.s3_log.specs.Line as rules;
+ghost use Rattle.s3_log.specs.Request.{query_of};
 
 use crate::key_id::key_id;
-use crate::request::{bucket, key, method};
+use crate::request::Request;
 use crate::result::Told;
 use s3_calendar::Moment;
 use s3_documents::{Field, Leaf, Printer};
@@ -40,25 +41,21 @@ pub struct Message<'a> {
 pub fn begun(alloc: Global, message: &Message<'_>) -> Result<Printer, NoMemory>
     ensures { IfOk result (λ printer. printer.tokens ≡ begun (leaves (rules.message_fields message.now))) }
 {
-    let id = id_in(alloc, message)?;
+    let request = Request::read(message.head);
+    let id = id_in(alloc, message.is_verified, message.head, request.query)?;
     let mut printer = Printer::new(alloc, ROOM)?;
-    let Message {
-        moment,
-        connection,
-        head,
-        told,
-        ..
-    } = *message;
-    printer.fields(&fields(moment, connection, head, &id, told))?;
+    let (moment, connection, told) = (message.moment, message.connection, message.told);
+    printer.fields(&fields(moment, connection, request, &id, told))?;
     Ok(printer)
 }
 
-// The id of its access key, where its signature was verified.
-fn id_in(alloc: Global, message: &Message<'_>) -> Result<Vec<u8>, NoMemory>
-    ensures { IfOk result (λ id. id.items ≡ rules.id_told message.now.is_verified message.now.head.now) }
+// The id of the access key of a head with this query, where its signature was verified.
+fn id_in(alloc: Global, is_verified: bool, head: &[u8], query: &[u8]) -> Result<Vec<u8>, NoMemory>
+    requires { query.now ≡ query_of head.now }
+    ensures { IfOk result (λ id. id.items ≡ rules.id_told is_verified head.now) }
 {
-    if message.is_verified {
-        key_id(alloc, message.head)
+    if is_verified {
+        key_id(alloc, head, query)
     } else {
         Ok(Vec::new(alloc))
     }
@@ -68,11 +65,11 @@ fn id_in(alloc: Global, message: &Message<'_>) -> Result<Vec<u8>, NoMemory>
 fn fields<'a>(
     moment: Moment,
     connection: u64,
-    head: &'a [u8],
+    request: Request<'a>,
     id: &'a [u8],
     told: Told,
 ) -> [Field<'a>; 8]
-    ensures { fields_of result ≡ rules.fields_with moment connection head.now id.now told }
+    ensures { fields_of result ≡ rules.fields_with moment connection request.entry.method.now request.entry.bucket.now request.entry.key.now id.now told }
 {
     [
         Field {
@@ -85,15 +82,15 @@ fn fields<'a>(
         },
         Field {
             name: "method",
-            value: text_told(method(head)),
+            value: text_told(request.method),
         },
         Field {
             name: "bucket",
-            value: text_told(bucket(head)),
+            value: text_told(request.bucket),
         },
         Field {
             name: "key",
-            value: text_told(key(head)),
+            value: text_told(request.key),
         },
         Field {
             name: "access_key",

@@ -76,14 +76,6 @@ impl<'a, W: Wait + Clock> MessageLog<'a, W> {
         let waited = self.since.elapsed(self.rt).ok()?;
         u64::try_from(waited.as_micros()).ok()
     }
-
-    // The head that is told: none where it couldn't be read.
-    fn head_told<'h>(head: Option<&'h [u8]>, told: Told) -> &'h [u8] {
-        match (head, told.code) {
-            (_, Some(Code::MalformedHead | Code::HeadTooLarge)) | (None, _) => &[],
-            (Some(head), _) => head,
-        }
-    }
 }
 
 impl<W: Wait + Clock> Witness for MessageLog<'_, W> {
@@ -100,7 +92,7 @@ impl<W: Wait + Clock> Witness for MessageLog<'_, W> {
         let message = Message {
             moment,
             connection: self.connection,
-            head: MessageLog::<W>::head_told(head, told),
+            head: head_told(head, told),
             is_verified,
             told,
         };
@@ -115,5 +107,13 @@ impl<W: Wait + Clock> Witness for MessageLog<'_, W> {
         if is_all {
             self.leaves();
         }
+    }
+}
+
+// The head that is told: none where it couldn't be read.
+fn head_told(head: Option<&[u8]>, told: Told) -> &[u8] {
+    match (head, told.code) {
+        (_, Some(Code::MalformedHead | Code::HeadTooLarge)) | (None, _) => &[],
+        (Some(head), _) => head,
     }
 }

@@ -5,53 +5,42 @@ ghost use Rattle.s3_log.specs.Request as rules;
 
 use s3_text::{after_first, before_first};
 
-/// The method.
-pub(crate) fn method(head: &[u8]) -> &[u8]
-    ensures { result.now ≡ rules.method_of head.now }
-{
-    before_first(first_line(head), b' ')
+/// What a head says of its request: nothing of what isn't there.
+#[derive(Clone, Copy)]
+pub(crate) struct Request<'a> {
+    /// The method.
+    pub(crate) method: &'a [u8],
+    /// The bucket that the path names, and the key.
+    pub(crate) bucket: &'a [u8],
+    pub(crate) key: &'a [u8],
+    /// The query of the target.
+    pub(crate) query: &'a [u8],
 }
 
-/// The query of the target.
-pub(crate) fn query(head: &[u8]) -> &[u8]
-    ensures { result.now ≡ rules.query_of head.now }
-{
-    after_first(target(head), b'?')
+impl<'a> Request<'a> {
+    /// What the head says. Takes time by the length of its first line.
+    pub(crate) fn read(head: &'a [u8]) -> Request<'a>
+        ensures method { result.method.now ≡ rules.method_of head.now }
+        ensures bucket { result.bucket.now ≡ rules.bucket_of head.now }
+        ensures key { result.key.now ≡ rules.key_of head.now }
+        ensures query { result.query.now ≡ rules.query_of head.now }
+    {
+        let line = before_first(head, b'\n');
+        let target = before_first(after_first(line, b' '), b' ');
+        let path = behind_slash(before_first(target, b'?'));
+        Request {
+            method: before_first(line, b' '),
+            bucket: before_first(path, b'/'),
+            key: after_first(path, b'/'),
+            query: after_first(target, b'?'),
+        }
+    }
 }
 
-/// The bucket that the path names; nothing where it names none.
-pub(crate) fn bucket(head: &[u8]) -> &[u8]
-    ensures { result.now ≡ rules.bucket_of head.now }
+// A path behind the slash with which it has to begin.
+fn behind_slash(path: &[u8]) -> &[u8]
+    ensures { result.now ≡ rules.behind_slash path.now }
 {
-    before_first(path(head), b'/')
-}
-
-/// The key that the path names; nothing where it names none.
-pub(crate) fn key(head: &[u8]) -> &[u8]
-    ensures { result.now ≡ rules.key_of head.now }
-{
-    after_first(path(head), b'/')
-}
-
-// The first line.
-fn first_line(head: &[u8]) -> &[u8]
-    ensures { result.now ≡ rules.first_line head.now }
-{
-    before_first(head, b'\n')
-}
-
-// The target.
-fn target(head: &[u8]) -> &[u8]
-    ensures { result.now ≡ rules.target_of head.now }
-{
-    before_first(after_first(first_line(head), b' '), b' ')
-}
-
-// The path of the target behind its first slash, with which it has to begin.
-fn path(head: &[u8]) -> &[u8]
-    ensures { result.now ≡ rules.path_of head.now }
-{
-    let path = before_first(target(head), b'?');
     if path.starts_with(b"/") {
         after_first(path, b'/')
     } else {
