@@ -1,1 +1,2 @@
+pub mod CutLemmas
 pub mod LineLemmas

@@ -1,5 +1,5 @@
 -- The id of the access key that signed a head which was verified (Amazon S3 API Reference, "Authenticating requests").
-use Rattle.std.specs.Prelude.{ℕ, Bool, nat_eq, find, List, [], codes, Option, Some, None}
+use Rattle.std.specs.Prelude.{ℕ, Bool, nat_eq, find, List, [], codes, Option, Some, None, option_map}
 use Rattle.std.specs.List.{starts_with}
 use Rattle.std.specs.Str.{bytes_eq, str_to_ascii_lowercase}
 use Rattle.percent_encoding.specs.Percent.{percent_decode}
@@ -31,10 +31,14 @@ id_in_part (Some part) = id_in_credential (behind equals_sign part)
 abbrev pub id_in_query : List ℕ → List ℕ
 id_in_query query = id_in_part (find is_credential (parts_at ampersand query))
 
--- of the first Authorization line, or else of the query
+-- that of the first Authorization line of a head, if there is one
+abbrev pub id_in_head : List ℕ → Option (List ℕ)
+id_in_head head = option_map id_in_line (find is_authorization (parts_at line_feed head))
+
+-- that, or else the one of the query
 abbrev pub id_by : Option (List ℕ) → List ℕ → List ℕ
-id_by (Some line) query = id_in_line line
+id_by (Some id) query = id
 id_by None query = id_in_query query
 
 abbrev pub key_id : List ℕ → List ℕ → List ℕ
-key_id head query = id_by (find is_authorization (parts_at line_feed head)) query
+key_id head query = id_by (id_in_head head) query

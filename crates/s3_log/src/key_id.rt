@@ -6,23 +6,23 @@ ghost use Rattle.s3_text.specs.Characters.{ampersand, line_feed};
 ghost use Rattle.s3_text.specs.Cut.{parts_at};
 ghost use Rattle.s3_log.specs.KeyId as rules;
 
+use crate::cut::cut_once;
 use percent_encoding::percent_decode;
 use s3_http_heads::is_named;
 use s3_terms::NoMemory;
-use s3_text::{after_first, before_first, cut_once};
+use s3_text::{after_first, before_first};
 use std::alloc::Global;
 
 // The name of the parameter of a presigned target, with the `=` behind it.
 const CREDENTIAL: &[u8] = b"X-Amz-Credential=";
 
-/// The id of the access key by which a head is signed that was verified: of its Authorization line, or else of its query.
-/// Takes time by the length of the head.
-pub(crate) fn key_id(alloc: Global, head: &[u8], query: &[u8]) -> Result<Vec<u8>, NoMemory>
-    ensures { IfOk result (λ id. id.items ≡ rules.key_id head.now query.now) }
+/// The id that the Authorization line of a head tells; `None` where it has none. Takes time by the length of the head.
+pub(crate) fn id_in_head(head: &[u8]) -> Option<&[u8]>
+    ensures { option_copied result ≡ rules.id_in_head head.now }
 {
     match authorization_line(head) {
-        Some(line) => Ok(Vec::from_slice(alloc, id_in_line(line))?),
-        None => id_in_query(alloc, query),
+        Some(line) => Some(id_in_line(line)),
+        None => None,
     }
 }
 
@@ -58,8 +58,8 @@ fn id_in_line(line: &[u8]) -> &[u8]
     before_first(after_first(line, b'='), b'/')
 }
 
-// The id that a query tells.
-fn id_in_query(alloc: Global, query: &[u8]) -> Result<Vec<u8>, NoMemory>
+/// The id that a query tells; empty where it tells none.
+pub(crate) fn id_in_query(alloc: Global, query: &[u8]) -> Result<Vec<u8>, NoMemory>
     ensures { IfOk result (λ id. id.items ≡ rules.id_in_query query.now) }
 {
     match credential_in(query) {

@@ -2,6 +2,7 @@
 //! for. Nothing that is told here decides what a connection does.
 #![tactic(auto)]
 
+mod cut;
 mod key_id;
 mod line;
 mod lines;

@@ -5,9 +5,8 @@ ghost use Rattle.s3_documents.specs.Printed.{begun, fields_of, value_of};
 ghost use Rattle.s3_documents.specs.Tree.{Fields, leaves, tree_text};
 ghost use Rattle.s3_text.specs.Characters.{line_feed};
 ghost use Rattle.s3_log.specs.Line as rules;
-ghost use Rattle.s3_log.specs.Request.{query_of};
 
-use crate::key_id::key_id;
+use crate::key_id::{id_in_head, id_in_query};
 use crate::request::Request;
 use crate::result::Told;
 use s3_calendar::Moment;
@@ -42,23 +41,32 @@ pub fn begun(alloc: Global, message: &Message<'_>) -> Result<Printer, NoMemory>
     ensures { IfOk result (λ printer. printer.tokens ≡ begun (leaves (rules.message_fields message.now))) }
 {
     let request = Request::read(message.head);
-    let id = id_in(alloc, message.is_verified, message.head, request.query)?;
-    let mut printer = Printer::new(alloc, ROOM)?;
-    let (moment, connection, told) = (message.moment, message.connection, message.told);
-    printer.fields(&fields(moment, connection, request, &id, told))?;
-    Ok(printer)
+    if !message.is_verified {
+        return begun_with(alloc, message, request, &[]);
+    }
+    match id_in_head(message.head) {
+        Some(id) => begun_with(alloc, message, request, id),
+        None => {
+            let id = id_in_query(alloc, request.query)?;
+            begun_with(alloc, message, request, &id)
+        }
+    }
 }
 
-// The id of the access key of a head with this query, where its signature was verified.
-fn id_in(alloc: Global, is_verified: bool, head: &[u8], query: &[u8]) -> Result<Vec<u8>, NoMemory>
-    requires { query.now ≡ query_of head.now }
-    ensures { IfOk result (λ id. id.items ≡ rules.id_told is_verified head.now) }
+// The same of a message whose head says this of its request and of the id of its access key.
+fn begun_with(
+    alloc: Global,
+    message: &Message<'_>,
+    request: Request<'_>,
+    id: &[u8],
+) -> Result<Printer, NoMemory>
+    ensures { IfOk result (λ printer. printer.tokens ≡ begun (leaves (rules.fields_with message.now.moment message.now.connection
+        request.entry.method.now request.entry.bucket.now request.entry.key.now id.now message.now.told))) }
 {
-    if is_verified {
-        key_id(alloc, head, query)
-    } else {
-        Ok(Vec::new(alloc))
-    }
+    let mut printer = Printer::new(alloc, ROOM)?;
+    let (moment, connection, told) = (message.moment, message.connection, message.told);
+    printer.fields(&fields(moment, connection, request, id, told))?;
+    Ok(printer)
 }
 
 // What the beginning of a line tells.

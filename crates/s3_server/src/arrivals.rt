@@ -3,12 +3,9 @@
 use crate::worker::{Now, Worker};
 use mio::net::{TcpListener, TcpStream};
 use mio::{Interest, Poll, Token};
-use s3_connections::Socket;
-use s3_journal::Ground;
+use s3_connections::{Service, Socket};
 use std::io::{self, ErrorKind};
 use std::net::{self, Net};
-use std::sync::Wait;
-use std::time::Clock;
 
 /// The token of the listener; no slab has so many places.
 pub(crate) const LISTENER: Token = Token(usize::MAX);
@@ -64,7 +61,7 @@ impl Arrivals {
     }
 }
 
-impl<'a, J: Ground, W: Wait + Clock> Worker<'a, J, W> {
+impl<S: Service> Worker<'_, S> {
     /// Takes a connection that waits, if it may, and gives one up where another worker wants its place.
     pub(crate) fn take_and_give_up(&mut self, now: &Now) {
         if self.arrivals.has_waiting && !self.places.is_full() {
@@ -167,7 +164,7 @@ impl<'a, J: Ground, W: Wait + Clock> Worker<'a, J, W> {
             return false;
         };
         self.held.holds(
-            self.sharing,
+            self.service,
             self.poll.registry(),
             Socket::new(stream),
             number,

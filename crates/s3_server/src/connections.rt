@@ -3,28 +3,32 @@
 use crate::places::Places;
 use crate::worker::Now;
 use mio::{Registry, Token};
-use s3_connections::{Held, Sharing, Socket};
-use s3_journal::Ground;
+use s3_connections::{Service, Socket};
 use slab::Slab;
 use std::alloc::Global;
-use std::sync::Wait;
-use std::time::{Clock, Duration, Instant};
+use std::time::{Duration, Instant};
 
 // How many milliseconds a connection has waited for its next message at least before it is let go for another one.
 const LEAST_IDLE: u64 = 1000;
 
-/// The connections that a worker holds. Their keys are below `capacity`. Each leaves its seat when it is let go.
-#[derive(Drop)]
-pub(crate) struct Connections<'a, J: Ground, W: Wait> {
-    held: Slab<Held<'a, J, W>>,
+/// The connections that a worker holds. Their keys are below `capacity`. Each leaves its seat when it is let go; none is dropped, and so
+/// neither is the whole.
+pub(crate) struct Connections<S: Service> {
+    held: Slab<S::Held>,
 }
 
-impl<'a, J: Ground, W: Wait + Clock> Connections<'a, J, W> {
+impl<S: Service> Connections<S> {
     /// None.
-    pub(crate) fn new(alloc: Global) -> Connections<'a, J, W> {
+    pub(crate) fn new(alloc: Global) -> Connections<S> {
         Connections {
             held: Slab::new(alloc),
         }
+    }
+
+    /// All have been let go, and what held them is given back.
+    pub(crate) fn end(self) {
+        let Connections { held } = self;
+        S::all_have_left(held);
     }
 
     /// Whether there is none.
@@ -37,17 +41,17 @@ impl<'a, J: Ground, W: Wait + Clock> Connections<'a, J, W> {
         self.held.capacity()
     }
 
-    /// Whether it holds a connection that came as the one of this number, which is reported from now on; one for which there is no memory, or which the system
-    /// can't report, is let go.
+    /// Whether it holds a connection that came as the one of this number, which is reported from now on; one for which there is no
+    /// memory, or which the system can't report, is let go.
     pub(crate) fn holds(
         &mut self,
-        sharing: &Sharing<'a, J, W>,
+        service: &S,
         registry: &Registry,
         socket: Socket,
         number: u64,
         now: Instant,
     ) -> bool {
-        let Some(key) = self.add(sharing, socket, number, now) else {
+        let Some(key) = self.add(service, socket, number, now) else {
             return false;
         };
         if self.is_registered(registry, key) {
@@ -58,20 +62,12 @@ impl<'a, J: Ground, W: Wait + Clock> Connections<'a, J, W> {
     }
 
     // The key of a further one, unless there is no memory for it.
-    fn add(
-        &mut self,
-        sharing: &Sharing<'a, J, W>,
-        socket: Socket,
-        number: u64,
-        now: Instant,
-    ) -> Option<usize> {
-        let Ok(held) = Held::new(sharing, socket, number, now) else {
-            return None;
-        };
+    fn add(&mut self, service: &S, socket: Socket, number: u64, now: Instant) -> Option<usize> {
+        let held = service.comes(socket, number, now)?;
         match self.held.insert(held) {
             Ok(key) => Some(key),
             Err(failed) => {
-                failed.value.leave();
+                S::leaves(failed.value);
                 None
             }
         }
@@ -80,7 +76,7 @@ impl<'a, J: Ground, W: Wait + Clock> Connections<'a, J, W> {
     // Whether the one under a key is reported from now on.
     fn is_registered(&self, registry: &Registry, key: usize) -> bool {
         match self.held.get(key) {
-            Some(held) => held.register(registry, Token(key)).is_ok(),
+            Some(held) => S::is_reported(held, registry, Token(key)),
             None => false,
         }
     }
@@ -89,7 +85,7 @@ impl<'a, J: Ground, W: Wait + Clock> Connections<'a, J, W> {
     fn drops(&mut self, key: usize) -> bool {
         match self.held.try_remove(key) {
             Some(held) => {
-                held.leave();
+                S::leaves(held);
                 true
             }
             None => false,
@@ -106,7 +102,7 @@ impl<'a, J: Ground, W: Wait + Clock> Connections<'a, J, W> {
     /// Has the one under a key go on, if there is one; where it has ended it is let go.
     pub(crate) fn serve(
         &mut self,
-        sharing: &Sharing<'a, J, W>,
+        service: &S,
         places: &Places,
         buffer: &mut [u8],
         registry: &Registry,
@@ -116,14 +112,7 @@ impl<'a, J: Ground, W: Wait + Clock> Connections<'a, J, W> {
         let Some(held) = self.held.get_mut(key) else {
             return;
         };
-        if !held.serve(
-            sharing,
-            now.moment,
-            buffer,
-            registry,
-            Token(key),
-            now.instant,
-        ) {
+        if !service.goes_on(held, now.moment, buffer, registry, Token(key), now.instant) {
             self.let_go(places, key);
         }
     }
@@ -144,7 +133,7 @@ impl<'a, J: Ground, W: Wait + Clock> Connections<'a, J, W> {
 
     /// Since when the one under a key waits for its next message, if not for so short a time that it may be on its way.
     pub(crate) fn idle_since(&self, key: usize, now: Instant) -> Option<Instant> {
-        let since = self.held.get(key)?.idle_since()?;
+        let since = S::waits_since(self.held.get(key)?)?;
         if now.duration_since(since) < Duration::from_millis(LEAST_IDLE) {
             return None;
         }
@@ -154,7 +143,7 @@ impl<'a, J: Ground, W: Wait + Clock> Connections<'a, J, W> {
     /// Whether the one under a key has waited too long.
     pub(crate) fn is_over(&self, key: usize, now: Instant) -> bool {
         match self.held.get(key) {
-            Some(held) => held.is_over(now),
+            Some(held) => S::is_over(held, now),
             None => false,
         }
     }

@@ -1,9 +1,8 @@
 //! The limits of time, and which connections are idle.
 
 use crate::worker::{Now, Worker};
-use s3_journal::Ground;
-use std::sync::Wait;
-use std::time::{Clock, Duration, Instant};
+use s3_connections::Service;
+use std::time::{Duration, Instant};
 
 // Milliseconds between two looks at the time limits.
 const BETWEEN_LOOKS: u64 = 1000;
@@ -38,7 +37,7 @@ fn is_ago(looked: Option<Instant>, millis: u64, now: Instant) -> bool {
     }
 }
 
-impl<'a, J: Ground, W: Wait + Clock> Worker<'a, J, W> {
+impl<S: Service> Worker<'_, S> {
     /// Has each connection that has waited too long go on once more, and lets it go if it waits still, if it didn't look just now.
     pub(crate) fn look(&mut self, now: &Now) {
         if !is_ago(self.looks.limits, BETWEEN_LOOKS, now.instant) {

@@ -17,7 +17,7 @@ use crate::logging::Logging;
 use crate::places::Places;
 use crate::worker::{Means, NoMeans, Worker};
 use s3_config::Config;
-use s3_connections::{Account, Sharing};
+use s3_connections::{Account, Service, Sharing};
 use s3_journal::{Closed, Desk, Ground, Start};
 use s3_log::{Log, LogWriter};
 use s3_options::ServeOptions;
@@ -341,19 +341,15 @@ fn works<J: Ground, R: Wait + Clock>(
     requires settings { J.base.settings ≡ config.now }
 {
     let sharing = Sharing::new(rt, alloc, config, desk, log);
-    works_at(&sharing, places, means);
+    works_with(&sharing, places, means);
     if let Some(log) = log {
         log.leave(rt);
     }
 }
 
-// The same at a store that is shared. There is no worker without a clock.
-fn works_at<J: Ground, R: Wait + Clock>(
-    sharing: &Sharing<'_, J, R>,
-    places: &Places,
-    means: Means,
-) {
-    if let Some(mut worker) = Worker::new(sharing, places, means) {
+// The same with what serves its connections. There is no worker without a clock.
+fn works_with<S: Service>(service: &S, places: &Places, means: Means) {
+    if let Some(worker) = Worker::new(service, places, means) {
         worker.work();
     }
 }

@@ -7,12 +7,10 @@ use crate::places::Places;
 use mio::net::TcpListener;
 use mio::{Events, Poll};
 use s3_calendar::Moment;
-use s3_connections::{Sharing, WorkerClock};
-use s3_journal::Ground;
+use s3_connections::{Service, WorkerClock};
 use std::alloc::{AllocError, Global};
 use std::io;
 use std::net::{self, Net};
-use std::sync::Wait;
 use std::time::{Clock, Duration, Instant};
 
 // How many events a wait reports at most.
@@ -86,28 +84,23 @@ pub(crate) struct Now {
     pub(crate) instant: Instant,
 }
 
-/// A worker, with the connections that it holds.
-#[derive(Drop)]
-pub(crate) struct Worker<'a, J: Ground, W: Wait> {
-    pub(crate) sharing: &'a Sharing<'a, J, W>,
+/// A worker, with the connections that it holds. It isn't dropped but by its work.
+pub(crate) struct Worker<'a, S: Service> {
+    pub(crate) service: &'a S,
     pub(crate) places: &'a Places,
     pub(crate) poll: Poll,
     pub(crate) listener: TcpListener,
     events: Events,
     buffer: Vec<u8>,
     clock: WorkerClock,
-    pub(crate) held: Connections<'a, J, W>,
+    pub(crate) held: Connections<S>,
     pub(crate) arrivals: Arrivals,
     pub(crate) looks: Looks,
 }
 
-impl<'a, J: Ground, W: Wait + Clock> Worker<'a, J, W> {
+impl<'a, S: Service> Worker<'a, S> {
     /// A worker that holds nothing yet. `None` never comes, though no contract can say so.
-    pub(crate) fn new(
-        sharing: &'a Sharing<'a, J, W>,
-        places: &'a Places,
-        means: Means,
-    ) -> Option<Worker<'a, J, W>> {
+    pub(crate) fn new(service: &'a S, places: &'a Places, means: Means) -> Option<Worker<'a, S>> {
         let clock = WorkerClock::new()?;
         let Means {
             poll,
@@ -116,28 +109,46 @@ impl<'a, J: Ground, W: Wait + Clock> Worker<'a, J, W> {
             buffer,
         } = means;
         Some(Worker {
-            sharing,
+            service,
             places,
             poll,
             listener,
             events,
             buffer,
             clock,
-            held: Connections::new(sharing.alloc()),
+            held: Connections::new(service.memory()),
             arrivals: Arrivals::new(),
             looks: Looks::new(),
         })
     }
 
-    /// Serves connections until no more are taken and the last one has ended, or the system fails. Then it holds none.
-    pub(crate) fn work(&mut self) {
-        let rt = self.sharing.rt();
+    /// Serves connections until no more are taken and the last one has ended, or the system fails. Then it lets all go.
+    pub(crate) fn work(mut self) {
+        let rt = self.service.runtime();
         for _ in rt.forever() {
             if self.is_done() || self.turn(rt).is_err() {
                 break;
             }
         }
         self.let_all_go();
+        self.end();
+    }
+
+    // Gives back what it works with.
+    fn end(self) {
+        let Worker {
+            service: _,
+            places: _,
+            poll: _,
+            listener: _,
+            events: _,
+            buffer: _,
+            clock: _,
+            held,
+            arrivals: _,
+            looks: _,
+        } = self;
+        held.end();
     }
 
     // Whether no more connections are taken, and the last one has ended.
@@ -146,7 +157,7 @@ impl<'a, J: Ground, W: Wait + Clock> Worker<'a, J, W> {
     }
 
     // Waits once, and serves what is ready.
-    fn turn(&mut self, rt: &W) -> io::Result<()> {
+    fn turn(&mut self, rt: &S::Runtime) -> io::Result<()> {
         let patience = self.patience();
         self.poll.poll(&mut self.events, Some(patience))?;
         let now = Now {
@@ -182,7 +193,7 @@ impl<'a, J: Ground, W: Wait + Clock> Worker<'a, J, W> {
             }
             let (buffer, registry) = (self.buffer.as_mut_slice(), self.poll.registry());
             self.held
-                .serve(self.sharing, self.places, buffer, registry, token.0, now);
+                .serve(self.service, self.places, buffer, registry, token.0, now);
         }
     }
 
@@ -190,7 +201,7 @@ impl<'a, J: Ground, W: Wait + Clock> Worker<'a, J, W> {
     pub(crate) fn serve_key(&mut self, key: usize, now: &Now) {
         let (buffer, registry) = (self.buffer.as_mut_slice(), self.poll.registry());
         self.held
-            .serve(self.sharing, self.places, buffer, registry, key, now);
+            .serve(self.service, self.places, buffer, registry, key, now);
     }
 
     // Lets all go, and asks for nothing more.

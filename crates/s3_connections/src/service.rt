@@ -1,0 +1,108 @@
+//! What a worker asks of those that serve its connections.
+
+use crate::held::Held;
+use crate::sharing::Sharing;
+use crate::socket::Socket;
+use mio::{Registry, Token};
+use s3_calendar::Moment;
+use s3_journal::Ground;
+use slab::Slab;
+use std::alloc::Global;
+use std::mem::drop;
+use std::sync::Wait;
+use std::time::{Clock, Instant};
+
+/// What serves the connections of a worker, which knows nothing else of them: so what it does with them is proved without what
+/// they are made of, and without their drops.
+pub trait Service: Sized {
+    /// A connection. Nothing says that it may be dropped, so that each has to leave.
+    type Held;
+
+    /// What is waited with, and what tells the time.
+    type Runtime: Wait + Clock;
+
+    /// The same.
+    fn runtime(&self) -> &Self::Runtime;
+
+    /// What gives memory.
+    fn memory(&self) -> Global;
+
+    /// The connection of this number, which came at a time; `None` where there is no memory for it.
+    fn comes(&self, socket: Socket, number: u64, now: Instant) -> Option<Self::Held>;
+
+    /// Whether it is reported from now on, under a token, when it may go on.
+    fn is_reported(held: &Self::Held, registry: &Registry, token: Token) -> bool;
+
+    /// Has it go on as far as it can without waiting, and answers whether it stays.
+    fn goes_on(
+        &self,
+        held: &mut Self::Held,
+        moment: Moment,
+        buffer: &mut [u8],
+        registry: &Registry,
+        token: Token,
+        now: Instant,
+    ) -> bool;
+
+    /// Has it leave its seat.
+    fn leaves(held: Self::Held);
+
+    /// Gives the memory back that connections were held in, all of which have left.
+    fn all_have_left(held: Slab<Self::Held>);
+
+    /// Since when it waits for its next message, or for its peer's end, if it does.
+    fn waits_since(held: &Self::Held) -> Option<Instant>;
+
+    /// Whether it has waited too long.
+    fn is_over(held: &Self::Held, now: Instant) -> bool;
+}
+
+impl<'a, J: Ground, W: Wait + Clock> Service for Sharing<'a, J, W> {
+    type Held = Held<'a, J, W>;
+
+    type Runtime = W;
+
+    fn runtime(&self) -> &W {
+        self.rt()
+    }
+
+    fn memory(&self) -> Global {
+        self.alloc()
+    }
+
+    fn comes(&self, socket: Socket, number: u64, now: Instant) -> Option<Held<'a, J, W>> {
+        Held::new(self, socket, number, now).ok()
+    }
+
+    fn is_reported(held: &Held<'a, J, W>, registry: &Registry, token: Token) -> bool {
+        held.register(registry, token).is_ok()
+    }
+
+    fn goes_on(
+        &self,
+        held: &mut Held<'a, J, W>,
+        moment: Moment,
+        buffer: &mut [u8],
+        registry: &Registry,
+        token: Token,
+        now: Instant,
+    ) -> bool {
+        held.serve(self, moment, buffer, registry, token, now)
+    }
+
+    fn leaves(held: Held<'a, J, W>) {
+        held.leave();
+    }
+
+    fn all_have_left(held: Slab<Held<'a, J, W>>) {
+        drop(held);
+    }
+
+    fn waits_since(held: &Held<'a, J, W>) -> Option<Instant> {
+        held.idle_since()
+    }
+
+    fn is_over(held: &Held<'a, J, W>, now: Instant) -> bool {
+        held.is_over(now)
+    }
+}

@@ -1,0 +1,10 @@
+use Rattle.std.proofs.lemmas.List.{take_rest}
+use Rattle.s3_text.proofs.CutLemmas.{cut_found, cut_nowhere}
+use Rattle.s3_log.proofs.cut.cut_once.Goals as goal
+
+pub returns-in-Some-clause-parts : goal.returns-in-Some-clause-parts
+returns-in-Some-clause-parts c =
+    rw take_rest (cut_found _ c.args.text.now _ c.in-Some.ensures).parts
+
+pub returns-in-None-clause-parts : goal.returns-in-None-clause-parts
+returns-in-None-clause-parts c = (cut_nowhere _ c.args.text.now c.in-None.ensures).parts
