@@ -1,6 +1,6 @@
 //! A connection.
 
-ghost use Rattle.std.specs.Prelude.{◌≡◌, ◌≢◌, ◌↔◌, ◌⊎◌, ◌<◌, ◌≤◌, ℕ, true, false, List, [], ◌++◌, length, take, drop, IfOk, OnOk, OnErr, IfSome, Some, None};
+ghost use Rattle.std.specs.Prelude.{◌≡◌, ◌≢◌, ◌↔◌, ◌⊎◌, ◌<◌, ◌≤◌, ℕ, true, false, List, [], ◌++◌, length, take, drop, is_none, IfOk, OnOk, OnErr, IfSome, Some, None};
 ghost use Rattle.std.specs.Io.Slices.{io_slices_bytes};
 ghost use mathlib.Core.List.{IsPrefix};
 ghost use Rattle.s3_config.specs.Settings.{Settings};
@@ -11,6 +11,7 @@ ghost use Rattle.s3_machine.specs.declared.turn.Turn.{Turn};
 ghost use Rattle.s3_session.specs.Fault.{HasNoFault, IsFault};
 ghost use Rattle.s3_session.specs.Output.{Reading, Over, Dead, is_closed, is_dead, is_waiting};
 ghost use Rattle.s3_session.specs.Session.{moment_if};
+ghost use Rattle.s3_session.specs.Verified.{HoldsVerified};
 ghost use Rattle.s3_connection.specs.Holds.{Holds};
 ghost use Rattle.s3_connection.specs.Output.{Input};
 
@@ -286,13 +287,20 @@ impl Connection {
     /// What has come of the head of the message at hand, until that is answered; `None` where memory ran out for it. It takes no
     /// memory.
     pub fn head(&self) -> Option<&[u8]>
-        ensures { (bytes : List ℕ) → heads.Holds self.now.session.search bytes → IfSome result (λ text. text.now ≡ skip_pairs bytes) }
+        ensures text { (bytes : List ℕ) → heads.Holds self.now.session.search bytes → IfSome result (λ text. text.now ≡ skip_pairs bytes) }
+        ensures lost { is_none result ≡ heads.is_lost self.now.session.search }
     {
         self.session.head()
     }
 
-    /// Whether the signature of the message at hand was verified: for the log of a server. It takes no memory.
-    pub fn is_verified(&self) -> bool {
+    /// Whether the signature of the message at hand was verified, until that is answered: for the log of a server. It takes no
+    /// memory.
+    pub fn is_verified(&self) -> bool
+        ensures verified { (settings : Settings) (input : Input) (moments : List ℕ) (entries : List Entry) (sent : List ℕ)
+            → Holds self.now settings input moments entries sent → result ≡ true → HoldsVerified settings self.now.session }
+        ensures waits { (settings : Settings) (input : Input) (moments : List ℕ) (entries : List Entry) (sent : List ℕ)
+            → Holds self.now settings input moments entries sent → is_waiting (rules.standing_of self.now) ≡ true → result ≡ true }
+    {
         self.session.is_verified()
     }
 

@@ -59,7 +59,7 @@ impl<'a, J: Ground, W: Wait> Model for Held<'a, J, W> {
 
 impl<'a, J: Ground, W: Wait + Clock> Held<'a, J, W> {
     /// The connection of this number, which came at a moment, with a seat of its own. It waits for the store. `NoMemory` comes where
-    /// there is no room for a seat more.
+    /// there is no room for a seat more, or for what a log is told.
     pub fn new(
         sharing: &Sharing<'a, J, W>,
         socket: Socket,
@@ -73,8 +73,8 @@ impl<'a, J: Ground, W: Wait + Clock> Held<'a, J, W> {
         let Some((socket, moments)) = recorded(socket) else {
             return Err(NoMemory);
         };
+        let told = MessageLog::new(sharing.rt(), sharing.alloc(), sharing.log(), number, now)?;
         let seat = DeskHandle::open(sharing.rt(), sharing.desk())?;
-        let told = MessageLog::new(sharing.rt(), sharing.alloc(), sharing.log(), number, now);
         Ok(Held::over(sharing.alloc(), socket, moments, seat, told, now))
     }
 

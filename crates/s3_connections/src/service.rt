@@ -15,7 +15,7 @@ use std::time::{Clock, Instant};
 /// What serves the connections of a worker, which knows nothing else of them: so what it does with them is proved without what
 /// they are made of, and without their drops.
 pub trait Service: Sized {
-    /// A connection. Nothing says that it may be dropped, so that each has to leave.
+    /// A connection. Nothing says that it may be dropped, so that a worker has it leave.
     type Held;
 
     /// What is waited with, and what tells the time.
@@ -47,7 +47,7 @@ pub trait Service: Sized {
     /// Has it leave its seat.
     fn leaves(held: Self::Held);
 
-    /// Gives the memory back that connections were held in, all of which have left.
+    /// Gives the memory back that connections were held in. All have to have left: one that hasn't is dropped, and keeps its seat.
     fn all_have_left(held: Slab<Self::Held>);
 
     /// Since when it waits for its next message, or for its peer's end, if it does.

@@ -15,8 +15,8 @@ use std::time::{Clock, Duration};
 // How many milliseconds a writer waits for more.
 const PAUSE: u64 = 50;
 
-/// The lines that a server tells, which wait here for their writer: 4 MiB at most, beside which further ones are lost and counted.
-/// Whoever tells one waits for the lock alone.
+/// The lines that some tell, which wait here for their writer: 4 MiB at most, beside which further ones are lost and counted.
+/// Whoever tells one waits for the lock alone. A server has one for each of its workers, so that none waits for another.
 #[derive(Drop)]
 pub struct Log {
     pending: Mutex<Pending>,
@@ -53,7 +53,7 @@ impl Log {
     }
 }
 
-/// Who writes the lines of a log to its file.
+/// Who writes the lines of logs to one file.
 #[derive(Drop)]
 pub struct LogWriter {
     lines: Lines,
@@ -70,26 +70,56 @@ impl LogWriter {
         })
     }
 
-    /// Writes what is told to the file at a path, until the last teller has left: every 50 milliseconds what waits then, in one write to the
-    /// file that has the path at that time, so that a file which was moved away is left alone from then on. What can't be written is
-    /// lost. In front of the next lines stands how many were lost.
+    /// Writes what these logs are told to the file at a path, until the last teller has left: every 50 milliseconds what waits then, in one
+    /// write for each log, to the file that has the path at that time, so that a file which was moved away is left alone from then on.
+    /// What can't be written is lost. In front of the next lines stands how many were lost.
     pub fn write<R: Wait + Clock, F: Files>(
+        &mut self,
+        rt: &R,
+        alloc: Global,
+        logs: &[Log],
+        files: &F,
+        path: &str,
+    ) {
+        for _ in rt.forever() {
+            if self.write_all(rt, alloc, logs, files, path) {
+                break;
+            }
+            thread::sleep(rt, Duration::from_millis(PAUSE));
+        }
+    }
+
+    // Writes what waits in each log, and answers whether no more comes in any of them.
+    fn write_all<R: Wait, F: Files>(
+        &mut self,
+        rt: &R,
+        alloc: Global,
+        logs: &[Log],
+        files: &F,
+        path: &str,
+    ) -> bool {
+        let mut are_last = true;
+        for log in logs {
+            if !self.write_one(rt, alloc, log, files, path) {
+                are_last = false;
+            }
+        }
+        are_last
+    }
+
+    // Writes what waits in a log, and answers whether no more comes in it.
+    fn write_one<R: Wait, F: Files>(
         &mut self,
         rt: &R,
         alloc: Global,
         log: &Log,
         files: &F,
         path: &str,
-    ) {
-        for _ in rt.forever() {
-            self.lines.clear();
-            let given = log.give(rt, &mut self.lines);
-            self.write_given(alloc, files, path, given);
-            if given.is_last {
-                break;
-            }
-            thread::sleep(rt, Duration::from_millis(PAUSE));
-        }
+    ) -> bool {
+        self.lines.clear();
+        let given = log.give(rt, &mut self.lines);
+        self.write_given(alloc, files, path, given);
+        given.is_last
     }
 
     // Writes the lines that were given, or counts them as lost.

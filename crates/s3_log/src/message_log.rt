@@ -1,5 +1,7 @@
 //! What is told of the messages of one connection.
 
+ghost use Rattle.std.specs.Prelude.{◌≡◌, true, is_some, OnErr};
+
 use crate::line::{Message, begun, ended};
 use crate::log::Log;
 use crate::result::Told;
@@ -12,12 +14,18 @@ use std::sync::Wait;
 use std::time::{Clock, Instant};
 
 /// What is told of the messages of one connection: a line each, once its reply is out or its connection has ended. Without a
-/// log nothing is told, and nothing is done for it.
+/// log nothing is told, nothing is done for it, and it takes no memory.
 #[derive(Drop)]
 pub struct MessageLog<'a, W: Wait> {
+    telling: Option<Box<Telling<'a, W>>>,
+}
+
+// What is told to a log of the messages of one connection.
+#[derive(Drop)]
+struct Telling<'a, W: Wait> {
     rt: &'a W,
     alloc: Global,
-    log: Option<&'a Log>,
+    log: &'a Log,
     connection: u64,
     // When what happens now was found ready.
     now: Instant,
@@ -30,15 +38,20 @@ pub struct MessageLog<'a, W: Wait> {
 }
 
 impl<'a, W: Wait + Clock> MessageLog<'a, W> {
-    /// Nothing is told yet of the connection of this number, which comes now.
+    /// Nothing is told yet of the connection of this number, which comes now. `NoMemory` comes only where there is a log.
     pub fn new(
         rt: &'a W,
         alloc: Global,
         log: Option<&'a Log>,
         connection: u64,
         now: Instant,
-    ) -> MessageLog<'a, W> {
-        MessageLog {
+    ) -> Result<MessageLog<'a, W>, NoMemory>
+        ensures memory { OnErr result (is_some log.entry ≡ true) }
+    {
+        let Some(log) = log else {
+            return Ok(MessageLog { telling: None });
+        };
+        let telling = Telling {
             rt,
             alloc,
             log,
@@ -48,45 +61,58 @@ impl<'a, W: Wait + Clock> MessageLog<'a, W> {
             since: now,
             bytes: 0,
             line: None,
-        }
+        };
+        Ok(MessageLog {
+            telling: Some(Box::new(alloc, telling)?),
+        })
     }
 
     /// What happens from now on was found ready at a time.
     pub fn is_at(&mut self, now: Instant) {
-        self.now = now;
+        if let Some(telling) = &mut self.telling {
+            telling.now = now;
+        }
     }
 
     /// The connection has ended: what is still to be told is told.
     pub fn leaves(&mut self) {
-        if let (Some(log), Some(line)) = (self.log, self.line.take()) {
-            self.tell(log, line);
+        if let Some(telling) = &mut self.telling {
+            telling.tell();
         }
-    }
-
-    // Tells a line whose message is written out.
-    fn tell(&self, log: &Log, line: Printer) {
-        match ended(line, self.bytes, self.microseconds()) {
-            Ok(line) => log.add(self.rt, &line),
-            Err(NoMemory) => log.lose(self.rt),
-        }
-    }
-
-    // How many microseconds the message has taken, if the clock can be read.
-    fn microseconds(&self) -> Option<u64> {
-        let waited = self.since.elapsed(self.rt).ok()?;
-        u64::try_from(waited.as_micros()).ok()
     }
 }
 
 impl<W: Wait + Clock> Witness for MessageLog<'_, W> {
+    fn begins(&mut self, now: Moment) {
+        if let Some(telling) = &mut self.telling {
+            telling.begins(now);
+        }
+    }
+
+    fn ends(&mut self, head: Option<&[u8]>, is_verified: bool, told: Told) {
+        if let Some(telling) = &mut self.telling {
+            telling.ends(head, is_verified, told);
+        }
+    }
+
+    fn wrote(&mut self, count: usize, is_all: bool) {
+        if let Some(telling) = &mut self.telling {
+            telling.wrote(count, is_all);
+        }
+    }
+}
+
+impl<W: Wait + Clock> Telling<'_, W> {
+    // A message begins, whose whole head has come at this moment, or more than a head may have.
     fn begins(&mut self, now: Moment) {
         self.moment = Some(now);
         self.since = self.now;
         self.bytes = 0;
     }
 
+    // It ends so: the beginning of its line is printed.
     fn ends(&mut self, head: Option<&[u8]>, is_verified: bool, told: Told) {
-        let (Some(log), Some(moment)) = (self.log, self.moment) else {
+        let Some(moment) = self.moment else {
             return;
         };
         let message = Message {
@@ -98,15 +124,33 @@ impl<W: Wait + Clock> Witness for MessageLog<'_, W> {
         };
         match begun(self.alloc, &message) {
             Ok(line) => self.line = Some(line),
-            Err(NoMemory) => log.lose(self.rt),
+            Err(NoMemory) => self.log.lose(self.rt),
         }
     }
 
+    // So many bytes were written, and whether nothing is left to write.
     fn wrote(&mut self, count: usize, is_all: bool) {
         self.bytes = self.bytes.saturating_add(count as u64);
         if is_all {
-            self.leaves();
+            self.tell();
         }
+    }
+
+    // Tells the line of a message that is written out, if there is one.
+    fn tell(&mut self) {
+        let Some(line) = self.line.take() else {
+            return;
+        };
+        match ended(line, self.bytes, self.microseconds()) {
+            Ok(line) => self.log.add(self.rt, &line),
+            Err(NoMemory) => self.log.lose(self.rt),
+        }
+    }
+
+    // How many microseconds the message has taken, if the clock can be read.
+    fn microseconds(&self) -> Option<u64> {
+        let waited = self.since.elapsed(self.rt).ok()?;
+        u64::try_from(waited.as_micros()).ok()
     }
 }
 

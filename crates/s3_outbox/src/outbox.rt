@@ -16,7 +16,7 @@ use std::io::IoSlice;
 use std::marker::Model;
 
 /// How long the last text of all may be, in bytes. It is a refusal, which has no metadata, so it is short.
-const LAST_LIMIT: usize = 768;
+const LAST_LIMIT: usize = 512;
 
 /// What a connection has still to send: replies behind one another, and the last text of all. Contracts see
 /// the bytes that aren't sent yet, whether room for one more reply is set aside, whether it was so since memory
@@ -52,7 +52,7 @@ impl Model for Outbox {
         × (o.has_room ≡ true → o.had_room ≡ true)
         × (o.had_room ≡ true → KeepsRoom o.replies)
         × (o.last_sent ≤ length o.last.items)
-        × (length o.last.items ≤ 768)
+        × (length o.last.items ≤ 512)
         × (o.is_ended ≡ false → o.last.items ≡ []) };
 }
 
@@ -128,11 +128,11 @@ impl Outbox {
         self.has_room = false;
     }
 
-    /// Puts the last text of all, of at most 768 bytes, behind the replies. It needs no room, and takes no
+    /// Puts the last text of all, of at most 512 bytes, behind the replies. It needs no room, and takes no
     /// memory.
     pub fn end_with(&mut self, text: &[u8])
         requires unended { self.old.is_ended ≡ false }
-        requires fits { length «text».now ≤ 768 }
+        requires fits { length «text».now ≤ 512 }
         ensures ended { self.new ≡ with_end self.old «text».now }
     {
         let Ok(()) = self.last.try_extend_from_slice(text) else {

@@ -120,6 +120,13 @@ pub record HasRoomFor (head : Fields) : Type 0 where
   pub metadata : metadata_size head.metadata ≤ 2048
   pub metadata_count : length head.metadata ≤ 64
 
+-- how many bytes the lines that tell of a bucket, an object or its version take at most: 20, 12, 10 and 17 beside the values of
+-- `x-amz-version-id`, `Location`, `ETag` and `Last-Modified`, 27 for `x-amz-delete-marker`
+abbrev pub version_room : Fields → ℕ
+version_room head =
+    (20 + value_length head.version_id) + 27 + (12 + value_length head.location) + (10 + value_length head.tag)
+    + (17 + value_length head.modified)
+
 -- how many bytes the lines that tell of a body take at most: 22 for `Accept-Ranges`, 17 and 16 beside the values of
 -- `Content-Range` and `Content-Type`, 15 beside the name and the value of an entry of metadata, 38 for `Content-Length`
 abbrev pub body_room : Fields → ℕ
@@ -127,7 +134,7 @@ body_room head =
     22 + (17 + value_length head.content_range) + (16 + value_length head.content_type)
     + (metadata_size head.metadata + 15 * length head.metadata) + 38
 
--- how many bytes the head takes at most: 45 for the status line, 92 and 236 for the lines in front of those that tell
--- of a body, and 2 for the empty line at the end
+-- how many bytes the head takes at most: 45 for the status line, 92 for the lines that say who answers, and 2 for the empty
+-- line at the end
 abbrev pub head_room : Fields → ℕ
-head_room head = 45 + 92 + 236 + body_room head + 2
+head_room head = 45 + 92 + version_room head + body_room head + 2

@@ -1,7 +1,7 @@
 //! The head of a reply: its status line and its header lines.
 
 ghost use Rattle.std.specs.Prelude.{◌≡◌, ◌≤◌, ◌+◌, [], ◌++◌};
-ghost use Rattle.s3_replies.specs.Head.{fields_of, bare, opening_lines, version_lines, body_lines, print_head, HasRoomFor, body_room, head_room};
+ghost use Rattle.s3_replies.specs.Head.{fields_of, bare, opening_lines, version_lines, body_lines, print_head, HasRoomFor, version_room, body_room, head_room};
 ghost use Rattle.s3_replies.specs.Lines.{print_lines};
 
 use crate::date::DateText;
@@ -107,13 +107,14 @@ impl<'a> Head<'a> {
         write_line(out, "x-amz-request-id", &number_digits(self.number));
     }
 
-    /// Appends the lines that tell of a bucket, an object or its version: 236 bytes at most.
+    /// Appends the lines that tell of a bucket, an object or its version: 236 bytes at most, and no more than what they say needs.
     fn write_version<R: Room>(&self, out: &mut R)
         requires fits { HasRoomFor (fields_of self.now) }
         requires room { R.size out.old + 236 ≤ R.capacity out.old }
         ensures items { R.written out.new
             ≡ R.written out.old ++ print_lines (version_lines (fields_of self.now)) }
         ensures bound { R.size out.new ≤ R.size out.old + 236 }
+        ensures short { R.size out.new ≤ R.size out.old + version_room (fields_of self.now) }
         ensures capacity { R.capacity out.old ≤ R.capacity out.new }
     {
         write_optional(out, "x-amz-version-id", self.version_id);

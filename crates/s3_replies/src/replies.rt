@@ -47,7 +47,7 @@ fn made_reply<R: Room>(out: &mut R, opening: Opening, name: &BucketName)
 }
 
 /// Appends the whole reply that refuses with the code, and says whether what was asked for is a delete marker. It is
-/// 768 bytes long at most.
+/// 512 bytes long at most.
 fn error_reply<R: Room>(
     out: &mut R,
     opening: Opening,
@@ -58,7 +58,7 @@ fn error_reply<R: Room>(
     requires { R.size out.old + 4096 ≤ R.capacity out.old }
     ensures written { R.written out.new ≡ R.written out.old
         ++ front head_only (beside (error_fields opening code is_delete_marker) (error_document code)) }
-    ensures short { R.size out.new ≤ R.size out.old + 768 }
+    ensures short { R.size out.new ≤ R.size out.old + 512 }
     ensures capacity { R.capacity out.old ≤ R.capacity out.new }
 {
     let document = document_of(code);
@@ -196,10 +196,10 @@ pub fn print_reply<R: Room>(answer: Answer, context: &Context, out: &mut R) -> O
 }
 
 /// The reply to a message of this moment that is refused before it comes to the machine; `head_only` says
-/// that the message is a HEAD. The reply ends the connection, its id is zero, and it is 768 bytes long at most.
+/// that the message is a HEAD. The reply ends the connection, its id is zero, and it is 512 bytes long at most.
 pub fn refusal(code: Code, moment: Moment, head_only: bool) -> ArrayVec<u8, 4096>
     ensures printed { PrintsRefusal code moment head_only result.items }
-    ensures short { length result.items ≤ 768 }
+    ensures short { length result.items ≤ 512 }
 {
     let opening = Opening {
         number: 0,
@@ -218,10 +218,10 @@ pub const INTERNAL_ERROR: &[u8] = b"HTTP/1.1 500 Internal Server Error\r\n\
     x-amz-request-id: 0000000000000000\r\n\
     \r\n";
 
-/// `INTERNAL_ERROR`, with clauses that say what it is, and that it is 768 bytes long at most.
+/// `INTERNAL_ERROR`, with clauses that say what it is, and that it is 512 bytes long at most.
 pub fn internal_error_reply() -> &'static [u8]
     ensures value { result.now ≡ internal_error }
-    ensures fits { length result.now ≤ 768 }
+    ensures fits { length result.now ≤ 512 }
 {
     INTERNAL_ERROR
 }

@@ -11,8 +11,8 @@ use std::time::{Duration, Instant};
 // How many milliseconds a connection has waited for its next message at least before it is let go for another one.
 const LEAST_IDLE: u64 = 1000;
 
-/// The connections that a worker holds. Their keys are below `capacity`. Each leaves its seat when it is let go; none is dropped, and so
-/// neither is the whole.
+/// The connections that a worker holds. Their keys are below `capacity`. Each leaves its seat when it is let go, and all have to be before
+/// the end.
 pub(crate) struct Connections<S: Service> {
     held: Slab<S::Held>,
 }

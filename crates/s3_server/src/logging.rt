@@ -1,4 +1,4 @@
-//! The log of a server, and the file that it goes to.
+//! The logs of a server, and the file that they go to.
 
 ghost use Rattle.std.specs.Prelude.{◌≡◌, IfErr};
 ghost use Rattle.s3_server.specs.Serve.{IsLogFault};
@@ -10,17 +10,17 @@ use std::alloc::Global;
 use std::sync::Wait;
 use std::time::Clock;
 
-/// The log, and the file that it goes to.
+/// A log for each worker, and the file that they go to.
 #[derive(Drop)]
 pub(crate) struct Logging<'a, F: Files> {
-    log: Log,
+    logs: Vec<Log>,
     files: &'a F,
     path: &'a str,
 }
 
 impl<'a, F: Files> Logging<'a, F> {
-    /// The log that a server is asked for, if it is, each of whose workers tells lines. `CannotWrite` where nothing can be written to
-    /// its file.
+    /// The logs that a server is asked for, if it is, one for each of its workers. `CannotWrite` where nothing can be written to their
+    /// file.
     pub(crate) fn asked(
         alloc: Global,
         mode: &ServeMode<'a>,
@@ -34,20 +34,29 @@ impl<'a, F: Files> Logging<'a, F> {
         if files.append(path, &[]).is_err() {
             return Err(Fault::CannotWrite(path));
         }
-        match Log::new(alloc, mode.workers) {
-            Ok(log) => Ok(Some(Logging { log, files, path })),
+        match logs_of(alloc, mode.workers) {
+            Ok(logs) => Ok(Some(Logging { logs, files, path })),
             Err(NoMemory) => Err(Fault::OutOfMemory),
         }
     }
 
-    /// What workers tell lines to.
-    pub(crate) fn log(&self) -> &Log {
-        &self.log
+    /// What the worker of this number tells lines to.
+    pub(crate) fn log(&self, number: usize) -> Option<&Log> {
+        self.logs.get(number)
     }
 
     /// Has the lines written until the last worker has left.
     pub(crate) fn write<R: Wait + Clock>(&self, rt: &R, alloc: Global, writer: LogWriter) {
         let mut writer = writer;
-        writer.write(rt, alloc, &self.log, self.files, self.path);
+        writer.write(rt, alloc, &self.logs, self.files, self.path);
     }
+}
+
+// So many logs, each of one teller.
+fn logs_of(alloc: Global, count: u64) -> Result<Vec<Log>, NoMemory> {
+    let mut logs = Vec::new(alloc);
+    for _ in 0..count {
+        logs.push(Log::new(alloc, 1)?)?;
+    }
+    Ok(logs)
 }

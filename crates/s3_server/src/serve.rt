@@ -73,8 +73,8 @@ pub fn serve_words<R: Wait + Threads + Net + Clock + Sync, F: Files + Sync, W: W
 // What one thread does.
 #[derive(Drop)]
 enum Job {
-    // The work of a worker.
-    Work(Means),
+    // The work of the worker of a number, which are counted from 0.
+    Work(usize, Means),
     // The writing of the log.
     Write(LogWriter),
 }
@@ -196,7 +196,7 @@ fn all_jobs<'a, R: Net>(
     let mut all = Vec::new(alloc);
     for _ in 0..mode.workers {
         let means = one_means(rt, alloc, mode, listener)?;
-        all.push(Job::Work(means))?;
+        all.push(Job::Work(all.len(), means))?;
     }
     if mode.log.is_some() {
         all.push(Job::Write(LogWriter::new(alloc)?))?;
@@ -311,7 +311,17 @@ fn does<J: Ground, R: Wait + Clock, F: Files>(
     requires settings { J.base.settings ≡ config.now }
 {
     match job {
-        Job::Work(means) => works(rt, alloc, config, places, desk, log_of(logging), means),
+        Job::Work(number, means) => {
+            works(
+                rt,
+                alloc,
+                config,
+                places,
+                desk,
+                log_of(logging, number),
+                means,
+            );
+        }
         Job::Write(writer) => {
             if let Some(logging) = logging {
                 logging.write(rt, alloc, writer);
@@ -320,10 +330,10 @@ fn does<J: Ground, R: Wait + Clock, F: Files>(
     }
 }
 
-// The log, if there is one.
-fn log_of<'l, F: Files>(logging: Option<&'l Logging<'_, F>>) -> Option<&'l Log> {
+// The log of the worker of this number, if there is one.
+fn log_of<'l, F: Files>(logging: Option<&'l Logging<'_, F>>, number: usize) -> Option<&'l Log> {
     match logging {
-        Some(logging) => Some(logging.log()),
+        Some(logging) => logging.log(number),
         None => None,
     }
 }

@@ -7,6 +7,7 @@ pub mod FrontLemmas
 pub mod InBodyLemmas
 pub mod IncomingLemmas
 pub mod InvitationLemmas
+pub mod NotedLemmas
 pub mod OutputLemmas
 pub mod ReadBackLemmas
 pub mod ReceivingLemmas

@@ -29,7 +29,9 @@ use Rattle.s3_session.specs.declared.session.Stage.{Stage}
 use Rattle.s3_session.specs.declared.session.Stage.TheVariants as stages
 use Rattle.s3_session.specs.declared.session.Closing.TheVariants as closings
 use Rattle.s3_session.specs.Incoming.{IsInBody}
-use Rattle.s3_session.specs.Session.{Connection, IsLonger, added, fed, moment_at, moment_if, standing_at, standing_of, turns_of, unsent_of}
+use Rattle.s3_session.specs.Session.{Connection, IsLonger, KeepsHead, added, fed, moment_at, moment_if, standing_at, standing_of, turns_of, unsent_of}
+use Rattle.s3_session.specs.Verified.{IsNoted, is_admitted}
+use Rattle.s3_session.proofs.NotedLemmas.{none_noted, noted_on}
 use Rattle.s3_session.proofs.StayLemmas.{HeadsStay}
 use Rattle.s3_session.proofs.EarlyLemmas.{sound_text}
 use Rattle.s3_session.proofs.FrontLemmas.{body_judged}
@@ -192,7 +194,7 @@ gave_receiving old new incoming at moment = rw (at, moment) refl
 module _ (stay : VerdictsStay) (invited : InvitationsStay) (settings : Settings) (old new : Connection) (past : Past) (sent piece : List ℕ) (taken : ℕ) (need : Need)
     (unended : past.ended ≡ false) (longer : IsLonger (unsent_of old) (unsent_of new))
     (later : moment_at new.stage ≡ moment_at old.stage ++ gave_between old new) (end : new.is_ended ≡ false) (count : new.answered ≡ old.answered)
-    (counted : old.answered ≡ min (length past.answers) most_counted) where
+    (counted : old.answered ≡ min (length past.answers) most_counted) (noted : IsNoted settings new) where
   fed_by : (left : Option (List ℕ)) (rest : List ℕ) (waiting : List Turn) (last : List ℕ) → left ≡ Some rest → waiting ≡ []
       → Serves settings past (sent ++ unsent_of old) left (moment_at old.stage) waiting last
       → IsFed settings old new rest last piece taken need
@@ -222,6 +224,7 @@ module _ (stay : VerdictsStay) (invited : InvitationsStay) (settings : Settings)
         here = subst (λ e. Here settings new e (rest ++ bytes) (turns_of need) (last ++ added (unsent_of old) (unsent_of new))) (sym unended) f.here;
         end = unended ∙ sym end;
         counted = count ∙ counted;
+        noted = noted;
       }
 
 -- ---- what a call finds
@@ -305,9 +308,10 @@ module _ (settings : Settings) (old new : Connection) (past : Past) (sent : List
         let more = length_push past.answers answer in
         omega (arith, count, before, more)
 
-    pub stands_replied : (closes : Bool) → context.closes ≡ closes → IsReady closes new → new.answered ≡ min (old.answered + 1) most_counted
+    pub stands_replied : (closes : Bool) → context.closes ≡ closes → IsReady closes new → new.is_verified ≡ false
+        → new.answered ≡ min (old.answered + 1) most_counted
         → Stands new settings (record past { answers = past.answers ++ answer ∷ [] }) sent
-    stands_replied true closing ready count = record {
+    stands_replied true closing ready none count = record {
       left = None;
       waiting = [];
       last = [];
@@ -315,8 +319,9 @@ module _ (settings : Settings) (old new : Connection) (past : Past) (sent : List
       here = (ready, refl, refl);
       end = h.end ∙ sym end;
       counted = counts count;
+      noted = none_noted settings new none (ap is_admitted ready);
     }
-    stands_replied false staying ready count = record {
+    stands_replied false staying ready none count = record {
       left = Some [];
       waiting = [];
       last = [];
@@ -325,13 +330,14 @@ module _ (settings : Settings) (old new : Connection) (past : Past) (sent : List
           (record { searched = λ _. ready.1; found = empty_found; none = refl; nothing = refl });
       end = h.end ∙ sym end;
       counted = counts count;
+      noted = none_noted settings new none (ap is_admitted ready.0);
     }
 
   -- memory ran out at its turn
   pub stands_died : new.stage ≡ stages.Closed (closings.Died context.moment) → unsent_of new ≡ unsent_of old ++ internal_error → new.answered ≡ old.answered
-      → Stands new settings past sent
+      → KeepsHead old new → Stands new settings past sent
   unfolding asking
-  stands_died stage written count =
+  stands_died stage written count keeps =
       let s = h.serves in
       let a = asking in
       let dead : IsDead settings past.ended a.0 (context.moment ∷ []) h.waiting (h.last ++ internal_error) = record {
@@ -361,6 +367,7 @@ module _ (settings : Settings) (old new : Connection) (past : Past) (sent : List
         here = subst (λ (l : Option (List ℕ)). HereOr settings new past.ended l h.waiting (h.last ++ internal_error)) (sym a.1) here;
         end = h.end ∙ sym end;
         counted = count ∙ h.counted;
+        noted = noted_on settings old new keeps (ap moment_at stage ∙ sym late_is) (λ is. (let same = sym is ∙ ap is_admitted stage in absurd (cc))) h.noted;
       }
 
 -- ---- what is sent
@@ -379,9 +386,9 @@ module _ (settings : Settings) (old new : Connection) (ended : Bool) (stage_same
   here_left None h = (stage_same ∙ h.0, h.1, h.2)
 
 pub stands_sent : (settings : Settings) (old new : Connection) (past : Past) (sent : List ℕ) (count : ℕ) → new.stage ≡ old.stage → new.search ≡ old.search
-    → new.is_ended ≡ old.is_ended → new.answered ≡ old.answered → unsent_of new ≡ drop count (unsent_of old)
+    → new.is_ended ≡ old.is_ended → new.answered ≡ old.answered → new.is_verified ≡ old.is_verified → unsent_of new ≡ drop count (unsent_of old)
     → Stands old settings past sent → Stands new settings past (sent ++ take count (unsent_of old))
-stands_sent settings old new past sent count stage searches ends counts rest h =
+stands_sent settings old new past sent count stage searches ends counts verified rest h =
     let joined : (sent ++ take count (unsent_of old)) ++ unsent_of new ≡ sent ++ unsent_of old =
     append_assoc sent (take count (unsent_of old)) (unsent_of new)
     ∙ ap (λ (u : List ℕ). sent ++ u) (ap (λ (u : List ℕ). take count (unsent_of old) ++ u) rest ∙ take-append-drop count (unsent_of old)) in
@@ -393,6 +400,7 @@ stands_sent settings old new past sent count stage searches ends counts rest h =
       here = here_left settings old new past.ended stage searches h.waiting h.last h.left h.here;
       end = h.end ∙ sym ends;
       counted = counts ∙ h.counted;
+      noted = noted_on settings old new (searches, verified) (ap moment_at stage) (λ is. sym (ap is_admitted stage) ∙ is) h.noted;
     }
 
 -- ---- the end of the bytes
@@ -421,7 +429,7 @@ module _ (stay : VerdictsStay) (invited : InvitationsStay) (heads : HeadsStay) (
   module _ (old new : Connection) (past : Past) (sent : List ℕ) (incoming : Incoming) (h : Stands old settings past sent)
       (at : old.stage ≡ stages.Body incoming) (unended : past.ended ≡ false) (end : new.is_ended ≡ true) (count : new.answered ≡ old.answered)
       (cut : (rest : List ℕ) → IsInBody settings incoming rest → IsCutTo settings incoming.context rest old new)
-      (longer : IsLonger (unsent_of old) (unsent_of new)) where
+      (longer : IsLonger (unsent_of old) (unsent_of new)) (keeps : KeepsHead old new) where
     pub stands_cut : Stands new settings (record past { ended = true }) sent
     stands_cut =
         let a = receiving_at settings old past.ended incoming h.left h.waiting h.last at h.here in
@@ -462,6 +470,7 @@ module _ (stay : VerdictsStay) (invited : InvitationsStay) (heads : HeadsStay) (
           here = subst (λ (l : Option (List ℕ)). HereOr settings new true l h.waiting (h.last ++ added (unsent_of old) (unsent_of new))) (sym a.1) here;
           end = sym end;
           counted = count ∙ h.counted;
+          noted = noted_on settings old new keeps (ap moment_at k.stage ∙ sym (ap moment_at at)) (λ is. (let same = sym is ∙ ap is_admitted k.stage in absurd (cc))) h.noted;
         }
 
   -- and leaves all others as they are
@@ -491,9 +500,9 @@ module _ (stay : VerdictsStay) (invited : InvitationsStay) (heads : HeadsStay) (
         subst (λ (g : Stage). StandsAt g settings new true rest waiting last) (sym stage_same) (here_end old.stage rest waiting last other h)
     here_or_end None waiting last other h = (stage_same ∙ h.0, h.1, h.2)
 
-    pub stands_end : (past : Past) (sent : List ℕ) → is_in_body old.stage ≡ false → unsent_of new ≡ unsent_of old → new.is_ended ≡ true → new.answered ≡ old.answered → past.ended ≡ false
+    pub stands_end : (past : Past) (sent : List ℕ) → is_in_body old.stage ≡ false → unsent_of new ≡ unsent_of old → new.is_ended ≡ true → new.answered ≡ old.answered → KeepsHead old new → past.ended ≡ false
         → Stands old settings past sent → Stands new settings (record past { ended = true }) sent
-    stands_end past sent other same end count unended h =
+    stands_end past sent other same end count keeps unended h =
         let s = serves_end past (sent ++ unsent_of old) h.left (moment_at old.stage) h.waiting h.last unended h.serves in
         record {
           left = h.left;
@@ -503,13 +512,14 @@ module _ (stay : VerdictsStay) (invited : InvitationsStay) (heads : HeadsStay) (
           here = here_or_end h.left h.waiting h.last other (subst (λ e. HereOr settings old e h.left h.waiting h.last) unended h.here);
           end = sym end;
           counted = count ∙ h.counted;
+          noted = noted_on settings old new keeps (ap moment_at stage_same) (λ is. sym (ap is_admitted stage_same) ∙ is) h.noted;
         }
 
 -- ---- a connection of which nothing came
 
 pub stands_first : (settings : Settings) (session : Connection) → session.stage ≡ stages.Reading → search.Stands session.search [] → unsent_of session ≡ []
-    → session.is_ended ≡ false → session.answered ≡ 0 → Stands session settings nothing_yet []
-stands_first settings session stage searches nothing end none = record {
+    → session.is_ended ≡ false → session.answered ≡ 0 → session.is_verified ≡ false → Stands session settings nothing_yet []
+stands_first settings session stage searches nothing end none unnoted = record {
   left = Some [];
   waiting = [];
   last = [];
@@ -525,6 +535,7 @@ stands_first settings session stage searches nothing end none = record {
   here = subst (λ (g : Stage). StandsAt g settings session false [] [] []) (sym stage) (record { searched = λ _. searches; found = empty_found; none = refl; nothing = refl });
   end = sym end;
   counted = none;
+  noted = none_noted settings session unnoted (ap is_admitted stage);
 }
 
 -- ---- a piece at a connection that has no whole head, and at one that reads a body
@@ -533,23 +544,26 @@ module _ (stay : VerdictsStay) (invited : InvitationsStay) (settings : Settings)
   pub fed_reading : (h : Stands old settings past sent) → old.stage ≡ stages.Reading → old.is_ended ≡ false → IsLonger (unsent_of old) (unsent_of new)
       → new.is_ended ≡ false → new.answered ≡ old.answered
       → ((rest : List ℕ) → search.Stands old.search rest → IsFed settings old new rest [] piece taken need)
+      → ((rest : List ℕ) → search.Stands old.search rest → IsNoted settings old → IsNoted settings new)
       → Stands new settings (fed past (take taken piece) (gave_between old new) (turns_of need)) sent
-  fed_reading h at goes_on longer end count feeds =
+  fed_reading h at goes_on longer end count feeds notes =
       let unended = h.end ∙ goes_on in
       let a = reading_at settings old past.ended h.left h.waiting h.last at h.here in
       let later : moment_at new.stage ≡ moment_at old.stage ++ gave_between old new = rw at refl in
       let piece_fed = subst (λ (l : List ℕ). IsFed settings old new a.0 l piece taken need) (sym a.2.nothing) (feeds a.0 (a.2.searched unended)) in
-      fed_by stay invited settings old new past sent piece taken need unended longer later end count h.counted h.left a.0 h.waiting h.last a.1 a.2.none h.serves piece_fed
+      let noted = notes a.0 (a.2.searched unended) h.noted in
+      fed_by stay invited settings old new past sent piece taken need unended longer later end count h.counted noted h.left a.0 h.waiting h.last a.1 a.2.none h.serves piece_fed
 
   pub fed_receiving : (incoming : Incoming) (h : Stands old settings past sent) → old.stage ≡ stages.Body incoming → old.is_ended ≡ false → IsLonger (unsent_of old) (unsent_of new)
-      → new.is_ended ≡ false → new.answered ≡ old.answered → moment_at new.stage ≡ incoming.context.moment ∷ []
+      → new.is_ended ≡ false → new.answered ≡ old.answered → KeepsHead old new → moment_at new.stage ≡ incoming.context.moment ∷ []
       → ((rest last : List ℕ) → IsInBody settings incoming rest → Invites settings incoming.context.moment rest last → IsFed settings old new rest last piece taken need)
       → Stands new settings (fed past (take taken piece) (gave_between old new) (turns_of need)) sent
-  fed_receiving incoming h at goes_on longer end count moment feeds =
+  fed_receiving incoming h at goes_on longer end count keeps moment feeds =
       let unended = h.end ∙ goes_on in
       let a = receiving_at settings old past.ended incoming h.left h.waiting h.last at h.here in
       let later : moment_at new.stage ≡ moment_at old.stage ++ gave_between old new = rw (at, moment) refl in
-      fed_by stay invited settings old new past sent piece taken need unended longer later end count h.counted h.left a.0 h.waiting h.last a.1 a.2.none h.serves
+      let noted = noted_on settings old new keeps (moment ∙ sym (ap moment_at at)) (λ _. ap is_admitted at) h.noted in
+      fed_by stay invited settings old new past sent piece taken need unended longer later end count h.counted noted h.left a.0 h.waiting h.last a.1 a.2.none h.serves
       (feeds a.0 h.last a.2.body a.2.invites)
 
 -- one stage has one body

@@ -11,6 +11,7 @@ pub mod Replay
 pub mod Session
 pub mod Stands
 pub mod Verdict
+pub mod Verified
 pub mod Walk
 pub use Rattle.s3_http_heads.specs.Find
 pub use Rattle.s3_http_heads.specs.Head

@@ -18,14 +18,15 @@ use Rattle.s3_session.specs.declared.session.Need.TheVariants as needs
 use Rattle.s3_session.specs.declared.session.Next.{Next}
 use Rattle.s3_session.specs.declared.session.Next.TheVariants as nexts
 
--- a connection: the search for its next head, where it stands, what it has still to send, whether its bytes have ended, and how many
--- of its messages were answered
+-- a connection: the search for its next head, where it stands, what it has still to send, whether its bytes have ended, how many
+-- of its messages were answered, and whether the head of the message at hand is noted as verified
 pub record Connection : Type 0 where
   pub search : HeadSearch
   pub stage : Stage
   pub outbox : Sending
   pub is_ended : Bool
   pub answered : ℕ
+  pub is_verified : Bool
 
 -- where more may be written, the last text isn't in, and for a command that waits there is room for its reply
 abbrev pub IsFit : Stage → Sending → Type 0
@@ -68,6 +69,10 @@ refused_at _ = None
 -- more is read.
 abbrev pub IsUnheard : Standing → Past → List ℕ → Bool → Type 0
 IsUnheard standing past more ended = ((more ≡ []) × (ended ≡ past.ended)) ⊎ ((past.ended ≡ false) × (standing ≢ standings.Reading))
+
+-- the head that it holds, and what is noted of that, are as they were
+abbrev pub KeepsHead : Connection → Connection → Type 0
+KeepsHead old new = (new.search ≡ old.search) × (new.is_verified ≡ old.is_verified)
 
 -- what was added to a list
 abbrev pub added : {A : Type 0} → List A → List A → List A

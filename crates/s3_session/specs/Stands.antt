@@ -20,6 +20,7 @@ use Rattle.s3_session.specs.Invitation.{Invites}
 use Rattle.s3_session.specs.Incoming.{IsInBody}
 use Rattle.s3_session.specs.Output.{Past, Serves, Writes, IsOpen, IsRefused, IsDead, is_dead}
 use Rattle.s3_session.specs.Session.{Connection, added, moment_at, standing_of, turns_of, unsent_of}
+use Rattle.s3_session.specs.Verified.{IsNoted}
 use Rattle.s3_session.specs.declared.incoming.Incoming.{Incoming}
 use Rattle.s3_session.specs.declared.incoming.Progress.{Progress}
 use Rattle.s3_session.specs.declared.incoming.Progress.TheVariants as progress
@@ -86,6 +87,7 @@ pub record Stands (session : Connection) (settings : Settings) (past : Past) (se
   pub here : HereOr settings session past.ended left waiting last
   pub end : past.ended ≡ session.is_ended
   pub counted : session.answered ≡ min (length past.answers) most_counted
+  pub noted : IsNoted settings session
 
 -- with fewer than so many bytes of a piece behind these nothing is decided yet
 abbrev pub IsUndecided : Settings → List ℕ → List ℕ → List ℕ → ℕ → Type 0

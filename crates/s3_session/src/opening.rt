@@ -1,10 +1,12 @@
 //! What comes of a whole head.
 
-ghost use Rattle.std.specs.Prelude.{◌≡◌, option_copied};
+ghost use Rattle.std.specs.Prelude.{◌≡◌, ◌⊎◌, true, option_copied, IsOk};
+ghost use Rattle.s3_signing.specs.Verdict.{head_verdict};
 ghost use Rattle.s3_session.specs.Admission.{admission_of};
 ghost use Rattle.s3_session.specs.Decision.{context_of};
 ghost use Rattle.s3_session.specs.Incoming as rules;
 ghost use Rattle.s3_session.specs.Invitation.{may_be_invited};
+ghost use Rattle.s3_session.specs.Verified.{VerifiesIn, opens_body};
 
 use crate::admission::admit;
 use crate::incoming::Incoming;
@@ -27,7 +29,7 @@ pub(crate) enum Opening {
     Died,
 }
 
-// What comes of this head text; there is none where memory ran out for it.
+// What comes of this head text; there is none where memory ran out for it. What was noted of the head before is taken back.
 pub(crate) fn open_text(
     alloc: Global,
     config: &Config,
@@ -35,7 +37,9 @@ pub(crate) fn open_text(
     moment: Moment,
     signer: &mut HeadSigner,
 ) -> Opening
-    ensures { rules.Opens config.now moment (option_copied text.entry) result }
+    ensures opens { rules.Opens config.now moment (option_copied text.entry) result }
+    ensures noted { signer.new.is_verified ≡ true → VerifiesIn config.now moment (option_copied text.entry) }
+    ensures admitted { opens_body result ≡ true → signer.new.is_verified ≡ true }
 {
     signer.begins();
     let Some(text) = text else {
@@ -59,7 +63,9 @@ fn open_head(
     moment: Moment,
     signer: &mut HeadSigner,
 ) -> Opening
-    ensures { rules.HeadOpens head.now moment (admission_of config.now head.now moment) result }
+    ensures opens { rules.HeadOpens head.now moment (admission_of config.now head.now moment) result }
+    ensures noted { signer.new.is_verified ≡ true → (signer.old.is_verified ≡ true) ⊎ IsOk (head_verdict config.now head.now moment) }
+    ensures admitted { opens_body result ≡ true → signer.new.is_verified ≡ true }
 {
     match admit(alloc, config, head, moment, signer) {
         Ok(admission) => {

@@ -13,6 +13,7 @@ ghost use Rattle.s3_session.specs.Invitation.{Invites};
 ghost use Rattle.s3_session.specs.Output.{HasText, Over, Past, Reading, ReadsBody, is_closed, is_dead, is_waiting, nothing_yet};
 ghost use Rattle.s3_session.specs.Session.{Connection, NeedsNext, standing_of};
 ghost use Rattle.s3_session.specs.Stands.{IsReady};
+ghost use Rattle.s3_session.specs.Verified.{IsNoted};
 
 use crate::fault::{Fault, refused_code};
 use crate::incoming::{Incoming, Progress};
@@ -118,7 +119,7 @@ pub struct Session {
     is_ended: bool,
     // How many messages were answered; the greatest number where there were more.
     answered: u64,
-    // What is kept of heads that were verified. No clause sees it: it decides nothing that is written.
+    // What is kept of heads that were verified. It decides nothing that is written.
     pub(crate) signer: HeadSigner,
 }
 
@@ -127,7 +128,7 @@ impl Model for Session {
 
     ghost Value = { Connection };
 
-    ghost view = { λ s. record { search = s.search; stage = s.stage; outbox = s.outbox; is_ended = s.is_ended; answered = s.answered } };
+    ghost view = { λ s. record { search = s.search; stage = s.stage; outbox = s.outbox; is_ended = s.is_ended; answered = s.answered; is_verified = s.signer.is_verified } };
 
     ghost invariant = { λ s. IsFit s.stage s.outbox };
 }
@@ -215,6 +216,7 @@ impl Session {
         ensures within { result.len ≤ length piece.now }
         ensures fed { (rest : List ℕ) → Stands self.old.search rest
             → inside.IsFed config.now self.old self.new rest [] piece.now result.len result.need }
+        ensures noted { (rest : List ℕ) → Stands self.old.search rest → IsNoted config.now self.old → IsNoted config.now self.new }
         ensures moment { rules.moment_at self.new.stage ≡ rules.moment_if result.has_moment now }
         ensures needs { rules.Needs result.need (rules.standing_of self.new) }
         ensures longer { rules.IsLonger (rules.unsent_of self.old) (rules.unsent_of self.new) }
@@ -259,6 +261,7 @@ impl Session {
         ensures within { result.0 ≤ length piece.now }
         ensures fed { (rest : List ℕ) → Holds self.old.search rest → HasText rest
             → inside.IsFed config.now self.old self.new rest [] piece.now result.0 result.1 }
+        ensures noted { (rest : List ℕ) → Holds self.old.search rest → HasText rest → IsNoted config.now self.new }
         ensures moment { rules.moment_at self.new.stage ≡ moment ∷ [] }
         ensures needs { rules.Needs result.1 (rules.standing_of self.new) }
         ensures longer { rules.IsLonger (rules.unsent_of self.old) (rules.unsent_of self.new) }
@@ -293,6 +296,7 @@ impl Session {
         ensures unended { self.new.outbox.is_ended ≡ false }
         ensures written { OnOk result (rules.unsent_of self.new ≡ rules.unsent_of self.old ++ (if invited then continue_line else [])) }
         ensures same { OnErr result (rules.unsent_of self.new ≡ rules.unsent_of self.old) }
+        ensures head { rules.KeepsHead self.old self.new }
         ensures end { self.new.is_ended ≡ self.old.is_ended }
         ensures count { self.new.answered ≡ self.old.answered }
     {
@@ -310,6 +314,7 @@ impl Session {
         ensures fed { (settings : Settings) (rest last : List ℕ) → IsIncoming settings incoming rest
             → Invites settings incoming.context.moment rest last
             → inside.IsFed settings self.old self.new rest last piece.now result.0 result.1 }
+        ensures head { rules.KeepsHead self.old self.new }
         ensures moment { rules.moment_at self.new.stage ≡ incoming.context.moment ∷ [] }
         ensures needs { rules.Needs result.1 (rules.standing_of self.new) }
         ensures longer { rules.IsLonger (rules.unsent_of self.old) (rules.unsent_of self.new) }
@@ -327,6 +332,7 @@ impl Session {
     fn go_on(&mut self, context: Context, progress: Progress) -> Need
         requires unended { self.old.outbox.is_ended ≡ false }
         ensures goes_on { inside.GoesOn context progress self.old self.new result }
+        ensures head { rules.KeepsHead self.old self.new }
         ensures needs { rules.Needs result (rules.standing_of self.new) }
         ensures longer { rules.IsLonger (rules.unsent_of self.old) (rules.unsent_of self.new) }
         ensures end { self.new.is_ended ≡ self.old.is_ended }
@@ -353,6 +359,7 @@ impl Session {
     fn ask(&mut self, context: Context, command: Command) -> Need
         requires unended { self.old.outbox.is_ended ≡ false }
         ensures asks { inside.Asks context command self.old self.new result }
+        ensures head { rules.KeepsHead self.old self.new }
         ensures needs { rules.Needs result (rules.standing_of self.new) }
         ensures longer { rules.IsLonger (rules.unsent_of self.old) (rules.unsent_of self.new) }
         ensures end { self.new.is_ended ≡ self.old.is_ended }
@@ -376,6 +383,7 @@ impl Session {
     fn refuse(&mut self, code: Code, moment: Moment, head_only: bool)
         requires { self.old.outbox.is_ended ≡ false }
         ensures stage { self.new.stage ≡ Stage.Closed (Closing.Refused moment code) }
+        ensures head { rules.KeepsHead self.old self.new }
         ensures longer { rules.IsLonger (rules.unsent_of self.old) (rules.unsent_of self.new) }
         ensures printed { PrintsRefusal code moment head_only (rules.added (rules.unsent_of self.old) (rules.unsent_of self.new)) }
         ensures end { self.new.is_ended ≡ self.old.is_ended }
@@ -393,6 +401,7 @@ impl Session {
     fn die(&mut self, moment: Moment)
         requires { self.old.outbox.is_ended ≡ false }
         ensures stage { self.new.stage ≡ Stage.Closed (Closing.Died moment) }
+        ensures head { rules.KeepsHead self.old self.new }
         ensures written { rules.unsent_of self.new ≡ rules.unsent_of self.old ++ internal_error }
         ensures end { self.new.is_ended ≡ self.old.is_ended }
         ensures count { self.new.answered ≡ self.old.answered }
@@ -435,9 +444,11 @@ impl Session {
         requires unended { self.old.outbox.is_ended ≡ false }
         ensures ready { inside.IsReady closes self.new }
         ensures outbox { self.new.outbox ≡ self.old.outbox }
+        ensures noted { self.new.is_verified ≡ false }
         ensures end { self.new.is_ended ≡ self.old.is_ended }
         ensures count { self.new.answered ≡ self.old.answered }
     {
+        self.signer.begins();
         if closes {
             go_to(&mut self.stage, Stage::Closed(Closing::Replied));
         } else {
@@ -452,6 +463,7 @@ impl Session {
         requires room { self.old.outbox.has_room ≡ true }
         requires unended { self.old.outbox.is_ended ≡ false }
         ensures ready { inside.IsReady context.now.closes self.new }
+        ensures head { rules.KeepsHead self.old self.new }
         ensures printed { Prints answer context.now (rules.added (rules.unsent_of self.old) (rules.unsent_of self.new)) }
         ensures longer { rules.IsLonger (rules.unsent_of self.old) (rules.unsent_of self.new) }
         ensures end { self.new.is_ended ≡ self.old.is_ended }
@@ -488,6 +500,7 @@ impl Session {
         requires body { inside.is_in_body self.old.stage ≡ true }
         ensures cut { (incoming : Incoming) → self.old.stage ≡ Stage.Body incoming → (settings : Settings) (rest : List ℕ)
             → IsInBody settings incoming rest → inside.IsCutTo settings incoming.context rest self.old self.new }
+        ensures head { rules.KeepsHead self.old self.new }
         ensures waits { is_waiting (rules.standing_of self.new) ≡ false }
         ensures lives { is_dead (rules.standing_of self.new) ≡ false }
         ensures longer { rules.IsLonger (rules.unsent_of self.old) (rules.unsent_of self.new) }

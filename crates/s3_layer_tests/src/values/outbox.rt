@@ -124,8 +124,8 @@ static SIZES: &[Sizes] = &[
     Sizes {
         first: (200, 1),
         second: (0, 0),
-        last: 768,
-        writes: &[&[(200, b'h', b'h'), (1, b'b', b'b')], &[(768, b'l', b'l')]],
+        last: 512,
+        writes: &[&[(200, b'h', b'h'), (1, b'b', b'b')], &[(512, b'l', b'l')]],
     },
 ];
 
@@ -150,7 +150,7 @@ fn put(outbox: &mut Outbox, head: &[u8], body: Option<Body>) {
 
 // Puts the last text in.
 fn end(outbox: &mut Outbox, text: &[u8]) {
-    if !outbox.is_ended() && text.len() <= 768 {
+    if !outbox.is_ended() && text.len() <= 512 {
         outbox.end_with(text);
     }
 }

@@ -17,6 +17,7 @@ returns-in-Ok-clause-stands c settings past sent h =
     let stands = stands_replied settings old c.reply.new.self past sent c.in-Waiting.context h at (c.reply.ensures.end ∙ c.make_ready.ensures.end ∙ ap (λ (s : Connection). s.is_ended) c.self.view_is) c.in-Ok.answer
     (subst (λ u. Prints c.in-Ok.answer c.in-Waiting.context (added u (unsent_of c.reply.new.self))) same c.reply.ensures.printed)
     (subst (λ u. IsLonger u (unsent_of c.reply.new.self)) same c.reply.ensures.longer) c.in-Waiting.context.closes refl c.reply.ensures.ready
+    (c.reply.ensures.head.1 ∙ c.make_ready.ensures.noted)
     (c.reply.ensures.count ∙ c.make_ready.ensures.count ∙ c.saturating_add-self-inside.ensures ∙ ap (λ (s : Connection). min (s.answered + 1) most_counted) c.self.view_is) in
     subst (λ (a : Result Answer NoMemory). Stands c.reply.new.self settings (answered past a) sent) (sym c.in-Ok.is) stands
 
@@ -24,5 +25,5 @@ pub returns-in-Err-clause-stands : goal.returns-in-Err-clause-stands
 returns-in-Err-clause-stands c settings past sent h =
     let old = c.args.self.now in
     let at = sym (ap (λ (s : Connection). s.stage) c.self.view_is) ∙ c.in-Waiting.is in
-    let stands = stands_died settings old c.die.new.self past sent c.in-Waiting.context h at c.die.ensures.end c.die.ensures.stage c.die.ensures.written c.die.ensures.count in
+    let stands = stands_died settings old c.die.new.self past sent c.in-Waiting.context h at c.die.ensures.end c.die.ensures.stage c.die.ensures.written c.die.ensures.count c.die.ensures.head in
     subst (λ (a : Result Answer NoMemory). Stands c.die.new.self settings (answered past a) sent) (sym c.in-Err.is) stands

@@ -1,8 +1,10 @@
-use Rattle.std.proofs.Common.{◌≡◌, [], ◌++◌, ap, refl, subst, sym, ◌∙◌}
+use Rattle.std.proofs.Common.{◌≡◌, ℕ, [], ◌∷◌, ◌++◌, ap, refl, subst, sym, ◌∙◌}
 use Rattle.std.specs.Prelude.{if◌then◌else◌}
 use Rattle.s3_http_heads.specs.Search.{Holds}
 use Rattle.s3_replies.specs.Replies.{PrintsRefusal, continue_line, internal_error}
-use Rattle.s3_session.specs.Session.{Connection, added, unsent_of}
+use Rattle.s3_session.specs.Session.{Connection, added, moment_at, unsent_of}
+use Rattle.s3_session.specs.Verified.{is_admitted}
+use Rattle.s3_session.proofs.NotedLemmas.{admitted_moment, noted_begun}
 use Rattle.s3_session.proofs.ReceivingLemmas.{begins_admitted, begins_dead, begins_refused}
 use Rattle.s3_session.proofs.session.Session.begin.Goals as goal
 
@@ -12,13 +14,13 @@ returns-in-Ok-clause-fed c rest held whole =
     begins_admitted c.args.config.now c.args.moment rest c.args.piece.now c.args.self.now _ held whole c.searches_find.ensures.head
     c.payloads_are_judged.ensures.within c.in-Admitted.incoming c.in-Admitted.invited _ c.read_body.result.0 c.read_body.result.1
     written c.read_body.ensures.longer (λ last h invites. c.read_body.ensures.fed c.args.config.now rest last h invites)
-    c.text.result (c.text.ensures.text rest (subst (λ (s : Connection). Holds s.search rest) (sym c.self.view_is) held)) c.in-Admitted.ensures
+    c.text.result (c.text.ensures.text rest (subst (λ (s : Connection). Holds s.search rest) (sym c.self.view_is) held)) c.in-Admitted.ensures.opens
 
 pub returns-in-Refused-clause-fed : goal.returns-in-Refused-clause-fed
 returns-in-Refused-clause-fed c rest held whole =
     let printed = subst (λ (s : Connection). PrintsRefusal c.in-Refused.code c.args.moment c.in-Refused.head_only (added (unsent_of s) (unsent_of c.refuse.new.self))) c.self.view_is c.refuse.ensures.printed in
     begins_refused c.args.config.now c.args.moment rest c.args.piece.now c.args.self.now _ held whole c.searches_find.ensures.head
-    c.text.result (c.text.ensures.text rest (subst (λ (s : Connection). Holds s.search rest) (sym c.self.view_is) held)) c.in-Refused.code c.in-Refused.head_only c.in-Refused.ensures
+    c.text.result (c.text.ensures.text rest (subst (λ (s : Connection). Holds s.search rest) (sym c.self.view_is) held)) c.in-Refused.code c.in-Refused.head_only c.in-Refused.ensures.opens
     c.refuse.ensures.stage printed _ refl
 
 pub returns-in-Err-clause-fed : goal.returns-in-Err-clause-fed
@@ -26,3 +28,35 @@ returns-in-Err-clause-fed c rest held whole =
     let same = subst (λ (s : Connection). unsent_of c.invite.new.self ≡ unsent_of s) c.self.view_is c.in-Err.ensures.same in
     begins_dead c.args.config.now c.args.moment rest c.args.piece.now c.args.self.now _ whole c.die.ensures.stage
     (c.die.ensures.written ∙ ap (λ t. t ++ internal_error) same) _ refl
+
+pub returns-in-Ok-clause-noted : goal.returns-in-Ok-clause-noted
+returns-in-Ok-clause-noted c rest held whole =
+    let same = c.read_body.ensures.head.1 ∙ c.in-Ok.ensures.head.1 in
+    noted_begun c.args.config.now c.args.self.now _ c.args.moment rest held whole c.searches_find.ensures.head
+    c.text.result (c.text.ensures.text rest (subst (λ (s : Connection). Holds s.search rest) (sym c.self.view_is) held))
+    (c.read_body.ensures.head.0 ∙ c.in-Ok.ensures.head.0 ∙ ap (λ (s : Connection). s.search) c.self.view_is)
+    (c.read_body.ensures.moment ∙ ap (λ (m : ℕ). m ∷ [])
+    (admitted_moment c.args.config.now c.args.moment _ c.in-Admitted.incoming c.in-Admitted.invited c.in-Admitted.ensures.opens))
+    (λ is. c.in-Admitted.ensures.noted (sym same ∙ is)) (λ _. same ∙ c.in-Admitted.ensures.admitted refl)
+
+pub returns-in-Refused-clause-noted : goal.returns-in-Refused-clause-noted
+returns-in-Refused-clause-noted c rest held whole =
+    noted_begun c.args.config.now c.args.self.now _ c.args.moment rest held whole c.searches_find.ensures.head
+    c.text.result (c.text.ensures.text rest (subst (λ (s : Connection). Holds s.search rest) (sym c.self.view_is) held))
+    (c.refuse.ensures.head.0 ∙ ap (λ (s : Connection). s.search) c.self.view_is) (ap moment_at c.refuse.ensures.stage)
+    (λ is. c.in-Refused.ensures.noted (sym c.refuse.ensures.head.1 ∙ is)) (λ is. (let same = sym is ∙ ap is_admitted c.refuse.ensures.stage in absurd (cc)))
+
+pub returns-in-Err-clause-noted : goal.returns-in-Err-clause-noted
+returns-in-Err-clause-noted c rest held whole =
+    noted_begun c.args.config.now c.args.self.now _ c.args.moment rest held whole c.searches_find.ensures.head
+    c.text.result (c.text.ensures.text rest (subst (λ (s : Connection). Holds s.search rest) (sym c.self.view_is) held))
+    (c.die.ensures.head.0 ∙ c.in-Err.ensures.head.0 ∙ ap (λ (s : Connection). s.search) c.self.view_is) (ap moment_at c.die.ensures.stage)
+    (λ is. c.in-Admitted.ensures.noted (sym (c.die.ensures.head.1 ∙ c.in-Err.ensures.head.1) ∙ is))
+    (λ is. (let same = sym is ∙ ap is_admitted c.die.ensures.stage in absurd (cc)))
+
+pub returns-in-Died-clause-noted : goal.returns-in-Died-clause-noted
+returns-in-Died-clause-noted c rest held whole =
+    noted_begun c.args.config.now c.args.self.now _ c.args.moment rest held whole c.searches_find.ensures.head
+    c.text.result (c.text.ensures.text rest (subst (λ (s : Connection). Holds s.search rest) (sym c.self.view_is) held))
+    (c.die-in-Died.ensures.head.0 ∙ ap (λ (s : Connection). s.search) c.self.view_is) (ap moment_at c.die-in-Died.ensures.stage)
+    (λ is. c.in-Died.ensures.noted (sym c.die-in-Died.ensures.head.1 ∙ is)) (λ is. (let same = sym is ∙ ap is_admitted c.die-in-Died.ensures.stage in absurd (cc)))

@@ -13,7 +13,7 @@ returns-in-Reading-clause-stands c past sent h =
     subst (λ (ms : List ℕ). Stands f.new.self c.args.config.now (fed past (take f.result.len c.args.piece.now) ms (turns_of f.result.need)) sent)
     (gave_reading c.args.self.now f.new.self f.result.has_moment c.args.now at f.ensures.moment)
     (fed_reading c.verdicts_stay.ensures c.invitations_are_final.ensures.stay c.args.config.now c.args.self.now f.new.self past sent c.args.piece.now f.result.len f.result.need
-    h at c.requires.goes_on f.ensures.longer f.ensures.end f.ensures.count f.ensures.fed)
+    h at c.requires.goes_on f.ensures.longer f.ensures.end f.ensures.count f.ensures.fed f.ensures.noted)
 
 pub returns-in-Body-replace-clause-stands : goal.returns-in-Body-replace-clause-stands
 returns-in-Body-replace-clause-stands c past sent h =
@@ -23,7 +23,8 @@ returns-in-Body-replace-clause-stands c past sent h =
     (gave_receiving c.args.self.now f.new.self c.in-Body-replace.incoming at f.ensures.moment)
     (fed_receiving c.verdicts_stay.ensures c.invitations_are_final.ensures.stay c.args.config.now c.args.self.now f.new.self past sent c.args.piece.now f.result.0 f.result.1
     c.in-Body-replace.incoming h at c.requires.goes_on (subst (λ (s : Connection). IsLonger (unsent_of s) (unsent_of f.new.self)) c.self.view_is f.ensures.longer)
-    (f.ensures.end ∙ ap (λ (s : Connection). s.is_ended) c.self.view_is ∙ c.requires.goes_on) (f.ensures.count ∙ ap (λ (s : Connection). s.answered) c.self.view_is) f.ensures.moment
+    (f.ensures.end ∙ ap (λ (s : Connection). s.is_ended) c.self.view_is ∙ c.requires.goes_on) (f.ensures.count ∙ ap (λ (s : Connection). s.answered) c.self.view_is)
+    (f.ensures.head.0 ∙ ap (λ (s : Connection). s.search) c.self.view_is, f.ensures.head.1 ∙ ap (λ (s : Connection). s.is_verified) c.self.view_is) f.ensures.moment
     (λ rest last body invites. fed_from c.args.config.now c.args.self.now _ f.new.self rest last c.args.piece.now f.result.0 f.result.1 (rw (← c.self.view_is) refl)
     (f.ensures.fed c.args.config.now rest last body.begun invites)))
 

@@ -4,6 +4,8 @@ use Rattle.s3_http_heads.specs.declared.find.Found.{Found}
 use Rattle.s3_replies.specs.Replies.{PrintsRefusal}
 use Rattle.s3_terms.specs.declared.code.Code.TheVariants.{HeadTooLarge}
 use Rattle.s3_session.specs.Session.{Connection, added, unsent_of}
+use Rattle.s3_session.specs.Verified.{is_admitted}
+use Rattle.s3_session.proofs.NotedLemmas.{none_noted, reads_unnoted}
 use Rattle.s3_session.proofs.ReceivingLemmas.{reads_found, reads_large, reads_none}
 use Rattle.s3_session.proofs.session.Session.read_head.Goals as goal
 
@@ -25,3 +27,19 @@ returns-in-NeedMore-clause-fed c rest h =
     reads_none c.args.config.now rest c.args.piece.now c.args.self.now _ c.feed-len.result.0 _
     (subst (λ (f : Found). IsSearched rest c.args.piece.now (c.feed-len.result.0, f) c.feed-len.new.self) c.in-NeedMore.is searched)
     (ap (λ (s : Connection). s.stage) c.self.view_is ∙ c.requires.stage) (ap (λ (s : Connection). unsent_of s) c.self.view_is) refl
+
+pub returns-in-NeedMore-clause-noted : goal.returns-in-NeedMore-clause-noted
+returns-in-NeedMore-clause-noted c rest h noted =
+    none_noted c.args.config.now _ (ap (λ (s : Connection). s.is_verified) c.self.view_is ∙ reads_unnoted c.args.config.now c.args.self.now c.requires.stage noted)
+    (ap (λ (s : Connection). is_admitted s.stage) c.self.view_is ∙ ap is_admitted c.requires.stage)
+
+pub returns-in-TooLarge-clause-noted : goal.returns-in-TooLarge-clause-noted
+returns-in-TooLarge-clause-noted c rest h noted =
+    none_noted c.args.config.now _
+    (c.refuse.ensures.head.1 ∙ ap (λ (s : Connection). s.is_verified) c.self.view_is ∙ reads_unnoted c.args.config.now c.args.self.now c.requires.stage noted)
+    (ap is_admitted c.refuse.ensures.stage)
+
+pub returns-in-Head-clause-noted : goal.returns-in-Head-clause-noted
+returns-in-Head-clause-noted c rest h noted =
+    let searched = c.feed-len.ensures.fed rest (subst (λ (s : Connection). Stands s.search rest) (sym c.self.view_is) h) in
+    c.begin-behind.ensures.noted (rest ++ take c.feed-len.result.0 c.args.piece.now) searched.held (record { size = c.in-Head.len; found = sym searched.found ∙ c.in-Head.is })

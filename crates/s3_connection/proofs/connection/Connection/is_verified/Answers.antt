@@ -1,0 +1,22 @@
+use Rattle.std.proofs.Common.{◌≡◌, true, ap, subst, sym}
+use Rattle.s3_session.specs.Output.{is_waiting}
+use Rattle.s3_session.specs.Session.{Connection, standing_of}
+use Rattle.s3_session.specs.Stands.{Stands}
+use Rattle.s3_session.specs.Verified.{HoldsVerified}
+use Rattle.s3_connection.specs.Connection.{Connected}
+use Rattle.s3_connection.specs.Output.{past_of}
+use Rattle.s3_connection.proofs.connection.Connection.is_verified.Goals as goal
+
+pub returns-clause-verified : goal.returns-clause-verified
+returns-clause-verified c settings input moments entries sent h is =
+    let past = past_of h.taken h.told moments entries h.waiting in
+    let same = ap (λ (k : Connected). k.session) c.self.view_is in
+    let stands = subst (λ (s : Connection). Stands s settings past sent) (sym same) h.stands in
+    subst (λ (s : Connection). HoldsVerified settings s) same (c.is_verified.ensures.verified settings past sent stands is)
+
+pub returns-clause-waits : goal.returns-clause-waits
+returns-clause-waits c settings input moments entries sent h waits =
+    let past = past_of h.taken h.told moments entries h.waiting in
+    let same = ap (λ (k : Connected). k.session) c.self.view_is in
+    let stands = subst (λ (s : Connection). Stands s settings past sent) (sym same) h.stands in
+    c.is_verified.ensures.waits settings past sent stands (subst (λ (s : Connection). is_waiting (standing_of s) ≡ true) (sym same) waits)
