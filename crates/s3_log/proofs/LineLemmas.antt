@@ -1,12 +1,20 @@
 -- Lines.
-use Rattle.std.proofs.Common.{◌≡◌, ℕ, List, [], ◌∷◌, ◌++◌, Bool, true, false, Result, Ok, Err, IfOk, Option, None, ap, refl, ◌∙◌, if◌then◌else◌}
+use Rattle.std.proofs.Common.{◌≡◌, ℕ, ◌-◌, ◌==◌, List, [], ◌∷◌, ◌++◌, length, take, map, Bool, true, false, ◌&&◌, Result, Ok, Err, IfOk, Option, Some, None, codes, ap, ap₂, refl, sym, ◌∙◌, arith, append_assoc, append-nil, if◌then◌else◌}
+use Rattle.std.specs.List.{flat_map, list_all}
 use Rattle.std.specs.Str.{IsUtf8, is_utf8}
+use Rattle.std.proofs.lemmas.Bool.{or_parts, not-true, eqb-false, ltb-false}
+use Rattle.std.proofs.lemmas.Grind.{flat_map-append}
+use Rattle.std.proofs.lemmas.List.{length_push, take_at}
 use Rattle.std.proofs.lemmas.Str.{IsUtf8-from_is_utf8, is_utf8-from_IsUtf8}
+use Rattle.json.specs.Print.{escape, escape_byte, quoted}
+use Rattle.json.specs.Run.{is_plain, is_stop}
 use Rattle.json.specs.Token.{Token}
+use Rattle.json.proofs.Printed.Strings.{escape_byte_plain}
 use Rattle.s3_text.specs.Characters.{line_feed}
-use Rattle.s3_documents.specs.Printed.{begun}
-use Rattle.s3_documents.specs.Tree.{Fields, Tree, Value, leaf, leaves, tree_text}
-use Rattle.s3_log.specs.Line.{some_text, text_told}
+use Rattle.s3_documents.specs.Printed.{begun, told}
+use Rattle.s3_documents.specs.Timestamp.{timestamp}
+use Rattle.s3_documents.specs.Tree.{Branch, Fields, Tree, Value, branch_text, leaf, leaves, moment, number, tree_text, value_text, with_commas}
+use Rattle.s3_log.specs.Line.{Begun, behind, begun_document, beginning, in_quotes, lead_of, led, member_behind, some_text, text_told}
 
 -- bytes that are a text are told as one
 pub told_text : (bytes : List ℕ) → IsUtf8 bytes → text_told bytes ≡ some_text bytes
@@ -20,23 +28,7 @@ chosen false value untrue = refl
 pub told_nothing : (bytes : List ℕ) → ¬ (IsUtf8 bytes) → text_told bytes ≡ None
 told_nothing bytes none = chosen (is_utf8 bytes) (some_text bytes) (λ is. none (IsUtf8-from_is_utf8 bytes is))
 
--- fields behind others are told behind them
-leaves_behind : (fields more : Fields) → leaves fields ++ leaves more ≡ leaves (fields ++ more)
-leaves_behind [] more = refl
-leaves_behind (field ∷ fields) more = ap (λ tree. (field.0, leaf field.1) ∷ tree) (leaves_behind fields more)
-
--- a line that is printed to its end tells what was printed behind the others
-pub ended_line : {V E : Type 0} (items : V → List ℕ) (old new : List Token) (said more : Fields) (r : Result V E)
-    → said ≡ more
-    → ((tree : Tree) → old ≡ begun tree → new ≡ begun (tree ++ leaves said))
-    → IfOk r (λ line. (fields : Fields) → new ≡ begun (leaves fields) → items line ≡ tree_text (leaves fields) ++ line_feed ∷ [])
-    → IfOk r (λ line. (fields : Fields) → old ≡ begun (leaves fields) → items line ≡ tree_text (leaves (fields ++ more)) ++ line_feed ∷ [])
-ended_line items old new said more (Ok line) same prints ends =
-    λ fields is. ends (fields ++ more)
-    (prints (leaves fields) is ∙ ap (λ told. begun (leaves fields ++ leaves told)) same ∙ ap begun (leaves_behind fields more))
-ended_line items old new said more (Err e) same prints ends = tt
-
--- and where nothing stood before that, nothing else
+-- a line that is printed whole
 pub whole_line : {V E : Type 0} (items : V → List ℕ) (old new : List Token) (more : Fields) (r : Result V E)
     → old ≡ begun []
     → ((tree : Tree) → old ≡ begun tree → new ≡ begun (tree ++ leaves more))
@@ -44,3 +36,141 @@ pub whole_line : {V E : Type 0} (items : V → List ℕ) (old new : List Token) 
     → IfOk r (λ line. items line ≡ tree_text (leaves more) ++ line_feed ∷ [])
 whole_line items old new more (Ok line) anew prints ends = ends more (prints [] anew)
 whole_line items old new more (Err e) anew prints ends = tt
+
+-- ---- the text of a document whose fields stand one behind another
+
+texts_behind : (text : List ℕ) (texts : List (List ℕ)) → with_commas (text ∷ texts) ≡ text ++ flat_map (λ (t : List ℕ). 44 ∷ t) texts
+texts_behind text [] = sym (append-nil text)
+texts_behind text (next ∷ texts) = ap (λ (t : List ℕ). text ++ (44 ∷ t)) (texts_behind next texts)
+
+abbrev member_text : List ℕ × Branch → List ℕ
+member_text member = quoted member.0 ++ (58 ∷ branch_text member.1)
+
+members_behind : (fields : Fields) → flat_map (λ (t : List ℕ). 44 ∷ t) (map member_text (leaves fields)) ≡ behind fields
+members_behind [] = refl
+members_behind (field ∷ fields) =
+    ap₂ (λ (a b : List ℕ). 44 ∷ (a ++ b)) (sym (append_assoc (quoted field.0) (58 ∷ []) (value_text field.1))) (members_behind fields)
+
+document : (name : List ℕ) (value : Value) (rest : Fields)
+    → tree_text (leaves ((name, value) ∷ rest)) ≡ 123 ∷ ((quoted name ++ (58 ∷ value_text value)) ++ (behind rest ++ 125 ∷ []))
+unfolding tree_text
+document name value rest =
+    let first = quoted name ++ (58 ∷ value_text value) in
+    ap (λ (t : List ℕ). 123 ∷ (t ++ 125 ∷ [])) (texts_behind first (map member_text (leaves rest)) ∙ ap (λ (t : List ℕ). first ++ t) (members_behind rest))
+    ∙ ap (λ (t : List ℕ). 123 ∷ t) (append_assoc first (behind rest) (125 ∷ []))
+
+behind_append : (a b : Fields) → behind (a ++ b) ≡ behind a ++ behind b
+behind_append a b = flat_map-append member_behind a b
+
+-- ---- how a line begins
+
+without : (text old new : List ℕ) (n : ℕ) → old ≡ text ++ 125 ∷ [] → n ≡ length old - 1 → new ≡ take n old → new ≡ text
+without text old new n is count taken =
+    let size : n ≡ length text = omega (arith, count, ap length is, length_push text 125) in
+    taken ∙ ap₂ (λ (k : ℕ) (l : List ℕ). take k l) size is ∙ take_at text (125 ∷ []) (length text) refl
+
+regroup_beginning : (name value member : List ℕ) → 123 ∷ ((name ++ value) ++ ((member ++ []) ++ 125 ∷ [])) ≡ (123 ∷ ((name ++ value) ++ member)) ++ 125 ∷ []
+regroup_beginning name value member = simp (append_assoc, append-nil)
+
+begun_with_brace : (time connection : ℕ) → begun_document time connection ≡ beginning time connection ++ 125 ∷ []
+begun_with_brace time connection =
+    document (codes "time") (moment time) ((codes "connection", number connection) ∷ [])
+    ∙ regroup_beginning (quoted (codes "time")) (58 ∷ quoted (timestamp time)) (member_behind (codes "connection", number connection))
+
+pub without_brace : (time connection : ℕ) (old new : List ℕ) (n : ℕ) → old ≡ begun_document time connection → n ≡ length old - 1 → new ≡ take n old
+    → new ≡ beginning time connection
+without_brace time connection old new n is count taken = without (beginning time connection) old new n (is ∙ begun_with_brace time connection) count taken
+
+-- ---- members
+
+pub led_behind : (lead name : List ℕ) (value : Option Value) → lead ≡ lead_of name → led lead value ≡ behind (told name value)
+led_behind lead name None same = refl
+led_behind lead name (Some value) same = ap (λ (l : List ℕ). l ++ value_text value) same ∙ sym (append-nil (lead_of name ++ value_text value))
+
+-- members that were put one behind another
+pub two_behind : (line a b : List ℕ) (x y : Fields) → a ≡ behind x → b ≡ behind y → (line ++ a) ++ b ≡ line ++ behind (x ++ y)
+two_behind line a b x y first second =
+    append_assoc line a b ∙ ap (λ (l : List ℕ). line ++ l) (ap₂ (λ (k l : List ℕ). k ++ l) first second ∙ sym (behind_append x y))
+
+pub joined_behind : (line mid new : List ℕ) (w x y z : Fields) → mid ≡ line ++ behind (w ++ x) → new ≡ mid ++ behind (y ++ z)
+    → new ≡ line ++ behind (((w ++ x) ++ y) ++ z)
+joined_behind line mid new w x y z front back =
+    back ∙ ap (λ (l : List ℕ). l ++ behind (y ++ z)) front
+    ∙ two_behind line (behind (w ++ x)) (behind (y ++ z)) (w ++ x) (y ++ z) refl refl
+    ∙ ap (λ (f : Fields). line ++ behind f) (sym (append_assoc (w ++ x) y z))
+
+module _ (line : List ℕ) (lead name : List ℕ) (value : Option Value) (first : lead ≡ lead_of name) where
+  pub two_put : (mid new next : List ℕ) (more : List ℕ) (other : Option Value) → next ≡ lead_of more
+      → mid ≡ line ++ led lead value → new ≡ mid ++ led next other → new ≡ line ++ behind (told name value ++ told more other)
+  two_put mid new next more other second first_put second_put =
+      second_put ∙ ap (λ (l : List ℕ). l ++ led next other) first_put
+      ∙ two_behind line (led lead value) (led next other) (told name value) (told more other) (led_behind lead name value first) (led_behind next more other second)
+
+-- the commas, names and colons, as they are spelled
+pub method_lead : codes ",\"method\":" ≡ lead_of (codes "method")
+unfolding escape_byte
+method_lead = refl
+
+pub bucket_lead : codes ",\"bucket\":" ≡ lead_of (codes "bucket")
+unfolding escape_byte
+bucket_lead = refl
+
+pub key_lead : codes ",\"key\":" ≡ lead_of (codes "key")
+unfolding escape_byte
+key_lead = refl
+
+pub access_key_lead : codes ",\"access_key\":" ≡ lead_of (codes "access_key")
+unfolding escape_byte
+access_key_lead = refl
+
+pub status_lead : codes ",\"status\":" ≡ lead_of (codes "status")
+unfolding escape_byte
+status_lead = refl
+
+pub code_lead : codes ",\"code\":" ≡ lead_of (codes "code")
+unfolding escape_byte
+code_lead = refl
+
+pub bytes_lead : codes ",\"bytes\":" ≡ lead_of (codes "bytes")
+unfolding escape_byte
+bytes_lead = refl
+
+pub microseconds_lead : codes ",\"microseconds\":" ≡ lead_of (codes "microseconds")
+unfolding escape_byte
+microseconds_lead = refl
+
+-- ---- the whole line of a message
+
+regroup_line : (name value member h t e : List ℕ)
+    → (123 ∷ ((name ++ value) ++ ((member ++ ((h ++ t) ++ e)) ++ 125 ∷ []))) ++ 10 ∷ [] ≡ ((((123 ∷ ((name ++ value) ++ member)) ++ h) ++ t) ++ e) ++ 125 ∷ 10 ∷ []
+regroup_line name value member h t e = simp append_assoc
+
+pub line_told : (begun : Begun) (h t e : Fields)
+    → (((beginning begun.moment begun.connection ++ behind h) ++ behind t) ++ behind e) ++ 125 ∷ 10 ∷ []
+    ≡ tree_text (leaves ((((told (codes "time") (Some (moment begun.moment)) ++ told (codes "connection") (Some (number begun.connection))) ++ h) ++ t) ++ e)) ++ 10 ∷ []
+line_told begun h t e =
+    let name = quoted (codes "time") in
+    let value = 58 ∷ quoted (timestamp begun.moment) in
+    let member = member_behind (codes "connection", number begun.connection) in
+    let all = behind_append (h ++ t) e ∙ ap (λ (l : List ℕ). l ++ behind e) (behind_append h t) in
+    sym (ap (λ (l : List ℕ). l ++ 10 ∷ []) (document (codes "time") (moment begun.moment) ((codes "connection", number begun.connection) ∷ ((h ++ t) ++ e))
+    ∙ ap (λ (l : List ℕ). 123 ∷ ((name ++ value) ++ ((member ++ l) ++ 125 ∷ []))) all)
+    ∙ regroup_line name value member (behind h) (behind t) (behind e))
+
+-- ---- texts of which nothing is escaped
+
+both_true : (x y : Bool) → (x && y) ≡ true → (x ≡ true) × (y ≡ true)
+both_true true true is = (refl, refl)
+both_true true false is = absurd (cc)
+both_true false y is = absurd (cc)
+
+plain_escape : (text : List ℕ) → list_all is_plain text ≡ true → escape text ≡ text
+plain_escape [] is = refl
+plain_escape (x ∷ xs) is =
+    let both = both_true (is_plain x) (list_all is_plain xs) is in
+    let none = or_parts _ _ (not-true (is_stop x) both.0) in
+    let tests = or_parts (x == 34) _ none.0 in
+    ap₂ (λ (a b : List ℕ). a ++ b) (escape_byte_plain x (eqb-false x 34 tests.0) (eqb-false x 92 tests.1) (ltb-false x 32 none.1)) (plain_escape xs both.1)
+
+pub plain_text : (text : List ℕ) → list_all is_plain text ≡ true → quoted text ≡ in_quotes text
+plain_text text is = ap (λ (t : List ℕ). 34 ∷ (t ++ 34 ∷ [])) (plain_escape text is)

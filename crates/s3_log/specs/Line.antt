@@ -1,8 +1,10 @@
 -- The line that tells of a message: a JSON object (RFC 8259), whose members stand in this order, and a line feed.
-use Rattle.std.specs.Prelude.{ℕ, Bool, if◌then◌else◌, nat_lt, List, [], ◌++◌, length, codes, Option, Some, None, option_map}
+use Rattle.std.specs.Prelude.{ℕ, Bool, if◌then◌else◌, nat_lt, List, [], ◌∷◌, ◌++◌, length, flat_map, codes, Option, Some, None, option_map}
 use Rattle.std.specs.Str.{is_utf8}
+use Rattle.json.specs.Print.{quoted}
 use Rattle.s3_documents.specs.Printed.{told}
-use Rattle.s3_documents.specs.Tree.{Fields, Value, moment, number, text}
+use Rattle.s3_documents.specs.Timestamp.{timestamp}
+use Rattle.s3_documents.specs.Tree.{Fields, Value, leaves, moment, number, text, tree_text, value_text}
 use Rattle.s3_terms.specs.Code.{name_of}
 use Rattle.s3_terms.specs.Status.{number_of}
 use Rattle.s3_terms.specs.declared.code.Code.{Code}
@@ -27,24 +29,69 @@ code_told code = option_map (λ c. text (name_of c)) code
 abbrev pub id_told : Bool → List ℕ → List ℕ
 id_told is_verified head = if is_verified then key_id head (query_of head) else []
 
--- what is told of a message once it is answered or refused: its moment, the number of its connection, its method, its bucket and key, the
--- id of its access key, and what came of it
-abbrev pub fields_with : ℕ → ℕ → List ℕ → List ℕ → List ℕ → List ℕ → Told → Fields
-fields_with time connection method bucket key id came =
-    told (codes "time") (Some (moment time)) ++ told (codes "connection") (Some (number connection))
-    ++ told (codes "method") (text_told method) ++ told (codes "bucket") (text_told bucket)
+-- what is told of a request: its method, its bucket and key, and the id of its access key
+abbrev pub request_fields : List ℕ → List ℕ → List ℕ → List ℕ → Fields
+request_fields method bucket key id =
+    told (codes "method") (text_told method) ++ told (codes "bucket") (text_told bucket)
     ++ told (codes "key") (text_told key) ++ told (codes "access_key") (text_told id)
-    ++ told (codes "status") (Some (number (number_of came.status))) ++ told (codes "code") (code_told came.code)
 
-abbrev pub message_fields : Message → Fields
-message_fields m =
-    fields_with m.moment m.connection (method_of m.head.now) (bucket_of m.head.now) (key_of m.head.now)
-    (id_told m.is_verified m.head.now) m.told
+-- what the head of a message says of it
+abbrev pub head_fields : Bool → List ℕ → Fields
+head_fields is_verified head = request_fields (method_of head) (bucket_of head) (key_of head) (id_told is_verified head)
 
--- and once all is written for it: how many bytes that was, and how many microseconds it took since its head was whole
+-- what came of it
+abbrev pub told_fields : Told → Fields
+told_fields came = told (codes "status") (Some (number (number_of came.status))) ++ told (codes "code") (code_told came.code)
+
+-- how many bytes were written for it, and how many microseconds it took since its head was whole
 abbrev pub end_fields : ℕ → Option ℕ → Fields
 end_fields bytes microseconds =
     told (codes "bytes") (Some (number bytes)) ++ told (codes "microseconds") (option_map number microseconds)
+
+-- the moment of messages, and the number of their connection
+pub record Begun : Type 0 where
+  pub moment : ℕ
+  pub connection : ℕ
+
+-- what is told of one of them
+abbrev pub message_fields : Begun → Message → Fields
+message_fields begun m =
+    told (codes "time") (Some (moment begun.moment)) ++ told (codes "connection") (Some (number begun.connection))
+    ++ head_fields m.is_verified m.head.now ++ told_fields m.told ++ end_fields m.bytes m.microseconds
+
+-- The others serve the clauses of private functions alone.
+
+-- what stands in front of a value behind others: a comma, a name and a colon
+abbrev pub lead_of : List ℕ → List ℕ
+lead_of name = 44 ∷ (quoted name ++ 58 ∷ [])
+
+-- a value behind that, if there is one
+abbrev pub led : List ℕ → Option Value → List ℕ
+led lead None = []
+led lead (Some value) = lead ++ value_text value
+
+-- members as they stand behind others
+abbrev pub member_behind : List ℕ × Value → List ℕ
+member_behind member = lead_of member.0 ++ value_text member.1
+
+abbrev pub behind : Fields → List ℕ
+behind fields = flat_map member_behind fields
+
+-- how the line of a message begins, and the whole document that tells no more
+abbrev pub begun_fields : ℕ → ℕ → Fields
+begun_fields time connection =
+    told (codes "time") (Some (moment time)) ++ told (codes "connection") (Some (number connection))
+
+abbrev pub beginning : ℕ → ℕ → List ℕ
+beginning time connection =
+    123 ∷ (quoted (codes "time") ++ (58 ∷ quoted (timestamp time)) ++ member_behind (codes "connection", number connection))
+
+abbrev pub begun_document : ℕ → ℕ → List ℕ
+begun_document time connection = tree_text (leaves (begun_fields time connection))
+
+-- a text in quotes, of which nothing is escaped
+abbrev pub in_quotes : List ℕ → List ℕ
+in_quotes bytes = 34 ∷ (bytes ++ 34 ∷ [])
 
 -- that so many lines were lost
 abbrev pub lost_fields : ℕ → Fields

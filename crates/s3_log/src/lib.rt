@@ -2,18 +2,21 @@
 //! for. Nothing that is told here decides what a connection does.
 #![tactic(auto)]
 
+mod beginning;
 mod cut;
 mod key_id;
 mod line;
 mod lines;
 mod log;
+mod member;
 mod message_log;
 mod pending;
 mod request;
 mod result;
 mod witness;
 
-pub use line::{Message, begun, ended, lost_line};
+pub use beginning::Beginning;
+pub use line::{Message, lost_line, put_line};
 pub use log::{Log, LogWriter};
 pub use message_log::MessageLog;
 pub use result::{Told, told_of};

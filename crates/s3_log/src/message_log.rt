@@ -1,17 +1,21 @@
 //! What is told of the messages of one connection.
 
-ghost use Rattle.std.specs.Prelude.{◌≡◌, true, is_some, OnErr};
+ghost use Rattle.std.specs.Prelude.{◌≡◌, true, is_some, IfOk, OnErr};
 
-use crate::line::{Message, begun, ended};
+use crate::beginning::Beginning;
+use crate::line::{Message, put_line};
 use crate::log::Log;
 use crate::result::Told;
 use crate::witness::Witness;
 use s3_calendar::Moment;
-use s3_documents::Printer;
 use s3_terms::{Code, NoMemory};
 use std::alloc::Global;
+use std::mem;
 use std::sync::Wait;
 use std::time::{Clock, Instant};
+
+// For how many bytes of a head and of a line room is kept: usual ones have no more.
+const KEPT_ROOM: usize = 1_024;
 
 /// What is told of the messages of one connection: a line each, once its reply is out or its connection has ended. Without a
 /// log nothing is told, nothing is done for it, and it takes no memory.
@@ -33,8 +37,20 @@ struct Telling<'a, W: Wait> {
     moment: Option<Moment>,
     since: Instant,
     bytes: u64,
-    // The line of a message whose reply isn't out.
-    line: Option<Printer>,
+    // What came of a message whose reply isn't out, and its head. The room for heads stays, so that a message takes none while the
+    // room for its reply is taken and given back.
+    came: Option<Came>,
+    head: Vec<u8>,
+    // How the last line began, and the room for lines.
+    beginning: Option<Beginning>,
+    line: Vec<u8>,
+}
+
+// What came of a message, and whether its head was verified.
+#[derive(Clone, Copy)]
+struct Came {
+    is_verified: bool,
+    told: Told,
 }
 
 impl<'a, W: Wait + Clock> MessageLog<'a, W> {
@@ -60,7 +76,10 @@ impl<'a, W: Wait + Clock> MessageLog<'a, W> {
             moment: None,
             since: now,
             bytes: 0,
-            line: None,
+            came: None,
+            head: Vec::new(alloc),
+            beginning: None,
+            line: Vec::new(alloc),
         };
         Ok(MessageLog {
             telling: Some(Box::new(alloc, telling)?),
@@ -110,22 +129,16 @@ impl<W: Wait + Clock> Telling<'_, W> {
         self.bytes = 0;
     }
 
-    // It ends so: the beginning of its line is printed.
+    // It ends so: its head is kept until its reply is out.
     fn ends(&mut self, head: Option<&[u8]>, is_verified: bool, told: Told) {
-        let Some(moment) = self.moment else {
-            return;
+        self.head.clear();
+        self.came = match self.head.extend_from_slice(head_told(head, told)) {
+            Ok(()) => Some(Came { is_verified, told }),
+            Err(_) => {
+                self.log.lose(self.rt);
+                None
+            }
         };
-        let message = Message {
-            moment,
-            connection: self.connection,
-            head: head_told(head, told),
-            is_verified,
-            told,
-        };
-        match begun(self.alloc, &message) {
-            Ok(line) => self.line = Some(line),
-            Err(NoMemory) => self.log.lose(self.rt),
-        }
     }
 
     // So many bytes were written, and whether nothing is left to write.
@@ -138,12 +151,47 @@ impl<W: Wait + Clock> Telling<'_, W> {
 
     // Tells the line of a message that is written out, if there is one.
     fn tell(&mut self) {
-        let Some(line) = self.line.take() else {
+        let (Some(moment), Some(came)) = (self.moment, self.came.take()) else {
             return;
         };
-        match ended(line, self.bytes, self.microseconds()) {
-            Ok(line) => self.log.add(self.rt, &line),
+        match self.put_line(moment, came) {
+            Ok(()) => self.log.add(self.rt, &self.line),
             Err(NoMemory) => self.log.lose(self.rt),
+        }
+        self.line.clear();
+        self.line.shrink_to(KEPT_ROOM);
+        self.head.clear();
+        self.head.shrink_to(KEPT_ROOM);
+    }
+
+    // Puts the line of a message of this moment into the room for lines.
+    fn put_line(&mut self, moment: Moment, came: Came) -> Result<(), NoMemory> {
+        let beginning = self.beginning_at(moment)?;
+        let mut line = mem::replace(&mut self.line, Vec::new(self.alloc));
+        let put = put_line(self.alloc, &mut line, &beginning, &self.message(came));
+        self.line = line;
+        self.beginning = Some(beginning);
+        put
+    }
+
+    // What is told of a message to which this came.
+    fn message(&self, came: Came) -> Message<'_> {
+        Message {
+            head: &self.head,
+            is_verified: came.is_verified,
+            told: came.told,
+            bytes: self.bytes,
+            microseconds: self.microseconds(),
+        }
+    }
+
+    // How a line of this moment begins: as the last one, or anew.
+    fn beginning_at(&mut self, moment: Moment) -> Result<Beginning, NoMemory>
+        ensures { IfOk result (λ beginning. beginning.moment ≡ moment) }
+    {
+        match self.beginning.take() {
+            Some(last) if last.moment() == moment => Ok(last),
+            _ => Beginning::new(self.alloc, moment, self.connection),
         }
     }
 
