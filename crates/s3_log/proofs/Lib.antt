@@ -1,2 +1,4 @@
 pub mod CutLemmas
+pub mod KeyIdLemmas
 pub mod LineLemmas
+pub mod TextLemmas

@@ -1,20 +1,17 @@
 -- Lines.
-use Rattle.std.proofs.Common.{◌≡◌, ℕ, ◌-◌, ◌==◌, List, [], ◌∷◌, ◌++◌, length, take, map, Bool, true, false, ◌&&◌, Result, Ok, Err, IfOk, Option, Some, None, codes, ap, ap₂, refl, sym, ◌∙◌, arith, append_assoc, append-nil, if◌then◌else◌}
-use Rattle.std.specs.List.{flat_map, list_all}
+use Rattle.std.proofs.Common.{◌≡◌, ℕ, ◌-◌, List, [], ◌∷◌, ◌++◌, length, take, map, Bool, true, false, Result, Ok, Err, IfOk, Option, Some, None, codes, ap, ap₂, refl, sym, ◌∙◌, arith, append_assoc, append-nil, if◌then◌else◌}
+use Rattle.std.specs.List.{flat_map}
 use Rattle.std.specs.Str.{IsUtf8, is_utf8}
-use Rattle.std.proofs.lemmas.Bool.{or_parts, not-true, eqb-false, ltb-false}
 use Rattle.std.proofs.lemmas.Grind.{flat_map-append}
 use Rattle.std.proofs.lemmas.List.{length_push, take_at}
 use Rattle.std.proofs.lemmas.Str.{IsUtf8-from_is_utf8, is_utf8-from_IsUtf8}
-use Rattle.json.specs.Print.{escape, escape_byte, quoted}
-use Rattle.json.specs.Run.{is_plain, is_stop}
+use Rattle.json.specs.Print.{escape_byte, quoted}
 use Rattle.json.specs.Token.{Token}
-use Rattle.json.proofs.Printed.Strings.{escape_byte_plain}
 use Rattle.s3_text.specs.Characters.{line_feed}
 use Rattle.s3_documents.specs.Printed.{begun, told}
 use Rattle.s3_documents.specs.Timestamp.{timestamp}
 use Rattle.s3_documents.specs.Tree.{Branch, Fields, Tree, Value, branch_text, leaf, leaves, moment, number, tree_text, value_text, with_commas}
-use Rattle.s3_log.specs.Line.{Begun, behind, begun_document, beginning, in_quotes, lead_of, led, member_behind, some_text, text_told}
+use Rattle.s3_log.specs.Line.{Begun, behind, begun_document, beginning, lead_of, led, member_behind, some_text, text_told}
 
 -- bytes that are a text are told as one
 pub told_text : (bytes : List ℕ) → IsUtf8 bytes → text_told bytes ≡ some_text bytes
@@ -156,21 +153,3 @@ line_told begun h t e =
     sym (ap (λ (l : List ℕ). l ++ 10 ∷ []) (document (codes "time") (moment begun.moment) ((codes "connection", number begun.connection) ∷ ((h ++ t) ++ e))
     ∙ ap (λ (l : List ℕ). 123 ∷ ((name ++ value) ++ ((member ++ l) ++ 125 ∷ []))) all)
     ∙ regroup_line name value member (behind h) (behind t) (behind e))
-
--- ---- texts of which nothing is escaped
-
-both_true : (x y : Bool) → (x && y) ≡ true → (x ≡ true) × (y ≡ true)
-both_true true true is = (refl, refl)
-both_true true false is = absurd (cc)
-both_true false y is = absurd (cc)
-
-plain_escape : (text : List ℕ) → list_all is_plain text ≡ true → escape text ≡ text
-plain_escape [] is = refl
-plain_escape (x ∷ xs) is =
-    let both = both_true (is_plain x) (list_all is_plain xs) is in
-    let none = or_parts _ _ (not-true (is_stop x) both.0) in
-    let tests = or_parts (x == 34) _ none.0 in
-    ap₂ (λ (a b : List ℕ). a ++ b) (escape_byte_plain x (eqb-false x 34 tests.0) (eqb-false x 92 tests.1) (ltb-false x 32 none.1)) (plain_escape xs both.1)
-
-pub plain_text : (text : List ℕ) → list_all is_plain text ≡ true → quoted text ≡ in_quotes text
-plain_text text is = ap (λ (t : List ℕ). 34 ∷ (t ++ 34 ∷ [])) (plain_escape text is)

@@ -1,5 +1,5 @@
 -- The id of the access key that signed a head which was verified (Amazon S3 API Reference, "Authenticating requests").
-use Rattle.std.specs.Prelude.{ℕ, Bool, nat_eq, find, List, [], codes, Option, Some, None, option_map}
+use Rattle.std.specs.Prelude.{ℕ, Bool, true, ◌==◌, nat_eq, find, List, [], ◌∷◌, codes, Option, Some, None, option_map}
 use Rattle.std.specs.List.{starts_with}
 use Rattle.std.specs.Str.{bytes_eq, str_to_ascii_lowercase}
 use Rattle.percent_encoding.specs.Percent.{percent_decode}
@@ -42,3 +42,8 @@ id_by None query = id_in_query query
 
 abbrev pub key_id : List ℕ → List ℕ → List ℕ
 key_id head query = id_by (id_in_head head) query
+
+-- This serves the clauses of private functions alone: a line's name ends in front of this rest of it.
+abbrev pub ends_name : List ℕ → Bool
+ends_name [] = true
+ends_name (byte ∷ rest) = byte == colon

@@ -1,7 +1,8 @@
 -- The line that tells of a message: a JSON object (RFC 8259), whose members stand in this order, and a line feed.
-use Rattle.std.specs.Prelude.{ℕ, Bool, if◌then◌else◌, nat_lt, List, [], ◌∷◌, ◌++◌, length, flat_map, codes, Option, Some, None, option_map}
+use Rattle.std.specs.Prelude.{ℕ, Bool, ◌&&◌, if◌then◌else◌, nat_lt, List, [], ◌∷◌, ◌++◌, length, flat_map, codes, Option, Some, None, option_map}
 use Rattle.std.specs.Str.{is_utf8}
 use Rattle.json.specs.Print.{quoted}
+use Rattle.json.specs.Run.{is_plain}
 use Rattle.s3_documents.specs.Printed.{told}
 use Rattle.s3_documents.specs.Timestamp.{timestamp}
 use Rattle.s3_documents.specs.Tree.{Fields, Value, leaves, moment, number, text, tree_text, value_text}
@@ -89,9 +90,17 @@ beginning time connection =
 abbrev pub begun_document : ℕ → ℕ → List ℕ
 begun_document time connection = tree_text (leaves (begun_fields time connection))
 
+-- a character of ASCII that isn't escaped
+abbrev pub is_usual : ℕ → Bool
+is_usual byte = nat_lt byte 128 && is_plain byte
+
 -- a text in quotes, of which nothing is escaped
 abbrev pub in_quotes : List ℕ → List ℕ
 in_quotes bytes = 34 ∷ (bytes ++ 34 ∷ [])
+
+-- the same behind what stands in front of it, if it has bytes
+abbrev pub led_plain : List ℕ → List ℕ → List ℕ
+led_plain lead bytes = if nat_lt 0 (length bytes) then lead ++ in_quotes bytes else []
 
 -- that so many lines were lost
 abbrev pub lost_fields : ℕ → Fields

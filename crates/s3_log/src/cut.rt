@@ -2,6 +2,7 @@
 
 ghost use Rattle.std.specs.Prelude.{◌≡◌, ◌==◌, ◌<◌, [], ◌∷◌, length, position, None, MatchOption};
 ghost use Rattle.s3_text.specs.Cut.{parts_at};
+ghost use Rattle.s3_log.specs.Request.{before, behind};
 
 use memchr::memchr;
 
@@ -10,11 +11,34 @@ pub(crate) fn cut_once(text: &[u8], byte: u8) -> Option<(&[u8], &[u8])>
     ensures parts { MatchOption result
         (parts_at byte text.now ≡ text.now ∷ [])
         (λ cut. parts_at byte text.now ≡ cut.0.now ∷ parts_at byte cut.1.now) }
+    ensures behind { MatchOption result (behind byte text.now ≡ []) (λ cut. behind byte text.now ≡ cut.1.now) }
     ensures shorter { MatchOption result (result ≡ None) (λ cut. length cut.1.now < length text.now) }
 {
     match first_place(text, byte) {
         Some(at) => Some((&text[..at], &text[at + 1..])),
         None => None,
+    }
+}
+
+/// The part before the first such byte and all that comes after it; the whole text and nothing where there is none. It looks at one
+/// byte after another, which takes less time where that byte is near.
+pub(crate) fn cut_near(text: &[u8], byte: u8) -> (&[u8], &[u8])
+    ensures before { result.0.now ≡ before byte text.now }
+    ensures behind { result.1.now ≡ behind byte text.now }
+{
+    match s3_text::cut_once(text, byte) {
+        Some(parts) => parts,
+        None => (text, &[]),
+    }
+}
+
+/// What stands behind the first such byte; nothing where there is none. It looks at many bytes at once.
+pub(crate) fn behind_far(text: &[u8], byte: u8) -> &[u8]
+    ensures { result.now ≡ behind byte text.now }
+{
+    match cut_once(text, byte) {
+        Some((_, rest)) => rest,
+        None => &[],
     }
 }
 

@@ -6,12 +6,15 @@ ghost use Rattle.s3_text.specs.Characters.{ampersand, line_feed};
 ghost use Rattle.s3_text.specs.Cut.{parts_at};
 ghost use Rattle.s3_log.specs.KeyId as rules;
 
-use crate::cut::cut_once;
+use crate::cut::{behind_far, cut_once};
 use percent_encoding::percent_decode;
 use s3_http_heads::is_named;
 use s3_terms::NoMemory;
 use s3_text::{after_first, before_first};
 use std::alloc::Global;
+
+// The name of the line that tells the credential, in lower case.
+const AUTHORIZATION: &[u8] = b"authorization";
 
 // The name of the parameter of a presigned target, with the `=` behind it.
 const CREDENTIAL: &[u8] = b"X-Amz-Credential=";
@@ -48,14 +51,27 @@ fn authorization_line(head: &[u8]) -> Option<&[u8]>
 fn is_authorization(line: &[u8]) -> bool
     ensures { result ≡ rules.is_authorization line.now }
 {
-    is_named(before_first(line, b':'), b"authorization")
+    match line.split_at_checked(AUTHORIZATION.len()) {
+        Some((name, rest)) => ends_name(rest) && is_named(name, AUTHORIZATION),
+        None => false,
+    }
+}
+
+// Whether the name of a line ends in front of this rest of it.
+fn ends_name(rest: &[u8]) -> bool
+    ensures { result ≡ rules.ends_name rest.now }
+{
+    match rest.first() {
+        Some(byte) => *byte == b':',
+        None => true,
+    }
 }
 
 // The id that an Authorization line tells.
 fn id_in_line(line: &[u8]) -> &[u8]
     ensures { result.now ≡ rules.id_in_line line.now }
 {
-    before_first(after_first(line, b'='), b'/')
+    before_first(behind_far(line, b'='), b'/')
 }
 
 /// The id that a query tells; empty where it tells none.

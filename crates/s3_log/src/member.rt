@@ -1,9 +1,8 @@
 //! The members of a line, which stand behind others.
 
-ghost use Rattle.std.specs.Prelude.{◌≡◌, ◌∷◌, [], ◌++◌, true, option_map, OnOk, Some};
+ghost use Rattle.std.specs.Prelude.{◌≡◌, ℕ, List, ◌++◌, true, option_map, OnOk, Some};
 ghost use Rattle.std.specs.List.{list_all};
 ghost use Rattle.json.specs.Print.{quoted};
-ghost use Rattle.json.specs.Run.{is_plain};
 ghost use Rattle.s3_documents.specs.Tree as values;
 ghost use Rattle.s3_log.specs.Line as rules;
 
@@ -22,6 +21,9 @@ pub(crate) fn put_text(
 ) -> Result<(), NoMemory>
     ensures { OnOk result (line.new.items ≡ line.old.items ++ rules.led lead.now (rules.text_told bytes.now)) }
 {
+    if is_usual(bytes) {
+        return put_usual(line, lead, bytes);
+    }
     match text_in(bytes) {
         Some(text) => put_quoted(alloc, line, lead, text),
         None => Ok(()),
@@ -85,49 +87,49 @@ fn some_text(text: &str) -> Option<&str>
     if text.is_empty() { None } else { Some(text) }
 }
 
-// Puts a text in quotes behind a line.
-fn put_quoted(alloc: Global, line: &mut Vec<u8>, lead: &[u8], text: &str) -> Result<(), NoMemory>
-    ensures { OnOk result (line.new.items ≡ line.old.items ++ (lead.now ++ quoted text.now)) }
+// Whether bytes are a text of ASCII, of which no byte is escaped. Most are.
+#[tactic(auto, using(crate::proofs::TextLemmas::usual_text))]
+fn is_usual(bytes: &[u8]) -> bool
+    ensures { result ≡ true → (lead : List ℕ) → rules.led lead (rules.text_told bytes.now) ≡ rules.led_plain lead bytes.now }
 {
-    line.extend_from_slice(lead)?;
-    if is_plain(text.as_bytes()) {
-        put_plain(line, text.as_bytes())
-    } else {
-        put_escaped(alloc, line, text)
+    are_usual(bytes)
+}
+
+fn are_usual(bytes: &[u8]) -> bool
+    ensures { result ≡ list_all rules.is_usual bytes.now }
+{
+    bytes.iter().all(|byte| is_usual_byte(*byte))
+}
+
+fn is_usual_byte(byte: u8) -> bool
+    ensures { result ≡ rules.is_usual byte }
+{
+    byte < 128 && !(byte == b'"' || byte == b'\\' || byte < b' ')
+}
+
+// Puts such a text behind a line, where it isn't empty.
+fn put_usual(line: &mut Vec<u8>, lead: &[u8], text: &[u8]) -> Result<(), NoMemory>
+    ensures { OnOk result (line.new.items ≡ line.old.items ++ rules.led_plain lead.now text.now) }
+{
+    if text.is_empty() {
+        return Ok(());
     }
-}
-
-// Whether no byte of a text is escaped.
-#[tactic(auto, using(crate::proofs::LineLemmas::plain_text))]
-fn is_plain(text: &[u8]) -> bool
-    ensures { result ≡ true → quoted text.now ≡ rules.in_quotes text.now }
-{
-    are_plain(text)
-}
-
-fn are_plain(text: &[u8]) -> bool
-    ensures { result ≡ list_all is_plain text.now }
-{
-    text.iter().all(|byte| is_plain_byte(*byte))
-}
-
-fn is_plain_byte(byte: u8) -> bool
-    ensures { result ≡ is_plain byte }
-{
-    !(byte == b'"' || byte == b'\\' || byte < b' ')
-}
-
-// Puts a text of which no byte is escaped.
-fn put_plain(line: &mut Vec<u8>, text: &[u8]) -> Result<(), NoMemory>
-    ensures { OnOk result (line.new.items ≡ line.old.items ++ rules.in_quotes text.now) }
-{
+    line.extend_from_slice(lead)?;
     line.push(b'"')?;
     line.extend_from_slice(text)?;
     line.push(b'"')?;
     Ok(())
 }
 
-// Puts any text.
+// Puts any text in quotes behind a line.
+fn put_quoted(alloc: Global, line: &mut Vec<u8>, lead: &[u8], text: &str) -> Result<(), NoMemory>
+    ensures { OnOk result (line.new.items ≡ line.old.items ++ (lead.now ++ quoted text.now)) }
+{
+    line.extend_from_slice(lead)?;
+    put_escaped(alloc, line, text)
+}
+
+// Puts any text in quotes.
 #[tactic(auto, unfolding(json::specs::Print::print_from))]
 fn put_escaped(alloc: Global, line: &mut Vec<u8>, text: &str) -> Result<(), NoMemory>
     ensures { OnOk result (line.new.items ≡ line.old.items ++ quoted text.now) }

@@ -3,7 +3,7 @@
 ghost use Rattle.std.specs.Prelude.{◌≡◌};
 ghost use Rattle.s3_log.specs.Request as rules;
 
-use s3_text::{after_first, before_first};
+use crate::cut::cut_near;
 
 /// What a head says of its request: nothing of what isn't there.
 #[derive(Clone, Copy)]
@@ -25,14 +25,16 @@ impl<'a> Request<'a> {
         ensures key { result.key.now ≡ rules.key_of head.now }
         ensures query { result.query.now ≡ rules.query_of head.now }
     {
-        let line = before_first(head, b'\n');
-        let target = before_first(after_first(line, b' '), b' ');
-        let path = behind_slash(before_first(target, b'?'));
+        let (line, _) = cut_near(head, b'\n');
+        let (method, behind) = cut_near(line, b' ');
+        let (target, _) = cut_near(behind, b' ');
+        let (path, query) = cut_near(target, b'?');
+        let (bucket, key) = cut_near(behind_slash(path), b'/');
         Request {
-            method: before_first(line, b' '),
-            bucket: before_first(path, b'/'),
-            key: after_first(path, b'/'),
-            query: after_first(target, b'?'),
+            method,
+            bucket,
+            key,
+            query,
         }
     }
 }
@@ -42,7 +44,7 @@ fn behind_slash(path: &[u8]) -> &[u8]
     ensures { result.now ≡ rules.behind_slash path.now }
 {
     if path.starts_with(b"/") {
-        after_first(path, b'/')
+        cut_near(path, b'/').1
     } else {
         &[]
     }

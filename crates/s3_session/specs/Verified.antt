@@ -1,4 +1,4 @@
--- The signature of the message at hand, whose head a session holds (AWS Signature Version 4).
+-- The signature of the head that a session holds (AWS Signature Version 4).
 use Rattle.std.specs.Prelude.{◌≡◌, ℕ, Bool, true, false, List, [], ◌∷◌, length, Option, Some, None, IsOk}
 use Rattle.s3_config.specs.Settings.{Settings}
 use Rattle.s3_http_heads.specs.Find.{found_in, skip_pairs}
@@ -16,7 +16,7 @@ use Rattle.s3_session.specs.declared.session.Stage.TheVariants as stages
 abbrev pub Verifies : Settings → ℕ → List ℕ → Type 0
 Verifies settings moment text = (head : HeadParts) × Says text head × IsOk (head_verdict settings head moment)
 
--- a session holds the whole head of the message at hand, and its signature verifies at the moment of that message
+-- the head that a session holds is whole, and its signature verifies at the moment of the message that the session is at
 pub record HoldsVerified (settings : Settings) (session : Connection) : Type 0 where
   pub bytes : List ℕ
   pub held : search.Holds session.search bytes

@@ -1,6 +1,6 @@
 //! The body of a message whose head was admitted, as it comes.
 
-ghost use Rattle.std.specs.Prelude.{◌≡◌, ◌≢◌, ◌⊎◌, ◌<◌, ◌≤◌, ◌-◌, ℕ, Bool, true, false, List, ◌++◌, length, take};
+ghost use Rattle.std.specs.Prelude.{◌≡◌, ◌≢◌, ◌⊎◌, ◌<◌, ◌≤◌, ◌-◌, ℕ, Bool, true, false, List, ◌++◌, length, take, IfOk};
 ghost use Rattle.s3_config.specs.Settings.{Settings};
 ghost use Rattle.s3_payloads.specs.Form.{Announced};
 ghost use Rattle.s3_payloads.specs.Reader.{Stands, taken_of, verdict_of};
@@ -17,8 +17,9 @@ use s3_payloads::{
 };
 use s3_replies::Context;
 use s3_requests::{Plan, command};
-use s3_terms::Code;
+use s3_terms::{Code, NoMemory};
 use std::alloc::Global;
+use std::marker::Model;
 
 // A message whose head was admitted: what it asks for, with the reader of its body, and what its reply takes from it.
 #[derive(Drop)]
@@ -27,11 +28,25 @@ pub(crate) struct Incoming {
     pub(crate) context: Context,
 }
 
+// The same in memory of its own, so that a connection at rest takes none for it.
+#[derive(Drop)]
+pub(crate) struct Receiving {
+    incoming: Box<Incoming>,
+}
+
+impl Model for Receiving {
+    ghost use Rattle.s3_session.specs.declared.incoming.Incoming.{Incoming};
+
+    ghost Value = { Incoming };
+
+    ghost view = { λ r. r.incoming.value };
+}
+
 // What became of it.
 #[derive(Drop)]
 pub(crate) enum Progress {
     // Bytes of the body are still to come.
-    Open(Incoming),
+    Open(Receiving),
     // It is sound, and this is its command.
     Whole(Command),
     // It is refused.
@@ -40,7 +55,23 @@ pub(crate) enum Progress {
     Died,
 }
 
-impl Incoming {
+impl Receiving {
+    // Puts it there.
+    pub(crate) fn new(alloc: Global, incoming: Incoming) -> Result<Receiving, NoMemory>
+        ensures { IfOk result (λ receiving. receiving ≡ incoming) }
+    {
+        Ok(Receiving {
+            incoming: Box::new(alloc, incoming)?,
+        })
+    }
+
+    // What its reply takes from it.
+    pub(crate) fn context(&self) -> Context
+        ensures { result ≡ self.now.context }
+    {
+        self.incoming.context
+    }
+
     // Takes as much of the piece as is the body's: how many bytes those are, up to the one at which the body is refused,
     // and what became of the message with them.
     pub(crate) fn read(mut self, alloc: Global, piece: &[u8]) -> (usize, Progress)
@@ -60,8 +91,8 @@ impl Incoming {
         accepted_bodies_are_whole();
         verdicts_are_final();
         s3_http_heads::verdicts_stay();
-        let before = self.admission.reader.taken();
-        match self.admission.reader.feed(piece) {
+        let before = self.incoming.admission.reader.taken();
+        match self.incoming.admission.reader.feed(piece) {
             Ok(len) => (len, self.settled(alloc)),
             Err(code) => {
                 let len = self.taken_since(before);
@@ -76,7 +107,7 @@ impl Incoming {
         requires { before ≤ taken_of self.now.admission.reader }
         ensures { result ≡ taken_of self.now.admission.reader - before }
     {
-        (self.admission.reader.taken() - before) as usize
+        (self.incoming.admission.reader.taken() - before) as usize
     }
 
     // Says that no more bytes of it come: with what code it is refused.
@@ -85,7 +116,7 @@ impl Incoming {
     {
         payloads_are_judged();
         open_bodies_are_short();
-        let ended = self.admission.reader.end();
+        let ended = self.incoming.admission.reader.end();
         drop(self);
         ended
     }
@@ -97,10 +128,10 @@ impl Incoming {
             → rules.Settles self (verdict_of self.admission.reader) result }
         ensures kept { rules.context_in self.context result ≡ self.context }
     {
-        if !self.admission.reader.is_whole() {
+        if !self.incoming.admission.reader.is_whole() {
             return Progress::Open(self);
         }
-        let Admission { reader, plan, .. } = self.admission;
+        let Admission { reader, plan, .. } = Box::into_inner(self.incoming).admission;
         match reader.finish() {
             Ok(payload) => commanded(alloc, plan, payload),
             Err(code) => {

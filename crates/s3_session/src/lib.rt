@@ -9,6 +9,7 @@ mod incoming;
 mod laws;
 mod opening;
 mod reply;
+mod sending;
 mod session;
 mod signer;
 

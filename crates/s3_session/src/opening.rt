@@ -9,20 +9,20 @@ ghost use Rattle.s3_session.specs.Invitation.{may_be_invited};
 ghost use Rattle.s3_session.specs.Verified.{VerifiesIn, opens_body};
 
 use crate::admission::admit;
-use crate::incoming::Incoming;
+use crate::incoming::{Incoming, Receiving};
 use crate::signer::HeadSigner;
 use s3_calendar::Moment;
 use s3_config::Config;
 use s3_http_heads::Head;
 use s3_replies::Context;
-use s3_terms::Code;
+use s3_terms::{Code, NoMemory};
 use std::alloc::Global;
 
 // What comes of a whole head.
 #[derive(Drop)]
 pub(crate) enum Opening {
     // It is admitted; whether its client is told to go on.
-    Admitted(Incoming, bool),
+    Admitted(Receiving, bool),
     // It is refused.
     Refused { code: Code, head_only: bool },
     // Memory ran out.
@@ -71,13 +71,23 @@ fn open_head(
         Ok(admission) => {
             let invited = may_be_invited(head, admission.length);
             let context = context_of(head, moment);
-            Opening::Admitted(Incoming { admission, context }, invited)
+            admitted(alloc, Incoming { admission, context }, invited)
         }
         Err(Code::InternalError) => Opening::Died,
         Err(code) => Opening::Refused {
             code,
             head_only: head.asks_head_only(),
         },
+    }
+}
+
+// What comes of a head that is admitted.
+fn admitted(alloc: Global, incoming: Incoming, invited: bool) -> Opening
+    ensures { (result ≡ Opening.Died) ⊎ (result ≡ Opening.Admitted incoming invited) }
+{
+    match Receiving::new(alloc, incoming) {
+        Ok(receiving) => Opening::Admitted(receiving, invited),
+        Err(NoMemory) => Opening::Died,
     }
 }
 

@@ -2,13 +2,13 @@
 //! the answer, and hands out what it writes.
 
 ghost use Rattle.std.specs.Prelude.{◌≡◌, ◌≢◌, ◌+◌, ◌<◌, ◌≤◌, ℕ, Bool, true, false, List, [], ◌∷◌, ◌++◌, length, take, drop, if◌then◌else◌, IfOk, OnOk, OnErr, IfSome, None};
-ghost use Rattle.std.specs.Io.Slices.{io_slices_bytes};
 ghost use mathlib.Core.List.{IsPrefix};
 ghost use Rattle.s3_config.specs.Settings.{Settings};
 ghost use Rattle.s3_http_heads.specs.Search.{Stands, Holds};
 ghost use Rattle.s3_replies.specs.Replies.{Prints, PrintsRefusal, continue_line, internal_error};
 ghost use Rattle.s3_session.specs.Fault.{HasNoFault, IsFault};
 ghost use Rattle.s3_session.specs.Incoming.{IsIncoming, IsInBody};
+ghost use Rattle.s3_session.specs.declared.incoming.Incoming.{Incoming};
 ghost use Rattle.s3_session.specs.Invitation.{Invites};
 ghost use Rattle.s3_session.specs.Output.{HasText, Over, Past, Reading, ReadsBody, is_closed, is_dead, is_waiting, nothing_yet};
 ghost use Rattle.s3_session.specs.Session.{Connection, NeedsNext, standing_of};
@@ -16,7 +16,7 @@ ghost use Rattle.s3_session.specs.Stands.{IsReady};
 ghost use Rattle.s3_session.specs.Verified.{IsNoted};
 
 use crate::fault::{Fault, refused_code};
-use crate::incoming::{Incoming, Progress};
+use crate::incoming::{Progress, Receiving};
 use crate::laws::{
     inputs_fix_outputs, invitations_are_final, sessions_write, verdicts_are_one, verdicts_stay,
 };
@@ -32,7 +32,6 @@ use s3_payloads::payloads_are_judged;
 use s3_replies::{Context, continue_reply, internal_error_reply, refusal};
 use s3_terms::{Code, NoMemory};
 use std::alloc::Global;
-use std::io::IoSlice;
 use std::marker::Model;
 use std::mem;
 
@@ -85,7 +84,7 @@ pub(crate) enum Stage {
     // The head of the next message has not come, or not its last byte.
     Reading,
     // The head of a message was admitted, and of its body something is still to come.
-    Body(Incoming),
+    Body(Receiving),
     // The command of a sound message waits for its answer.
     Waiting(Context),
     // No more is read.
@@ -115,7 +114,7 @@ fn next_behind(closes: bool) -> Next
 pub struct Session {
     pub(crate) search: HeadSearch,
     stage: Stage,
-    outbox: Outbox,
+    pub(crate) outbox: Outbox,
     is_ended: bool,
     // How many messages were answered; the greatest number where there were more.
     answered: u64,
@@ -163,8 +162,8 @@ impl Session {
     /// The settings have to be the same at every call for a connection: its promises are about one.
     ///
     /// Takes time by the length of what it takes, and for each head that of `s3_signing::verify_head`; memory for the
-    /// bytes of a head, once that is verified for the data of the body that came and for what its command reads in it,
-    /// and for the Continue line and the reply. Where memory runs out, the connection ends with the reply that says so;
+    /// bytes of a head, once that is verified for what is known of its message, for the data of the body that came and
+    /// for what its command reads in it, and for the Continue line and the reply. Where memory runs out, the connection ends with the reply that says so;
     /// in the middle of a head it does once that is whole (a head that is too large is refused all the same).
     pub fn feed(&mut self, alloc: Global, config: &Config, now: Moment, piece: &[u8]) -> Fed
         requires answered { is_waiting (rules.standing_of self.old) ≡ false }
@@ -308,7 +307,7 @@ impl Session {
     }
 
     // Takes as much of the piece as is the body's.
-    fn read_body(&mut self, alloc: Global, incoming: Incoming, piece: &[u8]) -> (usize, Need)
+    fn read_body(&mut self, alloc: Global, incoming: Receiving, piece: &[u8]) -> (usize, Need)
         requires unended { self.old.outbox.is_ended ≡ false }
         ensures within { result.0 ≤ length piece.now }
         ensures fed { (settings : Settings) (rest last : List ℕ) → IsIncoming settings incoming rest
@@ -323,7 +322,7 @@ impl Session {
     {
         invitations_are_final();
         s3_http_heads::verdicts_stay();
-        let context = incoming.context;
+        let context = incoming.context();
         let (len, progress) = incoming.read(alloc, piece);
         (len, self.go_on(context, progress))
     }
@@ -510,7 +509,7 @@ impl Session {
         let Stage::Body(incoming) = mem::replace(&mut self.stage, Stage::Reading) else {
             unreachable!()
         };
-        let context = incoming.context;
+        let context = incoming.context();
         if let Err(code) = incoming.end() {
             self.refuse(code, context.moment, context.head_only);
         }
@@ -558,51 +557,5 @@ impl Session {
             message: self.answered,
             code: refused_code(&self.stage)?,
         })
-    }
-
-    /// A beginning of what it has written and not sent, as long as it stands together; it is empty only where all is
-    /// sent. It takes no memory.
-    pub fn out(&self) -> &[u8]
-        ensures beginning { take (length result.now) (rules.unsent_of self.now) ≡ result.now }
-        ensures within { length result.now ≤ length (rules.unsent_of self.now) }
-        ensures empty { result.now ≡ [] → rules.unsent_of self.now ≡ [] }
-    {
-        self.outbox.out()
-    }
-
-    /// The same in the parts in which it lies, for one write: a text, and up to three blocks of the body behind it.
-    pub fn parts(&self) -> [IoSlice<'_>; 4]
-        ensures beginning { take (length (io_slices_bytes result)) (rules.unsent_of self.now) ≡ io_slices_bytes result }
-        ensures within { length (io_slices_bytes result) ≤ length (rules.unsent_of self.now) }
-        ensures empty { io_slices_bytes result ≡ [] → rules.unsent_of self.now ≡ [] }
-    {
-        self.outbox.parts()
-    }
-
-    /// Says that so many bytes in front were sent. They are dropped, a body goes with its last byte, and the memory of
-    /// replies is given back with the last byte of all; a command that waits keeps the room for its reply. It takes no
-    /// memory.
-    pub fn sent(&mut self, count: usize)
-        requires within { count ≤ length (rules.unsent_of self.old) }
-        ensures stands { (settings : Settings) (past : Past) (sent : List ℕ) → inside.Stands self.old settings past sent
-            → inside.Stands self.new settings past (sent ++ take count (rules.unsent_of self.old)) }
-        ensures left { rules.unsent_of self.new ≡ drop count (rules.unsent_of self.old) }
-        ensures standing { rules.standing_of self.new ≡ rules.standing_of self.old }
-        ensures end { self.new.is_ended ≡ self.old.is_ended }
-    {
-        self.outbox.sent(count);
-        self.outbox.give_back();
-    }
-
-    /// A copy of all that it has written and not sent.
-    ///
-    /// # Errors
-    ///
-    /// `NoMemory` where something is unsent and memory runs out.
-    pub fn all(&self, alloc: Global) -> Result<Vec<u8>, NoMemory>
-        ensures all { IfOk result (λ all. all.items ≡ rules.unsent_of self.now) }
-        ensures memory { OnErr result (0 < length (rules.unsent_of self.now)) }
-    {
-        self.outbox.all(alloc)
     }
 }

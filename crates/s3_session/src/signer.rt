@@ -4,8 +4,8 @@ ghost use Rattle.std.specs.Prelude.{◌≡◌, false};
 
 use s3_signing::KeptKey;
 
-/// The signing key of the last head that was verified, which saves time and decides nothing, and whether the head of the message
-/// at hand was verified.
+/// The signing key of the last head that was verified, which saves time and decides nothing, and whether the head that its
+/// connection holds was verified.
 #[derive(Drop)]
 pub struct HeadSigner {
     pub(crate) key: KeptKey,
@@ -23,7 +23,7 @@ impl HeadSigner {
         }
     }
 
-    // The head of the next message is at hand, which isn't verified yet.
+    // The head of another message is at hand, or none any more: none that is there was verified.
     pub(crate) fn begins(&mut self)
         ensures { self.new.is_verified ≡ false }
     {

@@ -1,7 +1,8 @@
-use Rattle.std.proofs.Common.{◌∙◌, sym, ap, subst}
+use Rattle.std.proofs.Common.{◌∙◌, Err, ap, subst, sym}
 use Rattle.s3_replies.specs.Replies.{PrintsRefusal}
+use Rattle.s3_replies.specs.declared.context.Context.{Context}
 use Rattle.s3_session.specs.declared.incoming.Incoming.{Incoming}
-use Rattle.s3_session.specs.Incoming.{IsInBody}
+use Rattle.s3_session.specs.Incoming.{IsCut, IsInBody}
 use Rattle.s3_session.specs.Session.{Connection, added, unsent_of}
 use Rattle.s3_session.specs.Stands.{IsCutTo}
 use Rattle.s3_session.proofs.StandsLemmas.{same_body}
@@ -11,14 +12,15 @@ pub returns-in-Err-clause-cut : goal.returns-in-Err-clause-cut
 returns-in-Err-clause-cut c incoming at settings rest h =
     let same = same_body incoming c.in-Body.incoming (sym at ∙ sym (ap (λ (s : Connection). s.stage) c.self.view_is) ∙ sym c.in-Body.ensures.value) in
     let body = subst (λ (i : Incoming). IsInBody settings i rest) same h in
-    let cut : IsCutTo settings c.in-Body.incoming.context rest c.args.self.now c.refuse.new.self = record {
+    let context = c.context-context.result in
+    let known = c.context-context.ensures in
+    let cut : IsCutTo settings context rest c.args.self.now c.refuse.new.self = record {
       code = c.in-Err.code;
-      judged = c.in-Err.ensures settings rest body;
+      judged = subst (λ (x : Context). IsCut settings x rest (Err c.in-Err.code)) (sym known) (c.in-Err.ensures settings rest body);
       stage = c.refuse.ensures.stage;
-      printed = subst (λ (s : Connection). PrintsRefusal c.in-Err.code c.in-Body.incoming.context.moment c.in-Body.incoming.context.head_only (added (unsent_of s) (unsent_of c.refuse.new.self)))
-          c.self.view_is c.refuse.ensures.printed;
+      printed = subst (λ (s : Connection). PrintsRefusal c.in-Err.code context.moment context.head_only (added (unsent_of s) (unsent_of c.refuse.new.self))) c.self.view_is c.refuse.ensures.printed;
     } in
-    subst (λ (i : Incoming). IsCutTo settings i.context rest c.args.self.now c.refuse.new.self) (sym same) cut
+    subst (λ (x : Context). IsCutTo settings x rest c.args.self.now c.refuse.new.self) (known ∙ sym (ap (λ (i : Incoming). i.context) same)) cut
 
 pub returns-in_default-end-clause-cut : goal.returns-in_default-end-clause-cut
 returns-in_default-end-clause-cut c incoming at settings rest h =
