@@ -3,6 +3,7 @@
 ghost use Rattle.std.specs.Prelude.{◌≡◌, ◌<◌, [], length, None, IfOk, IfSome};
 ghost use Rattle.s3_devices.specs.Recorded.{no_traffic};
 ghost use Rattle.s3_connections.specs.Account.{Fits};
+ghost use Rattle.s3_connections.specs.Served.{IsNew};
 ghost use Rattle.s3_connections.specs.Held.{HasGoneOn, account_of, outcome_of};
 
 use crate::account::{Account, AsAccount, Told};
@@ -36,7 +37,8 @@ const MOVES: u32 = 16;
 /// among it. Its type keeps that it was served step by step, and no other way.
 #[derive(Drop)]
 pub struct Held<'a, J: Ground, W: Wait> {
-    pump: Pump,
+    // In memory of its own, so that a place for a connection that isn't there takes no room for it.
+    pump: Box<Pump>,
     socket: Recorded<Socket>,
     seat: DeskHandle<'a, J, MapRecords, Account, W>,
     moments: Recorder<Moment>,
@@ -51,10 +53,10 @@ impl<'a, J: Ground, W: Wait> Model for Held<'a, J, W> {
 
     ghost Value = { rules.Held };
 
-    ghost view = { λ h. record { connection = h.pump; traffic = h.socket; moments = h.moments.entries; entries = h.seat.mine; outcome = h.outcome } };
+    ghost view = { λ h. record { connection = h.pump.value; traffic = h.socket; moments = h.moments.entries; entries = h.seat.mine; outcome = h.outcome } };
 
     ghost invariant = { λ h. rules.Stands J.base.settings
-        (record { connection = h.pump; traffic = h.socket; moments = h.moments.entries; entries = h.seat.mine; outcome = h.outcome }) };
+        (record { connection = h.pump.value; traffic = h.socket; moments = h.moments.entries; entries = h.seat.mine; outcome = h.outcome }) };
 }
 
 impl<'a, J: Ground, W: Wait + Clock> Held<'a, J, W> {
@@ -73,20 +75,22 @@ impl<'a, J: Ground, W: Wait + Clock> Held<'a, J, W> {
         let Some((socket, moments)) = recorded(socket) else {
             return Err(NoMemory);
         };
+        let pump = new_pump(sharing.alloc())?;
         let told = MessageLog::new(sharing.rt(), sharing.alloc(), sharing.log(), number, now)?;
         let seat = DeskHandle::open(sharing.rt(), sharing.desk())?;
-        Ok(Held::over(sharing.alloc(), socket, moments, seat, told, now))
+        Ok(Held::over(pump, socket, moments, seat, told, now))
     }
 
     // The same over its socket and at its seat.
     fn over(
-        alloc: Global,
+        pump: Box<Pump>,
         socket: Recorded<Socket>,
         moments: Recorder<Moment>,
         seat: DeskHandle<'a, J, MapRecords, Account, W>,
         told: MessageLog<'a, W>,
         now: Instant,
     ) -> Held<'a, J, W>
+        requires pump { IsNew pump.value }
         requires traffic { socket ≡ no_traffic }
         requires moments { moments.entries ≡ [] }
         requires entries { seat.mine ≡ [] }
@@ -96,7 +100,7 @@ impl<'a, J: Ground, W: Wait + Clock> Held<'a, J, W> {
     {
         connections_are_served();
         Held {
-            pump: Pump::new(alloc),
+            pump,
             socket,
             seat,
             moments,
@@ -192,7 +196,8 @@ impl<'a, J: Ground, W: Wait + Clock> Held<'a, J, W> {
     {
         connections_end();
         self.told.is_at(now);
-        let step = self.pump.step(
+        let pump: &mut Pump = &mut self.pump;
+        let step = pump.step(
             sharing.alloc(),
             sharing.config(),
             &mut self.seat,
@@ -234,6 +239,13 @@ impl<'a, J: Ground, W: Wait + Clock> Held<'a, J, W> {
     pub fn is_over(&self, now: Instant) -> bool {
         self.awaited.is_over(self.since, now)
     }
+}
+
+// A connection of which nothing has come.
+fn new_pump(alloc: Global) -> Result<Box<Pump>, NoMemory>
+    ensures { IfOk result (λ pump. IsNew pump.value) }
+{
+    Ok(Box::new(alloc, Pump::new(alloc))?)
 }
 
 // A socket that tells what it gives and takes, and the moments of its messages, of which there are none yet.

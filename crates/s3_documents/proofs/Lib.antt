@@ -1,6 +1,7 @@
 pub mod CalendarLemmas
 pub mod CompletionLemmas
 pub mod CopiedLemmas
+pub mod DataLemmas
 pub mod DateLemmas
 pub mod IdLemmas
 pub mod LawLemmas

@@ -1,9 +1,11 @@
 -- The JSON of a body that is a text, and of one that is none.
-use Rattle.std.proofs.Common.{◌≡◌, refl, sym, ap, ◌∙◌, ◌<◌, List, [], ◌∷◌, length, arith, ℕ, Some, None, true, false, if◌then◌else◌}
+use Rattle.std.proofs.Common.{◌≡◌, refl, sym, ap, ◌∙◌, ◌<◌, List, [], ◌∷◌, length, arith, ℕ, Some, None, true, false, true≢false, if◌then◌else◌}
 use Rattle.std.proofs.lemmas.Bool.{false_from_ne_true}
 use Rattle.std.proofs.lemmas.Str.{is_utf8-from_IsUtf8, IsUtf8-from_is_utf8}
 use Rattle.std.proofs.lemmas.Option.{none-some}
 use Rattle.std.specs.Str.{IsUtf8, is_utf8}
+use Rattle.json.specs.Lex.{tokens}
+use Rattle.json.specs.Reads.{opens}
 use Rattle.serde_json.specs.Data.{Data}
 use Rattle.serde_json.specs.Read.{read}
 use Rattle.serde_json.proofs.OnLiterals.{serde_json_on_literals}
@@ -12,6 +14,10 @@ use Rattle.s3_documents.specs.Versioning.{json_of}
 pub json_of-text : (body text : List ℕ) (value : Data) → text ≡ body → IsUtf8 body → read text ≡ Some value → json_of body ≡ Some value
 json_of-text body text value same valid is =
     ap (λ b. if b then read body else None) (is_utf8-from_IsUtf8 body valid) ∙ ap read (sym same) ∙ is
+
+pub json_of-none : (body text : List ℕ) → text ≡ body → read text ≡ None → json_of body ≡ None
+json_of-none body text same is =
+    elim (is_utf8 body) as (λ b. (if b then read body else None) ≡ None) [ true ↦ ap read (sym same) ∙ is | false ↦ refl ]
 
 pub json_of-bytes : (body : List ℕ) → ¬ (IsUtf8 body) → json_of body ≡ None
 json_of-bytes body invalid =
@@ -28,3 +34,12 @@ some_read [] value is = absurd (none-some value (sym nothing_there ∙ is))
     nothing_there : json_of [] ≡ None
     nothing_there = elim (is_utf8 []) as (λ b. (if b then read [] else None) ≡ None) [ true ↦ nothing_read | false ↦ refl ]
 some_read (b ∷ body) value is = omega arith
+
+-- and where the first token opens an array or an object
+nothing_opens : opens (tokens []) ≡ false
+unfolding serde_json_on_literals
+nothing_opens = refl
+
+pub some_opens : (text : List ℕ) → opens (tokens text) ≡ true → 0 < length text
+some_opens [] is = absurd (true≢false (sym is ∙ nothing_opens))
+some_opens (b ∷ text) is = omega arith

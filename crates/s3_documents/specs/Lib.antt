@@ -1,6 +1,7 @@
 pub mod Buckets
 pub mod Completion
 pub mod Copied
+pub mod Data
 pub mod Json
 pub mod Laws
 pub mod Listed

@@ -1,16 +1,19 @@
 //! The parts that the body of a completion lists.
 ghost use Rattle.std.specs.Prelude.{◌≡◌, ◌<◌, length, map as each, option_map, IfOk, IfErr};
 ghost use Rattle.std.specs.List.{list_all, filter_map};
-ghost use Rattle.serde_json.specs.View.{view, number_view};
+ghost use Rattle.serde_json.specs.View.{number_view};
 ghost use Rattle.s3_terms.specs.Fault.{Follows};
+ghost use Rattle.s3_documents.specs.Data.{seen};
 ghost use Rattle.s3_documents.specs.Completion.{parts_in, judged, tag_in, number_in, is_part, part_number_in, is_numbered, listed_in, parts_listed, completion_read};
 
 use crate::body::parsed;
+use crate::data::{as_array, as_number, as_str, get};
+use json::{Scratch, Value};
 use s3_conditions::unquoted;
 use s3_names::PartNumber;
 use s3_terms::{Code, NoMemory};
 use s3_uploads::{ListedPart, ListedParts, ListedTag};
-use serde_json::{Number, Value};
+use serde_json::Number;
 use std::alloc::Global;
 
 /// The most parts that a completion may list.
@@ -26,14 +29,15 @@ pub fn read_completion(alloc: Global, body: &[u8]) -> Result<ListedParts, Code>
     ensures rule { Follows result (completion_read body.now) }
     ensures memory { IfErr result (λ code. code ≡ Code.InternalError → 0 < length body.now) }
 {
-    let value = parsed(alloc, body)?;
+    let mut scratch = Scratch::new(alloc);
+    let value = parsed(alloc, body, &mut scratch)?;
     parts_listed(alloc, &value)
 }
 
 // The parts that a value lists.
 #[tactic(auto, unfolding(crate::specs::Completion::parts_listed))]
-fn parts_listed(alloc: Global, value: &Value) -> Result<ListedParts, Code>
-    ensures { Follows result (parts_listed (view value.now)) }
+fn parts_listed(alloc: Global, value: &Value<'_>) -> Result<ListedParts, Code>
+    ensures { Follows result (parts_listed (seen value.now)) }
 {
     let Some(parts) = parts_in(value) else {
         return Err(Code::MalformedBody);
@@ -44,17 +48,16 @@ fn parts_listed(alloc: Global, value: &Value) -> Result<ListedParts, Code>
 }
 
 // The elements of a value's member `Parts`, where that is an array.
-fn parts_in(value: &Value) -> Option<&[Value]>
-    ensures { option_map (λ parts. each view parts.now) result ≡ parts_in (view value.now) }
+fn parts_in<'v, 'a>(value: &'v Value<'a>) -> Option<&'v [Value<'a>]>
+    ensures { option_map (λ parts. each seen parts.now) result ≡ parts_in (seen value.now) }
 {
-    let parts = value.get("Parts")?.as_array()?;
-    Some(parts.as_slice())
+    as_array(get(value, "Parts")?)
 }
 
 // The first refusal of what is listed.
 #[tactic(auto, unfolding(crate::specs::Completion::judged))]
-fn judge(parts: &[Value]) -> Result<(), Code>
-    ensures { result ≡ judged (each view parts.now) }
+fn judge(parts: &[Value<'_>]) -> Result<(), Code>
+    ensures { result ≡ judged (each seen parts.now) }
 {
     if parts.is_empty() || parts.len() > PARTS_MAX {
         return Err(Code::MalformedBody);
@@ -69,21 +72,21 @@ fn judge(parts: &[Value]) -> Result<(), Code>
 }
 
 // Whether each has a tag and a whole number.
-fn are_parts(parts: &[Value]) -> bool
-    ensures { result ≡ list_all is_part (each view parts.now) }
+fn are_parts(parts: &[Value<'_>]) -> bool
+    ensures { result ≡ list_all is_part (each seen parts.now) }
 {
     parts.iter().all(|part| is_part(part))
 }
 
-fn are_numbered(parts: &[Value]) -> bool
-    ensures { result ≡ list_all is_numbered (each view parts.now) }
+fn are_numbered(parts: &[Value<'_>]) -> bool
+    ensures { result ≡ list_all is_numbered (each seen parts.now) }
 {
     parts.iter().all(|part| is_numbered(part))
 }
 
 // Whether a part has a tag and a whole number.
-fn is_part(part: &Value) -> bool
-    ensures { result ≡ is_part (view part.now) }
+fn is_part(part: &Value<'_>) -> bool
+    ensures { result ≡ is_part (seen part.now) }
 {
     match number_in(part) {
         Some(number) => !number.is_f64() && tag_in(part).is_some(),
@@ -91,38 +94,38 @@ fn is_part(part: &Value) -> bool
     }
 }
 
-fn is_numbered(part: &Value) -> bool
-    ensures { result ≡ is_numbered (view part.now) }
+fn is_numbered(part: &Value<'_>) -> bool
+    ensures { result ≡ is_numbered (seen part.now) }
 {
     part_number_in(part).is_some()
 }
 
 // The tag that a part names, if it names one.
-fn tag_in(part: &Value) -> Option<&[u8]>
-    ensures { option_map (λ tag. tag.now) result ≡ tag_in (view part.now) }
+fn tag_in<'a>(part: &Value<'a>) -> Option<&'a [u8]>
+    ensures { option_map (λ tag. tag.now) result ≡ tag_in (seen part.now) }
 {
-    let text = part.get("ETag")?.as_str()?;
+    let text = as_str(get(part, "ETag")?)?;
     Some(unquoted(text.as_bytes()))
 }
 
 // The number that it names, if it names one.
-fn number_in(part: &Value) -> Option<&Number>
-    ensures { option_map (λ number. number_view number.now) result ≡ number_in (view part.now) }
+fn number_in(part: &Value<'_>) -> Option<Number>
+    ensures { option_map number_view result ≡ number_in (seen part.now) }
 {
-    part.get("PartNumber")?.as_number()
+    as_number(get(part, "PartNumber")?)
 }
 
 // The number of a part that it names.
-fn part_number_in(part: &Value) -> Option<PartNumber>
-    ensures { result ≡ part_number_in (view part.now) }
+fn part_number_in(part: &Value<'_>) -> Option<PartNumber>
+    ensures { result ≡ part_number_in (seen part.now) }
 {
     let number = number_in(part)?.as_u64()?;
     PartNumber::of(number)
 }
 
 // The parts that are listed, whose tags are copied.
-fn listed(alloc: Global, parts: &[Value]) -> Result<Vec<ListedPart>, NoMemory>
-    ensures { IfOk result (λ listed. listed.items ≡ filter_map listed_in (each view parts.now)) }
+fn listed(alloc: Global, parts: &[Value<'_>]) -> Result<Vec<ListedPart>, NoMemory>
+    ensures { IfOk result (λ listed. listed.items ≡ filter_map listed_in (each seen parts.now)) }
 {
     let mut listed = Vec::new(alloc);
     for part in parts {
@@ -135,8 +138,8 @@ fn listed(alloc: Global, parts: &[Value]) -> Result<Vec<ListedPart>, NoMemory>
 }
 
 // The part that is listed, if it has a tag and a number.
-fn listed_in(alloc: Global, part: &Value) -> Result<Option<ListedPart>, NoMemory>
-    ensures { IfOk result (λ listed. listed ≡ listed_in (view part.now)) }
+fn listed_in(alloc: Global, part: &Value<'_>) -> Result<Option<ListedPart>, NoMemory>
+    ensures { IfOk result (λ listed. listed ≡ listed_in (seen part.now)) }
 {
     let Some(tag) = tag_in(part) else {
         return Ok(None);

@@ -1,16 +1,17 @@
 //! The versioning of a bucket, as documents tell it.
 ghost use Rattle.std.specs.Prelude.{◌≡◌, ◌<◌, length, IfOk, IfErr};
-ghost use Rattle.serde_json.specs.View.{view};
 ghost use Rattle.s3_terms.specs.Fault.{Follows};
+ghost use Rattle.s3_documents.specs.Data.{seen};
 ghost use Rattle.s3_documents.specs.Printed.{fields_of};
 ghost use Rattle.s3_documents.specs.Tree.{leaves};
 ghost use Rattle.s3_documents.specs.Versioning.{status_in, status_named, versioning_read, versioning_tree, versioning_text};
 
 use crate::body::parsed;
+use crate::data::{as_str, get};
 use crate::printer::{Field, Leaf, Printer};
+use json::{Scratch, Value};
 use s3_terms::{Code, NoMemory};
 use s3_versions::{Versioning, VersioningStatus};
-use serde_json::Value;
 use std::alloc::Global;
 
 /// No document that tells of a versioning is longer.
@@ -23,7 +24,8 @@ pub fn read_versioning(alloc: Global, body: &[u8]) -> Result<VersioningStatus, C
     ensures rule { Follows result (versioning_read body.now) }
     ensures memory { IfErr result (λ code. code ≡ Code.InternalError → 0 < length body.now) }
 {
-    let value = parsed(alloc, body)?;
+    let mut scratch = Scratch::new(alloc);
+    let value = parsed(alloc, body, &mut scratch)?;
     match named_status(&value) {
         Some(status) => Ok(status),
         None => Err(Code::MalformedBody),
@@ -61,10 +63,10 @@ fn told(versioning: Versioning) -> [Field<'static>; 1]
 }
 
 // The status that a value names.
-fn named_status(value: &Value) -> Option<VersioningStatus>
-    ensures { result ≡ status_in (view value.now) }
+fn named_status(value: &Value<'_>) -> Option<VersioningStatus>
+    ensures { result ≡ status_in (seen value.now) }
 {
-    let name = value.get("Status")?.as_str()?;
+    let name = as_str(get(value, "Status")?)?;
     status_of(name.as_bytes())
 }
 

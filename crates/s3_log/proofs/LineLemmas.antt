@@ -10,7 +10,7 @@ use Rattle.json.specs.Token.{Token}
 use Rattle.s3_text.specs.Characters.{line_feed}
 use Rattle.s3_documents.specs.Printed.{begun, told}
 use Rattle.s3_documents.specs.Timestamp.{timestamp}
-use Rattle.s3_documents.specs.Tree.{Branch, Fields, Tree, Value, branch_text, leaf, leaves, moment, number, tree_text, value_text, with_commas}
+use Rattle.s3_documents.specs.Tree.{Branch, Fields, Tree, Value, branch_text, leaves, moment, number, tree_text, value_text, with_commas}
 use Rattle.s3_log.specs.Line.{Begun, behind, begun_document, beginning, lead_of, led, member_behind, some_text, text_told}
 
 -- bytes that are a text are told as one

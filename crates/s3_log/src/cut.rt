@@ -1,4 +1,4 @@
-//! A text, cut at a byte that may stand far away.
+//! A text, cut at a byte that may stand near or far away.
 
 ghost use Rattle.std.specs.Prelude.{◌≡◌, ◌==◌, ◌<◌, [], ◌∷◌, length, position, None, MatchOption};
 ghost use Rattle.s3_text.specs.Cut.{parts_at};
@@ -11,6 +11,7 @@ pub(crate) fn cut_once(text: &[u8], byte: u8) -> Option<(&[u8], &[u8])>
     ensures parts { MatchOption result
         (parts_at byte text.now ≡ text.now ∷ [])
         (λ cut. parts_at byte text.now ≡ cut.0.now ∷ parts_at byte cut.1.now) }
+    ensures before { MatchOption result (before byte text.now ≡ text.now) (λ cut. before byte text.now ≡ cut.0.now) }
     ensures behind { MatchOption result (behind byte text.now ≡ []) (λ cut. behind byte text.now ≡ cut.1.now) }
     ensures shorter { MatchOption result (result ≡ None) (λ cut. length cut.1.now < length text.now) }
 {
@@ -20,25 +21,26 @@ pub(crate) fn cut_once(text: &[u8], byte: u8) -> Option<(&[u8], &[u8])>
     }
 }
 
-/// The part before the first such byte and all that comes after it; the whole text and nothing where there is none. It looks at one
-/// byte after another, which takes less time where that byte is near.
-pub(crate) fn cut_near(text: &[u8], byte: u8) -> (&[u8], &[u8])
+/// The part before the first such byte and all that comes after it; the whole text and nothing where there is none. It looks at many
+/// bytes at once.
+pub(crate) fn cut_far(text: &[u8], byte: u8) -> (&[u8], &[u8])
     ensures before { result.0.now ≡ before byte text.now }
     ensures behind { result.1.now ≡ behind byte text.now }
 {
-    match s3_text::cut_once(text, byte) {
+    match cut_once(text, byte) {
         Some(parts) => parts,
         None => (text, &[]),
     }
 }
 
-/// What stands behind the first such byte; nothing where there is none. It looks at many bytes at once.
-pub(crate) fn behind_far(text: &[u8], byte: u8) -> &[u8]
-    ensures { result.now ≡ behind byte text.now }
+/// The same, one byte after another, which takes less time where the byte is near.
+pub(crate) fn cut_near(text: &[u8], byte: u8) -> (&[u8], &[u8])
+    ensures before { result.0.now ≡ before byte text.now }
+    ensures behind { result.1.now ≡ behind byte text.now }
 {
-    match cut_once(text, byte) {
-        Some((_, rest)) => rest,
-        None => &[],
+    match s3_text::cut_once(text, byte) {
+        Some((front, rest)) => (front, rest),
+        None => (text, &[]),
     }
 }
 

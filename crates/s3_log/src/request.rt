@@ -3,7 +3,7 @@
 ghost use Rattle.std.specs.Prelude.{◌≡◌};
 ghost use Rattle.s3_log.specs.Request as rules;
 
-use crate::cut::cut_near;
+use crate::cut::{cut_far, cut_near};
 
 /// What a head says of its request: nothing of what isn't there.
 #[derive(Clone, Copy)]
@@ -25,7 +25,7 @@ impl<'a> Request<'a> {
         ensures key { result.key.now ≡ rules.key_of head.now }
         ensures query { result.query.now ≡ rules.query_of head.now }
     {
-        let (line, _) = cut_near(head, b'\n');
+        let (line, _) = cut_far(head, b'\n');
         let (method, behind) = cut_near(line, b' ');
         let (target, _) = cut_near(behind, b' ');
         let (path, query) = cut_near(target, b'?');

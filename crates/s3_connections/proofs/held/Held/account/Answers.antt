@@ -7,6 +7,6 @@ use Rattle.s3_connections.proofs.held.Held.account.Goals as goal
 pub returns : goal.returns
 returns g c =
     let old = c.self.inside in
-    let held : Held = record { connection = old.pump; traffic = old.socket; moments = old.moments.entries; entries = old.seat.mine; outcome = old.outcome } in
+    let held : Held = record { connection = old.pump.value; traffic = old.socket; moments = old.moments.entries; entries = old.seat.mine; outcome = old.outcome } in
     subst (λ (h : Held). Fits g.J.Ground.base.settings (account_of h) h.entries) c.self.view_is
     (fits_so c.connections_have_written.ensures g.J.Ground.base.settings held c.self.invariant)
