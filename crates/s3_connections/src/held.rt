@@ -61,7 +61,7 @@ impl<'a, J: Ground, W: Wait> Model for Held<'a, J, W> {
 
 impl<'a, J: Ground, W: Wait + Clock> Held<'a, J, W> {
     /// The connection of this number, which came at a moment, with a seat of its own. It waits for the store. `NoMemory` comes where
-    /// there is no room for a seat more, or for what a log is told.
+    /// there is no room for it, for a seat more, or for what a log is told.
     pub fn new(
         sharing: &Sharing<'a, J, W>,
         socket: Socket,

@@ -1,6 +1,6 @@
 //! How the lines of a connection begin.
 
-ghost use Rattle.std.specs.Prelude.{◌≡◌, IfOk};
+ghost use Rattle.std.specs.Prelude.{◌≡◌, ◌≢◌, true, false, IfOk};
 ghost use Rattle.s3_log.specs.Line as rules;
 
 use s3_calendar::Moment;
@@ -47,11 +47,12 @@ impl Beginning {
         })
     }
 
-    /// Its moment.
-    pub(crate) fn moment(&self) -> Moment
-        ensures { result ≡ self.now.moment }
+    /// Whether it is that of this moment and this connection.
+    pub(crate) fn is_of(&self, moment: Moment, connection: u64) -> bool
+        ensures is { result ≡ true → self.now ≡ record { moment = moment; connection = connection } }
+        ensures other { result ≡ false → self.now ≢ record { moment = moment; connection = connection } }
     {
-        self.moment
+        self.moment == moment && self.connection == connection
     }
 
     /// Its text.

@@ -187,10 +187,10 @@ impl<W: Wait + Clock> Telling<'_, W> {
 
     // How a line of this moment begins: as the last one, or anew.
     fn beginning_at(&mut self, moment: Moment) -> Result<Beginning, NoMemory>
-        ensures { IfOk result (λ beginning. beginning.moment ≡ moment) }
+        ensures { IfOk result (λ beginning. beginning ≡ record { moment = moment; connection = self.old.connection }) }
     {
         match self.beginning.take() {
-            Some(last) if last.moment() == moment => Ok(last),
+            Some(last) if last.is_of(moment, self.connection) => Ok(last),
             _ => Beginning::new(self.alloc, moment, self.connection),
         }
     }
