@@ -1,6 +1,7 @@
 -- Lines.
 use Rattle.std.proofs.Common.{◌≡◌, ℕ, ◌-◌, List, [], ◌∷◌, ◌++◌, length, take, map, Bool, true, false, Result, Ok, Err, IfOk, Option, Some, None, codes, ap, ap₂, refl, sym, ◌∙◌, arith, append_assoc, append-nil, if◌then◌else◌}
 use Rattle.std.specs.List.{flat_map}
+use Rattle.std.specs.Fmt.{digits}
 use Rattle.std.specs.Str.{IsUtf8, is_utf8}
 use Rattle.std.proofs.lemmas.Grind.{flat_map-append}
 use Rattle.std.proofs.lemmas.List.{length_push, take_at}
@@ -11,7 +12,8 @@ use Rattle.s3_text.specs.Characters.{line_feed}
 use Rattle.s3_documents.specs.Printed.{begun, told}
 use Rattle.s3_documents.specs.Timestamp.{timestamp}
 use Rattle.s3_documents.specs.Tree.{Branch, Fields, Tree, Value, branch_text, leaves, moment, number, tree_text, value_text, with_commas}
-use Rattle.s3_log.specs.Line.{Begun, behind, begun_document, beginning, lead_of, led, member_behind, some_text, text_told}
+use Rattle.s3_log.specs.Line.{Begun, behind, begun_document, beginning, lead_of, led, member_behind, some_text, text_told, told_fields}
+use Rattle.s3_log.specs.Result.{answered}
 
 -- bytes that are a text are told as one
 pub told_text : (bytes : List ℕ) → IsUtf8 bytes → text_told bytes ≡ some_text bytes
@@ -84,24 +86,9 @@ pub led_behind : (lead name : List ℕ) (value : Option Value) → lead ≡ lead
 led_behind lead name None same = refl
 led_behind lead name (Some value) same = ap (λ (l : List ℕ). l ++ value_text value) same ∙ sym (append-nil (lead_of name ++ value_text value))
 
--- members that were put one behind another
-pub two_behind : (line a b : List ℕ) (x y : Fields) → a ≡ behind x → b ≡ behind y → (line ++ a) ++ b ≡ line ++ behind (x ++ y)
-two_behind line a b x y first second =
-    append_assoc line a b ∙ ap (λ (l : List ℕ). line ++ l) (ap₂ (λ (k l : List ℕ). k ++ l) first second ∙ sym (behind_append x y))
-
-pub joined_behind : (line mid new : List ℕ) (w x y z : Fields) → mid ≡ line ++ behind (w ++ x) → new ≡ mid ++ behind (y ++ z)
-    → new ≡ line ++ behind (((w ++ x) ++ y) ++ z)
-joined_behind line mid new w x y z front back =
-    back ∙ ap (λ (l : List ℕ). l ++ behind (y ++ z)) front
-    ∙ two_behind line (behind (w ++ x)) (behind (y ++ z)) (w ++ x) (y ++ z) refl refl
-    ∙ ap (λ (f : Fields). line ++ behind f) (sym (append_assoc (w ++ x) y z))
-
-module _ (line : List ℕ) (lead name : List ℕ) (value : Option Value) (first : lead ≡ lead_of name) where
-  pub two_put : (mid new next : List ℕ) (more : List ℕ) (other : Option Value) → next ≡ lead_of more
-      → mid ≡ line ++ led lead value → new ≡ mid ++ led next other → new ≡ line ++ behind (told name value ++ told more other)
-  two_put mid new next more other second first_put second_put =
-      second_put ∙ ap (λ (l : List ℕ). l ++ led next other) first_put
-      ∙ two_behind line (led lead value) (led next other) (told name value) (told more other) (led_behind lead name value first) (led_behind next more other second)
+-- members one behind another
+pub both_behind : (a b : List ℕ) (x y : Fields) → a ≡ behind x → b ≡ behind y → a ++ b ≡ behind (x ++ y)
+both_behind a b x y first second = ap₂ (λ (k l : List ℕ). k ++ l) first second ∙ sym (behind_append x y)
 
 -- the commas, names and colons, as they are spelled
 pub method_lead : codes ",\"method\":" ≡ lead_of (codes "method")
@@ -123,6 +110,11 @@ access_key_lead = refl
 pub status_lead : codes ",\"status\":" ≡ lead_of (codes "status")
 unfolding escape_byte
 status_lead = refl
+
+-- what is told of a message that is answered with what was asked for
+pub status_told : codes ",\"status\":200" ≡ behind (told_fields answered)
+unfolding escape_byte digits
+status_told = refl
 
 pub code_lead : codes ",\"code\":" ≡ lead_of (codes "code")
 unfolding escape_byte

@@ -4,3 +4,4 @@ pub mod Lines
 pub mod Pending
 pub mod Request
 pub mod Result
+pub mod Room

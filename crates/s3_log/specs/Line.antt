@@ -6,6 +6,7 @@ use Rattle.json.specs.Run.{is_plain}
 use Rattle.s3_documents.specs.Printed.{told}
 use Rattle.s3_documents.specs.Timestamp.{timestamp}
 use Rattle.s3_documents.specs.Tree.{Fields, Value, leaves, moment, number, text, tree_text, value_text}
+use Rattle.s3_text.specs.Characters.{line_feed}
 use Rattle.s3_terms.specs.Code.{name_of}
 use Rattle.s3_terms.specs.Status.{number_of}
 use Rattle.s3_terms.specs.declared.code.Code.{Code}
@@ -59,6 +60,10 @@ abbrev pub message_fields : Begun → Message → Fields
 message_fields begun m =
     told (codes "time") (Some (moment begun.moment)) ++ told (codes "connection") (Some (number begun.connection))
     ++ head_fields m.is_verified m.head.now ++ told_fields m.told ++ end_fields m.bytes m.microseconds
+
+-- the line of a message
+abbrev pub line_of : Begun → Message → List ℕ
+line_of begun m = tree_text (leaves (message_fields begun m)) ++ line_feed ∷ []
 
 -- The others serve the clauses of private functions alone.
 

@@ -36,6 +36,10 @@ code_in other = None
 abbrev pub refused_with : Code → Told
 refused_with code = record { status = status_of code; code = Some code }
 
+-- it was answered with all that it asked for
+abbrev pub answered : Told
+answered = record { status = statuses.Ok; code = None }
+
 -- every reply to what came of a command has this status
 abbrev pub HasStatus : Outcome → Status → Type 0
 HasStatus outcome status =

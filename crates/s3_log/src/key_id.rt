@@ -6,7 +6,7 @@ ghost use Rattle.s3_text.specs.Characters.{ampersand, line_feed};
 ghost use Rattle.s3_text.specs.Cut.{parts_at};
 ghost use Rattle.s3_log.specs.KeyId as rules;
 
-use crate::cut::{cut_far, cut_once};
+use crate::cut::{cut_far, cut_near, cut_once};
 use percent_encoding::percent_decode;
 use s3_http_heads::is_named;
 use s3_terms::NoMemory;
@@ -72,7 +72,7 @@ fn id_in_line(line: &[u8]) -> &[u8]
     ensures { result.now ≡ rules.id_in_line line.now }
 {
     let (_, credential) = cut_far(line, b'=');
-    cut_far(credential, b'/').0
+    cut_near(credential, b'/').0
 }
 
 /// The id that a query tells; empty where it tells none.

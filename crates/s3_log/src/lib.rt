@@ -13,10 +13,11 @@ mod message_log;
 mod pending;
 mod request;
 mod result;
+mod room;
 mod witness;
 
 pub use beginning::Beginning;
-pub use line::{Message, lost_line, put_line};
+pub use line::{Message, lost_line};
 pub use log::{Log, LogWriter};
 pub use message_log::MessageLog;
 pub use result::{Told, told_of};

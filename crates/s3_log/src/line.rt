@@ -1,16 +1,18 @@
 //! The line that tells of a message.
 
-ghost use Rattle.std.specs.Prelude.{◌≡◌, ◌∷◌, [], ◌++◌, IfOk, OnOk};
+ghost use Rattle.std.specs.Prelude.{◌≡◌, ◌∷◌, [], ◌++◌, IfOk, OnErr};
 ghost use Rattle.s3_documents.specs.Printed.{begun};
 ghost use Rattle.s3_documents.specs.Tree.{Fields, leaves, tree_text};
 ghost use Rattle.s3_text.specs.Characters.{line_feed};
 ghost use Rattle.s3_log.specs.Line as rules;
+ghost use Rattle.s3_log.specs.Room.{Keeps, Puts};
 
 use crate::beginning::Beginning;
 use crate::key_id::{id_in_head, id_in_query};
 use crate::member::{put_code, put_count, put_number, put_text};
 use crate::request::Request;
 use crate::result::Told;
+use crate::room::put;
 use s3_documents::{Field, Leaf, Printer};
 use s3_terms::NoMemory;
 use std::alloc::Global;
@@ -33,37 +35,44 @@ pub struct Message<'a> {
     pub microseconds: Option<u64>,
 }
 
-/// Puts the line of a message in place of what a text holds, whose room stays.
-pub fn put_line(
+/// Puts the line of a message at a place in room, where it fits there, and answers where it ends.
+pub(crate) fn put_line(
     alloc: Global,
-    line: &mut Vec<u8>,
+    room: &mut [u8],
+    at: usize,
     beginning: &Beginning,
     message: &Message<'_>,
-) -> Result<(), NoMemory>
-    ensures { OnOk result (line.new.items ≡ tree_text (leaves (rules.message_fields beginning.now message.now)) ++ line_feed ∷ []) }
+) -> Result<usize, NoMemory>
+    ensures put { IfOk result (λ end. Puts (rules.line_of beginning.now message.now) at room.old room.new end) }
+    ensures kept { OnErr result (Keeps at room.old room.new) }
 {
-    line.clear();
-    line.extend_from_slice(beginning.as_slice())?;
-    put_head(alloc, line, message)?;
-    put_told(alloc, line, message.told)?;
-    put_end(line, message)?;
-    line.extend_from_slice(b"}\n")?;
-    Ok(())
+    let head = put(room, at, beginning.as_slice());
+    let told = put_head(alloc, room, head, message)?;
+    let end = put_told(alloc, room, told, message.told)?;
+    let brace = put_end(room, end, message);
+    Ok(put(room, brace, b"}\n"))
 }
 
 // Puts what the head of a message says.
-fn put_head(alloc: Global, line: &mut Vec<u8>, message: &Message<'_>) -> Result<(), NoMemory>
-    ensures { OnOk result (line.new.items ≡ line.old.items ++ rules.behind (rules.head_fields message.now.is_verified message.now.head.now)) }
+fn put_head(
+    alloc: Global,
+    room: &mut [u8],
+    at: usize,
+    message: &Message<'_>,
+) -> Result<usize, NoMemory>
+    ensures put { IfOk result (λ end.
+        Puts (rules.behind (rules.head_fields message.now.is_verified message.now.head.now)) at room.old room.new end) }
+    ensures kept { OnErr result (Keeps at room.old room.new) }
 {
     let request = Request::read(message.head);
     if !message.is_verified {
-        return put_request(alloc, line, request, &[]);
+        return put_request(alloc, room, at, request, &[]);
     }
     match id_in_head(message.head) {
-        Some(id) => put_request(alloc, line, request, id),
+        Some(id) => put_request(alloc, room, at, request, id),
         None => {
             let id = id_in_query(alloc, request.query)?;
-            put_request(alloc, line, request, &id)
+            put_request(alloc, room, at, request, &id)
         }
     }
 }
@@ -71,36 +80,48 @@ fn put_head(alloc: Global, line: &mut Vec<u8>, message: &Message<'_>) -> Result<
 // Puts what is asked for, and the id of an access key.
 fn put_request(
     alloc: Global,
-    line: &mut Vec<u8>,
+    room: &mut [u8],
+    at: usize,
     request: Request<'_>,
     id: &[u8],
-) -> Result<(), NoMemory>
-    ensures { OnOk result (line.new.items
-        ≡ line.old.items ++ rules.behind (rules.request_fields request.entry.method.now request.entry.bucket.now request.entry.key.now id.now)) }
+) -> Result<usize, NoMemory>
+    ensures put { IfOk result (λ end.
+        Puts (rules.behind (rules.request_fields request.entry.method.now request.entry.bucket.now request.entry.key.now id.now))
+        at room.old room.new end) }
+    ensures kept { OnErr result (Keeps at room.old room.new) }
 {
-    put_text(alloc, line, b",\"method\":", request.method)?;
-    put_text(alloc, line, b",\"bucket\":", request.bucket)?;
-    put_text(alloc, line, b",\"key\":", request.key)?;
-    put_text(alloc, line, b",\"access_key\":", id)?;
-    Ok(())
+    let bucket = put_text(alloc, room, at, b",\"method\":", request.method)?;
+    let key = put_text(alloc, room, bucket, b",\"bucket\":", request.bucket)?;
+    let access_key = put_text(alloc, room, key, b",\"key\":", request.key)?;
+    put_text(alloc, room, access_key, b",\"access_key\":", id)
 }
 
-// Puts what came of a message.
-fn put_told(alloc: Global, line: &mut Vec<u8>, told: Told) -> Result<(), NoMemory>
-    ensures { OnOk result (line.new.items ≡ line.old.items ++ rules.behind (rules.told_fields told)) }
+// Puts what came of a message. Most are answered, and with what was asked for.
+fn put_told(alloc: Global, room: &mut [u8], at: usize, told: Told) -> Result<usize, NoMemory>
+    ensures put { IfOk result (λ end. Puts (rules.behind (rules.told_fields told)) at room.old room.new end) }
+    ensures kept { OnErr result (Keeps at room.old room.new) }
 {
-    put_number(line, b",\"status\":", u64::from(told.status.number()))?;
-    put_code(alloc, line, b",\"code\":", told.code)?;
-    Ok(())
+    if told.is_answer() {
+        return Ok(put(room, at, b",\"status\":200"));
+    }
+    put_result(alloc, room, at, told)
+}
+
+// Puts what came of any message.
+fn put_result(alloc: Global, room: &mut [u8], at: usize, told: Told) -> Result<usize, NoMemory>
+    ensures put { IfOk result (λ end. Puts (rules.behind (rules.told_fields told)) at room.old room.new end) }
+    ensures kept { OnErr result (Keeps at room.old room.new) }
+{
+    let code = put_number(room, at, b",\"status\":", u64::from(told.status.number()));
+    put_code(alloc, room, code, b",\"code\":", told.code)
 }
 
 // Puts what was written for it, and how long it took.
-fn put_end(line: &mut Vec<u8>, message: &Message<'_>) -> Result<(), NoMemory>
-    ensures { OnOk result (line.new.items ≡ line.old.items ++ rules.behind (rules.end_fields message.now.bytes message.now.microseconds)) }
+fn put_end(room: &mut [u8], at: usize, message: &Message<'_>) -> usize
+    ensures { Puts (rules.behind (rules.end_fields message.now.bytes message.now.microseconds)) at room.old room.new result }
 {
-    put_number(line, b",\"bytes\":", message.bytes)?;
-    put_count(line, b",\"microseconds\":", message.microseconds)?;
-    Ok(())
+    let behind = put_number(room, at, b",\"bytes\":", message.bytes);
+    put_count(room, behind, b",\"microseconds\":", message.microseconds)
 }
 
 /// The line that tells how many lines were lost.

@@ -2,7 +2,8 @@
 
 ghost use Rattle.std.specs.Prelude.{◌≡◌, []};
 
-use crate::line::lost_line;
+use crate::beginning::Beginning;
+use crate::line::{Message, lost_line};
 use crate::lines::Lines;
 use crate::pending::{Given, Pending};
 use s3_settings::Files;
@@ -30,9 +31,15 @@ impl Log {
         })
     }
 
-    /// Tells a line.
-    pub fn add(&self, rt: &impl Wait, line: &[u8]) {
-        self.pending.lock(rt).add(line);
+    /// Tells the line of a message.
+    pub fn tell(
+        &self,
+        rt: &impl Wait,
+        alloc: Global,
+        beginning: &Beginning,
+        message: &Message<'_>,
+    ) {
+        let _counted = self.pending.lock(rt).tell(alloc, beginning, message);
     }
 
     /// Counts a line as lost.

@@ -1,71 +1,72 @@
 //! The members of a line, which stand behind others.
 
-ghost use Rattle.std.specs.Prelude.{◌≡◌, ℕ, List, ◌++◌, true, option_map, OnOk, Some};
+ghost use Rattle.std.specs.Prelude.{◌≡◌, ℕ, List, ◌++◌, true, option_map, IfOk, OnErr, Some};
 ghost use Rattle.std.specs.List.{list_all};
 ghost use Rattle.json.specs.Print.{quoted};
 ghost use Rattle.s3_documents.specs.Tree as values;
 ghost use Rattle.s3_log.specs.Line as rules;
+ghost use Rattle.s3_log.specs.Room.{Puts};
 
+use crate::room::put;
 use itoa::Buffer;
 use json::Writer;
 use s3_terms::{Code, NoMemory};
 use std::alloc::Global;
-use std::{mem, str};
+use std::str;
 
-/// Puts a text behind a line, where it has bytes and is one. `lead` is what stands in front of it.
+/// Puts a text at a place, where it has bytes and is one, and answers where it ends. `lead` is what stands in front of it.
 pub(crate) fn put_text(
     alloc: Global,
-    line: &mut Vec<u8>,
+    room: &mut [u8],
+    at: usize,
     lead: &[u8],
     bytes: &[u8],
-) -> Result<(), NoMemory>
-    ensures { OnOk result (line.new.items ≡ line.old.items ++ rules.led lead.now (rules.text_told bytes.now)) }
+) -> Result<usize, NoMemory>
+    ensures put { IfOk result (λ end. Puts (rules.led lead.now (rules.text_told bytes.now)) at room.old room.new end) }
+    ensures same { OnErr result (room.new ≡ room.old) }
 {
     if is_usual(bytes) {
-        return put_usual(line, lead, bytes);
+        return Ok(put_usual(room, at, lead, bytes));
     }
     match text_in(bytes) {
-        Some(text) => put_quoted(alloc, line, lead, text),
-        None => Ok(()),
+        Some(text) => put_quoted(alloc, room, at, lead, text),
+        None => Ok(at),
     }
 }
 
-/// Puts the name of a code behind a line, where there is one.
+/// Puts the name of a code at a place, where there is one, and answers where it ends.
 pub(crate) fn put_code(
     alloc: Global,
-    line: &mut Vec<u8>,
+    room: &mut [u8],
+    at: usize,
     lead: &[u8],
     code: Option<Code>,
-) -> Result<(), NoMemory>
-    ensures { OnOk result (line.new.items ≡ line.old.items ++ rules.led lead.now (rules.code_told code)) }
+) -> Result<usize, NoMemory>
+    ensures put { IfOk result (λ end. Puts (rules.led lead.now (rules.code_told code)) at room.old room.new end) }
+    ensures same { OnErr result (room.new ≡ room.old) }
 {
     match code {
-        Some(code) => put_quoted(alloc, line, lead, code.name()),
-        None => Ok(()),
+        Some(code) => put_quoted(alloc, room, at, lead, code.name()),
+        None => Ok(at),
     }
 }
 
-/// Puts a number behind a line.
-pub(crate) fn put_number(line: &mut Vec<u8>, lead: &[u8], number: u64) -> Result<(), NoMemory>
-    ensures { OnOk result (line.new.items ≡ line.old.items ++ rules.led lead.now (Some (values.number number))) }
+/// Puts a number at a place, and answers where it ends.
+pub(crate) fn put_number(room: &mut [u8], at: usize, lead: &[u8], number: u64) -> usize
+    ensures { Puts (rules.led lead.now (Some (values.number number))) at room.old room.new result }
 {
     let mut digits = Buffer::new();
-    line.extend_from_slice(lead)?;
-    line.extend_from_slice(digits.format(number).as_bytes())?;
-    Ok(())
+    let behind = put(room, at, lead);
+    put(room, behind, digits.format(number).as_bytes())
 }
 
-/// Puts a number behind a line, where there is one.
-pub(crate) fn put_count(
-    line: &mut Vec<u8>,
-    lead: &[u8],
-    number: Option<u64>,
-) -> Result<(), NoMemory>
-    ensures { OnOk result (line.new.items ≡ line.old.items ++ rules.led lead.now (option_map values.number number)) }
+/// Puts a number at a place, where there is one, and answers where it ends.
+pub(crate) fn put_count(room: &mut [u8], at: usize, lead: &[u8], number: Option<u64>) -> usize
+    ensures { Puts (rules.led lead.now (option_map values.number number)) at room.old room.new result }
 {
     match number {
-        Some(number) => put_number(line, lead, number),
-        None => Ok(()),
+        Some(number) => put_number(room, at, lead, number),
+        None => at,
     }
 }
 
@@ -107,35 +108,47 @@ fn is_usual_byte(byte: u8) -> bool
     byte < 128 && !(byte == b'"' || byte == b'\\' || byte < b' ')
 }
 
-// Puts such a text behind a line, where it isn't empty.
-fn put_usual(line: &mut Vec<u8>, lead: &[u8], text: &[u8]) -> Result<(), NoMemory>
-    ensures { OnOk result (line.new.items ≡ line.old.items ++ rules.led_plain lead.now text.now) }
+// Puts such a text at a place, where it isn't empty.
+fn put_usual(room: &mut [u8], at: usize, lead: &[u8], text: &[u8]) -> usize
+    ensures { Puts (rules.led_plain lead.now text.now) at room.old room.new result }
 {
     if text.is_empty() {
-        return Ok(());
+        return at;
     }
-    line.extend_from_slice(lead)?;
-    line.push(b'"')?;
-    line.extend_from_slice(text)?;
-    line.push(b'"')?;
-    Ok(())
+    put_in_quotes(room, at, lead, text)
 }
 
-// Puts any text in quotes behind a line.
-fn put_quoted(alloc: Global, line: &mut Vec<u8>, lead: &[u8], text: &str) -> Result<(), NoMemory>
-    ensures { OnOk result (line.new.items ≡ line.old.items ++ (lead.now ++ quoted text.now)) }
+fn put_in_quotes(room: &mut [u8], at: usize, lead: &[u8], text: &[u8]) -> usize
+    ensures { Puts (lead.now ++ rules.in_quotes text.now) at room.old room.new result }
 {
-    line.extend_from_slice(lead)?;
-    put_escaped(alloc, line, text)
+    let quote = put(room, at, lead);
+    let inside = put(room, quote, b"\"");
+    let behind = put(room, inside, text);
+    put(room, behind, b"\"")
 }
 
-// Puts any text in quotes.
+// Puts any text in quotes at a place.
+fn put_quoted(
+    alloc: Global,
+    room: &mut [u8],
+    at: usize,
+    lead: &[u8],
+    text: &str,
+) -> Result<usize, NoMemory>
+    ensures put { IfOk result (λ end. Puts (lead.now ++ quoted text.now) at room.old room.new end) }
+    ensures same { OnErr result (room.new ≡ room.old) }
+{
+    let quoted = quoted_text(alloc, text)?;
+    let behind = put(room, at, lead);
+    Ok(put(room, behind, &quoted))
+}
+
+// Any text in quotes.
 #[tactic(auto, unfolding(json::specs::Print::print_from))]
-fn put_escaped(alloc: Global, line: &mut Vec<u8>, text: &str) -> Result<(), NoMemory>
-    ensures { OnOk result (line.new.items ≡ line.old.items ++ quoted text.now) }
+fn quoted_text(alloc: Global, text: &str) -> Result<Vec<u8>, NoMemory>
+    ensures { IfOk result (λ quoted_text. quoted_text.items ≡ quoted text.now) }
 {
-    let mut writer = Writer::new(mem::replace(line, Vec::new(alloc)));
+    let mut writer = Writer::new(Vec::new(alloc));
     writer.string(text)?;
-    *line = writer.into_inner();
-    Ok(())
+    Ok(writer.into_inner())
 }

@@ -3,18 +3,17 @@
 ghost use Rattle.std.specs.Prelude.{◌≡◌, true, is_some, IfOk, OnErr};
 
 use crate::beginning::Beginning;
-use crate::line::{Message, put_line};
+use crate::line::Message;
 use crate::log::Log;
 use crate::result::Told;
 use crate::witness::Witness;
 use s3_calendar::Moment;
 use s3_terms::{Code, NoMemory};
 use std::alloc::Global;
-use std::mem;
 use std::sync::Wait;
 use std::time::{Clock, Instant};
 
-// For how many bytes of a head and of a line room is kept: usual ones have no more.
+// For how many bytes of a head room is kept: usual ones have no more.
 const KEPT_ROOM: usize = 1_024;
 
 /// What is told of the messages of one connection: a line each, once its reply is out or its connection has ended. Without a
@@ -41,9 +40,8 @@ struct Telling<'a, W: Wait> {
     // room for its reply is taken and given back.
     came: Option<Came>,
     head: Vec<u8>,
-    // How the last line began, and the room for lines.
+    // How the last line began.
     beginning: Option<Beginning>,
-    line: Vec<u8>,
 }
 
 // What came of a message, and whether its head was verified.
@@ -79,7 +77,6 @@ impl<'a, W: Wait + Clock> MessageLog<'a, W> {
             came: None,
             head: Vec::new(alloc),
             beginning: None,
-            line: Vec::new(alloc),
         };
         Ok(MessageLog {
             telling: Some(Box::new(alloc, telling)?),
@@ -154,24 +151,16 @@ impl<W: Wait + Clock> Telling<'_, W> {
         let (Some(moment), Some(came)) = (self.moment, self.came.take()) else {
             return;
         };
-        match self.put_line(moment, came) {
-            Ok(()) => self.log.add(self.rt, &self.line),
+        match self.beginning_at(moment) {
+            Ok(beginning) => {
+                self.log
+                    .tell(self.rt, self.alloc, &beginning, &self.message(came));
+                self.beginning = Some(beginning);
+            }
             Err(NoMemory) => self.log.lose(self.rt),
         }
-        self.line.clear();
-        self.line.shrink_to(KEPT_ROOM);
         self.head.clear();
         self.head.shrink_to(KEPT_ROOM);
-    }
-
-    // Puts the line of a message of this moment into the room for lines.
-    fn put_line(&mut self, moment: Moment, came: Came) -> Result<(), NoMemory> {
-        let beginning = self.beginning_at(moment)?;
-        let mut line = mem::replace(&mut self.line, Vec::new(self.alloc));
-        let put = put_line(self.alloc, &mut line, &beginning, &self.message(came));
-        self.line = line;
-        self.beginning = Some(beginning);
-        put
     }
 
     // What is told of a message to which this came.

@@ -1,8 +1,11 @@
 //! Lines that wait for their writer.
 
-ghost use Rattle.std.specs.Prelude.{◌≡◌, [], IfOk};
+ghost use Rattle.std.specs.Prelude.{◌≡◌, [], IfOk, OnOk, OnErr};
+ghost use Rattle.s3_log.specs.Line.{line_of};
 ghost use Rattle.s3_log.specs.Pending as rules;
 
+use crate::beginning::Beginning;
+use crate::line::Message;
 use crate::lines::Lines;
 use s3_terms::NoMemory;
 use std::alloc::Global;
@@ -43,15 +46,23 @@ impl Pending {
         })
     }
 
-    /// Adds a line, or counts it as lost where there is no room for it.
-    pub(crate) fn add(&mut self, line: &[u8])
-        ensures { rules.HasAdded line.now self.old self.new }
+    /// Adds the line of a message, or counts it as lost where there is no room for it, or no memory to make it. It answers whether there
+    /// was room.
+    pub(crate) fn tell(
+        &mut self,
+        alloc: Global,
+        beginning: &Beginning,
+        message: &Message<'_>,
+    ) -> Result<bool, NoMemory>
+        ensures told { OnOk result (rules.HasAdded (line_of beginning.now message.now) self.old self.new) }
+        ensures lost { OnErr result (self.new ≡ rules.one_lost self.old) }
     {
-        if self.lines.add(line) {
-            self.count = self.count.saturating_add(1);
-        } else {
-            self.lose();
+        let put = self.lines.put(alloc, beginning, message);
+        match put {
+            Ok(true) => self.count = self.count.saturating_add(1),
+            Ok(false) | Err(NoMemory) => self.lose(),
         }
+        put
     }
 
     /// Counts a line as lost.

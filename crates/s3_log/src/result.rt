@@ -1,6 +1,6 @@
 //! What comes of a message, as its line tells it.
 
-ghost use Rattle.std.specs.Prelude.{◌≡◌};
+ghost use Rattle.std.specs.Prelude.{◌≡◌, true};
 ghost use Rattle.s3_log.specs.Result as rules;
 
 use s3_conditions::Selection;
@@ -25,6 +25,19 @@ impl Told {
             status: code.status(),
             code: Some(code),
         }
+    }
+
+    /// Whether it was answered with all that it asked for, as most are.
+    pub(crate) fn is_answer(&self) -> bool
+        ensures { result ≡ true → self.now ≡ rules.answered }
+    {
+        matches!(
+            self,
+            Told {
+                status: Status::Ok,
+                code: None,
+            }
+        )
     }
 }
 

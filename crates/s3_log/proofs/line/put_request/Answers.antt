@@ -1,7 +1,8 @@
-use Rattle.std.proofs.Common.{codes}
+use Rattle.std.proofs.Common.{◌++◌, codes}
 use Rattle.s3_documents.specs.Printed.{told}
 use Rattle.s3_log.specs.Line.{text_told}
-use Rattle.s3_log.proofs.LineLemmas.{access_key_lead, bucket_lead, joined_behind, key_lead, method_lead, two_put}
+use Rattle.s3_log.proofs.LineLemmas.{access_key_lead, both_behind, bucket_lead, key_lead, led_behind, method_lead}
+use Rattle.s3_log.proofs.RoomLemmas.{keeps_all, keeps_behind, kept_behind, ok_behind, puts_then, whatever_kept}
 use Rattle.s3_log.proofs.line.put_request.Goals as goal
 
 pub returns : goal.returns
@@ -11,10 +12,21 @@ returns c =
     let bucket = told (codes "bucket") (text_told request.bucket.now) in
     let key = told (codes "key") (text_told request.key.now) in
     let id = told (codes "access_key") (text_told c.args.id.now) in
-    let front = two_put c.args.line.now.items (codes ",\"method\":") (codes "method") (text_told request.method.now) method_lead
-    c.put_text.new.line.items c.put_text-2.new.line.items (codes ",\"bucket\":") (codes "bucket") (text_told request.bucket.now) bucket_lead
-    c.in_ok-put_text.ensures c.in_ok-put_text-2.ensures in
-    let back = two_put c.put_text-2.new.line.items (codes ",\"key\":") (codes "key") (text_told request.key.now) key_lead
-    c.put_text-3.new.line.items c.put_text-4.new.line.items (codes ",\"access_key\":") (codes "access_key") (text_told c.args.id.now) access_key_lead
-    c.in_ok-put_text-3.ensures c.in_ok-put_text-4.ensures in
-    joined_behind c.args.line.now.items c.put_text-2.new.line.items c.put_text-4.new.line.items method bucket key id front back
+    let three = puts_then (puts_then c.in_ok-bucket.ensures.put c.in_ok-key.ensures.put) c.in_ok-access_key.ensures.put in
+    record {
+      put = ok_behind c.put_text-4.result _ c.put_text-4.new.room three
+          (both_behind _ _ ((method ++ bucket) ++ key) id
+          (both_behind _ _ (method ++ bucket) key
+          (both_behind _ _ method bucket
+          (led_behind (codes ",\"method\":") (codes "method") (text_told request.method.now) method_lead)
+          (led_behind (codes ",\"bucket\":") (codes "bucket") (text_told request.bucket.now) bucket_lead))
+          (led_behind (codes ",\"key\":") (codes "key") (text_told request.key.now) key_lead))
+          (led_behind (codes ",\"access_key\":") (codes "access_key") (text_told c.args.id.now) access_key_lead))
+          c.put_text-4.ensures.put;
+      kept = kept_behind c.put_text-4.result c.put_text-4.new.room three c.put_text-4.ensures.same;
+    }
+
+pub returns-in_err-access_key-clause-kept : goal.returns-in_err-access_key-clause-kept
+returns-in_err-access_key-clause-kept c =
+    whatever_kept c.from_residual-in_err-access_key.result
+    (keeps_behind (puts_then c.in_ok-bucket.ensures.put c.in_ok-key.ensures.put) (keeps_all c.in_err-access_key.ensures.same))
