@@ -1,5 +1,5 @@
 -- Lines that wait for their writer.
-use Rattle.std.specs.Prelude.{◌≡◌, ◌⊎◌, ◌<◌, ◌+◌, ◌-◌, ◌==◌, ℕ, List, [], ◌++◌, length, min}
+use Rattle.std.specs.Prelude.{◌≡◌, ◌<◌, ◌≤◌, ◌+◌, ◌-◌, ◌==◌, ℕ, Bool, true, false, List, [], ◌++◌, length, min}
 use Rattle.s3_log.specs.Lines.{room}
 use Rattle.s3_log.specs.declared.pending.Given.{Given}
 use Rattle.s3_log.specs.declared.pending.Pending.{Pending}
@@ -20,11 +20,10 @@ one_lost p = record p { lost = counted p.lost }
 abbrev pub one_left : Pending → Pending
 one_left p = record p { tellers = p.tellers - 1 }
 
--- the line stands behind the others; or it was lost, and there was no room for it
-abbrev pub HasAdded : List ℕ → Pending → Pending → Type 0
-HasAdded line old new =
-    (new ≡ record old { lines = old.lines ++ line; count = counted old.count })
-    ⊎ ((new ≡ one_lost old) × (room < length old.lines + length line))
+-- the line stands behind the others, all within the room; or it was lost, and there was no room for it
+abbrev pub HasTold : List ℕ → Pending → Pending → Bool → Type 0
+HasTold line old new true = (new ≡ record old { lines = old.lines ++ line; count = counted old.count }) × (length new.lines ≤ room)
+HasTold line old new false = (new ≡ one_lost old) × (room < length old.lines + length line)
 
 -- what a writer is given
 abbrev pub given_of : Pending → Given

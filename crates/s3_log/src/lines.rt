@@ -36,7 +36,7 @@ impl Model for Lines {
 
     ghost view = { λ l. take l.end l.bytes.items };
 
-    ghost invariant = { λ l. (l.end ≤ length l.bytes.items) × (room ≤ vec_capacity l.bytes) };
+    ghost invariant = { λ l. (l.end ≤ length l.bytes.items) × ((length l.bytes.items ≤ room) × (room ≤ vec_capacity l.bytes)) };
 }
 
 impl Lines {
@@ -57,29 +57,27 @@ impl Lines {
         beginning: &Beginning,
         message: &Message<'_>,
     ) -> Result<bool, NoMemory>
-        ensures put { IfOk result (HasPut (line_of beginning.now message.now) self.old self.new) }
+        ensures put { IfOk result (HasPut room (line_of beginning.now message.now) self.old self.new) }
         ensures same { OnErr result (self.new ≡ self.old) }
     {
-        widen(&mut self.bytes, self.end, USUAL)?;
-        let end = put_behind(alloc, &mut self.bytes, self.end, beginning, message)?;
-        if end <= self.bytes.len() {
-            self.end = end;
+        if self.put_within(alloc, beginning, message, USUAL)? {
             return Ok(true);
         }
-        self.put_long(alloc, beginning, message)
+        self.put_within(alloc, beginning, message, ROOM)
     }
 
-    // The same, where that may take all the room.
-    fn put_long(
+    // The same, where a line that has more bytes than this may be left out.
+    fn put_within(
         &mut self,
         alloc: Global,
         beginning: &Beginning,
         message: &Message<'_>,
+        more: usize,
     ) -> Result<bool, NoMemory>
-        ensures put { IfOk result (HasPut (line_of beginning.now message.now) self.old self.new) }
+        ensures put { IfOk result (HasPut more (line_of beginning.now message.now) self.old self.new) }
         ensures same { OnErr result (self.new ≡ self.old) }
     {
-        widen(&mut self.bytes, self.end, ROOM)?;
+        widen(&mut self.bytes, self.end, more)?;
         let end = put_behind(alloc, &mut self.bytes, self.end, beginning, message)?;
         if end > self.bytes.len() {
             return Ok(false);
@@ -106,6 +104,8 @@ impl Lines {
 // Uses so many bytes behind a place, as far as there is room.
 fn widen(bytes: &mut Vec<u8>, end: usize, more: usize) -> Result<(), NoMemory>
     requires within { end ≤ length bytes.old.items }
+    requires few { length bytes.old.items ≤ room }
+    ensures few { length bytes.new.items ≤ room }
     ensures kept { take end bytes.new.items ≡ take end bytes.old.items }
     ensures within { end ≤ length bytes.new.items }
     ensures wide { OnOk result (min (end + more) room ≤ length bytes.new.items) }

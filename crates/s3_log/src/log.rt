@@ -32,7 +32,7 @@ impl Log {
     }
 
     /// Tells the line of a message.
-    pub fn tell(
+    pub(crate) fn tell(
         &self,
         rt: &impl Wait,
         alloc: Global,
@@ -43,7 +43,7 @@ impl Log {
     }
 
     /// Counts a line as lost.
-    pub fn lose(&self, rt: &impl Wait) {
+    pub(crate) fn lose(&self, rt: &impl Wait) {
         self.pending.lock(rt).lose();
     }
 

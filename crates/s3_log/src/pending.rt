@@ -1,6 +1,6 @@
 //! Lines that wait for their writer.
 
-ghost use Rattle.std.specs.Prelude.{◌≡◌, [], IfOk, OnOk, OnErr};
+ghost use Rattle.std.specs.Prelude.{◌≡◌, [], IfOk, OnErr};
 ghost use Rattle.s3_log.specs.Line.{line_of};
 ghost use Rattle.s3_log.specs.Pending as rules;
 
@@ -54,7 +54,7 @@ impl Pending {
         beginning: &Beginning,
         message: &Message<'_>,
     ) -> Result<bool, NoMemory>
-        ensures told { OnOk result (rules.HasAdded (line_of beginning.now message.now) self.old self.new) }
+        ensures told { IfOk result (rules.HasTold (line_of beginning.now message.now) self.old self.new) }
         ensures lost { OnErr result (self.new ≡ rules.one_lost self.old) }
     {
         let put = self.lines.put(alloc, beginning, message);
