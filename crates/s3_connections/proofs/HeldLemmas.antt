@@ -5,12 +5,12 @@ use Rattle.s3_machine.specs.History.{Entry}
 use Rattle.s3_connection.specs.Connection.{Connected}
 use Rattle.s3_devices.specs.Device.{Traffic}
 use Rattle.s3_devices.specs.Recorded.{no_traffic}
-use Rattle.s3_connections.specs.declared.outcome.Outcome.{Outcome}
-use Rattle.s3_connections.specs.declared.outcome.Outcome.TheVariants as outcomes
-use Rattle.s3_connections.specs.declared.outcome.Step.{Step}
-use Rattle.s3_connections.specs.declared.outcome.Step.TheVariants as steps
-use Rattle.s3_connections.specs.Ended.{Fails}
-use Rattle.s3_connections.specs.Served.{ConnectionsEnd, ConnectionsHaveWritten, HasMet, IsServed, StopsAt}
+use Rattle.s3_pump.specs.declared.outcome.Outcome.{Outcome}
+use Rattle.s3_pump.specs.declared.outcome.Outcome.TheVariants as outcomes
+use Rattle.s3_pump.specs.declared.outcome.Step.{Step}
+use Rattle.s3_pump.specs.declared.outcome.Step.TheVariants as steps
+use Rattle.s3_pump.specs.Ended.{Fails}
+use Rattle.s3_pump.specs.Served.{ConnectionsEnd, ConnectionsHaveWritten, HasMet, IsServed, StopsAt}
 use Rattle.s3_connections.specs.Account.{EndsSo, Fits}
 use Rattle.s3_connections.specs.Held.{HasGoneOn, Held, Stands, account_of, outcome_of}
 

@@ -1,3 +1,1 @@
-pub mod EndedLemmas
 pub mod HeldLemmas
-pub mod ServedLemmas

@@ -4,8 +4,8 @@ use Rattle.s3_config.specs.Settings.{Settings}
 use Rattle.s3_machine.specs.History.{Entry}
 use Rattle.s3_devices.specs.Device.{Traffic}
 use Rattle.s3_devices.specs.Recorded.{no_traffic}
-use Rattle.s3_connections.specs.declared.outcome.Outcome.{Outcome}
-use Rattle.s3_connections.specs.Ended.{Ends, Fails, HasWritten}
+use Rattle.s3_pump.specs.declared.outcome.Outcome.{Outcome}
+use Rattle.s3_pump.specs.Ended.{Ends, Fails, HasWritten}
 
 -- what its socket gave and took, the moments of its messages, and how it has ended, unless it was given up before
 pub record Account : Type 0 where

@@ -5,10 +5,10 @@ use Rattle.s3_config.specs.Settings.{Settings}
 use Rattle.s3_machine.specs.History.{Entry}
 use Rattle.s3_connection.specs.Connection.{Connected}
 use Rattle.s3_devices.specs.Device.{Traffic}
-use Rattle.s3_connections.specs.declared.outcome.Outcome.{Outcome}
-use Rattle.s3_connections.specs.declared.outcome.Step.{Step}
-use Rattle.s3_connections.specs.declared.outcome.Step.TheVariants as steps
-use Rattle.s3_connections.specs.Served.{HaveMore, IsServed}
+use Rattle.s3_pump.specs.declared.outcome.Outcome.{Outcome}
+use Rattle.s3_pump.specs.declared.outcome.Step.{Step}
+use Rattle.s3_pump.specs.declared.outcome.Step.TheVariants as steps
+use Rattle.s3_pump.specs.Served.{HaveMore, IsServed}
 use Rattle.s3_connections.specs.Account.{Account, EndsSo}
 
 -- how it stands, all that its socket gave and took, the moments of its messages, the entries of its seat, and how it has ended, if it

@@ -1,7 +1,6 @@
 pub mod Account
-pub mod Ended
 pub mod Held
 pub mod Limits
-pub mod Served
-pub use Rattle.s3_connection.specs.Output
 pub use Rattle.s3_machine.specs.History
+pub use Rattle.s3_pump.specs.Ended
+pub use Rattle.s3_pump.specs.Served

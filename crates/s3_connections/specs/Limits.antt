@@ -1,8 +1,8 @@
 -- How long a connection may keep its place while nothing comes or goes.
 use Rattle.std.specs.Prelude.{ℕ, Bool, true, false, not, ◌&&◌, ◌||◌, nat_lt, if◌then◌else◌}
 use Rattle.s3_devices.specs.declared.device.Wanted.TheVariants as wants
-use Rattle.s3_connections.specs.declared.outcome.Step.{Step}
-use Rattle.s3_connections.specs.declared.outcome.Step.TheVariants as steps
+use Rattle.s3_pump.specs.declared.outcome.Step.{Step}
+use Rattle.s3_pump.specs.declared.outcome.Step.TheVariants as steps
 use Rattle.s3_connections.specs.declared.time_limits.Awaited.{Awaited}
 use Rattle.s3_connections.specs.declared.time_limits.Awaited.TheVariants.{Message, Head, Body, Room, End}
 

@@ -1,11 +1,11 @@
 //! What is told of a connection that has left its worker.
 
-use crate::outcome::Outcome;
 use crate::socket::Socket;
 use s3_calendar::Moment;
 use s3_devices::Recorded;
 use s3_history::{Describes, Recorder};
 use s3_journal::Report;
+use s3_pump::Outcome;
 use std::marker::Model;
 
 /// What is told of a connection that has left its worker: what its socket gave and took, the moments of its messages, and how it

@@ -2,10 +2,10 @@
 
 ghost use Rattle.std.specs.Prelude.{◌≡◌, [], IfOk};
 
-use crate::handle::StoreHandle;
 use s3_history::Describes;
 use s3_journal::{Desk, Ground, Report, Seat};
 use s3_machine::{Answer, Turn};
+use s3_pump::StoreHandle;
 use s3_records::Records;
 use s3_terms::NoMemory;
 use std::marker::Model;

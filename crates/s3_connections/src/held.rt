@@ -2,15 +2,12 @@
 
 ghost use Rattle.std.specs.Prelude.{◌≡◌, ◌<◌, [], length, None, IfOk, IfSome};
 ghost use Rattle.s3_devices.specs.Recorded.{no_traffic};
+ghost use Rattle.s3_pump.specs.Served.{IsNew};
 ghost use Rattle.s3_connections.specs.Account.{Fits};
-ghost use Rattle.s3_connections.specs.Served.{IsNew};
 ghost use Rattle.s3_connections.specs.Held.{HasGoneOn, account_of, outcome_of};
 
 use crate::account::{Account, AsAccount, Told};
 use crate::desk_handle::DeskHandle;
-use crate::laws::{connections_are_served, connections_end, connections_have_written};
-use crate::outcome::{Outcome, Step};
-use crate::pump::Pump;
 use crate::sharing::Sharing;
 use crate::socket::Socket;
 use crate::time_limits::Awaited;
@@ -20,6 +17,9 @@ use s3_devices::Recorded;
 use s3_history::Recorder;
 use s3_journal::Ground;
 use s3_log::MessageLog;
+use s3_pump::{
+    Outcome, Pump, Step, connections_are_served, connections_end, connections_have_written,
+};
 use s3_records::MapRecords;
 use s3_terms::NoMemory;
 use std::alloc::Global;

@@ -5,8 +5,8 @@ ghost use Rattle.std.specs.Duration.{as_nanos};
 ghost use Rattle.std.specs.Time.{instant_nanos};
 ghost use Rattle.s3_connections.specs.Limits.{awaited_behind, begins_anew, is_too_long, most_seconds};
 
-use crate::outcome::Step;
 use s3_devices::Wanted;
+use s3_pump::Step;
 use std::time::{Duration, Instant};
 
 /// What a connection waits for.

@@ -2,7 +2,7 @@
 use crate::workers::served::{Sent, ending, moment};
 use crate::workers::stream::{Manner, PLAIN};
 use s3_config::Config;
-use s3_connections::Outcome;
+use s3_pump::Outcome;
 use s3_world::replay_one;
 use std::alloc::Global;
 use std::mem::drop;

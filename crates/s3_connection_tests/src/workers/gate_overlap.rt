@@ -2,10 +2,11 @@
 use crate::workers::served::{HEAD, Sent, outcome_over};
 use crate::workers::stream::{Manner, PLAIN, Stream};
 use s3_config::Config;
-use s3_connections::{DeskHandle, Outcome};
+use s3_connections::DeskHandle;
 use s3_devices::{Recorded, WriteParts};
 use s3_history::AsItself;
 use s3_journal::{Desk, Ground};
+use s3_pump::Outcome;
 use s3_records::MapRecords;
 use std::alloc::Global;
 use std::io::{Read, Write};

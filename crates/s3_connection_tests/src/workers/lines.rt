@@ -2,10 +2,10 @@
 use crate::workers::served::{HEAD, Sent, handle, moment};
 use crate::workers::stream::{PLAIN, Stream};
 use s3_config::Config;
-use s3_connections::{BookHandle, Outcome, Pump, Step};
 use s3_devices::Recorded;
 use s3_history::Recorder;
 use s3_log::{Log, LogWriter, MessageLog};
+use s3_pump::{BookHandle, Outcome, Pump, Step};
 use s3_records::MapRecords;
 use s3_settings::Files;
 use std::alloc::Global;

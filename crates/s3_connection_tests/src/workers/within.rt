@@ -2,10 +2,10 @@
 use crate::workers::served::{HEAD, Sent, handle, moment};
 use crate::workers::stream::{Manner, PLAIN, Stream};
 use s3_config::Config;
-use s3_connections::{BookHandle, Pump, Step};
 use s3_devices::{Recorded, Wanted};
 use s3_history::Recorder;
 use s3_log::Nobody;
+use s3_pump::{BookHandle, Pump, Step};
 use s3_records::MapRecords;
 use std::alloc::Global;
 use std::mem::drop;

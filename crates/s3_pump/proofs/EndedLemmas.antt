@@ -12,9 +12,9 @@ use Rattle.s3_connection.specs.Connection.{Connected, IsFit, is_answered_at, sta
 use Rattle.s3_connection.specs.Holds.{ConnectionsWrite, IsBehind}
 use Rattle.s3_connection.specs.Output.{Outputs}
 use Rattle.s3_devices.specs.Device.{Traffic}
-use Rattle.s3_connections.specs.declared.outcome.Outcome.TheVariants as outcomes
-use Rattle.s3_connections.specs.Ended.{HasClosed, HasFailedToRead, input_of}
-use Rattle.s3_connections.specs.Served.{ConnectionsAreServed, ConnectionsEnd, ConnectionsHaveWritten, IsServed}
+use Rattle.s3_pump.specs.declared.outcome.Outcome.TheVariants as outcomes
+use Rattle.s3_pump.specs.Ended.{HasClosed, HasFailedToRead, input_of}
+use Rattle.s3_pump.specs.Served.{ConnectionsAreServed, ConnectionsEnd, ConnectionsHaveWritten, IsServed}
 
 pub are_served : ConnectionsAreServed
 are_served settings c new = record { holds = new.begins settings; idle = new.idle }

@@ -1,6 +1,6 @@
 //! What is known of every connection that is served over a device: laws, with nothing to run.
 
-ghost use Rattle.s3_connections.specs.Served.{ConnectionsAreServed, ConnectionsEnd, ConnectionsHaveWritten};
+ghost use Rattle.s3_pump.specs.Served.{ConnectionsAreServed, ConnectionsEnd, ConnectionsHaveWritten};
 
 use s3_connection::connections_write;
 

@@ -2,8 +2,8 @@
 
 ghost use Rattle.std.specs.Prelude.{◌≡◌, ◌<◌, false, [], length};
 ghost use Rattle.s3_devices.specs.Recorded.{no_traffic};
-ghost use Rattle.s3_connections.specs.Ended.{Ends, Fails};
-ghost use Rattle.s3_connections.specs.Served.{IsServed, StopsAt};
+ghost use Rattle.s3_pump.specs.Ended.{Ends, Fails};
+ghost use Rattle.s3_pump.specs.Served.{IsServed, StopsAt};
 
 use crate::handle::StoreHandle;
 use crate::laws::{connections_are_served, connections_end};

@@ -2,8 +2,8 @@ use Rattle.std.proofs.Common.{◌∙◌, List, ap, subst, sym}
 use Rattle.s3_machine.specs.History.{Entry}
 use Rattle.s3_connection.specs.Connection.{Connected, turn_of}
 use Rattle.s3_connection.specs.Holds.{Holds}
-use Rattle.s3_connections.proofs.ServedLemmas.{entered, entries_begin, some_asked, turn_moves, waits_asked}
-use Rattle.s3_connections.proofs.pump.Pump.turn.Goals as goal
+use Rattle.s3_pump.proofs.ServedLemmas.{entered, entries_begin, some_asked, turn_moves, waits_asked}
+use Rattle.s3_pump.proofs.pump.Pump.turn.Goals as goal
 
 pub returns-in-Some : goal.returns-in-Some
 returns-in-Some g c =

@@ -16,11 +16,11 @@ use Rattle.s3_devices.specs.Device.{Traffic}
 use Rattle.s3_devices.specs.Recorded.{no_traffic}
 use Rattle.s3_devices.specs.declared.device.Wanted.{Wanted}
 use Rattle.s3_devices.specs.declared.device.Wanted.TheVariants as wants
-use Rattle.s3_connections.specs.declared.outcome.Outcome.{Outcome}
-use Rattle.s3_connections.specs.declared.outcome.Outcome.TheVariants as outcomes
-use Rattle.s3_connections.specs.declared.outcome.Step.{Step}
-use Rattle.s3_connections.specs.declared.outcome.Step.TheVariants as steps
-use Rattle.s3_connections.specs.Ended.{Ends, Fails, HasWritten, input_of}
+use Rattle.s3_pump.specs.declared.outcome.Outcome.{Outcome}
+use Rattle.s3_pump.specs.declared.outcome.Outcome.TheVariants as outcomes
+use Rattle.s3_pump.specs.declared.outcome.Step.{Step}
+use Rattle.s3_pump.specs.declared.outcome.Step.TheVariants as steps
+use Rattle.s3_pump.specs.Ended.{Ends, Fails, HasWritten, input_of}
 
 -- it holds all that its device gave, these moments and these entries, and sent what its device took; and no turn of it is being
 -- answered

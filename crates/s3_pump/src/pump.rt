@@ -38,7 +38,7 @@ impl Model for Pump {
 }
 
 impl Pump {
-    ghost use Rattle.s3_connections.specs.Served as rules;
+    ghost use Rattle.s3_pump.specs.Served as rules;
 
     /// A connection of which nothing has come. It takes no memory.
     pub fn new(alloc: Global) -> Pump

@@ -8,10 +8,10 @@ use Rattle.s3_connection.specs.declared.stage.Stage.{Stage}
 use Rattle.s3_connection.specs.declared.stage.Stage.TheVariants as stages
 use Rattle.s3_connection.specs.declared.stage.Wants.TheVariants as wanted
 use Rattle.s3_devices.specs.declared.device.Wanted.TheVariants as wants
-use Rattle.s3_connections.specs.declared.outcome.Outcome.{Outcome}
-use Rattle.s3_connections.specs.declared.outcome.Outcome.TheVariants as outcomes
-use Rattle.s3_connections.specs.declared.outcome.Step.{Step}
-use Rattle.s3_connections.specs.declared.outcome.Step.TheVariants as steps
+use Rattle.s3_pump.specs.declared.outcome.Outcome.{Outcome}
+use Rattle.s3_pump.specs.declared.outcome.Outcome.TheVariants as outcomes
+use Rattle.s3_pump.specs.declared.outcome.Step.{Step}
+use Rattle.s3_pump.specs.declared.outcome.Step.TheVariants as steps
 use Rattle.s3_journal.specs.Recorded.{entry_of}
 use mathlib.Core.List.{IsPrefix}
 use Rattle.std.specs.List.{AllByRecursion}
@@ -21,8 +21,8 @@ use Rattle.s3_session.specs.Session.{moment_if}
 use Rattle.s3_connection.specs.Connection.{Connected, entries_with, is_answered_at, taken_at, taken_of, turn_at, wants_at}
 use Rattle.s3_connection.specs.Holds.{Holds}
 use Rattle.s3_devices.specs.Device.{Traffic}
-use Rattle.s3_connections.specs.Ended.{Fails, input_of}
-use Rattle.s3_connections.specs.Served.{GoesOn, HasHadTurn, HasMet, HasRead, HasSent, HasTaken, HaveMore, IsServed, stage_weight}
+use Rattle.s3_pump.specs.Ended.{Fails, input_of}
+use Rattle.s3_pump.specs.Served.{GoesOn, HasHadTurn, HasMet, HasRead, HasSent, HasTaken, HaveMore, IsServed, stage_weight}
 
 -- no more moments, one more, and more behind more
 pub more_none : (now : ℕ) (moments : List ℕ) → HaveMore now moments moments

@@ -1,7 +1,7 @@
-use Rattle.s3_connections.specs.Ended.{Fails}
-use Rattle.s3_connections.specs.Served.{IsServed}
-use Rattle.s3_connections.specs.declared.outcome.Outcome.TheVariants as outcomes
-use Rattle.s3_connections.proofs.serving.serve_on.Given as goal
+use Rattle.s3_pump.specs.Ended.{Fails}
+use Rattle.s3_pump.specs.Served.{IsServed}
+use Rattle.s3_pump.specs.declared.outcome.Outcome.TheVariants as outcomes
+use Rattle.s3_pump.proofs.serving.serve_on.Given as goal
 
 abbrev pub invariant-loop : goal.invariant-loop
 invariant-loop g l =

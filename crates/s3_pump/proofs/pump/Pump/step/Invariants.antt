@@ -1,8 +1,8 @@
 use Rattle.std.proofs.Common.{◌≡◌, ◌≤◌, ◌+◌, None}
 use Rattle.s3_connection.specs.Connection.{taken_of}
-use Rattle.s3_connections.specs.Served.{GoesOn, HasMet, HaveMore, IsServed, progress_of}
-use Rattle.s3_connections.specs.declared.outcome.Step.TheVariants as steps
-use Rattle.s3_connections.proofs.pump.Pump.step.Given as goal
+use Rattle.s3_pump.specs.Served.{GoesOn, HasMet, HaveMore, IsServed, progress_of}
+use Rattle.s3_pump.specs.declared.outcome.Step.TheVariants as steps
+use Rattle.s3_pump.proofs.pump.Pump.step.Given as goal
 
 abbrev pub invariant-loop : goal.invariant-loop
 invariant-loop g l =

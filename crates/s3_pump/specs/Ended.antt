@@ -8,8 +8,8 @@ use Rattle.s3_session.specs.Output.{Standing, is_waiting, is_closed}
 use Rattle.s3_session.specs.Output as standings
 use Rattle.s3_connection.specs.Output.{Input, Outputs}
 use Rattle.s3_devices.specs.Device.{Traffic}
-use Rattle.s3_connections.specs.declared.outcome.Outcome.{Outcome}
-use Rattle.s3_connections.specs.declared.outcome.Outcome.TheVariants as outcomes
+use Rattle.s3_pump.specs.declared.outcome.Outcome.{Outcome}
+use Rattle.s3_pump.specs.declared.outcome.Outcome.TheVariants as outcomes
 
 -- what a device gave, as its connection received it
 abbrev pub input_of : Traffic → Input

@@ -1,0 +1,2 @@
+pub mod EndedLemmas
+pub mod ServedLemmas
