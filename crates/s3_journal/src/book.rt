@@ -1,14 +1,16 @@
 //! The book.
-ghost use Rattle.std.specs.Prelude.{◌≡◌, ◌++◌, ◌∷◌, [], length, IfOk, OnErr};
+ghost use Rattle.std.specs.Prelude.{◌≡◌, ◌++◌, ◌∷◌, [], length, take, IfOk, OnErr};
 ghost use mathlib.Core.List.{IsPrefix};
 ghost use Rattle.s3_journal.specs.Book.{KeepsHistory, MayLack};
 ghost use Rattle.s3_journal.specs.Recorded.{recorded};
+ghost use Rattle.s3_records.specs.Rows.{keys_from};
 ghost use Rattle.s3_store.specs.Steps.{after_step, outcome_of};
 
 use crate::entry::Entry;
 use s3_history::{AsItself, Recorder};
 use s3_machine::{Answer, Turn, one_more_entry};
-use s3_records::Records;
+use s3_names::BucketName;
+use s3_records::{KeyRow, Records, Start};
 use s3_store::Store;
 use s3_terms::NoMemory;
 use std::alloc::Global;
@@ -101,6 +103,19 @@ impl<R: Records + Drop> Book<R> {
         };
         self.recorder.record::<Entry, AsItself>(&entry);
         Ok(answer)
+    }
+
+    /// The rows of a bucket's keys from a place on, at most so many, as the store has them. It is no entry.
+    pub(crate) fn keys_from(
+        &mut self,
+        bucket: &BucketName,
+        start: &Start,
+        most: usize,
+    ) -> Result<Vec<KeyRow>, NoMemory>
+        ensures value { IfOk result (λ rows. rows.items ≡ take most (keys_from self.old.store.state bucket.now start.now)) }
+        ensures same { self.new ≡ self.old }
+    {
+        self.store.keys_from(self.alloc, bucket, start, most)
     }
 
     /// The store as it is, to which the history leads. The history is legal, so that every law of `s3_machine` about legal histories

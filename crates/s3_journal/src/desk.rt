@@ -13,12 +13,17 @@ use s3_machine::{Answer, Turn};
 use s3_records::Records;
 use s3_terms::NoMemory;
 use std::alloc::Global;
-use std::sync::{Mutex, Wait};
+use std::sync::{Mutex, MutexGuard, Wait};
+use std::thread::yield_now;
+
+/// How often a turn looks for the lock before its thread sleeps until it is free.
+const LOOKS: u32 = 1024;
 
 /// A store that many share, each from a thread of its own if it likes. Its book is under one lock. What a desk stands on its
 /// brand `J` says, and what is told of those who leave, `P`.
 #[derive(Drop)]
 pub struct Desk<J: Ground, R: Records + Drop, P: Report> {
+    pub(crate) alloc: Global,
     room: Mutex<Room<J, R, P>>,
 }
 
@@ -33,6 +38,7 @@ impl<J: Ground, R: Records + Drop, P: Report> Desk<J, R, P> {
         let (book, calls, spare) = start.into_parts::<J>();
         let room = Room::new(alloc, book, calls, spare)?;
         Ok(Desk {
+            alloc,
             room: Mutex::new(room),
         })
     }
@@ -45,8 +51,9 @@ impl<J: Ground, R: Records + Drop, P: Report> Desk<J, R, P> {
         self.room.lock(rt).seat()
     }
 
-    /// Answers a seat's turn: one entry more of the desk's history, and of the seat's. It waits for the lock, and promises
-    /// what it does if it returns. Reading, verifying and printing are the caller's, outside the lock.
+    /// Answers a seat's turn: one entry more of the desk's history, and of the seat's. It waits for the lock, for a long list of
+    /// objects some times one after the other, and promises what it does if it returns. Reading, verifying and printing are the
+    /// caller's, outside the lock.
     ///
     /// `NoMemory` leaves the book as it was, and the seat but for what it has seen. Where the rows are in memory, the numbers not
     /// used up, the turn was one that the machine doesn't refuse at the state that the seat has then seen, and that takes room.
@@ -54,7 +61,20 @@ impl<J: Ground, R: Records + Drop, P: Report> Desk<J, R, P> {
         ensures answered { IfOk result (λ answer. IsAnswered J.base seat.old seat.new turn answer) }
         ensures memory { OnErr result (LacksMemory R.is_in_memory J.base seat.old seat.new turn) }
     {
-        self.room.lock(rt).serve(seat, turn)
+        self.read_ahead(rt, &turn.command);
+        self.enter(rt).serve(seat, turn)
+    }
+
+    // Waits for the lock. Most turns are short, and a thread that sleeps is woken late: so it looks for the lock a while before it
+    // does, and has others run meanwhile.
+    pub(crate) fn enter(&self, rt: &impl Wait) -> MutexGuard<'_, Room<J, R, P>> {
+        for _ in 0..LOOKS {
+            if let Some(guard) = self.room.try_lock() {
+                return guard;
+            }
+            yield_now();
+        }
+        self.room.lock(rt)
     }
 
     /// Takes a seat back, with what `D` tells of a value, which has to fit the seat's entries. It waits for the lock, and takes no
@@ -70,7 +90,7 @@ impl<J: Ground, R: Records + Drop, P: Report> Desk<J, R, P> {
     pub fn close(self) -> Option<Closed<R, P>>
         ensures { IfSome result (λ closed. IsClosed (P.fits J.base) J.base closed.book closed.gone.entries) }
     {
-        let Desk { room } = self;
+        let Desk { alloc: _, room } = self;
         room.into_inner().close()
     }
 }

@@ -3,6 +3,7 @@
 //! who comes has a seat, submits turns to the one book under the desk's lock, and leaves (`Desk`).
 #![tactic(auto)]
 
+mod ahead;
 mod book;
 mod calls;
 mod desk;

@@ -15,7 +15,8 @@ use crate::numbers::Numbers;
 use crate::seat::Seat;
 use s3_history::{Describes, Recorder};
 use s3_machine::{Answer, Turn};
-use s3_records::Records;
+use s3_names::BucketName;
+use s3_records::{KeyRow, Records, Start};
 use s3_terms::NoMemory;
 use std::alloc::Global;
 use std::marker::Model;
@@ -126,6 +127,16 @@ impl<J: Ground, R: Records + Drop, P: Report> Room<J, R, P> {
                 Err(none)
             }
         }
+    }
+
+    /// The rows of a bucket's keys from a place on, at most so many, as they are now. It is nobody's turn.
+    pub(crate) fn keys_from(
+        &mut self,
+        bucket: &BucketName,
+        start: &Start,
+        most: usize,
+    ) -> Result<Vec<KeyRow>, NoMemory> {
+        self.book.keys_from(bucket, start, most)
     }
 
     /// Takes a seat back, of which this is told.

@@ -6,9 +6,24 @@ use mio::{Interest, Poll, Token};
 use s3_connections::{Service, Socket};
 use std::io::{self, ErrorKind};
 use std::net::{self, Net};
+use std::time::{Duration, Instant};
 
 /// The token of the listener; no slab has so many places.
 pub(crate) const LISTENER: Token = Token(usize::MAX);
+
+// For how many milliseconds at least a worker with more than its share leaves those that wait to the others.
+const LEAVES_THEM: u64 = 20;
+
+/// What a worker does about the connections that wait.
+#[derive(Clone, Copy)]
+enum Stance {
+    /// It takes one at a time, while it holds no more than its share.
+    Shares,
+    /// It holds more than that, and has left them to the others since then.
+    Leaves(Instant),
+    /// The others didn't take them: it takes one at a time until none is left.
+    Takes,
+}
 
 /// The connections that come to a worker.
 #[derive(Drop)]
@@ -21,6 +36,7 @@ pub(crate) struct Arrivals {
     // One that was taken, and has no place yet; and whether the other workers were asked for one.
     taken: Option<TcpStream>,
     has_asked: bool,
+    stance: Stance,
 }
 
 impl Arrivals {
@@ -32,12 +48,18 @@ impl Arrivals {
             may_make_room: true,
             taken: None,
             has_asked: false,
+            stance: Stance::Shares,
         }
     }
 
     /// Whether one was taken that has no place yet.
     pub(crate) fn has_one(&self) -> bool {
         self.taken.is_some()
+    }
+
+    /// Whether it leaves those that wait to the other workers.
+    pub(crate) fn are_left(&self) -> bool {
+        matches!(self.stance, Stance::Leaves(_))
     }
 
     /// The listener has reported one.
@@ -64,15 +86,29 @@ impl Arrivals {
 impl<S: Service> Worker<'_, S> {
     /// Takes a connection that waits, if it may, and gives one up where another worker wants its place.
     pub(crate) fn take_and_give_up(&mut self, now: &Now) {
-        if self.arrivals.has_waiting && !self.places.is_full() {
+        if self.arrivals.has_waiting && !self.places.is_full() && self.takes_next(now) {
             self.take_one(now);
         }
         self.let_in(now);
         self.give_up_one(now);
     }
 
-    // Takes a connection that waits, if none has no place yet. Whoever has less to do takes the others: a worker that took all
-    // that wait would serve them alone.
+    // Whether it takes one of those that wait. With more than its share it leaves them to the others for a while: each would wait
+    // here for those that it holds. Where the others don't come to it, it takes them all the same.
+    fn takes_next(&mut self, now: &Now) -> bool {
+        let is_within = self.places.is_within_share(self.held.len() as u64);
+        self.arrivals.stance = match self.arrivals.stance {
+            Stance::Takes => Stance::Takes,
+            _ if is_within => Stance::Shares,
+            Stance::Shares => Stance::Leaves(now.instant),
+            Stance::Leaves(since) if is_over(since, now.instant) => Stance::Takes,
+            Stance::Leaves(since) => Stance::Leaves(since),
+        };
+        !self.arrivals.are_left()
+    }
+
+    // Takes a connection that waits, if none has no place yet, and leaves the others: a worker that took all that wait would serve
+    // them alone.
     fn take_one(&mut self, now: &Now) {
         if self.arrivals.has_one() {
             return;
@@ -84,6 +120,7 @@ impl<S: Service> Worker<'_, S> {
             }
             Err(error) => {
                 self.arrivals.has_waiting = self.may_take(error.kind(), now);
+                self.arrivals.stance = Stance::Shares;
             }
         }
         self.arrivals.is_reported = false;
@@ -217,6 +254,11 @@ impl<S: Service> Worker<'_, S> {
             }
         }
     }
+}
+
+// Whether a worker has left those that wait to the others for long enough.
+fn is_over(since: Instant, now: Instant) -> bool {
+    now.duration_since(since) >= Duration::from_millis(LEAVES_THEM)
 }
 
 // Whether the peer of a connection from which nothing was read has gone: nothing came, and nothing will.

@@ -36,6 +36,11 @@ impl<S: Service> Connections<S> {
         self.held.is_empty()
     }
 
+    /// How many there are.
+    pub(crate) fn len(&self) -> usize {
+        self.held.len()
+    }
+
     /// A number that is greater than all keys.
     pub(crate) fn capacity(&self) -> usize {
         self.held.capacity()

@@ -2,8 +2,8 @@
 
 use std::sync::atomic::{AtomicU64, Ordering};
 
-/// How many connections came and are held, what the most is of both, how many workers want a place that another one may give, and
-/// how many offer one.
+/// How many connections came and are held, what the most is of both, how many workers hold them, how many of these want a place
+/// that another one may give, and how many offer one.
 /// All workers count in one, so that no clause can tell what a call finds; tests tell it of one worker.
 #[derive(Drop)]
 pub struct Places {
@@ -11,6 +11,7 @@ pub struct Places {
     most: Option<u64>,
     held: AtomicU64,
     most_held: u64,
+    workers: AtomicU64,
     wants: AtomicU64,
     offers: AtomicU64,
 }
@@ -24,6 +25,7 @@ impl Places {
             most,
             held: AtomicU64::new(0),
             most_held,
+            workers: AtomicU64::new(0),
             wants: AtomicU64::new(0),
             offers: AtomicU64::new(0),
         }
@@ -61,6 +63,23 @@ impl Places {
         }
         self.give_place();
         false
+    }
+
+    /// Counts a worker that takes connections.
+    pub fn begin_work(&self) {
+        self.workers.fetch_add(1, Ordering::SeqCst);
+    }
+
+    /// Counts such a worker no more.
+    pub fn end_work(&self) {
+        self.workers.fetch_sub(1, Ordering::SeqCst);
+    }
+
+    /// Whether a worker that holds this many connections has no more than its share of all that are held. While nothing comes or
+    /// goes, that is so of one that works at least.
+    pub fn is_within_share(&self, mine: u64) -> bool {
+        let workers = self.workers.load(Ordering::SeqCst);
+        mine.saturating_mul(workers) <= self.held.load(Ordering::SeqCst)
     }
 
     /// Gives a place back.

@@ -20,7 +20,7 @@ const EVENTS: usize = 256;
 const BUFFER: usize = 262_144;
 
 // Milliseconds that it waits for events where the server goes on for ever, and where it ends some time or a connection is at the
-// door.
+// door or left to the others.
 const PATIENCE: u64 = 1000;
 
 const SHORT_PATIENCE: u64 = 20;
@@ -125,11 +125,13 @@ impl<'a, S: Service> Worker<'a, S> {
     /// Serves connections until no more are taken and the last one has ended, or the system fails. Then it lets all go.
     pub(crate) fn work(mut self) {
         let rt = self.service.runtime();
+        self.places.begin_work();
         for _ in rt.forever() {
             if self.is_done() || self.turn(rt).is_err() {
                 break;
             }
         }
+        self.places.end_work();
         self.let_all_go();
         self.end();
     }
@@ -172,7 +174,8 @@ impl<'a, S: Service> Worker<'a, S> {
 
     // How long it waits for events.
     fn patience(&self) -> Duration {
-        Duration::from_millis(if self.arrivals.has_one() || self.places.lacks_places() {
+        let is_short = self.arrivals.has_one() || self.arrivals.are_left();
+        Duration::from_millis(if is_short || self.places.lacks_places() {
             SHORT_PATIENCE
         } else if self.arrivals.has_waiting && !self.places.is_full() {
             0

@@ -1,5 +1,5 @@
 //! What a store answers to commands, step by step.
-use crate::checks::check_none;
+use crate::checks::{check, check_none};
 use crate::requests::asked::is_told;
 use crate::requests::commands::{command_of, cut};
 use crate::requests::entries::{
@@ -8,8 +8,8 @@ use crate::requests::entries::{
 use crate::requests::operations::outcome_text;
 use s3_calendar::Moment;
 use s3_machine::Answer;
-use s3_names::BucketName;
-use s3_records::MapRecords;
+use s3_names::{BucketName, Key};
+use s3_records::{MapRecords, Start};
 use s3_store::Store;
 use s3_terms::Code;
 use std::alloc::Global;
@@ -88,5 +88,23 @@ fn entries_are_answered(rt: HostRuntime) {
     ] {
         let other = first_other(rt.alloc(), rows);
         check_none(&rt, other);
+    }
+}
+
+// How many rows the keys of `pail` have behind its first one, at most so many, where three were put.
+fn rows_told(alloc: Global, most: usize) -> Result<usize, Code> {
+    let mut store = opened(alloc)?;
+    for asked in ["PUT /pail/a<one", "PUT /pail/b<two", "PUT /pail/c<two"] {
+        answer_to(alloc, &mut store, asked, 1)?;
+    }
+    let (pail, first) = (BucketName::read(alloc, b"pail")?, Key::read(alloc, b"a")?);
+    let rows = store.keys_from(alloc, &pail, &Start::Behind(first), most)?;
+    Ok(rows.len())
+}
+
+#[test]
+fn rows_are_told(rt: HostRuntime) {
+    for (most, told) in [(0, 0), (1, 1), (9, 2)] {
+        check(&rt, rows_told(rt.alloc(), most).ok() == Some(told), "rows");
     }
 }

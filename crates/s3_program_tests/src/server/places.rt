@@ -1,6 +1,7 @@
 //! How many connections may be held, and when workers lack a place.
 use crate::checks::check;
 use s3_server::Places;
+use std::process::Abort;
 use std::test::*;
 
 // What a worker does: it takes the place of a connection, gives one back, wants one that another worker may give, or wants none any
@@ -77,5 +78,44 @@ fn numbers(rt: HostRuntime) {
         for number in numbers {
             check(&rt, places.count_one() == number, "numbers");
         }
+    }
+}
+
+// How many places are taken where three workers share them, how many of these one holds, and whether that is no more than its share.
+const SHARES: [(usize, u64, bool); 8] = [
+    (0, 0, true),
+    (0, 1, false),
+    (2, 0, true),
+    (2, 1, false),
+    (3, 1, true),
+    (5, 1, true),
+    (5, 2, false),
+    (6, 2, true),
+];
+
+// Places of three workers; a fourth one has ended.
+fn of_three() -> Places {
+    let places = Places::new(None, 8);
+    for _ in 0..4 {
+        places.begin_work();
+    }
+    places.end_work();
+    places
+}
+
+// The same, of which so many are taken.
+fn with_taken<R: Abort>(rt: &R, count: usize) -> Places {
+    let places = of_three();
+    for _ in 0..count {
+        check(rt, places.take_place(), "take_place");
+    }
+    places
+}
+
+#[test]
+fn shares(rt: HostRuntime) {
+    for (taken, mine, is_within) in SHARES {
+        let places = with_taken(&rt, taken);
+        check(&rt, places.is_within_share(mine) == is_within, "shares");
     }
 }
