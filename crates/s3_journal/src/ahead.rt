@@ -17,8 +17,8 @@ const BATCH: usize = 32;
 impl<J: Ground, R: Records + Drop, P: Report> Desk<J, R, P> {
     /// Reads the rows that a list of objects is going to tell, few at a time, so that others may have their turns between, and
     /// drops them. The list's own turn reads them anew: the processor has them near by then, so that it holds the lock for a
-    /// shorter time. With a delimiter most rows aren't told, and none is read. It waits for the lock each time, and costs
-    /// the page's rows once more.
+    /// shorter time. With a delimiter most rows aren't told, and none is read. Where it reads, it waits for the lock each time,
+    /// lets those go first who wait for it, then and before the list's own turn, and costs the page's rows once more.
     pub(crate) fn read_ahead(&self, rt: &impl Wait, command: &Command) {
         let Command::Bucket { name, asked } = command else {
             return;
@@ -30,7 +30,7 @@ impl<J: Ground, R: Records + Drop, P: Report> Desk<J, R, P> {
         }
     }
 
-    // Reads the rows of a page and of one more, while there are such that the list may tell.
+    // Reads the rows of a page and of one more, while there are such that the list may tell. Lets others go first.
     fn read_rows(&self, rt: &impl Wait, bucket: &BucketName, asked: &ObjectsAsked) {
         let most = asked.max_keys as usize;
         if most <= BATCH {
@@ -40,6 +40,7 @@ impl<J: Ground, R: Records + Drop, P: Report> Desk<J, R, P> {
         for _ in 0..most / BATCH + 1 {
             place = self.read_batch(rt, bucket, asked.prefix.as_bytes(), place);
         }
+        self.step_aside();
     }
 
     // Reads some rows from a place on, if there is one, and answers the place behind them, if rows may follow whose keys begin
@@ -55,8 +56,9 @@ impl<J: Ground, R: Records + Drop, P: Report> Desk<J, R, P> {
         place_behind(self.rows_from(rt, bucket, &start), prefix)
     }
 
-    // Some rows from a place on; none where memory lacks.
+    // Some rows from a place on; none where memory lacks. Lets others go first.
     fn rows_from(&self, rt: &impl Wait, bucket: &BucketName, start: &Start) -> Option<Vec<KeyRow>> {
+        self.step_aside();
         self.enter(rt).keys_from(bucket, start, BATCH).ok()
     }
 }

@@ -13,11 +13,15 @@ use s3_machine::{Answer, Turn};
 use s3_records::Records;
 use s3_terms::NoMemory;
 use std::alloc::Global;
+use std::sync::atomic::{AtomicU64, Ordering};
 use std::sync::{Mutex, MutexGuard, Wait};
 use std::thread::yield_now;
 
 /// How often a turn looks for the lock before its thread sleeps until it is free.
 const LOOKS: u32 = 1024;
+
+/// How often one who reads ahead looks whether others still wait for the lock, before it goes on.
+const LOOKS_ASIDE: u32 = 16;
 
 /// A store that many share, each from a thread of its own if it likes. Its book is under one lock. What a desk stands on its
 /// brand `J` says, and what is told of those who leave, `P`.
@@ -25,6 +29,8 @@ const LOOKS: u32 = 1024;
 pub struct Desk<J: Ground, R: Records + Drop, P: Report> {
     pub(crate) alloc: Global,
     room: Mutex<Room<J, R, P>>,
+    // How many wait for the lock with a turn, or to read ahead.
+    waiting: AtomicU64,
 }
 
 impl<J: Ground, R: Records + Drop, P: Report> Desk<J, R, P> {
@@ -40,6 +46,7 @@ impl<J: Ground, R: Records + Drop, P: Report> Desk<J, R, P> {
         Ok(Desk {
             alloc,
             room: Mutex::new(room),
+            waiting: AtomicU64::new(0),
         })
     }
 
@@ -52,8 +59,8 @@ impl<J: Ground, R: Records + Drop, P: Report> Desk<J, R, P> {
     }
 
     /// Answers a seat's turn: one entry more of the desk's history, and of the seat's. It waits for the lock, for a long list of
-    /// objects some times one after the other, and promises what it does if it returns. Reading, verifying and printing are the
-    /// caller's, outside the lock.
+    /// objects some times one after the other and behind others who wait, and promises what it does if it returns. Reading,
+    /// verifying and printing are the caller's, outside the lock.
     ///
     /// `NoMemory` leaves the book as it was, and the seat but for what it has seen. Where the rows are in memory, the numbers not
     /// used up, the turn was one that the machine doesn't refuse at the state that the seat has then seen, and that takes room.
@@ -65,9 +72,20 @@ impl<J: Ground, R: Records + Drop, P: Report> Desk<J, R, P> {
         self.enter(rt).serve(seat, turn)
     }
 
+    // Takes the lock, or waits for it, and is counted meanwhile.
+    pub(crate) fn enter(&self, rt: &impl Wait) -> MutexGuard<'_, Room<J, R, P>> {
+        if let Some(guard) = self.room.try_lock() {
+            return guard;
+        }
+        self.waiting.fetch_add(1, Ordering::SeqCst);
+        let guard = self.wait(rt);
+        self.waiting.fetch_sub(1, Ordering::SeqCst);
+        guard
+    }
+
     // Waits for the lock. Most turns are short, and a thread that sleeps is woken late: so it looks for the lock a while before it
     // does, and has others run meanwhile.
-    pub(crate) fn enter(&self, rt: &impl Wait) -> MutexGuard<'_, Room<J, R, P>> {
+    fn wait(&self, rt: &impl Wait) -> MutexGuard<'_, Room<J, R, P>> {
         for _ in 0..LOOKS {
             if let Some(guard) = self.room.try_lock() {
                 return guard;
@@ -75,6 +93,16 @@ impl<J: Ground, R: Records + Drop, P: Report> Desk<J, R, P> {
             yield_now();
         }
         self.room.lock(rt)
+    }
+
+    // Lets those go first who wait for the lock, for a while.
+    pub(crate) fn step_aside(&self) {
+        for _ in 0..LOOKS_ASIDE {
+            if self.waiting.load(Ordering::SeqCst) == 0 {
+                return;
+            }
+            yield_now();
+        }
     }
 
     /// Takes a seat back, with what `D` tells of a value, which has to fit the seat's entries. It waits for the lock, and takes no
@@ -90,7 +118,11 @@ impl<J: Ground, R: Records + Drop, P: Report> Desk<J, R, P> {
     pub fn close(self) -> Option<Closed<R, P>>
         ensures { IfSome result (λ closed. IsClosed (P.fits J.base) J.base closed.book closed.gone.entries) }
     {
-        let Desk { alloc: _, room } = self;
+        let Desk {
+            alloc: _,
+            room,
+            waiting: _,
+        } = self;
         room.into_inner().close()
     }
 }

@@ -1,7 +1,7 @@
 -- Where a list of objects begins, and where it goes on.
-use Rattle.std.proofs.Common.{◌≡◌, ℕ, ◌+◌, Bool, true, false, not, if◌then◌else◌, List, [], ◌∷◌, ◌++◌, length, take, drop, Option, Some, None, IfSome, Result, Ok, Err, IfOk, refl, sym, ap, ◌∙◌, subst, inl, inr, ◌⊎◌, ⊎_elim, append-nil, append_assoc}
+use Rattle.std.proofs.Common.{◌≡◌, ℕ, zero, suc, ◌+◌, Bool, true, false, not, if◌then◌else◌, List, [], ◌∷◌, ◌++◌, length, take, drop, filter, Option, Some, None, IfSome, Result, Ok, Err, IfOk, refl, sym, ap, ◌∙◌, subst, inl, inr, ◌⊎◌, ⊎_elim, append-nil, append_assoc}
 use Rattle.std.specs.Prelude.{option_map, option_and_then, nat_eq, ◌&&◌, ◌||◌}
-use Rattle.std.specs.List.{starts_with}
+use Rattle.std.specs.List.{starts_with, AllByRecursion}
 use Rattle.std.specs.Option.{option_map_or, option_or}
 use Rattle.std.proofs.lemmas.Bool.{cases_Bool, false≢true}
 use Rattle.std.proofs.lemmas.List.{take-append-drop}
@@ -9,12 +9,13 @@ use Rattle.std.proofs.lemmas.Slice.Eq.{bytes_eq-Decides}
 use Rattle.s3_versions.specs.declared.picking.Facts.{Facts}
 use Rattle.s3_records.specs.Rows.{is_from}
 use Rattle.s3_records.specs.declared.rows.KeyRow.{KeyRow}
-use Rattle.s3_records.specs.declared.rows.Start.TheVariants.{From, Behind}
+use Rattle.s3_records.specs.declared.rows.Start.{Start}
+use Rattle.s3_records.specs.declared.rows.Start.TheVariants.{First, From, Behind}
 use Rattle.s3_listings.specs.declared.asked.ObjectsAsked.{ObjectsAsked}
 use Rattle.s3_listings.specs.Objects.{Item, CommonPrefix, text_of, is_before, common_prefix, is_asked, is_behind_start, rolled, item_of}
-use Rattle.s3_listings.specs.Drafts.{behind_token, is_last, AddsNothing, GoesBehind, IsDone, IsRaised, limit}
+use Rattle.s3_listings.specs.Drafts.{behind_token, is_last, AddsNothing, AreBehindStart, GoesBehind, IsDone, IsRaised, limit}
 use Rattle.s3_listings.proofs.OrderLemmas.{up_to_order, up_to_before, before_up_to, not_back}
-use Rattle.s3_listings.proofs.SeekLemmas.{not_before_front, not_true, between, raised_behind, below_raised}
+use Rattle.s3_listings.proofs.SeekLemmas.{not_before_front, not_true, not_itself, between, raised_behind, below_raised}
 use Rattle.s3_listings.proofs.ObjectLemmas.{begins, begins_with, common_begins, common_again, text_not_behind, told_by}
 
 -- what follows where a call answered, and where it found something
@@ -28,6 +29,54 @@ if_some (Some x) f p = f x p
 
 pub at_some : {T : Type 0} (P : T → Type 0) (o : Option T) (x : T) → o ≡ Some x → IfSome o P → P x
 at_some P o x is p = subst (λ r. IfSome r P) is p
+
+-- ---- keys that are behind the one to start after
+
+not_false : (b : Bool) → not b ≡ false → b ≡ true
+not_false true h = refl
+not_false false h = absurd (cc)
+
+-- from a key on that is behind a text all are
+pub all_from_key : (text first : List ℕ) (start : Start) → start ≡ From first → is_before text first ≡ true → (key : List ℕ) → is_from start key ≡ true → is_before text key ≡ true
+all_from_key text first start at before key there = before_up_to text first key before (not_true (is_before key first) (sym (up_to_order first key) ∙ subst (λ s. is_from s key ≡ true) at there))
+
+-- and behind a key that isn't before it
+pub all_behind_key : (text last : List ℕ) (start : Start) → start ≡ Behind last → not (is_before last text) ≡ true → (key : List ℕ) → is_from start key ≡ true → is_before text key ≡ true
+all_behind_key text last start at up_to key there = up_to_before text last key (not_true (is_before last text) up_to) (subst (λ s. is_from s key ≡ true) at there)
+
+-- so are the rows from such a place on
+abbrev AllFrom : (List ℕ → Type 0) → Start → List KeyRow → Type 0
+AllFrom P start rows = AllByRecursion (λ (row : KeyRow). P row.key) (filter (λ (row : KeyRow). is_from start row.key) rows)
+
+one_from : (P : List ℕ → Type 0) (start : Start) → ((key : List ℕ) → is_from start key ≡ true → P key) → (row : KeyRow) (rows : List KeyRow) (b : Bool) → is_from start row.key ≡ b → AllFrom P start rows → AllFrom P start (row ∷ rows)
+one_from P start each row rows true is rest = rw is (each row.key is, rest)
+one_from P start each row rows false is rest = rw is rest
+
+rows_from : (P : List ℕ → Type 0) (start : Start) → ((key : List ℕ) → is_from start key ≡ true → P key) → (rows : List KeyRow) → AllFrom P start rows
+rows_from P start each [] = tt
+rows_from P start each (row ∷ rows) = one_from P start each row rows (is_from start row.key) refl (rows_from P start each rows)
+
+all_taken : (P : KeyRow → Type 0) (most : ℕ) (rows : List KeyRow) → AllByRecursion P rows → AllByRecursion P (take most rows)
+all_taken P zero rows all = tt
+all_taken P (suc most) [] all = tt
+all_taken P (suc most) (row ∷ rows) (first, rest) = (first, all_taken P most rows rest)
+
+-- which are those of a batch
+pub rows_behind : (asked : ObjectsAsked) (start : Start) (is_known : Bool) (most : ℕ) (rows all : List KeyRow) → (is_known ≡ true → (key : List ℕ) → is_from start key ≡ true → is_behind_start asked key ≡ true)
+    → rows ≡ take most (filter (λ (row : KeyRow). is_from start row.key) all) → AreBehindStart asked is_known rows
+rows_behind asked start is_known most rows all each is known =
+    subst (AllByRecursion (λ (row : KeyRow). is_behind_start asked row.key ≡ true)) (sym is)
+    (all_taken (λ (row : KeyRow). is_behind_start asked row.key ≡ true) most (filter (λ (row : KeyRow). is_from start row.key) all) (rows_from (λ key. is_behind_start asked key ≡ true) start (each known) all))
+
+-- from any other place on there is one that isn't
+pub one_from_first : (text : List ℕ) (start : Start) → start ≡ First → (key : List ℕ) × (is_from start key ≡ true) × (is_before text key ≡ false)
+one_from_first text start at = (text, subst (λ s. is_from s text ≡ true) (sym at) refl, not_itself text)
+
+pub one_from_key : (text first : List ℕ) (start : Start) → start ≡ From first → is_before text first ≡ false → (key : List ℕ) × (is_from start key ≡ true) × (is_before text key ≡ false)
+one_from_key text first start at back = (first, subst (λ s. is_from s first ≡ true) (sym at) (up_to_order first first ∙ ap not (not_itself first)), back)
+
+pub one_behind_key : (text last : List ℕ) (start : Start) → start ≡ Behind last → not (is_before last text) ≡ false → (key : List ℕ) × (is_from start key ≡ true) × (is_before text key ≡ false)
+one_behind_key text last start at before = (text, subst (λ s. is_from s text ≡ true) (sym at) (not_false (is_before last text) before), not_itself text)
 
 -- ---- rows that are told as nothing
 
@@ -82,10 +131,6 @@ pub untold_up_to : (asked : ObjectsAsked) (row : KeyRow) (text : List ℕ) → l
 untold_up_to asked row text is up_to_it = untold_start asked row asked.token asked.start_after text refl refl is up_to_it
 
 -- ---- where a list begins
-
-not_false : (b : Bool) → not b ≡ false → b ≡ true
-not_false true h = refl
-not_false false h = absurd (cc)
 
 -- places at the beginning of a text
 pub from_front : (text key : List ℕ) (other : List ℕ) → starts_with nat_eq text key ≡ true → is_from (From key) other ≡ false → is_before other text ≡ true

@@ -1,6 +1,6 @@
 -- A page of a list of objects while it is made: what it has so far, and what becomes of it with the rows that are left.
 use Rattle.std.specs.Prelude.{◌≡◌, ℕ, Bool, true, false, not, nat_lt, if◌then◌else◌, List, [], ◌∷◌, ◌++◌, take, filter, length, map as each, Option, Some, None, IfSome, option_map, option_and_then, ◌+◌, ◌-◌, ◌<◌, nat_eq, IsTrue, ◌||◌, ◌≤◌, ◌==◌, ⊤, MatchBool, IsUtf8}
-use Rattle.std.specs.List.{filter_map, last_or, cons_option, slice_get, starts_with}
+use Rattle.std.specs.List.{AllByRecursion, filter_map, last_or, cons_option, slice_get, starts_with}
 use Rattle.std.specs.Option.{option_map_or, option_or}
 use Rattle.std.specs.Str.{bytes_eq}
 use Rattle.s3_records.specs.Rows.{is_from}
@@ -12,7 +12,7 @@ use Rattle.s3_listings.specs.declared.draft.Draft.{Draft}
 use Rattle.s3_listings.specs.declared.object_page.ListedObject.{ListedObject}
 use Rattle.s3_listings.specs.declared.rolling.Telling.{Telling}
 use Rattle.s3_listings.specs.declared.rolling.Telling.TheVariants.{Nothing, Itself, Prefix}
-use Rattle.s3_listings.specs.Objects.{Item, Object, CommonPrefix, up_to_first, text_of, is_before, common_prefix, item_of, is_behind_token, object_in, prefix_in, ObjectsTold}
+use Rattle.s3_listings.specs.Objects.{Item, Object, CommonPrefix, up_to_first, text_of, is_before, is_behind_start, common_prefix, item_of, is_behind_token, object_in, prefix_in, ObjectsTold}
 
 -- an item, where it stands behind the token
 abbrev pub behind_token : ObjectsAsked → Item → Option Item
@@ -31,6 +31,10 @@ abbrev pub distinct : Option (List ℕ) → List Item → List Item
 distinct last [] = []
 distinct last (item ∷ items) =
     if is_last last (text_of item) then distinct last items else item ∷ distinct (Some (text_of item)) items
+
+-- the rows are behind the key that the list is to start after, where that is known
+abbrev pub AreBehindStart : ObjectsAsked → Bool → List KeyRow → Type 0
+AreBehindStart asked is_known rows = is_known ≡ true → AllByRecursion (λ row. is_behind_start asked row.key ≡ true) rows
 
 -- a page as it is made: its objects and common prefixes so far, the text of its last item, how many more it takes, and
 -- whether one more is known that it doesn't take

@@ -2,8 +2,8 @@
 ghost use Rattle.std.specs.Prelude.{◌≡◌, ◌<◌, ◌∷◌, List, IsUtf8, IfOk, OnOk, OnErr, IfSome, Some, None, true, if◌then◌else◌, ◌++◌};
 ghost use Rattle.std.specs.Option.{option_copied};
 ghost use Rattle.s3_records.specs.declared.rows.KeyRow.{KeyRow};
-ghost use Rattle.s3_listings.specs.Objects.{Item, Object, CommonPrefix, text_of};
-ghost use Rattle.s3_listings.specs.Drafts.{drafted, is_last, with_item, with_items, with_rows, no_items, page_of_draft, TakesItem};
+ghost use Rattle.s3_listings.specs.Objects.{Item, Object, CommonPrefix, text_of, is_behind_start};
+ghost use Rattle.s3_listings.specs.Drafts.{drafted, is_last, AreBehindStart, with_item, with_items, with_rows, no_items, page_of_draft, TakesItem};
 
 use crate::rolling::{Telling, is_last, told_as};
 use crate::{ListedObject, ObjectPage, ObjectsAsked, Text};
@@ -67,17 +67,20 @@ impl Draft {
         self.room
     }
 
-    /// Takes rows in their order, which are moved into the page or dropped. Room for as many objects is taken at once.
+    /// Takes rows in their order, which are moved into the page or dropped. Room for as many objects is taken at once. Where all
+    /// are known to be behind the key that the list is to start after, none is compared with it.
     pub(crate) fn take_rows(
         &mut self,
         alloc: Global,
         asked: &ObjectsAsked,
         rows: Vec<KeyRow>,
+        are_behind: bool,
     ) -> Result<(), NoMemory>
+        requires { AreBehindStart asked.now are_behind rows.items }
         ensures { OnOk result ((rest : List KeyRow) → with_rows asked.now (drafted self.new) rest ≡ with_rows asked.now (drafted self.old) (rows.items ++ rest)) }
     {
         self.make_room(rows.len())?;
-        self.take_each(alloc, asked, rows)
+        self.take_each(alloc, asked, rows, are_behind)
     }
 
     // Takes room for so many objects more.
@@ -88,30 +91,39 @@ impl Draft {
         Ok(())
     }
 
-    // Takes rows in their order.
+    // Takes rows in their order, which may be known to be behind the key to start after.
     fn take_each(
         &mut self,
         alloc: Global,
         asked: &ObjectsAsked,
         rows: Vec<KeyRow>,
+        are_behind: bool,
     ) -> Result<(), NoMemory>
+        requires { AreBehindStart asked.now are_behind rows.items }
         ensures { OnOk result ((rest : List KeyRow) → with_rows asked.now (drafted self.new) rest ≡ with_rows asked.now (drafted self.old) (rows.items ++ rest)) }
     {
         for row in rows {
-            self.take_row(alloc, asked, row)?;
+            self.take_row(alloc, asked, row, are_behind)?;
         }
         Ok(())
     }
 
-    // Takes one row.
-    fn take_row(&mut self, alloc: Global, asked: &ObjectsAsked, row: KeyRow) -> Result<(), NoMemory>
+    // Takes one row, which may be known to be behind the key to start after.
+    fn take_row(
+        &mut self,
+        alloc: Global,
+        asked: &ObjectsAsked,
+        row: KeyRow,
+        is_behind: bool,
+    ) -> Result<(), NoMemory>
+        requires { is_behind ≡ true → is_behind_start asked.now row.key ≡ true }
         ensures { OnOk result ((rest : List KeyRow) → with_rows asked.now (drafted self.new) rest ≡ with_rows asked.now (drafted self.old) (row ∷ rest)) }
     {
         let KeyRow { key, facts } = row;
         let Some(facts) = facts else {
             return Ok(());
         };
-        match told_as(asked, &key) {
+        match told_as(asked, &key, is_behind) {
             Telling::Nothing => Ok(()),
             Telling::Itself => self.take_object(key, facts),
             Telling::Prefix(len) => self.take_prefix(alloc, &key.as_bytes()[..len]),

@@ -5,10 +5,10 @@ ghost use Rattle.s3_records.specs.Rows.{key_rows, keys_from};
 ghost use Rattle.s3_records.specs.declared.rows.KeyRow.{KeyRow};
 ghost use Rattle.s3_records.specs.declared.rows.Start.{Start};
 ghost use Rattle.s3_listings.specs.Objects.{objects_told};
-ghost use Rattle.s3_listings.specs.Drafts.{drafted, left_from, with_rows, TakesBatch, IsLastKey};
+ghost use Rattle.s3_listings.specs.Drafts.{drafted, left_from, AreBehindStart, with_rows, TakesBatch, IsLastKey};
 
 use crate::draft::Draft;
-use crate::places::{first_place, next_place};
+use crate::places::{are_behind_start, first_place, next_place};
 use crate::{ObjectPage, ObjectsAsked};
 use s3_names::{BucketName, Key};
 use s3_records::{KeyRow, Records, Start, keys_rise};
@@ -21,8 +21,8 @@ const BATCH: usize = 32;
 /// What is told of a bucket's objects (Amazon S3 API Reference, ListObjectsV2): the first so many items behind the token, which
 /// are objects and common prefixes. Costs each key that is looked at: those that are told, delete markers among them, a batch
 /// for each common prefix, however many keys have it, unless the delimiter ends in the byte 0x7F or 0xBF, and behind the last
-/// key that begins with the prefix a batch or as many as are told; and to find a place among the keys for each batch. `NoMemory` says that there was none for a batch or the page, and comes only where the page may
-/// have an item.
+/// key that begins with the prefix a batch or as many as are told; and to find a place among the keys for each batch.
+/// `NoMemory` says that there was none for a batch or the page, and comes only where the page may have an item.
 pub fn list_objects<R: Records>(
     records: &mut R,
     alloc: Global,
@@ -82,7 +82,8 @@ fn step<R: Records>(
 {
     let most = rows_at_once(asked, draft.room());
     let rows = records.keys_from(alloc, bucket, &start, most)?;
-    take_batch(alloc, asked, draft, rows, most)
+    let are_behind = are_behind_start(asked, &start);
+    take_batch(alloc, asked, draft, rows, most, are_behind)
 }
 
 // How many rows to ask for, for a page that takes so many items more: enough to fill it and to know of one more. With a
@@ -102,21 +103,24 @@ fn rows_at_once(asked: &ObjectsAsked, room: u16) -> usize
     enough.min(BATCH.max(told))
 }
 
-// Takes one batch of rows, of which so many were asked for, and says where to go on.
+// Takes one batch of rows, of which so many were asked for, and says where to go on. All may be known to be behind the key that the
+// list is to start after.
 fn take_batch(
     alloc: Global,
     asked: &ObjectsAsked,
     draft: &mut Draft,
     rows: Vec<KeyRow>,
     most: usize,
+    are_behind: bool,
 ) -> Result<Option<Start>, NoMemory>
-    requires { 0 < most }
+    requires some { 0 < most }
+    requires behind { AreBehindStart asked.now are_behind rows.items }
     ensures { IfOk result (λ next. (all : List KeyRow) (start : Start)
         → IsTrue (rises (each (λ row. row.key) all)) → rows.items ≡ take most (left_from (Some start) all)
         → TakesBatch asked.now (drafted draft.old) (drafted draft.new) (Some start) next all) }
 {
     let last = last_key(rows.as_slice(), most)?;
-    draft.take_rows(alloc, asked, rows)?;
+    draft.take_rows(alloc, asked, rows, are_behind)?;
     let Some(key) = last else {
         return Ok(None);
     };

@@ -5,7 +5,7 @@ ghost use Rattle.std.specs.Option.{option_copied, option_map_or};
 ghost use Rattle.s3_names.specs.Names.{is_key};
 ghost use Rattle.s3_records.specs.Rows.{is_from};
 ghost use Rattle.s3_records.specs.declared.rows.Start.TheVariants.{From};
-ghost use Rattle.s3_listings.specs.Objects.{is_before};
+ghost use Rattle.s3_listings.specs.Objects.{is_before, is_behind_start};
 ghost use Rattle.s3_listings.specs.Drafts.{is_last, limit, Begins, GoesBehind, IsDone, IsRaised};
 
 use crate::rolling::{is_before, is_behind_token, is_last, prefix_len};
@@ -38,6 +38,32 @@ fn limit(asked: &ObjectsAsked) -> Option<&[u8]>
         None => asked.start_after.as_ref(),
     };
     Some(text?.as_bytes())
+}
+
+/// Whether all keys from a place on are behind the one that the list is to start after.
+pub(crate) fn are_behind_start(asked: &ObjectsAsked, start: &Start) -> bool
+    ensures all { result ≡ true → (key : List ℕ) → is_from start.now key ≡ true → is_behind_start asked.now key ≡ true }
+    ensures one { result ≡ false → (key : List ℕ) × (is_from start.now key ≡ true) × (is_behind_start asked.now key ≡ false) }
+{
+    if asked.token.is_some() {
+        return true;
+    }
+    match &asked.start_after {
+        Some(text) => are_behind_text(text.as_bytes(), start),
+        None => true,
+    }
+}
+
+// Whether all texts from a place on are behind this one.
+fn are_behind_text(text: &[u8], start: &Start) -> bool
+    ensures all { result ≡ true → (key : List ℕ) → is_from start.now key ≡ true → is_before text.now key ≡ true }
+    ensures one { result ≡ false → (key : List ℕ) × (is_from start.now key ≡ true) × (is_before text.now key ≡ false) }
+{
+    match start {
+        Start::First => false,
+        Start::From(first) => is_before(text, first.as_bytes()),
+        Start::Behind(last) => !is_before(last.as_bytes(), text),
+    }
 }
 
 /// A place that no key is in front of, unless it is before the text. It is the text where that is a key.

@@ -22,12 +22,14 @@ pub(crate) enum Telling {
     Prefix(usize),
 }
 
-/// As which item the key is told. Costs the length of the key times that of the delimiter.
-pub(crate) fn told_as(asked: &ObjectsAsked, key: &Key) -> Telling
+/// As which item the key is told, which may be known to be behind the one that the list is to start after. Costs the length of
+/// the key times that of the delimiter.
+pub(crate) fn told_as(asked: &ObjectsAsked, key: &Key, is_behind: bool) -> Telling
+    requires { is_behind ≡ true → is_behind_start asked.now key.now ≡ true }
     ensures value { (facts : Facts) → item_by result key.now facts ≡ told asked.now (record { key = key.now; facts = Some facts }) }
     ensures cut { IsCut result key.now }
 {
-    if !is_asked(asked, key.as_bytes()) {
+    if !is_asked(asked, key.as_bytes(), is_behind) {
         return Telling::Nothing;
     }
     match prefix_len(asked, key) {
@@ -57,11 +59,12 @@ pub(crate) fn is_behind_token(asked: &ObjectsAsked, text: &[u8]) -> bool
     }
 }
 
-/// Whether the key is asked for.
-pub(crate) fn is_asked(asked: &ObjectsAsked, key: &[u8]) -> bool
+// Whether the key is asked for, which may be known to be behind the one that the list is to start after.
+fn is_asked(asked: &ObjectsAsked, key: &[u8], is_behind: bool) -> bool
+    requires { is_behind ≡ true → is_behind_start asked.now key.now ≡ true }
     ensures { result ≡ is_asked asked.now key.now }
 {
-    key.starts_with(asked.prefix.as_bytes()) && is_behind_start(asked, key)
+    key.starts_with(asked.prefix.as_bytes()) && (is_behind || is_behind_start(asked, key))
 }
 
 // Whether it is behind the one that the list is to start after.

@@ -63,6 +63,12 @@ unfolding joined_text
 joined_length md5 parts long small =
     omega (arith, length-encode_with lower_digits md5, length-append (encode_lower md5) (hyphen ∷ decimal parts), length-decimal-le 5 parts (omega arith) (omega arith) (omega arith), long)
 
+-- ---- where a text lies
+
+-- a text stands in front of what it was put over
+pub text_placed : (text rest : List ℕ) → take (length text) (text ++ rest) ≡ text
+text_placed text rest = take-append_seam text rest
+
 -- ---- where the text of a tag lies
 
 -- a digest stands in front of what it was put over

@@ -1,6 +1,7 @@
 pub mod Ids
 pub mod Names
 pub mod Tags
+pub mod Text
 pub use Rattle.s3_terms.specs.Code
 pub use Rattle.s3_terms.specs.Fault
 pub use Rattle.s3_text.specs.Characters

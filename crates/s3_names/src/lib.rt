@@ -4,6 +4,7 @@
 
 mod ids;
 mod names;
+mod short;
 mod tag;
 mod text;
 

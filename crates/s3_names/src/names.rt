@@ -1,7 +1,8 @@
 //! The names of buckets and the keys of objects.
-ghost use Rattle.std.specs.Prelude.{◌≡◌, ◌≤◌, ◌==◌, ◌&&◌, IsUtf8, IsAscii, IsTrue, IfOk, OnOk, length};
+ghost use Rattle.std.specs.Prelude.{◌≡◌, ◌≤◌, ◌<◌, ◌==◌, ◌&&◌, IsUtf8, IsAscii, IsTrue, Err, IfOk, OnOk, OnErr, length};
 ghost use Rattle.std.specs.List.{list_all};
 ghost use Rattle.s3_terms.specs.Fault.{FollowsToEnd};
+ghost use Rattle.s3_terms.specs.declared.code.Code.TheVariants.{InternalError};
 ghost use Rattle.s3_names.specs.Names.{is_name_byte, dotted, is_number, has_empty_part, is_address_form, has_name_length, has_name_bytes, has_name_ends, has_name_parts, is_bucket_name, bucket_name, is_key, object_key};
 
 use crate::text::Text;
@@ -41,11 +42,12 @@ impl Model for BucketName {
 
 impl BucketName {
     /// Reads a name from its bytes. `InvalidBucketName` says that it breaks the naming rules, and
-    /// `InternalError` that it keeps them and there was no memory for its copy.
+    /// `InternalError` that it keeps them and there was no memory for its copy, which one of more than 38 bytes takes.
     pub fn read(alloc: Global, name: &[u8]) -> Result<BucketName, Code>
         ensures value { IfOk result (λ read. read ≡ name.now) }
         ensures valid { OnOk result (IsTrue (is_bucket_name name.now)) }
         ensures rule { FollowsToEnd result (bucket_name name.now) }
+        ensures memory { result ≡ Err InternalError → 38 < length name.now }
     {
         if !is_valid_name(name) {
             return Err(Code::InvalidBucketName);
@@ -66,9 +68,10 @@ impl BucketName {
         self.name.as_bytes()
     }
 
-    /// A copy of the name.
+    /// A copy of the name. One of up to 38 bytes takes no memory.
     pub fn copy(&self) -> Result<BucketName, NoMemory>
-        ensures { IfOk result (λ copied. copied ≡ self.now) }
+        ensures value { IfOk result (λ copied. copied ≡ self.now) }
+        ensures memory { OnErr result (38 < length self.now) }
     {
         let name = self.name.copy()?;
         Ok(BucketName { name })
@@ -98,12 +101,13 @@ impl Model for Key {
 impl Key {
     /// Reads a key from its bytes. The first fault decides: `InvalidURI` where they are no UTF-8,
     /// `KeyTooLongError` above 1,024 bytes, `InvalidURI` where there are none. `InternalError` says
-    /// that they are a key and there was no memory for its copy.
+    /// that they are a key and there was no memory for its copy, which one of more than 38 bytes takes.
     #[tactic(auto, unfolding(crate::specs::Names::object_key, crate::specs::Names::is_key))]
     pub fn read(alloc: Global, key: &[u8]) -> Result<Key, Code>
         ensures value { IfOk result (λ read. read ≡ key.now) }
         ensures valid { OnOk result (IsTrue (is_key key.now)) }
         ensures rule { FollowsToEnd result (object_key key.now) }
+        ensures memory { result ≡ Err InternalError → 38 < length key.now }
     {
         if !is_text(key) {
             return Err(Code::InvalidURI);
@@ -130,9 +134,10 @@ impl Key {
         self.text.as_bytes()
     }
 
-    /// A copy of the key.
+    /// A copy of the key. One of up to 38 bytes takes no memory.
     pub fn copy(&self) -> Result<Key, NoMemory>
-        ensures { IfOk result (λ copied. copied ≡ self.now) }
+        ensures value { IfOk result (λ copied. copied ≡ self.now) }
+        ensures memory { OnErr result (38 < length self.now) }
     {
         let text = self.text.copy()?;
         Ok(Key { text })

@@ -164,7 +164,10 @@ impl KeyMap {
         ensures memory { OnErr result (replaced versioning number (versions_at self.old key) ≡ None) }
     {
         match self.by_key.get_mut(&key) {
-            Some(versions) => versions.add(versioning, number, moment, content),
+            Some(versions) => {
+                drop(key);
+                versions.add(versioning, number, moment, content)
+            }
             None => {
                 let versions = first_version(alloc, versioning, number, moment, content)?;
                 self.by_key.insert(key, versions)?;

@@ -288,7 +288,10 @@ impl UploadMap {
         ensures err { OnErr result (self.new ≡ self.old) }
     {
         match self.by_key.get_mut(&key) {
-            Some(uploads) => uploads.put(id, upload),
+            Some(uploads) => {
+                drop(key);
+                uploads.put(id, upload)
+            }
             None => {
                 let uploads = OpenUploads::of(alloc, id, upload)?;
                 self.by_key.insert(key, uploads)?;

@@ -21,4 +21,4 @@ returns c =
     let at : IsLastKey c.args.most c.args.rows.items (Some c.in-Some.key) = subst (IsLastKey c.args.most c.args.rows.items) c.in-Some.is (rw c.as_slice.ensures.value at c.in_ok-last.ensures) in
     if_ok c.next_place.result
     (λ next goes all start rises is. took_batch c.args.asked.now (drafted c.args.draft.now) (drafted c.take_rows.new.self) c.args.most c.args.rows.items all c.in-Some.key start next c.in_ok-take_rows.ensures is rises at goes)
-    (rw c.last.ensures.value at c.next_place.ensures)
+    (rw c.last-2.ensures.value at c.next_place.ensures)

@@ -15,7 +15,7 @@ loop-name-preserved c =
     let made = c.first_moment.result in
     c.in_ok-put_bucket.ensures.ok
     ∙ ap (λ m. map.insert m copy (new_bucket made)) c.loop-name.invariant
-    ∙ ap (λ k. map.insert (opening (take i names)) k (new_bucket made)) c.in_ok-copy.ensures
+    ∙ ap (λ k. map.insert (opening (take i names)) k (new_bucket made)) c.in_ok-copy.ensures.value
     ∙ ap (λ t. map.insert (opening (take i names)) name (new_bucket t)) c.first_moment.ensures
     ∙ sym (opening-push (take i names) name)
     ∙ ap (λ k. opening (take i names ++ k ∷ [])) c.name-item.is
