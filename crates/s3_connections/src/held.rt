@@ -27,10 +27,21 @@ use std::io;
 use std::marker::Model;
 use std::mem::drop;
 use std::sync::Wait;
-use std::time::{Clock, Instant};
+use std::time::{Clock, Duration, Instant};
 
 // How many moves a connection makes before others have theirs.
 const MOVES: u32 = 16;
+
+const KIB: u64 = 1024;
+
+// For how many microseconds a connection rests for each KiB of lists that it was told.
+const REST: u64 = 80;
+
+// And for how many at most.
+const MOST_REST: u64 = 100_000;
+
+// How many bytes these have at least: who is told less doesn't rest.
+const LEAST_SENT: u64 = 16 * KIB;
 
 /// A connection with its socket and its seat at the store, and since when it waits for what. Contracts see how it stands, all that its
 /// socket gave and took, the moments of its messages, the entries of its seat, and how it has ended; what is dropped behind that isn't
@@ -227,6 +238,22 @@ impl<'a, J: Ground, W: Wait + Clock> Held<'a, J, W> {
         self.awaited = awaited;
     }
 
+    /// For how long it is to rest before its next message, if it is, which is asked behind each step: once all that it wrote is
+    /// out, and it asked for a long list, while others had their turns.
+    pub fn take_rest(&mut self) -> Option<Duration>
+        ensures { self.new ≡ self.old }
+    {
+        if self.pump.has_unsent() {
+            return None;
+        }
+        let sent = self.socket.stream().take_sent();
+        if self.seat.take_listed() {
+            rest_behind(sent)
+        } else {
+            None
+        }
+    }
+
     /// Since when it waits for the next message, or for its peer's end; `None` where a part of a message has come, or a reply isn't out.
     pub fn idle_since(&self) -> Option<Instant> {
         match self.awaited {
@@ -239,6 +266,17 @@ impl<'a, J: Ground, W: Wait + Clock> Held<'a, J, W> {
     pub fn is_over(&self, now: Instant) -> bool {
         self.awaited.is_over(self.since, now)
     }
+}
+
+// For how long a connection rests behind lists of so many bytes. To make a KiB of one takes some five microseconds of a
+// processor, and its client takes its own, so that both work about a tenth of the time. What went before a list in one row
+// with it counts too, up to a limit.
+fn rest_behind(sent: u64) -> Option<Duration> {
+    if sent < LEAST_SENT {
+        return None;
+    }
+    let micros = (sent / KIB).saturating_mul(REST).min(MOST_REST);
+    Some(Duration::from_micros(micros))
 }
 
 // A connection of which nothing has come.

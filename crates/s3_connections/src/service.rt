@@ -10,7 +10,7 @@ use slab::Slab;
 use std::alloc::Global;
 use std::mem::drop;
 use std::sync::Wait;
-use std::time::{Clock, Instant};
+use std::time::{Clock, Duration, Instant};
 
 /// What serves the connections of a worker, which knows nothing else of them: so what it does with them is proved without what
 /// they are made of, and without their drops.
@@ -43,6 +43,9 @@ pub trait Service: Sized {
         token: Token,
         now: Instant,
     ) -> bool;
+
+    /// For how long it is to rest before its next message, if it is, which is asked behind each step: others go first.
+    fn take_rest(held: &mut Self::Held) -> Option<Duration>;
 
     /// Has it leave its seat.
     fn leaves(held: Self::Held);
@@ -88,6 +91,10 @@ impl<'a, J: Ground, W: Wait + Clock> Service for Sharing<'a, J, W> {
         now: Instant,
     ) -> bool {
         held.serve(self, moment, buffer, registry, token, now)
+    }
+
+    fn take_rest(held: &mut Held<'a, J, W>) -> Option<Duration> {
+        held.take_rest()
     }
 
     fn leaves(held: Held<'a, J, W>) {

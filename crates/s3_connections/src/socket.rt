@@ -21,6 +21,7 @@ pub struct Socket {
     stream: TcpStream,
     has_read: Cell<bool>,
     has_written: Cell<bool>,
+    sent: Cell<u64>,
     is_interrupted: Cell<bool>,
     is_ended: Cell<bool>,
 }
@@ -33,6 +34,7 @@ impl Socket {
             stream,
             has_read: Cell::new(false),
             has_written: Cell::new(false),
+            sent: Cell::new(0),
             is_interrupted: Cell::new(false),
             is_ended: Cell::new(false),
         }
@@ -60,6 +62,11 @@ impl Socket {
     /// Whether bytes went since this was last asked.
     pub(crate) fn take_written(&self) -> bool {
         self.has_written.replace(false)
+    }
+
+    /// How many bytes went since this was last asked.
+    pub(crate) fn take_sent(&self) -> u64 {
+        self.sent.replace(0)
     }
 
     /// Whether its connection stays behind a step. One that may go on at once, or was interrupted, is reported again; one that is
@@ -101,7 +108,10 @@ impl Socket {
     // Notes what came of a write.
     fn note_write(&self, went: &io::Result<usize>) {
         match went {
-            Ok(_) => self.has_written.set(true),
+            Ok(count) => {
+                self.has_written.set(true);
+                self.sent.set(self.sent.get().saturating_add(*count as u64));
+            }
             Err(e) => self.note_error(e),
         }
     }

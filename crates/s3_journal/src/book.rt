@@ -1,8 +1,9 @@
 //! The book.
-ghost use Rattle.std.specs.Prelude.{◌≡◌, ◌++◌, ◌∷◌, [], length, take, IfOk, OnErr};
+ghost use Rattle.std.specs.Prelude.{◌≡◌, ◌≢◌, ◌++◌, ◌∷◌, [], length, take, true, None, IfOk, OnErr};
 ghost use mathlib.Core.List.{IsPrefix};
 ghost use Rattle.s3_journal.specs.Book.{KeepsHistory, MayLack};
 ghost use Rattle.s3_journal.specs.Recorded.{recorded};
+ghost use Rattle.s3_records.specs.Looks.{told_among, last_of};
 ghost use Rattle.s3_records.specs.Rows.{keys_from};
 ghost use Rattle.s3_store.specs.Steps.{after_step, outcome_of};
 
@@ -10,7 +11,7 @@ use crate::entry::Entry;
 use s3_history::{AsItself, Recorder};
 use s3_machine::{Answer, Turn, one_more_entry};
 use s3_names::BucketName;
-use s3_records::{KeyRow, Records, Start};
+use s3_records::{Look, Records, Start};
 use s3_store::Store;
 use s3_terms::NoMemory;
 use std::alloc::Global;
@@ -105,17 +106,20 @@ impl<R: Records + Drop> Book<R> {
         Ok(answer)
     }
 
-    /// The rows of a bucket's keys from a place on, at most so many, as the store has them. It is no entry.
-    pub(crate) fn keys_from(
+    /// Looks at the first rows of a bucket's keys from a place on, at most so many, as the store does. It is no entry.
+    pub(crate) fn look_from(
         &mut self,
         bucket: &BucketName,
         start: &Start,
         most: usize,
-    ) -> Result<Vec<KeyRow>, NoMemory>
-        ensures value { IfOk result (λ rows. rows.items ≡ take most (keys_from self.old.store.state bucket.now start.now)) }
+    ) -> Result<Look, NoMemory>
+        ensures told { IfOk result (λ look. look.told ≡ told_among (take most (keys_from self.old.store.state bucket.now start.now))) }
+        ensures last { IfOk result (λ look. look.last ≡ last_of most (keys_from self.old.store.state bucket.now start.now)) }
         ensures same { self.new ≡ self.old }
+        ensures memory { OnErr result (
+            R.is_in_memory ≡ true → last_of most (keys_from self.old.store.state bucket.now start.now) ≢ None) }
     {
-        self.store.keys_from(self.alloc, bucket, start, most)
+        self.store.look_from(bucket, start, most)
     }
 
     /// The store as it is, to which the history leads. The history is legal, so that every law of `s3_machine` about legal histories

@@ -6,10 +6,11 @@ ghost use Rattle.s3_journal.specs.Gone.{IsClosed};
 
 use crate::gone::Report;
 use crate::ground::{Ground, Start};
+use crate::long_lists::rows_of_long_list;
 use crate::room::{Closed, Room};
 use crate::seat::Seat;
 use s3_history::Describes;
-use s3_machine::{Answer, Turn};
+use s3_machine::{Answer, Command, Turn};
 use s3_records::Records;
 use s3_terms::NoMemory;
 use std::alloc::Global;
@@ -20,7 +21,7 @@ use std::thread::yield_now;
 /// How often a turn looks for the lock before its thread sleeps until it is free.
 const LOOKS: u32 = 1024;
 
-/// How often one who reads ahead looks whether others still wait for the lock, before it goes on.
+/// How often one who looks ahead asks whether others still wait for the lock, before it goes on.
 const LOOKS_ASIDE: u32 = 16;
 
 /// A store that many share, each from a thread of its own if it likes. Its book is under one lock. What a desk stands on its
@@ -29,8 +30,10 @@ const LOOKS_ASIDE: u32 = 16;
 pub struct Desk<J: Ground, R: Records + Drop, P: Report> {
     pub(crate) alloc: Global,
     room: Mutex<Room<J, R, P>>,
-    // How many wait for the lock with a turn, or to read ahead.
+    // How many wait for the lock with a turn, or to look ahead.
     waiting: AtomicU64,
+    // How many turns came that ask for no long list.
+    short_turns: AtomicU64,
 }
 
 impl<J: Ground, R: Records + Drop, P: Report> Desk<J, R, P> {
@@ -47,6 +50,7 @@ impl<J: Ground, R: Records + Drop, P: Report> Desk<J, R, P> {
             alloc,
             room: Mutex::new(room),
             waiting: AtomicU64::new(0),
+            short_turns: AtomicU64::new(0),
         })
     }
 
@@ -68,8 +72,23 @@ impl<J: Ground, R: Records + Drop, P: Report> Desk<J, R, P> {
         ensures answered { IfOk result (λ answer. IsAnswered J.base seat.old seat.new turn answer) }
         ensures memory { OnErr result (LacksMemory R.is_in_memory J.base seat.old seat.new turn) }
     {
-        self.read_ahead(rt, &turn.command);
+        self.prepare(rt, &turn.command);
         self.enter(rt).serve(seat, turn)
+    }
+
+    // Looks at what a long list of objects is going to tell, and counts a command that asks for no long list.
+    fn prepare(&self, rt: &impl Wait, command: &Command) {
+        if rows_of_long_list(command).is_some() {
+            self.look_ahead(rt, command);
+        } else {
+            self.short_turns.fetch_add(1, Ordering::SeqCst);
+        }
+    }
+
+    /// How many turns of all seats came so far whose commands ask for no long list, modulo 2^64: so who lists sees whether others
+    /// are there. It waits for nobody.
+    pub fn short_turns(&self) -> u64 {
+        self.short_turns.load(Ordering::SeqCst)
     }
 
     // Takes the lock, or waits for it, and is counted meanwhile.
@@ -122,6 +141,7 @@ impl<J: Ground, R: Records + Drop, P: Report> Desk<J, R, P> {
             alloc: _,
             room,
             waiting: _,
+            short_turns: _,
         } = self;
         room.into_inner().close()
     }

@@ -16,7 +16,7 @@ use crate::seat::Seat;
 use s3_history::{Describes, Recorder};
 use s3_machine::{Answer, Turn};
 use s3_names::BucketName;
-use s3_records::{KeyRow, Records, Start};
+use s3_records::{Look, Records, Start};
 use s3_terms::NoMemory;
 use std::alloc::Global;
 use std::marker::Model;
@@ -129,14 +129,14 @@ impl<J: Ground, R: Records + Drop, P: Report> Room<J, R, P> {
         }
     }
 
-    /// The rows of a bucket's keys from a place on, at most so many, as they are now. It is nobody's turn.
-    pub(crate) fn keys_from(
+    /// Looks at the first rows of a bucket's keys from a place on, at most so many, as they are now. It is nobody's turn.
+    pub(crate) fn look_from(
         &mut self,
         bucket: &BucketName,
         start: &Start,
         most: usize,
-    ) -> Result<Vec<KeyRow>, NoMemory> {
-        self.book.keys_from(bucket, start, most)
+    ) -> Result<Look, NoMemory> {
+        self.book.look_from(bucket, start, most)
     }
 
     /// Takes a seat back, of which this is told.

@@ -147,8 +147,8 @@ impl Pump {
         }
     }
 
-    // Whether something is unsent.
-    fn has_unsent(&self) -> bool
+    /// Whether something that it wrote isn't out. It takes no memory.
+    pub fn has_unsent(&self) -> bool
         ensures some { result ≡ true → connections.unsent_of self.now ≢ [] }
         ensures none { result ≡ false → connections.unsent_of self.now ≡ [] }
     {

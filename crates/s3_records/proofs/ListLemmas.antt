@@ -3,7 +3,7 @@ use Rattle.std.proofs.Common.{◌≡◌, ◌≢◌, refl, sym, ap, subst, ◌∙
 use Rattle.std.proofs.Math.Seq.{take-append-add}
 use Rattle.std.proofs.Math.ListN.{drop_of_length-le}
 use Rattle.std.proofs.lemmas.Bool.{ltb-false}
-use Rattle.std.proofs.lemmas.List.{take_all, take-map, length-drop, length-take}
+use Rattle.std.proofs.lemmas.List.{take_all, take-map, length-drop, length-take, length_push}
 use Rattle.std.proofs.lemmas.Option.{none-some, same_Some}
 use Rattle.std.specs.List.{position, position_or_len, after_first, flat_map}
 
@@ -96,6 +96,20 @@ pub row_left : {A C : Type 0} (f : A → C) (n : ℕ) (have all : List C) (x : A
 row_left f n have all x xs ys before is room none =
     cut_room n (have ++ map f (x ∷ ys)) (omega arith) (some_behind have _ (cons-some (f x) (map f ys)))
     (ap (λ xs. take n (have ++ map f xs)) (sym is) ∙ ap (take n) before ∙ none)
+
+pub row_added : {A C : Type 0} (f : A → C) (have now all : List C) (x : A) (xs ys : List A) → have ++ map f xs ≡ all → xs ≡ x ∷ ys → now ≡ have ++ f x ∷ [] → now ++ map f ys ≡ all
+row_added f have now all x xs ys before is adds =
+    ap (λ now. now ++ map f ys) adds ∙ append_assoc have (f x ∷ []) (map f ys) ∙ ap (λ xs. have ++ map f xs) (sym is) ∙ before
+
+pub one_fits : {A : Type 0} (n : ℕ) (have now : List A) (x : A) → length have < n → now ≡ have ++ x ∷ [] → length now ≤ n
+one_fits n have now x room adds = subst (λ k. k ≤ n) (sym (ap length adds ∙ length_push have x)) (omega arith)
+
+-- one more behind a list that was left as it was
+pub one_behind : {A : Type 0} (have left now : List A) (x : A) → left ≡ have → now ≡ left ++ x ∷ [] → now ≡ have ++ x ∷ []
+one_behind have left now x is adds = adds ∙ ap (λ xs. xs ++ x ∷ []) is
+
+pub more_behind : {A : Type 0} (n : ℕ) (have now : List A) (x : A) (xs : List A) → now ≡ have ++ x ∷ [] → take n (now ++ xs) ≡ take n (have ++ x ∷ xs)
+more_behind n have now x xs adds = ap (λ now. take n (now ++ xs)) adds ∙ ap (take n) (append_assoc have (x ∷ []) xs)
 
 pub one_left : {A C : Type 0} (f : A → C) (have all : List C) (x : A) (xs ys : List A) → have ++ map f xs ≡ all → xs ≡ x ∷ ys → all ≢ []
 one_left f have all x xs ys before is none =

@@ -8,6 +8,7 @@ ghost use Rattle.s3_uploads.specs.Uploads.{with_part};
 ghost use Rattle.s3_versions.specs.Rules.{is_under, replaced, is_new_number, VersionPut, KeyDeleted, VersionDropped};
 
 use crate::keys::KeyMap;
+use crate::looks::Look;
 use crate::records::BucketFacts;
 use crate::rows::{KeyRow, Start, UploadRow, UploadStart, VersionRow, VersionStart};
 use crate::uploads::UploadMap;
@@ -46,6 +47,7 @@ impl StoredBucket {
     ghost use Rattle.s3_records.specs.Catalogue.{new_bucket, facts_of, is_empty_in, versions_at};
     ghost use Rattle.s3_records.specs.Changes.{set_in, change_in, upload_change_in};
     ghost use Rattle.s3_records.specs.OpenUploads.{upload_under, parts_sent, upload_rows_in, is_upload_from};
+    ghost use Rattle.s3_records.specs.Looks.{told_among, last_of};
     ghost use Rattle.s3_records.specs.Rows.{is_from, key_row, held_in, rows_at};
 
     /// A bucket made at this moment, unversioned and empty. It takes no memory yet.
@@ -97,6 +99,18 @@ impl StoredBucket {
             take most (filter (λ row. is_from start.now row.key) (each key_row (held_in (Some self.now)))) ≢ []) }
     {
         self.keys.keys_from(alloc, start, most)
+    }
+
+    /// Looks at its keys from a place on, at most so many.
+    pub(crate) fn look_from(&self, start: &Start, most: usize) -> Result<Look, NoMemory>
+        ensures told { IfOk result (λ look. look.told
+            ≡ told_among (take most (filter (λ row. is_from start.now row.key) (each key_row (held_in (Some self.now)))))) }
+        ensures last { IfOk result (λ look. look.last
+            ≡ last_of most (filter (λ row. is_from start.now row.key) (each key_row (held_in (Some self.now))))) }
+        ensures memory { OnErr result (
+            last_of most (filter (λ row. is_from start.now row.key) (each key_row (held_in (Some self.now)))) ≢ None) }
+    {
+        self.keys.look_from(start, most)
     }
 
     /// The rows of its versions from a place on, at most so many.
@@ -157,7 +171,8 @@ impl StoredBucket {
     {
         match self.versioning {
             Versioning::Unversioned => {
-                let _ = self.keys.drop_version(&key, VersionId::Null);
+                drop(self.keys.drop_version(&key, VersionId::Null));
+                drop(key);
                 Ok(())
             }
             Versioning::Enabled | Versioning::Suspended => {
@@ -256,14 +271,16 @@ impl StoredBucket {
         ensures err { OnErr result (self.new ≡ self.old) }
         ensures memory { OnErr result (replaced self.old.versioning number (versions_at self.old.keys key.now) ≡ None) }
     {
-        self.keys.add_at(
+        match self.keys.add_at(
             alloc,
             key,
             self.versioning,
             number,
             moment,
             Content::Stored(stored),
-        )?;
-        Ok(self.uploads.drop_upload(key, id))
+        ) {
+            Ok(()) => Ok(self.uploads.drop_upload(key, id)),
+            Err(failed) => Err(failed),
+        }
     }
 }

@@ -7,7 +7,9 @@ ghost use Rattle.std.specs.FinMap as map;
 ghost use Rattle.s3_text.specs.Order.{byte_order};
 ghost use Rattle.s3_versions.specs.Rules.{is_under, without, after_adding, replaced, is_new_number};
 
+use crate::adding::put;
 use crate::listing::{add_keys, add_older, behind, first_key, key_rows_from};
+use crate::looks::{Look, seen_from};
 use crate::rows::{KeyRow, Start, VersionRow, VersionStart};
 use s3_bodies::Body;
 use s3_calendar::Moment;
@@ -43,6 +45,7 @@ impl Model for KeyMap {
 impl KeyMap {
     ghost use Rattle.s3_records.specs.Catalogue.{versions_at, has_no_keys};
     ghost use Rattle.s3_records.specs.Changes.{with_versions};
+    ghost use Rattle.s3_records.specs.Looks.{told_among, last_of};
     ghost use Rattle.s3_records.specs.Rows.{is_from, key_row, version_row, behind_version, rows_of, rows_at};
     ghost use Rattle.s3_records.specs.declared.rows.VersionStart.TheVariants.{At};
 
@@ -84,6 +87,18 @@ impl KeyMap {
         key_rows_from(alloc, &self.by_key, first_key(start), most)
     }
 
+    /// Looks at the keys from a place on, at most so many.
+    pub(crate) fn look_from(&self, start: &Start, most: usize) -> Result<Look, NoMemory>
+        ensures told { IfOk result (λ look. look.told
+            ≡ told_among (take most (filter (λ row. is_from start.now row.key) (each key_row (map.entries self.now))))) }
+        ensures last { IfOk result (λ look. look.last
+            ≡ last_of most (filter (λ row. is_from start.now row.key) (each key_row (map.entries self.now)))) }
+        ensures memory { OnErr result (
+            last_of most (filter (λ row. is_from start.now row.key) (each key_row (map.entries self.now))) ≢ None) }
+    {
+        Look::of_seen(seen_from(&self.by_key, first_key(start), most))
+    }
+
     /// The rows of the versions from a place on, at most so many.
     pub(crate) fn versions_from(
         &self,
@@ -111,8 +126,13 @@ impl KeyMap {
         ensures memory { OnErr result (take most (flat_map (rows_at (At start.now)) (map.entries self.now)) ≢ []) }
     {
         let mut rows = Vec::new(alloc);
-        add_keys(&mut rows, &self.by_key, first_key(start), most)?;
-        Ok(rows)
+        match add_keys(&mut rows, &self.by_key, first_key(start), most) {
+            Ok(()) => Ok(rows),
+            Err(failed) => {
+                drop(rows);
+                Err(failed)
+            }
+        }
     }
 
     // The rows of the versions of a key behind the one of an id, and of the keys behind that.
@@ -132,8 +152,13 @@ impl KeyMap {
     {
         let mut rows = Vec::new(alloc);
         add_older(&mut rows, key, self.versions_behind(key, id), most)?;
-        add_keys(&mut rows, &self.by_key, Bound::Excluded(key), most)?;
-        Ok(rows)
+        match add_keys(&mut rows, &self.by_key, Bound::Excluded(key), most) {
+            Ok(()) => Ok(rows),
+            Err(failed) => {
+                drop(rows);
+                Err(failed)
+            }
+        }
     }
 
     // The versions under the key behind the one of an id.
@@ -169,9 +194,8 @@ impl KeyMap {
                 versions.add(versioning, number, moment, content)
             }
             None => {
-                let versions = first_version(alloc, versioning, number, moment, content)?;
-                self.by_key.insert(key, versions)?;
-                Ok(())
+                let first = first_version(alloc, versioning, number, moment, content);
+                put(&mut self.by_key, key, first)
             }
         }
     }
@@ -194,10 +218,13 @@ impl KeyMap {
     {
         match self.by_key.get_mut(key) {
             Some(versions) => versions.add(versioning, number, moment, content),
-            None => {
-                let key = key.copy()?;
-                self.add(alloc, key, versioning, number, moment, content)
-            }
+            None => match key.copy() {
+                Ok(key) => self.add(alloc, key, versioning, number, moment, content),
+                Err(failed) => {
+                    drop(content);
+                    Err(failed)
+                }
+            },
         }
     }
 
@@ -206,13 +233,16 @@ impl KeyMap {
         ensures value { self.new ≡ with_versions self.old key.now (without id (versions_at self.old key.now)) }
         ensures gone { result ≡ find (is_under id) (versions_at self.old key.now) }
     {
-        let versions = self.by_key.get_mut(key)?;
-        let gone = versions.delete_version(id);
-        if !versions.is_empty() {
-            return gone;
+        match self.by_key.get_mut(key) {
+            None => None,
+            Some(versions) => {
+                let gone = versions.delete_version(id);
+                if versions.is_empty() {
+                    drop(self.by_key.remove(key));
+                }
+                gone
+            }
         }
-        let _ = self.by_key.remove(key);
-        gone
     }
 }
 
@@ -228,6 +258,11 @@ fn first_version(
     ensures { IfOk result (λ versions. versions ≡ after_adding versioning number moment content []) }
 {
     let mut versions = Versions::new(alloc);
-    versions.add(versioning, number, moment, content)?;
-    Ok(versions)
+    match versions.add(versioning, number, moment, content) {
+        Ok(()) => Ok(versions),
+        Err(failed) => {
+            drop(versions);
+            Err(failed)
+        }
+    }
 }

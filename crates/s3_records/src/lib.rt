@@ -2,10 +2,12 @@
 //! bytes. `Records` is what every keeper of them promises, of one catalogue, and `MapRecords` keeps them in memory.
 #![tactic(auto)]
 
+mod adding;
 mod bucket;
 mod keys;
 mod laws;
 mod listing;
+mod looks;
 mod map_records;
 mod records;
 mod rows;
@@ -17,6 +19,7 @@ pub use laws::{
     empty_has_nothing, held_is_got, keys_rise, numbers_stay_below, uploads_are_listed,
     versions_stay_in_order,
 };
+pub use looks::Look;
 pub use map_records::MapRecords;
 pub use records::{BucketFacts, ListedBucket, Records};
 pub use rows::{KeyRow, Start, UploadRow, UploadStart, VersionRow, VersionStart};

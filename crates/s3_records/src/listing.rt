@@ -11,6 +11,7 @@ ghost use Rattle.s3_versions.specs.Rules.{is_under, stored, facts_of};
 ghost use Rattle.s3_records.specs.Catalogue.{listed_bucket};
 ghost use Rattle.s3_records.specs.Rows.{is_from, key_row, version_row, rows_under, rows_of, behind_version};
 
+use crate::adding::push;
 use crate::bucket::StoredBucket;
 use crate::records::ListedBucket;
 use crate::rows::{KeyRow, Start, VersionRow};
@@ -33,7 +34,13 @@ pub(crate) fn bucket_rows(
 {
     let mut rows = Vec::new(alloc);
     for (name, bucket) in buckets {
-        rows.push(listed_bucket(name, bucket)?)?;
+        match push(&mut rows, listed_bucket(name, bucket)) {
+            Ok(()) => {}
+            Err(failed) => {
+                drop(rows);
+                return Err(failed);
+            }
+        }
     }
     Ok(rows)
 }
@@ -42,11 +49,13 @@ pub(crate) fn bucket_rows(
 fn listed_bucket(name: &BucketName, bucket: &StoredBucket) -> Result<ListedBucket, NoMemory>
     ensures { IfOk result (λ row. row ≡ listed_bucket (name.now, bucket.now)) }
 {
-    let name = name.copy()?;
-    Ok(ListedBucket {
-        name,
-        made: bucket.facts().made,
-    })
+    match name.copy() {
+        Ok(name) => Ok(ListedBucket {
+            name,
+            made: bucket.facts().made,
+        }),
+        Err(failed) => Err(failed),
+    }
 }
 
 /// Where a list begins, as a bound of the keys of a tree.
@@ -79,8 +88,13 @@ pub(crate) fn key_rows_from(
         if rows.len() >= most {
             return Ok(rows);
         }
-        add_row(&mut rows, key, versions.as_slice(), room)?;
-        room = 0;
+        match add_row(&mut rows, key, versions.as_slice(), room) {
+            Ok(()) => room = 0,
+            Err(failed) => {
+                drop(rows);
+                return Err(failed);
+            }
+        }
     }
     Ok(rows)
 }
@@ -94,18 +108,23 @@ fn add_row(
 ) -> Result<(), NoMemory>
     ensures { OnOk result (rows.new.items ≡ rows.old.items ++ key_row (key.now, versions.now) ∷ []) }
 {
-    rows.reserve(room)?;
-    rows.push(key_row(key, versions)?)?;
-    Ok(())
+    match rows.reserve(room) {
+        Ok(()) => push(rows, key_row(key, versions)),
+        Err(_) => Err(NoMemory),
+    }
 }
 
 // The row of a key.
 fn key_row(key: &Key, versions: &[Version<Body>]) -> Result<KeyRow, NoMemory>
     ensures { IfOk result (λ row. row ≡ key_row (key.now, versions.now)) }
 {
-    let key = key.copy()?;
-    let facts = read_facts(None, current(versions)).ok();
-    Ok(KeyRow { key, facts })
+    match key.copy() {
+        Ok(key) => Ok(KeyRow {
+            key,
+            facts: read_facts(None, current(versions)).ok(),
+        }),
+        Err(failed) => Err(failed),
+    }
 }
 
 /// Adds the rows of the versions of the keys from a place on, until there are so many. Room for one of each key is taken at
@@ -128,8 +147,10 @@ pub(crate) fn add_keys(
         if rows.len() >= most {
             return Ok(());
         }
-        add_key(rows, key, versions.as_slice(), most, room)?;
-        room = 0;
+        match add_key(rows, key, versions.as_slice(), most, room) {
+            Ok(()) => room = 0,
+            Err(failed) => return Err(failed),
+        }
     }
     Ok(())
 }
@@ -150,8 +171,10 @@ fn add_key(
         None => Ok(()),
         Some((newest, older)) => {
             rows.reserve(room)?;
-            rows.push(version_row(key, true, newest)?)?;
-            add_older(rows, key, older, most)
+            match push(rows, version_row(key, true, newest)) {
+                Ok(()) => add_older(rows, key, older, most),
+                Err(failed) => Err(failed),
+            }
         }
     }
 }
@@ -176,7 +199,10 @@ fn add_rows(rows: &mut Vec<VersionRow>, key: &Key, older: &[Version<Body>]) -> R
     ensures memory { OnErr result (older.now ≢ []) }
 {
     for version in older {
-        rows.push(version_row(key, false, version)?)?;
+        match push(rows, version_row(key, false, version)) {
+            Ok(()) => {}
+            Err(failed) => return Err(failed),
+        }
     }
     Ok(())
 }
@@ -213,14 +239,16 @@ fn place_of(versions: &[Version<Body>], id: VersionId) -> Option<usize>
 fn version_row(key: &Key, is_latest: bool, version: &Version<Body>) -> Result<VersionRow, NoMemory>
     ensures { IfOk result (λ row. row ≡ version_row key.now is_latest version.now) }
 {
-    let key = key.copy()?;
-    Ok(VersionRow {
-        key,
-        id: version.id(),
-        is_latest,
-        moment: version.moment,
-        facts: facts_of(version),
-    })
+    match key.copy() {
+        Ok(key) => Ok(VersionRow {
+            key,
+            id: version.id(),
+            is_latest,
+            moment: version.moment,
+            facts: facts_of(version),
+        }),
+        Err(failed) => Err(failed),
+    }
 }
 
 // What is known of a version; `None` for a delete marker.

@@ -7,8 +7,10 @@ ghost use Rattle.s3_uploads.specs.Completion.{completed};
 ghost use Rattle.s3_records.specs.OpenUploads.{upload_at};
 ghost use Rattle.s3_records.specs.Catalogue.{opening, new_bucket, found_versions, versions_of, listed_buckets};
 
+use crate::adding::put;
 use crate::bucket::StoredBucket;
 use crate::listing::bucket_rows;
+use crate::looks::Look;
 use crate::records::{BucketFacts, ListedBucket, Records};
 use crate::rows::{KeyRow, Start, UploadRow, UploadStart, VersionRow, VersionStart};
 use s3_bodies::Body;
@@ -66,7 +68,13 @@ impl MapRecords {
             by_name: BTreeMap::new(alloc),
         };
         for name in names {
-            records.put_bucket(alloc, name.copy()?, first_moment())?;
+            match records.put_bucket(alloc, name.copy()?, first_moment()) {
+                Ok(()) => {}
+                Err(failed) => {
+                    drop(records);
+                    return Err(failed);
+                }
+            }
         }
         Ok(records)
     }
@@ -127,8 +135,7 @@ impl MapRecords {
         ensures ok { OnOk result (self.new ≡ map.insert self.old name (new_bucket made)) }
         ensures err { OnErr result (self.new ≡ self.old) }
     {
-        self.by_name.insert(name, StoredBucket::new(alloc, made))?;
-        Ok(())
+        put(&mut self.by_name, name, Ok(StoredBucket::new(alloc, made)))
     }
 }
 
@@ -180,7 +187,10 @@ impl Records for MapRecords {
     ) -> Result<Option<Version<Body>>, NoMemory> {
         match self.asked_for(bucket, key, asked) {
             None => Ok(None),
-            Some(version) => Ok(Some(version.copy(alloc)?)),
+            Some(version) => match version.copy(alloc) {
+                Ok(version) => Ok(Some(version)),
+                Err(failed) => Err(failed),
+            },
         }
     }
 
@@ -207,6 +217,18 @@ impl Records for MapRecords {
         }
     }
 
+    fn look_from(
+        &mut self,
+        bucket: &BucketName,
+        start: &Start,
+        most: usize,
+    ) -> Result<Look, NoMemory> {
+        match self.found_bucket(bucket) {
+            None => Ok(Look::nothing()),
+            Some(bucket) => bucket.look_from(start, most),
+        }
+    }
+
     fn versions_from(
         &mut self,
         alloc: Global,
@@ -230,7 +252,7 @@ impl Records for MapRecords {
     }
 
     fn drop_bucket(&mut self, _alloc: Global, name: &BucketName) -> Result<(), NoMemory> {
-        let _ = self.by_name.remove(name);
+        drop(self.by_name.remove(name));
         Ok(())
     }
 
@@ -398,7 +420,11 @@ impl Records for MapRecords {
     ) -> Result<Option<Upload<Body>>, NoMemory> {
         match self.by_name.get_mut(bucket) {
             None => unreachable!(),
-            Some(bucket) => bucket.complete(alloc, &key, id, number, moment, stored),
+            Some(bucket) => {
+                let gone = bucket.complete(alloc, &key, id, number, moment, stored);
+                drop(key);
+                gone
+            }
         }
     }
 }

@@ -5,8 +5,10 @@ ghost use Rattle.s3_records.specs.Catalogue.{Catalogue, facts_in, listed_buckets
 ghost use Rattle.s3_uploads.specs.Parts.{part_at, rows_behind};
 ghost use Rattle.s3_records.specs.Changes.{changed, BucketAdded, BucketDropped, VersioningSet, KeyChanged, UploadAdded, PartPut, UploadDropped, UploadCompleted};
 ghost use Rattle.s3_records.specs.OpenUploads.{upload_at, parts_at, completed_at, uploads_from};
+ghost use Rattle.s3_records.specs.Looks.{told_among, last_of};
 ghost use Rattle.s3_records.specs.Rows.{keys_from, versions_from};
 
+use crate::looks::Look;
 use crate::rows::{KeyRow, Start, UploadRow, UploadStart, VersionRow, VersionStart};
 use s3_bodies::Body;
 use s3_calendar::Moment;
@@ -113,6 +115,22 @@ pub trait Records {
         ensures same { catalogue self.new ≡ catalogue self.old }
         ensures memory { OnErr result (
             is_in_memory ≡ true → take most (keys_from (catalogue self.old) bucket.now start.now) ≢ []) };
+
+    /// Looks at the keys of a bucket from a place on, at most so many: how many of their rows in a list (`keys_from`) tell of a
+    /// version that is data, and which key is the last one, if there are so many; none where there is no such bucket. Costs to
+    /// find the first of them, and to read the current version of each; the last key alone is copied.
+    fn look_from(
+        &mut self,
+        bucket: &BucketName,
+        start: &Start,
+        most: usize,
+    ) -> Result<Look, NoMemory>
+        ensures told { IfOk result (λ look. look.told
+            ≡ told_among (take most (keys_from (catalogue self.old) bucket.now start.now))) }
+        ensures last { IfOk result (λ look. look.last ≡ last_of most (keys_from (catalogue self.old) bucket.now start.now)) }
+        ensures same { catalogue self.new ≡ catalogue self.old }
+        ensures memory { OnErr result (
+            is_in_memory ≡ true → last_of most (keys_from (catalogue self.old) bucket.now start.now) ≢ None) };
 
     /// The rows of the versions of a bucket from a place on, by key in the order of bytes and of one key newest first, and at
     /// most so many; none where there is no such bucket. Costs the rows that are told, to find the first key, and the length

@@ -9,6 +9,7 @@ ghost use Rattle.std.specs.declared.ops.Bound.TheVariants.{Unbounded};
 ghost use Rattle.s3_text.specs.Order.{byte_order};
 ghost use Rattle.s3_records.specs.OpenUploads.{upload_row, upload_rows_of};
 
+use crate::adding::push;
 use crate::rows::UploadRow;
 use crate::uploads::OpenUploads;
 use s3_bodies::Body;
@@ -36,7 +37,10 @@ pub(crate) fn add_keys(
         if rows.len() >= most {
             return Ok(());
         }
-        uploads.add_rows(rows, key, most)?;
+        match uploads.add_rows(rows, key, most) {
+            Ok(()) => {}
+            Err(failed) => return Err(failed),
+        }
     }
     Ok(())
 }
@@ -60,7 +64,10 @@ pub(crate) fn add_ids(
         if rows.len() >= most {
             return Ok(());
         }
-        rows.push(upload_row(key, UploadId::of(*id), upload)?)?;
+        match push(rows, upload_row(key, UploadId::of(*id), upload)) {
+            Ok(()) => {}
+            Err(failed) => return Err(failed),
+        }
     }
     Ok(())
 }
@@ -69,10 +76,12 @@ pub(crate) fn add_ids(
 fn upload_row(key: &Key, id: UploadId, upload: &Upload<Body>) -> Result<UploadRow, NoMemory>
     ensures { IfOk result (λ row. row ≡ upload_row key.now (id, upload.now)) }
 {
-    let key = key.copy()?;
-    Ok(UploadRow {
-        key,
-        id,
-        moment: upload.moment,
-    })
+    match key.copy() {
+        Ok(key) => Ok(UploadRow {
+            key,
+            id,
+            moment: upload.moment,
+        }),
+        Err(failed) => Err(failed),
+    }
 }

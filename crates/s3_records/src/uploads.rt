@@ -7,6 +7,7 @@ ghost use Rattle.s3_uploads.specs.Parts.{part_at};
 ghost use Rattle.s3_uploads.specs.Uploads.{with_part};
 ghost use Rattle.s3_records.specs.OpenUploads.{parts_sent, is_upload_from, upload_rows_of};
 
+use crate::adding::put;
 use crate::listing::first_key;
 use crate::rows::{Start, UploadRow, UploadStart};
 use crate::upload_listing::{add_ids, add_keys};
@@ -56,8 +57,13 @@ impl OpenUploads {
         ensures { IfOk result (λ uploads. uploads ≡ with_id map.empty id (Some upload)) }
     {
         let mut uploads = OpenUploads::new(alloc);
-        uploads.put(id, upload)?;
-        Ok(uploads)
+        match uploads.put(id, upload) {
+            Ok(()) => Ok(uploads),
+            Err(failed) => {
+                drop(uploads);
+                Err(failed)
+            }
+        }
     }
 
     /// Whether there is none.
@@ -102,14 +108,14 @@ impl OpenUploads {
             take most (filter (λ row. nat_lt id row.id) (upload_rows_of (key.now, self.now))) ≢ []) }
     {
         let mut rows = Vec::new(alloc);
-        add_ids(
-            &mut rows,
-            key,
-            &self.by_id,
-            Bound::Excluded(&id.number()),
-            most,
-        )?;
-        Ok(rows)
+        let behind = Bound::Excluded(&id.number());
+        match add_ids(&mut rows, key, &self.by_id, behind, most) {
+            Ok(()) => Ok(rows),
+            Err(failed) => {
+                drop(rows);
+                Err(failed)
+            }
+        }
     }
 
     /// Puts in an upload, in the place of the one that has its id. `NoMemory` leaves the uploads as they were.
@@ -117,8 +123,7 @@ impl OpenUploads {
         ensures ok { OnOk result (self.new ≡ with_id self.old id (Some upload)) }
         ensures err { OnErr result (self.new ≡ self.old) }
     {
-        self.by_id.insert(id.number(), upload)?;
-        Ok(())
+        put(&mut self.by_id, id.number(), Ok(upload))
     }
 
     /// Puts a part to the upload of this id, which is there, and answers the one that it replaces. `NoMemory`, which comes only
@@ -235,8 +240,13 @@ impl UploadMap {
             take most (filter (is_upload_from (At start.now)) (flat_map upload_rows_of (map.entries self.now))) ≢ []) }
     {
         let mut rows = Vec::new(alloc);
-        add_keys(&mut rows, &self.by_key, first_key(start), most)?;
-        Ok(rows)
+        match add_keys(&mut rows, &self.by_key, first_key(start), most) {
+            Ok(()) => Ok(rows),
+            Err(failed) => {
+                drop(rows);
+                Err(failed)
+            }
+        }
     }
 
     // The rows of the uploads to a key behind an id, and to the keys behind that.
@@ -253,8 +263,13 @@ impl UploadMap {
             take most (filter (is_upload_from (BehindUpload key.now id)) (flat_map upload_rows_of (map.entries self.now))) ≢ []) }
     {
         let mut rows = self.ids_behind(alloc, key, id, most)?;
-        add_keys(&mut rows, &self.by_key, Bound::Excluded(key), most)?;
-        Ok(rows)
+        match add_keys(&mut rows, &self.by_key, Bound::Excluded(key), most) {
+            Ok(()) => Ok(rows),
+            Err(failed) => {
+                drop(rows);
+                Err(failed)
+            }
+        }
     }
 
     // The rows of the uploads to a key behind an id.
@@ -292,11 +307,7 @@ impl UploadMap {
                 drop(key);
                 uploads.put(id, upload)
             }
-            None => {
-                let uploads = OpenUploads::of(alloc, id, upload)?;
-                self.by_key.insert(key, uploads)?;
-                Ok(())
-            }
+            None => put(&mut self.by_key, key, OpenUploads::of(alloc, id, upload)),
         }
     }
 
@@ -327,12 +338,15 @@ impl UploadMap {
         ensures value { self.new ≡ with_upload self.old key.now id None }
         ensures gone { result ≡ upload_under self.old key.now id }
     {
-        let uploads = self.by_key.get_mut(key)?;
-        let gone = uploads.drop_upload(id);
-        if !uploads.is_empty() {
-            return gone;
+        match self.by_key.get_mut(key) {
+            None => None,
+            Some(uploads) => {
+                let gone = uploads.drop_upload(id);
+                if uploads.is_empty() {
+                    drop(self.by_key.remove(key));
+                }
+                gone
+            }
         }
-        let _ = self.by_key.remove(key);
-        gone
     }
 }

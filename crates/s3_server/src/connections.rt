@@ -1,6 +1,7 @@
 //! The connections that a worker holds, each under a key.
 
 use crate::places::Places;
+use crate::resting::Resting;
 use crate::worker::Now;
 use mio::{Registry, Token};
 use s3_connections::{Service, Socket};
@@ -15,6 +16,7 @@ const LEAST_IDLE: u64 = 1000;
 /// the end.
 pub(crate) struct Connections<S: Service> {
     held: Slab<S::Held>,
+    resting: Resting,
 }
 
 impl<S: Service> Connections<S> {
@@ -22,12 +24,13 @@ impl<S: Service> Connections<S> {
     pub(crate) fn new(alloc: Global) -> Connections<S> {
         Connections {
             held: Slab::new(alloc),
+            resting: Resting::new(alloc),
         }
     }
 
     /// All have been let go, and what held them is given back.
     pub(crate) fn end(self) {
-        let Connections { held } = self;
+        let Connections { held, resting: _ } = self;
         S::all_have_left(held);
     }
 
@@ -88,6 +91,7 @@ impl<S: Service> Connections<S> {
 
     // Has the one under a key leave, and answers whether there was one.
     fn drops(&mut self, key: usize) -> bool {
+        self.resting.end(key);
         match self.held.try_remove(key) {
             Some(held) => {
                 S::leaves(held);
@@ -104,7 +108,18 @@ impl<S: Service> Connections<S> {
         }
     }
 
-    /// Has the one under a key go on, if there is one; where it has ended it is let go.
+    /// How many rest before their next message.
+    pub(crate) fn resting(&self) -> usize {
+        self.resting.count()
+    }
+
+    /// The key of one that has rested, if there is one: it rests no more, and is to go on.
+    pub(crate) fn next_rested(&mut self, now: Instant) -> Option<usize> {
+        self.resting.next_rested(now)
+    }
+
+    /// Has the one under a key go on, if there is one and it doesn't rest; where it has ended it is let go. All of one that rests
+    /// is out, and what came meanwhile is there when it has rested.
     pub(crate) fn serve(
         &mut self,
         service: &S,
@@ -114,11 +129,16 @@ impl<S: Service> Connections<S> {
         key: usize,
         now: &Now,
     ) {
+        if self.resting.has(key) {
+            return;
+        }
         let Some(held) = self.held.get_mut(key) else {
             return;
         };
         if !service.goes_on(held, now.moment, buffer, registry, Token(key), now.instant) {
             self.let_go(places, key);
+        } else if let Some(length) = S::take_rest(held) {
+            self.resting.begin(key, time_of(service, now), length);
         }
     }
 
@@ -151,5 +171,13 @@ impl<S: Service> Connections<S> {
             Some(held) => S::is_over(held, now),
             None => false,
         }
+    }
+}
+
+// The time, read anew; where that can't be, when the worker read it.
+fn time_of<S: Service>(service: &S, now: &Now) -> Instant {
+    match Instant::now(service.runtime()) {
+        Ok(instant) => instant,
+        Err(_) => now.instant,
     }
 }

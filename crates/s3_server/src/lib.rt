@@ -9,6 +9,7 @@ mod limits;
 mod listener;
 mod logging;
 mod places;
+mod resting;
 mod serve;
 mod worker;
 

@@ -25,6 +25,9 @@ const PATIENCE: u64 = 1000;
 
 const SHORT_PATIENCE: u64 = 20;
 
+// And where a connection rests.
+const REST_PATIENCE: u64 = 2;
+
 /// What a worker waits with, and what it reads into.
 #[derive(Drop)]
 pub(crate) struct Means {
@@ -167,6 +170,7 @@ impl<'a, S: Service> Worker<'a, S> {
             moment: self.clock.now(rt),
         };
         self.serve_ready(&now);
+        self.serve_rested(&now);
         self.take_and_give_up(&now);
         self.look(&now);
         Ok(())
@@ -174,8 +178,18 @@ impl<'a, S: Service> Worker<'a, S> {
 
     // How long it waits for events.
     fn patience(&self) -> Duration {
+        let patience = self.patience_beside_rests();
+        Duration::from_millis(if self.held.resting() == 0 {
+            patience
+        } else {
+            patience.min(REST_PATIENCE)
+        })
+    }
+
+    // How many milliseconds it does where no connection rests.
+    fn patience_beside_rests(&self) -> u64 {
         let is_short = self.arrivals.has_one() || self.arrivals.are_left();
-        Duration::from_millis(if is_short || self.places.lacks_places() {
+        if is_short || self.places.lacks_places() {
             SHORT_PATIENCE
         } else if self.arrivals.has_waiting && !self.places.is_full() {
             0
@@ -183,7 +197,17 @@ impl<'a, S: Service> Worker<'a, S> {
             SHORT_PATIENCE
         } else {
             PATIENCE
-        })
+        }
+    }
+
+    // Has those connections go on that have rested.
+    fn serve_rested(&mut self, now: &Now) {
+        for _ in 0..self.held.resting() {
+            let Some(key) = self.held.next_rested(now.instant) else {
+                return;
+            };
+            self.serve_key(key, now);
+        }
     }
 
     // Has the connections go on that are ready; those that have ended are let go.

@@ -1,6 +1,7 @@
 //! The store.
-ghost use Rattle.std.specs.Prelude.{◌≡◌, ◌≢◌, [], true, false, take, IfOk, OnOk, OnErr, IsTrue};
+ghost use Rattle.std.specs.Prelude.{◌≡◌, ◌≢◌, [], true, false, None, take, IfOk, OnOk, OnErr, IsTrue};
 ghost use Rattle.s3_records.specs.Catalogue.{opening};
+ghost use Rattle.s3_records.specs.Looks.{told_among, last_of};
 ghost use Rattle.s3_records.specs.Rows.{keys_from};
 ghost use Rattle.s3_store.specs.Steps.{opened, after_step, outcome_of};
 ghost use Rattle.s3_machine.specs.Effects.{is_refused, takes_room};
@@ -10,7 +11,7 @@ use s3_bodies::Body;
 use s3_calendar::Moment;
 use s3_machine::{Answer, Command, steps_keep};
 use s3_names::BucketName;
-use s3_records::{KeyRow, MapRecords, Records, Start, numbers_stay_below};
+use s3_records::{Look, MapRecords, Records, Start, numbers_stay_below};
 use s3_terms::NoMemory;
 use std::alloc::Global;
 use std::marker::Model;
@@ -57,21 +58,22 @@ impl<R: Records + Drop> Store<R> {
         self.number
     }
 
-    /// The rows of a bucket's keys from a place on, at most so many; none where there is no such bucket. It is no step, and leaves the
-    /// store as it is. Costs the rows that are told, and to find the first of them.
-    pub fn keys_from(
+    /// Looks at the first rows of a bucket's keys from a place on, at most so many: how many of them tell of a version that is data,
+    /// and the key of the last one if there are so many. It is no step, and leaves the store as it is. Costs the rows, to find the first of
+    /// them, and a copy of the key.
+    pub fn look_from(
         &mut self,
-        alloc: Global,
         bucket: &BucketName,
         start: &Start,
         most: usize,
-    ) -> Result<Vec<KeyRow>, NoMemory>
-        ensures value { IfOk result (λ rows. rows.items ≡ take most (keys_from self.old.state bucket.now start.now)) }
+    ) -> Result<Look, NoMemory>
+        ensures told { IfOk result (λ look. look.told ≡ told_among (take most (keys_from self.old.state bucket.now start.now))) }
+        ensures last { IfOk result (λ look. look.last ≡ last_of most (keys_from self.old.state bucket.now start.now)) }
         ensures same { self.new ≡ self.old }
         ensures memory { OnErr result (
-            R.is_in_memory ≡ true → take most (keys_from self.old.state bucket.now start.now) ≢ []) }
+            R.is_in_memory ≡ true → last_of most (keys_from self.old.state bucket.now start.now) ≢ None) }
     {
-        self.records.keys_from(alloc, bucket, start, most)
+        self.records.look_from(bucket, start, most)
     }
 
     /// Takes one step: does what the command asks for at this moment, and answers it under its number. `least_part` is the

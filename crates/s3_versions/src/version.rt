@@ -68,14 +68,15 @@ impl VersioningStatus {
     }
 }
 
-/// What a put stored. `B` is what stands for the bytes: a body, or nothing in an answer that leaves them out.
+/// What a put stored. `B` is what stands for the bytes: a body, or nothing in an answer that leaves them out. What a list tells comes
+/// first, as in `Version`: so it lies together in memory, and a list, which goes from one version to the next, waits for it once.
 #[derive(Drop)]
 pub struct Data<B> {
     pub tag: Tag,
-    pub content_type: ContentType,
-    pub metadata: Metadata,
     /// How many bytes there are.
     pub size: u64,
+    pub content_type: ContentType,
+    pub metadata: Metadata,
     /// The bytes, or what stands for them.
     pub body: B,
 }
@@ -125,13 +126,13 @@ impl Content<Body> {
 /// A version of an object.
 #[derive(Drop)]
 pub struct Version<B> {
+    /// When it was made.
+    pub moment: Moment,
+    pub content: Content<B>,
     /// Whether its id is `null`, and not the number of the entry that made it.
     pub is_null: bool,
     /// The number of the entry that made it.
     pub number: u64,
-    /// When it was made.
-    pub moment: Moment,
-    pub content: Content<B>,
 }
 
 impl<B> Version<B> {

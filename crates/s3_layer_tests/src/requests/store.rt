@@ -9,7 +9,7 @@ use crate::requests::operations::outcome_text;
 use s3_calendar::Moment;
 use s3_machine::Answer;
 use s3_names::{BucketName, Key};
-use s3_records::{MapRecords, Start};
+use s3_records::{Look, MapRecords, Start};
 use s3_store::Store;
 use s3_terms::Code;
 use std::alloc::Global;
@@ -91,20 +91,36 @@ fn entries_are_answered(rt: HostRuntime) {
     }
 }
 
-// How many rows the keys of `pail` have behind its first one, at most so many, where three were put.
-fn rows_told(alloc: Global, most: usize) -> Result<usize, Code> {
+// How many keys of `pail` behind its first one a look at so many finds that a list would tell, and the last one if there are so many,
+// where three were put and the second one was deleted where versioning is enabled.
+fn looked_at(alloc: Global, most: usize) -> Result<(usize, Option<Key>), Code> {
     let mut store = opened(alloc)?;
-    for asked in ["PUT /pail/a<one", "PUT /pail/b<two", "PUT /pail/c<two"] {
+    for asked in [
+        "PUT /pail?versioning<{\"Status\":\"Enabled\"}",
+        "PUT /pail/a<one",
+        "PUT /pail/b<two",
+        "PUT /pail/c<two",
+        "DELETE /pail/b",
+    ] {
         answer_to(alloc, &mut store, asked, 1)?;
     }
     let (pail, first) = (BucketName::read(alloc, b"pail")?, Key::read(alloc, b"a")?);
-    let rows = store.keys_from(alloc, &pail, &Start::Behind(first), most)?;
-    Ok(rows.len())
+    let Look { told, last } = store.look_from(&pail, &Start::Behind(first), most)?;
+    Ok((told, last))
+}
+
+// Whether a look finds so many told keys, and this last one.
+fn finds(alloc: Global, most: usize, told: usize, last: &str) -> bool {
+    match looked_at(alloc, most) {
+        Ok((count, Some(key))) => count == told && key.as_bytes() == last.as_bytes(),
+        Ok((count, None)) => count == told && last.is_empty(),
+        Err(_) => false,
+    }
 }
 
 #[test]
-fn rows_are_told(rt: HostRuntime) {
-    for (most, told) in [(0, 0), (1, 1), (9, 2)] {
-        check(&rt, rows_told(rt.alloc(), most).ok() == Some(told), "rows");
+fn keys_are_looked_at(rt: HostRuntime) {
+    for (most, told, last) in [(0, 0, ""), (1, 0, "b"), (2, 1, "c"), (9, 1, "")] {
+        check(&rt, finds(rt.alloc(), most, told, last), "a look");
     }
 }

@@ -1,4 +1,4 @@
-use Rattle.std.proofs.Common.{sym, ap, ◌∙◌, Some, None}
+use Rattle.std.proofs.Common.{sym, ap, ◌∙◌, Some, None, []}
 use Rattle.std.specs.FinMap as map
 use Rattle.s3_versions.specs.Rules.{after_adding, replaced}
 use Rattle.s3_records.specs.Catalogue.{found_versions}
@@ -36,23 +36,20 @@ returns-in-Some-clause-memory c =
     rw (ap found_versions there) c.add.ensures.memory
 
 -- where it has none
-pub returns-in_err-versions-in-None-clause-memory : goal.returns-in_err-versions-in-None-clause-memory
-returns-in_err-versions-in-None-clause-memory c =
-    let absent = get_by_tree c.self.inside.by_key.entries c.args.self.now c.args.key None c.self.view_is c.in-None.ensures.value in
-    on_err c.from_residual.result (ap (λ found. replaced c.args.versioning c.args.number (found_versions found)) absent)
-
-pub returns-in_err-insert-in-None-clause-memory : goal.returns-in_err-insert-in-None-clause-memory
-returns-in_err-insert-in-None-clause-memory c =
-    let absent = get_by_tree c.self.inside.by_key.entries c.args.self.now c.args.key None c.self.view_is c.in-None.ensures.value in
-    on_err c.from_residual-in_err-insert-in-None.result (ap (λ found. replaced c.args.versioning c.args.number (found_versions found)) absent)
-
-pub returns-in_ok-insert-in-None-clause-ok : goal.returns-in_ok-insert-in-None-clause-ok
-returns-in_ok-insert-in-None-clause-ok c =
+pub returns-in-None-clause-ok : goal.returns-in-None-clause-ok
+returns-in-None-clause-ok c =
     let s = c.args.self.now in
     let key = c.args.key in
     let absent = get_by_tree c.self.inside.by_key.entries s key None c.self.view_is c.in-None.ensures.value in
     let added = after_adding c.args.versioning c.args.number c.args.moment c.args.content in
     let before = ap (λ tree. map.from_entries tree.entries) c.get_mut.follows.holds-at-none ∙ c.self.view_is in
-    made_by_insert c.get_mut.follows.lender-at-none.entries c.insert.new.self.entries key c.in_ok-versions-in-None.versions c.in_ok-insert-in-None.ensures.updates.0
-    ∙ ap (λ m. map.insert m key c.in_ok-versions-in-None.versions) before
-    ∙ ap (map.insert s key) (c.in_ok-versions-in-None.ensures ∙ ap (λ found. added (found_versions found)) (sym absent))
+    then_ok c.put.result
+    (λ updates. made_by_insert c.get_mut.follows.lender-at-none.entries c.put.new.tree.entries key (added []) updates.0
+    ∙ ap (λ m. map.insert m key (added [])) before
+    ∙ ap (λ found. map.insert s key (added (found_versions found))) (sym absent))
+    (c.put.ensures.ok (added []) c.first_version-first.ensures)
+
+pub returns-in-None-clause-memory : goal.returns-in-None-clause-memory
+returns-in-None-clause-memory c =
+    let absent = get_by_tree c.self.inside.by_key.entries c.args.self.now c.args.key None c.self.view_is c.in-None.ensures.value in
+    on_err c.put.result (ap (λ found. replaced c.args.versioning c.args.number (found_versions found)) absent)

@@ -2,7 +2,7 @@ use Rattle.std.proofs.Common.{sym, ap, ◌∙◌, Some, None}
 use Rattle.std.specs.FinMap as map
 use Rattle.s3_versions.specs.Rules.{after_adding, replaced}
 use Rattle.s3_records.specs.Catalogue.{found_versions}
-use Rattle.s3_records.proofs.KeyLemmas.{then_ok, then_err, on_err, written, left}
+use Rattle.s3_records.proofs.KeyLemmas.{then_ok, then_err, written, left}
 use Rattle.s3_text.proofs.MapLemmas.{get_by_tree}
 use Rattle.s3_records.proofs.keys.KeyMap.add_at.Goals as goal
 
@@ -36,7 +36,7 @@ returns-in-Some-clause-memory c =
     rw (ap found_versions there) c.add.ensures.memory
 
 -- where it has none
-pub returns-in_err-key-in-None-clause-memory : goal.returns-in_err-key-in-None-clause-memory
-returns-in_err-key-in-None-clause-memory c =
+pub returns-in-Err-clause-memory : goal.returns-in-Err-clause-memory
+returns-in-Err-clause-memory c =
     let absent = get_by_tree c.self.inside.by_key.entries c.args.self.now c.args.key.now None c.self.view_is c.in-None.ensures.value in
-    on_err c.from_residual.result (ap (λ found. replaced c.args.versioning c.args.number (found_versions found)) absent)
+    ap (λ found. replaced c.args.versioning c.args.number (found_versions found)) absent

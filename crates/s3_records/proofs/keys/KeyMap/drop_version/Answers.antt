@@ -10,55 +10,55 @@ use Rattle.s3_records.proofs.MapLemmas.{made_by_remove, remove_absent, remove-ov
 use Rattle.s3_records.proofs.keys.KeyMap.drop_version.Goals as goal
 
 -- where the key has no versions
-pub returns-in_err-versions-clause-value : goal.returns-in_err-versions-clause-value
-returns-in_err-versions-clause-value c =
+pub returns-in-None-clause-value : goal.returns-in-None-clause-value
+returns-in-None-clause-value c =
     let s = c.args.self.now in
     let key = c.args.key.now in
-    let absent = get_by_tree c.self.inside.by_key.entries s key None c.self.view_is c.in_err-versions.ensures.value in
+    let absent = get_by_tree c.self.inside.by_key.entries s key None c.self.view_is c.in-None.ensures.value in
     ap (λ tree. map.from_entries tree.entries) c.get_mut.follows.holds-at-none ∙ c.self.view_is
     ∙ sym (remove_absent s key absent)
     ∙ ap (with_versions s key) (sym (without-none c.args.id) ∙ ap (λ found. without c.args.id (found_versions found)) (sym absent))
 
-pub returns-in_err-versions-clause-gone : goal.returns-in_err-versions-clause-gone
-returns-in_err-versions-clause-gone c =
-    let absent = get_by_tree c.self.inside.by_key.entries c.args.self.now c.args.key.now None c.self.view_is c.in_err-versions.ensures.value in
-    c.from_residual.ensures ∙ sym (ap (λ found. find (is_under c.args.id) (found_versions found)) absent)
+pub returns-in-None-clause-gone : goal.returns-in-None-clause-gone
+returns-in-None-clause-gone c =
+    let absent = get_by_tree c.self.inside.by_key.entries c.args.self.now c.args.key.now None c.self.view_is c.in-None.ensures.value in
+    sym (ap (λ found. find (is_under c.args.id) (found_versions found)) absent)
 
 -- where it has versions after
-pub returns-then-not-is_empty-clause-value : goal.returns-then-not-is_empty-clause-value
-returns-then-not-is_empty-clause-value c =
+pub returns-else-is_empty-clause-value : goal.returns-else-is_empty-clause-value
+returns-else-is_empty-clause-value c =
     let s = c.args.self.now in
     let key = c.args.key.now in
-    let old = c.in_ok-versions.versions.now in
+    let old = c.in-Some.versions.now in
     let after = c.delete_version-gone.new.self in
-    let there = get_by_tree c.self.inside.by_key.entries s key (Some old) c.self.view_is c.in_ok-versions.ensures.value in
+    let there = get_by_tree c.self.inside.by_key.entries s key (Some old) c.self.view_is c.in-Some.ensures.value in
     let same = c.delete_version-gone.ensures.value ∙ ap (λ found. without c.args.id (found_versions found)) (sym there) in
-    written c.self.inside.by_key (c.get_mut.follows.lender after) s key old after after c.self.view_is c.in_ok-versions.ensures.value (c.get_mut.follows.holds after) refl
-    ∙ with_versions-some s key after (λ none. both_ways _ c.if-not-is_empty.true (c.is_empty.ensures.1 none))
+    written c.self.inside.by_key (c.get_mut.follows.lender after) s key old after after c.self.view_is c.in-Some.ensures.value (c.get_mut.follows.holds after) refl
+    ∙ with_versions-some s key after (λ none. both_ways _ c.if-is_empty.false (c.is_empty.ensures.1 none))
     ∙ ap (with_versions s key) same
 
-pub returns-then-not-is_empty-clause-gone : goal.returns-then-not-is_empty-clause-gone
-returns-then-not-is_empty-clause-gone c =
-    let there = get_by_tree c.self.inside.by_key.entries c.args.self.now c.args.key.now (Some c.in_ok-versions.versions.now) c.self.view_is c.in_ok-versions.ensures.value in
+pub returns-else-is_empty-clause-gone : goal.returns-else-is_empty-clause-gone
+returns-else-is_empty-clause-gone c =
+    let there = get_by_tree c.self.inside.by_key.entries c.args.self.now c.args.key.now (Some c.in-Some.versions.now) c.self.view_is c.in-Some.ensures.value in
     c.delete_version-gone.ensures.gone ∙ ap (λ found. find (is_under c.args.id) (found_versions found)) (sym there)
 
 -- where the last version goes, and the key with it
-pub returns-clause-value : goal.returns-clause-value
-returns-clause-value c =
+pub returns-then-is_empty-clause-value : goal.returns-then-is_empty-clause-value
+returns-then-is_empty-clause-value c =
     let s = c.args.self.now in
     let key = c.args.key.now in
-    let old = c.in_ok-versions.versions.now in
+    let old = c.in-Some.versions.now in
     let after = c.delete_version-gone.new.self in
     let lent = c.get_mut.follows.lender after in
-    let there = get_by_tree c.self.inside.by_key.entries s key (Some old) c.self.view_is c.in_ok-versions.ensures.value in
+    let there = get_by_tree c.self.inside.by_key.entries s key (Some old) c.self.view_is c.in-Some.ensures.value in
     let same = c.delete_version-gone.ensures.value ∙ ap (λ found. without c.args.id (found_versions found)) (sym there) in
-    let none = c.is_empty.ensures.0 c.if-not-is_empty.false in
+    let none = c.is_empty.ensures.0 c.if-is_empty.true in
     made_by_remove lent.entries c.remove.new.self.entries key c.remove.ensures.updates.0
-    ∙ ap (λ m. map.remove m key) (written c.self.inside.by_key lent s key old after after c.self.view_is c.in_ok-versions.ensures.value (c.get_mut.follows.holds after) refl)
+    ∙ ap (λ m. map.remove m key) (written c.self.inside.by_key lent s key old after after c.self.view_is c.in-Some.ensures.value (c.get_mut.follows.holds after) refl)
     ∙ remove-over s key after
     ∙ ap (with_versions s key) (sym none ∙ same)
 
-pub returns-clause-gone : goal.returns-clause-gone
-returns-clause-gone c =
-    let there = get_by_tree c.self.inside.by_key.entries c.args.self.now c.args.key.now (Some c.in_ok-versions.versions.now) c.self.view_is c.in_ok-versions.ensures.value in
+pub returns-then-is_empty-clause-gone : goal.returns-then-is_empty-clause-gone
+returns-then-is_empty-clause-gone c =
+    let there = get_by_tree c.self.inside.by_key.entries c.args.self.now c.args.key.now (Some c.in-Some.versions.now) c.self.view_is c.in-Some.ensures.value in
     c.delete_version-gone.ensures.gone ∙ ap (λ found. find (is_under c.args.id) (found_versions found)) (sym there)

@@ -13,7 +13,7 @@ loop-name-preserved c =
     let name = c.name-item.result in
     let copy = c.in_ok-copy.field-0 in
     let made = c.first_moment.result in
-    c.in_ok-put_bucket.ensures.ok
+    c.in-Ok.ensures.ok
     ∙ ap (λ m. map.insert m copy (new_bucket made)) c.loop-name.invariant
     ∙ ap (λ k. map.insert (opening (take i names)) k (new_bucket made)) c.in_ok-copy.ensures.value
     ∙ ap (λ t. map.insert (opening (take i names)) name (new_bucket t)) c.first_moment.ensures

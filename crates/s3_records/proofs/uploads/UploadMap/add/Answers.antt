@@ -1,5 +1,6 @@
 use Rattle.std.proofs.Common.{refl, ap, ◌∙◌, Some, None}
 use Rattle.std.specs.FinMap as map
+use Rattle.s3_records.specs.Changes.{with_id}
 use Rattle.s3_records.proofs.KeyLemmas.{then_ok, then_err, written, left}
 use Rattle.s3_records.proofs.UploadLemmas.{kept}
 use Rattle.s3_text.proofs.MapLemmas.{get_by_tree, made_by_insert}
@@ -25,13 +26,15 @@ returns-in-Some-clause-err c =
     c.put.ensures.err
 
 -- where it has none
-pub returns-in_ok-insert-in-None-clause-ok : goal.returns-in_ok-insert-in-None-clause-ok
-returns-in_ok-insert-in-None-clause-ok c =
+pub returns-in-None-clause-ok : goal.returns-in-None-clause-ok
+returns-in-None-clause-ok c =
     let s = c.args.self.now in
     let key = c.args.key in
-    let new = c.in_ok-uploads-in-None.uploads in
+    let new = with_id map.empty c.args.id (Some c.args.upload) in
     let absent = get_by_tree c.self.inside.by_key.entries s key None c.self.view_is c.in-None.ensures.value in
     let before = ap (λ tree. map.from_entries tree.entries) c.get_mut.follows.holds-at-none ∙ c.self.view_is in
-    made_by_insert c.get_mut.follows.lender-at-none.entries c.insert.new.self.entries key new c.in_ok-insert-in-None.ensures.updates.0
+    then_ok c.put-in-None.result
+    (λ updates. made_by_insert c.get_mut.follows.lender-at-none.entries c.put-in-None.new.tree.entries key new updates.0
     ∙ ap (λ m. map.insert m key new) before
-    ∙ kept s key c.args.id (λ found. Some c.args.upload) None new absent c.in_ok-uploads-in-None.ensures refl
+    ∙ kept s key c.args.id (λ found. Some c.args.upload) None new absent refl refl)
+    (c.put-in-None.ensures.ok new c.of.ensures)
