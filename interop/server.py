@@ -60,8 +60,13 @@ class Server:
         return pages * os.sysconf("SC_PAGE_SIZE")
 
     def processor_seconds(self):
-        """The seconds of processor time that it took."""
-        fields = Path(f"/proc/{self.running.pid}/stat").read_text().rsplit(")", 1)[1].split()
+        """The seconds of processor time that it took: of its threads as they are, by the scheduler's clock, which counts nanoseconds; where
+        that isn't kept, of all threads in hundredths of a second."""
+        process = Path(f"/proc/{self.running.pid}")
+        spent = sum(int(times.read_text().split()[0]) for times in process.glob("task/*/schedstat"))
+        if spent:
+            return spent / 1e9
+        fields = (process / "stat").read_text().rsplit(")", 1)[1].split()
         return (int(fields[11]) + int(fields[12])) / os.sysconf("SC_CLK_TCK")
 
 
