@@ -59,6 +59,11 @@ class Server:
         pages = int(Path(f"/proc/{self.running.pid}/statm").read_text().split()[1])
         return pages * os.sysconf("SC_PAGE_SIZE")
 
+    def stay_on(self, processors):
+        """Has the threads that it has now run on these processors alone."""
+        for thread in Path(f"/proc/{self.running.pid}/task").iterdir():
+            os.sched_setaffinity(int(thread.name), processors)
+
     def processor_seconds(self):
         """The seconds of processor time that it took: of its threads as they are, by the scheduler's clock, which counts nanoseconds; where
         that isn't kept, of all threads in hundredths of a second."""

@@ -3,7 +3,7 @@
 ghost use Rattle.std.specs.Prelude.{◌≡◌, [], IfOk};
 
 use s3_history::Describes;
-use s3_journal::{Desk, Ground, Report, Seat, rows_of_long_list};
+use s3_journal::{Desk, Ground, Report, Seat, asks_long_list};
 use s3_machine::{Answer, Command, Turn};
 use s3_pump::StoreHandle;
 use s3_records::Records;
@@ -56,8 +56,8 @@ impl<'a, J: Ground, S: Records + Drop, P: Report, W: Wait> DeskHandle<'a, J, S, 
         &self.seat
     }
 
-    /// Whether it asked for a long list since this was last asked, and others had turns that ask for none since it came or asked
-    /// for the list before that.
+    /// Whether it asked for a long list since this was last asked, and others had turns that ask for none since it came or
+    /// asked for the list before that.
     pub(crate) fn take_listed(&mut self) -> bool
         ensures { self.new ≡ self.old }
     {
@@ -68,7 +68,7 @@ impl<'a, J: Ground, S: Records + Drop, P: Report, W: Wait> DeskHandle<'a, J, S, 
     fn note(&mut self, command: &Command)
         ensures { self.new ≡ self.old }
     {
-        if rows_of_long_list(command).is_none() {
+        if !asks_long_list(command) {
             self.own = self.own.wrapping_add(1);
             return;
         }
@@ -77,8 +77,8 @@ impl<'a, J: Ground, S: Records + Drop, P: Report, W: Wait> DeskHandle<'a, J, S, 
         self.others = others;
     }
 
-    /// Gives the seat back, with what `D` tells of a value, which has to fit the seat's entries. It waits for the desk, and takes no
-    /// memory.
+    /// Gives the seat back, with what `D` tells of a value, which has to fit the seat's entries. It waits for the desk, and
+    /// takes no memory.
     pub fn leave<X, D: Describes<X, P>>(self, about: &X)
         requires fits { P.fits J.base (D.entry about.now) self.mine }
     {

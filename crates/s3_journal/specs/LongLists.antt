@@ -1,6 +1,6 @@
--- Which commands ask for a long list. Its connection may have to rest behind it, and no definition of what is answered depends on
--- it.
-use Rattle.std.specs.Prelude.{ℕ, nat_lt, if◌then◌else◌, Option, Some, None}
+-- Which commands ask for a long list. Its connection may have to rest behind it, and no definition of what is answered
+-- depends on it.
+use Rattle.std.specs.Prelude.{ℕ, Bool, nat_lt}
 use Rattle.s3_machine.specs.declared.command.BucketCommand.{BucketCommand}
 use Rattle.s3_machine.specs.declared.command.BucketCommand.TheVariants.{ListObjects, ListVersions, ListUploads}
 use Rattle.s3_machine.specs.declared.command.Command.{Command}
@@ -18,5 +18,5 @@ rows_asked (Bucket name asked) = rows_in asked
 rows_asked other = 0
 
 -- a long list may tell more than 64
-abbrev pub long_rows : Command → Option ℕ
-long_rows command = if nat_lt 64 (rows_asked command) then Some (rows_asked command) else None
+abbrev pub asks_long_list : Command → Bool
+asks_long_list command = nat_lt 64 (rows_asked command)

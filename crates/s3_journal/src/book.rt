@@ -1,9 +1,9 @@
 //! The book.
-ghost use Rattle.std.specs.Prelude.{◌≡◌, ◌≢◌, ◌++◌, ◌∷◌, [], length, take, true, None, IfOk, OnErr};
+ghost use Rattle.std.specs.Prelude.{◌≡◌, ◌++◌, ◌∷◌, [], length, true, IfOk, OnErr};
 ghost use mathlib.Core.List.{IsPrefix};
 ghost use Rattle.s3_journal.specs.Book.{KeepsHistory, MayLack};
 ghost use Rattle.s3_journal.specs.Recorded.{recorded};
-ghost use Rattle.s3_records.specs.Looks.{told_among, last_of};
+ghost use Rattle.s3_records.specs.Looks.{look_at, IsLongKey};
 ghost use Rattle.s3_records.specs.Rows.{keys_from};
 ghost use Rattle.s3_store.specs.Steps.{after_step, outcome_of};
 
@@ -22,8 +22,8 @@ use std::snapshot::Snapshot;
 pub type Prefix = s3_history::Prefix<Entry>;
 
 /// A store, and the history of the commands that it answered, which no memory holds. Contracts see which history it is, the
-/// least size of a part, the store as it was when the book was opened, the entries since then, and the store as it is. Its type keeps
-/// that the entries are a legal history, which leads from the one to the other.
+/// least size of a part, the store as it was when the book was opened, the entries since then, and the store as it is. Its
+/// type keeps that the entries are a legal history, which leads from the one to the other.
 #[derive(Drop)]
 pub struct Book<R: Records + Drop> {
     store: Store<R>,
@@ -106,24 +106,25 @@ impl<R: Records + Drop> Book<R> {
         Ok(answer)
     }
 
-    /// Looks at the first rows of a bucket's keys from a place on, at most so many, as the store does. It is no entry.
+    /// Looks at the first rows of a bucket's keys from a place on, as the store does. It is no entry.
     pub(crate) fn look_from(
         &mut self,
         bucket: &BucketName,
+        prefix: &[u8],
         start: &Start,
         most: usize,
     ) -> Result<Look, NoMemory>
-        ensures told { IfOk result (λ look. look.told ≡ told_among (take most (keys_from self.old.store.state bucket.now start.now))) }
-        ensures last { IfOk result (λ look. look.last ≡ last_of most (keys_from self.old.store.state bucket.now start.now)) }
+        ensures value { IfOk result (λ look. look
+            ≡ look_at prefix.now most (keys_from self.old.store.state bucket.now start.now)) }
         ensures same { self.new ≡ self.old }
         ensures memory { OnErr result (
-            R.is_in_memory ≡ true → last_of most (keys_from self.old.store.state bucket.now start.now) ≢ None) }
+            R.is_in_memory ≡ true → IsLongKey (look_at prefix.now most (keys_from self.old.store.state bucket.now start.now)).last) }
     {
-        self.store.look_from(bucket, start, most)
+        self.store.look_from(bucket, prefix, start, most)
     }
 
-    /// The store as it is, to which the history leads. The history is legal, so that every law of `s3_machine` about legal histories
-    /// holds of it.
+    /// The store as it is, to which the history leads. The history is legal, so that every law of `s3_machine` about legal
+    /// histories holds of it.
     pub fn store(&self) -> &Store<R>
         ensures value { result.now ≡ self.now.store }
         ensures history { KeepsHistory self.now }

@@ -6,7 +6,7 @@ ghost use Rattle.s3_journal.specs.Gone.{IsClosed};
 
 use crate::gone::Report;
 use crate::ground::{Ground, Start};
-use crate::long_lists::rows_of_long_list;
+use crate::long_lists::asks_long_list;
 use crate::room::{Closed, Room};
 use crate::seat::Seat;
 use s3_history::Describes;
@@ -37,8 +37,8 @@ pub struct Desk<J: Ground, R: Records + Drop, P: Report> {
 }
 
 impl<J: Ground, R: Records + Drop, P: Report> Desk<J, R, P> {
-    /// Opens a desk. The brand has to say what it stands on, and that there are `u64::MAX` shares. The error never comes, though
-    /// no contract can say so.
+    /// Opens a desk. The brand has to say what it stands on, and that there are `u64::MAX` shares. The error never comes,
+    /// though no contract can say so.
     pub fn open(alloc: Global, start: Start<R>) -> Result<Desk<J, R, P>, NoMemory>
         requires name { J.name ≡ start.name }
         requires base { J.base ≡ start.base }
@@ -54,20 +54,21 @@ impl<J: Ground, R: Records + Drop, P: Report> Desk<J, R, P> {
         })
     }
 
-    /// A seat for one who comes, which was given nothing yet. It waits for the lock. `NoMemory` comes where there is no room for
-    /// its number.
+    /// A seat for one who comes, which was given nothing yet. It waits for the lock. `NoMemory` comes where there is no
+    /// room for its number.
     pub fn seat(&self, rt: &impl Wait) -> Result<Seat<J>, NoMemory>
         ensures { IfOk result (λ seat. seat.mine ≡ []) }
     {
         self.room.lock(rt).seat()
     }
 
-    /// Answers a seat's turn: one entry more of the desk's history, and of the seat's. It waits for the lock, for a long list of
-    /// objects some times one after the other and behind others who wait, and promises what it does if it returns. Reading,
-    /// verifying and printing are the caller's, outside the lock.
+    /// Answers a seat's turn: one entry more of the desk's history, and of the seat's. It waits for the lock, for a long
+    /// list of objects some times one after the other and behind others who wait, and promises what it does if it returns.
+    /// Reading, verifying and printing are the caller's, outside the lock.
     ///
-    /// `NoMemory` leaves the book as it was, and the seat but for what it has seen. Where the rows are in memory, the numbers not
-    /// used up, the turn was one that the machine doesn't refuse at the state that the seat has then seen, and that takes room.
+    /// `NoMemory` leaves the book as it was, and the seat but for what it has seen. Where the rows are in memory, the
+    /// numbers not used up, the turn was one that the machine doesn't refuse at the state that the seat has then seen, and
+    /// that takes room.
     pub fn submit(&self, rt: &impl Wait, seat: &mut Seat<J>, turn: Turn) -> Result<Answer, NoMemory>
         ensures answered { IfOk result (λ answer. IsAnswered J.base seat.old seat.new turn answer) }
         ensures memory { OnErr result (LacksMemory R.is_in_memory J.base seat.old seat.new turn) }
@@ -78,15 +79,15 @@ impl<J: Ground, R: Records + Drop, P: Report> Desk<J, R, P> {
 
     // Looks at what a long list of objects is going to tell, and counts a command that asks for no long list.
     fn prepare(&self, rt: &impl Wait, command: &Command) {
-        if rows_of_long_list(command).is_some() {
+        if asks_long_list(command) {
             self.look_ahead(rt, command);
         } else {
             self.short_turns.fetch_add(1, Ordering::SeqCst);
         }
     }
 
-    /// How many turns of all seats came so far whose commands ask for no long list, modulo 2^64: so who lists sees whether others
-    /// are there. It waits for nobody.
+    /// How many turns of all seats came so far whose commands ask for no long list, modulo 2^64: so who lists sees whether
+    /// others are there. It waits for nobody.
     pub fn short_turns(&self) -> u64 {
         self.short_turns.load(Ordering::SeqCst)
     }
@@ -102,8 +103,8 @@ impl<J: Ground, R: Records + Drop, P: Report> Desk<J, R, P> {
         guard
     }
 
-    // Waits for the lock. Most turns are short, and a thread that sleeps is woken late: so it looks for the lock a while before it
-    // does, and has others run meanwhile.
+    // Waits for the lock. Most turns are short, and a thread that sleeps is woken late: so it looks for the lock a while
+    // before it does, and has others run meanwhile.
     fn wait(&self, rt: &impl Wait) -> MutexGuard<'_, Room<J, R, P>> {
         for _ in 0..LOOKS {
             if let Some(guard) = self.room.try_lock() {
@@ -124,16 +125,16 @@ impl<J: Ground, R: Records + Drop, P: Report> Desk<J, R, P> {
         }
     }
 
-    /// Takes a seat back, with what `D` tells of a value, which has to fit the seat's entries. It waits for the lock, and takes no
-    /// memory.
+    /// Takes a seat back, with what `D` tells of a value, which has to fit the seat's entries. It waits for the lock, and
+    /// takes no memory.
     pub fn leave<X, D: Describes<X, P>>(&self, rt: &impl Wait, seat: Seat<J>, about: &X)
         requires fits { P.fits J.base (D.entry about.now) seat.mine }
     {
         self.room.lock(rt).leave::<X, D>(seat, about);
     }
 
-    /// Ends the desk once all have left: one legal history that has of each just the entries that it was given, with what was told
-    /// of it. It waits for nobody, and compares no entries. `None` where somebody has a seat still, or dropped it.
+    /// Ends the desk once all have left: one legal history that has of each just the entries that it was given, with what
+    /// was told of it. It waits for nobody, and compares no entries. `None` where somebody has a seat still, or dropped it.
     pub fn close(self) -> Option<Closed<R, P>>
         ensures { IfSome result (λ closed. IsClosed (P.fits J.base) J.base closed.book closed.gone.entries) }
     {

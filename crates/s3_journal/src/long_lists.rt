@@ -1,18 +1,17 @@
 //! Which commands ask for a long list.
 ghost use Rattle.std.specs.Prelude.{◌≡◌};
-ghost use Rattle.s3_journal.specs.LongLists.{long_rows, rows_asked as most_rows, rows_in};
+ghost use Rattle.s3_journal.specs.LongLists.{asks_long_list as is_long, rows_asked as most_rows, rows_in};
 
 use s3_machine::{BucketCommand, Command};
 
-/// How many rows the store tells at a time where others may have their turns between. A list that may tell more is long.
-pub(crate) const BATCH: u16 = 64;
+/// How many rows a list may tell that isn't long.
+const FEW: u16 = 64;
 
-/// How many rows the list may tell, if a command asks for a long one: of objects, of versions or of uploads, and of more than 64.
-pub fn rows_of_long_list(command: &Command) -> Option<u16>
-    ensures { result ≡ long_rows command.now }
+/// Whether a command asks for a long list: of objects, of versions or of uploads, which may tell more than 64.
+pub fn asks_long_list(command: &Command) -> bool
+    ensures { result ≡ is_long command.now }
 {
-    let rows = rows_asked(command);
-    if BATCH < rows { Some(rows) } else { None }
+    FEW < rows_asked(command)
 }
 
 // How many rows the list may tell that a command asks for; 0 where it asks for none.

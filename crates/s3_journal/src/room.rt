@@ -129,14 +129,15 @@ impl<J: Ground, R: Records + Drop, P: Report> Room<J, R, P> {
         }
     }
 
-    /// Looks at the first rows of a bucket's keys from a place on, at most so many, as they are now. It is nobody's turn.
+    /// Looks at the first rows of a bucket's keys from a place on, as the store does. It is nobody's turn.
     pub(crate) fn look_from(
         &mut self,
         bucket: &BucketName,
+        prefix: &[u8],
         start: &Start,
         most: usize,
     ) -> Result<Look, NoMemory> {
-        self.book.look_from(bucket, start, most)
+        self.book.look_from(bucket, prefix, start, most)
     }
 
     /// Takes a seat back, of which this is told.

@@ -6,9 +6,10 @@ ghost use Rattle.std.specs.BTreeMap.{Updates, IsUnchanged};
 use s3_terms::NoMemory;
 use std::collections::BTreeMap;
 
-/// Adds a row, where it could be made, behind the rows there.
+/// Adds a row, where it could be made, behind the rows there. `NoMemory` leaves them as they were.
 pub(crate) fn push<T: Drop>(rows: &mut Vec<T>, made: Result<T, NoMemory>) -> Result<(), NoMemory>
-    ensures { (row : T) → IfOk made (λ is. is ≡ row) → OnOk result (rows.new.items ≡ rows.old.items ++ row ∷ []) }
+    ensures ok { (row : T) → IfOk made (λ is. is ≡ row) → OnOk result (rows.new.items ≡ rows.old.items ++ row ∷ []) }
+    ensures err { OnErr result (rows.new.items ≡ rows.old.items) }
 {
     match made {
         Ok(row) => match rows.push(row) {

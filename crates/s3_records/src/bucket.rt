@@ -47,7 +47,7 @@ impl StoredBucket {
     ghost use Rattle.s3_records.specs.Catalogue.{new_bucket, facts_of, is_empty_in, versions_at};
     ghost use Rattle.s3_records.specs.Changes.{set_in, change_in, upload_change_in};
     ghost use Rattle.s3_records.specs.OpenUploads.{upload_under, parts_sent, upload_rows_in, is_upload_from};
-    ghost use Rattle.s3_records.specs.Looks.{told_among, last_of};
+    ghost use Rattle.s3_records.specs.Looks.{look_at, IsLongKey};
     ghost use Rattle.s3_records.specs.Rows.{is_from, key_row, held_in, rows_at};
 
     /// A bucket made at this moment, unversioned and empty. It takes no memory yet.
@@ -101,16 +101,19 @@ impl StoredBucket {
         self.keys.keys_from(alloc, start, most)
     }
 
-    /// Looks at its keys from a place on, at most so many.
-    pub(crate) fn look_from(&self, start: &Start, most: usize) -> Result<Look, NoMemory>
-        ensures told { IfOk result (λ look. look.told
-            ≡ told_among (take most (filter (λ row. is_from start.now row.key) (each key_row (held_in (Some self.now)))))) }
-        ensures last { IfOk result (λ look. look.last
-            ≡ last_of most (filter (λ row. is_from start.now row.key) (each key_row (held_in (Some self.now))))) }
+    /// Looks at its keys from a place on, at most so many and at most 256, as long as they begin with the prefix.
+    pub(crate) fn look_from(
+        &self,
+        prefix: &[u8],
+        start: &Start,
+        most: usize,
+    ) -> Result<Look, NoMemory>
+        ensures value { IfOk result (λ look. look
+            ≡ look_at prefix.now most (filter (λ row. is_from start.now row.key) (each key_row (held_in (Some self.now))))) }
         ensures memory { OnErr result (
-            last_of most (filter (λ row. is_from start.now row.key) (each key_row (held_in (Some self.now)))) ≢ None) }
+            IsLongKey (look_at prefix.now most (filter (λ row. is_from start.now row.key) (each key_row (held_in (Some self.now))))).last) }
     {
-        self.keys.look_from(start, most)
+        self.keys.look_from(prefix, start, most)
     }
 
     /// The rows of its versions from a place on, at most so many.

@@ -19,7 +19,7 @@ pub use laws::{
     empty_has_nothing, held_is_got, keys_rise, numbers_stay_below, uploads_are_listed,
     versions_stay_in_order,
 };
-pub use looks::Look;
+pub use looks::{LOOK_MAX, Look};
 pub use map_records::MapRecords;
 pub use records::{BucketFacts, ListedBucket, Records};
 pub use rows::{KeyRow, Start, UploadRow, UploadStart, VersionRow, VersionStart};

@@ -220,12 +220,13 @@ impl Records for MapRecords {
     fn look_from(
         &mut self,
         bucket: &BucketName,
+        prefix: &[u8],
         start: &Start,
         most: usize,
     ) -> Result<Look, NoMemory> {
         match self.found_bucket(bucket) {
             None => Ok(Look::nothing()),
-            Some(bucket) => bucket.look_from(start, most),
+            Some(bucket) => bucket.look_from(prefix, start, most),
         }
     }
 

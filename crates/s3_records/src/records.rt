@@ -5,7 +5,7 @@ ghost use Rattle.s3_records.specs.Catalogue.{Catalogue, facts_in, listed_buckets
 ghost use Rattle.s3_uploads.specs.Parts.{part_at, rows_behind};
 ghost use Rattle.s3_records.specs.Changes.{changed, BucketAdded, BucketDropped, VersioningSet, KeyChanged, UploadAdded, PartPut, UploadDropped, UploadCompleted};
 ghost use Rattle.s3_records.specs.OpenUploads.{upload_at, parts_at, completed_at, uploads_from};
-ghost use Rattle.s3_records.specs.Looks.{told_among, last_of};
+ghost use Rattle.s3_records.specs.Looks.{look_at, IsLongKey};
 ghost use Rattle.s3_records.specs.Rows.{keys_from, versions_from};
 
 use crate::looks::Look;
@@ -116,21 +116,23 @@ pub trait Records {
         ensures memory { OnErr result (
             is_in_memory ≡ true → take most (keys_from (catalogue self.old) bucket.now start.now) ≢ []) };
 
-    /// Looks at the keys of a bucket from a place on, at most so many: how many of their rows in a list (`keys_from`) tell of a
-    /// version that is data, and which key is the last one, if there are so many; none where there is no such bucket. Costs to
-    /// find the first of them, and to read the current version of each; the last key alone is copied.
+    /// Looks at the keys of a bucket from a place on, at most so many and at most 256, as long as they begin with the
+    /// prefix: how many of their rows in a list (`keys_from`) tell of an object, how large the largest of these is, and
+    /// which key is the last one, if all that it may look at are there. There is no key where there is no such bucket. Costs
+    /// to find the first of them, and to read each key and its current version; the last key alone is copied. Where records
+    /// are in memory, `NoMemory` comes only where that key has more than 38 bytes.
     fn look_from(
         &mut self,
         bucket: &BucketName,
+        prefix: &[u8],
         start: &Start,
         most: usize,
     ) -> Result<Look, NoMemory>
-        ensures told { IfOk result (λ look. look.told
-            ≡ told_among (take most (keys_from (catalogue self.old) bucket.now start.now))) }
-        ensures last { IfOk result (λ look. look.last ≡ last_of most (keys_from (catalogue self.old) bucket.now start.now)) }
+        ensures value { IfOk result (λ look. look
+            ≡ look_at prefix.now most (keys_from (catalogue self.old) bucket.now start.now)) }
         ensures same { catalogue self.new ≡ catalogue self.old }
         ensures memory { OnErr result (
-            is_in_memory ≡ true → last_of most (keys_from (catalogue self.old) bucket.now start.now) ≢ None) };
+            is_in_memory ≡ true → IsLongKey (look_at prefix.now most (keys_from (catalogue self.old) bucket.now start.now)).last) };
 
     /// The rows of the versions of a bucket from a place on, by key in the order of bytes and of one key newest first, and at
     /// most so many; none where there is no such bucket. Costs the rows that are told, to find the first key, and the length
@@ -247,8 +249,8 @@ pub trait Records {
         ensures same { catalogue self.new ≡ catalogue self.old }
         ensures memory { OnErr result (is_in_memory ≡ false) };
 
-    /// The rows of the open uploads of a bucket from a place on, by key in the order of bytes and of one key by id, and at most
-    /// so many; none where there is no such bucket. Costs the rows that are told, and to find the first of them.
+    /// The rows of the open uploads of a bucket from a place on, by key in the order of bytes and of one key by id, and at
+    /// most so many; none where there is no such bucket. Costs the rows that are told, and to find the first of them.
     fn uploads_from(
         &mut self,
         alloc: Global,
@@ -261,8 +263,8 @@ pub trait Records {
         ensures memory { OnErr result (
             is_in_memory ≡ true → take most (uploads_from (catalogue self.old) bucket.now start.now) ≢ []) };
 
-    /// The rows of the parts of an upload whose numbers are above this one, by number, and at most so many; none where there is
-    /// no such upload. Costs the rows that are told, and to find the first of them.
+    /// The rows of the parts of an upload whose numbers are above this one, by number, and at most so many; none where
+    /// there is no such upload. Costs the rows that are told, and to find the first of them.
     fn parts_from(
         &mut self,
         alloc: Global,

@@ -1,7 +1,7 @@
 //! The store.
-ghost use Rattle.std.specs.Prelude.{◌≡◌, ◌≢◌, [], true, false, None, take, IfOk, OnOk, OnErr, IsTrue};
+ghost use Rattle.std.specs.Prelude.{◌≡◌, ◌≢◌, [], true, false, IfOk, OnOk, OnErr, IsTrue};
 ghost use Rattle.s3_records.specs.Catalogue.{opening};
-ghost use Rattle.s3_records.specs.Looks.{told_among, last_of};
+ghost use Rattle.s3_records.specs.Looks.{look_at, IsLongKey};
 ghost use Rattle.s3_records.specs.Rows.{keys_from};
 ghost use Rattle.s3_store.specs.Steps.{opened, after_step, outcome_of};
 ghost use Rattle.s3_machine.specs.Effects.{is_refused, takes_room};
@@ -58,26 +58,29 @@ impl<R: Records + Drop> Store<R> {
         self.number
     }
 
-    /// Looks at the first rows of a bucket's keys from a place on, at most so many: how many of them tell of a version that is data,
-    /// and the key of the last one if there are so many. It is no step, and leaves the store as it is. Costs the rows, to find the first of
-    /// them, and a copy of the key.
+    /// Looks at the first rows of a bucket's keys from a place on, at most so many and at most 256, as long as their keys
+    /// begin with the prefix: how many of them tell of an object, how large the largest of these is, and the key of the last
+    /// one if all that it may look at are there. It is no step, and leaves the store as it is. Costs the rows, to find the
+    /// first of them, and a copy of the key. Where records are in memory, `NoMemory` comes only where that key has more than
+    /// 38 bytes.
     pub fn look_from(
         &mut self,
         bucket: &BucketName,
+        prefix: &[u8],
         start: &Start,
         most: usize,
     ) -> Result<Look, NoMemory>
-        ensures told { IfOk result (λ look. look.told ≡ told_among (take most (keys_from self.old.state bucket.now start.now))) }
-        ensures last { IfOk result (λ look. look.last ≡ last_of most (keys_from self.old.state bucket.now start.now)) }
+        ensures value { IfOk result (λ look. look ≡ look_at prefix.now most (keys_from self.old.state bucket.now start.now)) }
         ensures same { self.new ≡ self.old }
         ensures memory { OnErr result (
-            R.is_in_memory ≡ true → last_of most (keys_from self.old.state bucket.now start.now) ≢ None) }
+            R.is_in_memory ≡ true → IsLongKey (look_at prefix.now most (keys_from self.old.state bucket.now start.now)).last) }
     {
-        self.records.look_from(bucket, start, most)
+        self.records.look_from(bucket, prefix, start, most)
     }
 
     /// Takes one step: does what the command asks for at this moment, and answers it under its number. `least_part` is the
-    /// least size of a part that is not the last. No step copies the bytes of a version or of a part: they are moved or shared.
+    /// least size of a part that is not the last. No step copies the bytes of a version or of a part: they are moved or
+    /// shared.
     ///
     /// `NoMemory` leaves the store as it was; it comes too where the numbers are used up. Where the records are in memory,
     /// it stands in the place of no refusal, and comes only where the command takes room.

@@ -91,36 +91,51 @@ fn entries_are_answered(rt: HostRuntime) {
     }
 }
 
-// How many keys of `pail` behind its first one a look at so many finds that a list would tell, and the last one if there are so many,
-// where three were put and the second one was deleted where versioning is enabled.
-fn looked_at(alloc: Global, most: usize) -> Result<(usize, Option<Key>), Code> {
+// What a look at so many keys of `pail` behind its first one finds, as long as they begin with the prefix, where four were
+// put and the second one was deleted where versioning is enabled.
+fn looked_at(alloc: Global, prefix: &str, most: usize) -> Result<Look, Code> {
     let mut store = opened(alloc)?;
     for asked in [
         "PUT /pail?versioning<{\"Status\":\"Enabled\"}",
         "PUT /pail/a<one",
         "PUT /pail/b<two",
-        "PUT /pail/c<two",
+        "PUT /pail/c<three",
+        "PUT /pail/d<four",
         "DELETE /pail/b",
     ] {
         answer_to(alloc, &mut store, asked, 1)?;
     }
     let (pail, first) = (BucketName::read(alloc, b"pail")?, Key::read(alloc, b"a")?);
-    let Look { told, last } = store.look_from(&pail, &Start::Behind(first), most)?;
-    Ok((told, last))
+    Ok(store.look_from(&pail, prefix.as_bytes(), &Start::Behind(first), most)?)
 }
 
-// Whether a look finds so many told keys, and this last one.
-fn finds(alloc: Global, most: usize, told: usize, last: &str) -> bool {
-    match looked_at(alloc, most) {
-        Ok((count, Some(key))) => count == told && key.as_bytes() == last.as_bytes(),
-        Ok((count, None)) => count == told && last.is_empty(),
-        Err(_) => false,
-    }
+// Whether a look finds so many objects, of which the largest has so many bytes, and this last key.
+fn finds(alloc: Global, prefix: &str, most: usize, told: usize, largest: u64, last: &str) -> bool {
+    let Ok(look) = looked_at(alloc, prefix, most) else {
+        return false;
+    };
+    let is_last = match &look.last {
+        Some(key) => key.as_bytes() == last.as_bytes(),
+        None => last.is_empty(),
+    };
+    look.told == told && look.largest == largest && is_last
 }
 
 #[test]
 fn keys_are_looked_at(rt: HostRuntime) {
-    for (most, told, last) in [(0, 0, ""), (1, 0, "b"), (2, 1, "c"), (9, 1, "")] {
-        check(&rt, finds(rt.alloc(), most, told, last), "a look");
+    for (prefix, most, told, largest, last) in [
+        ("", 0, 0, 0, ""),
+        ("", 1, 0, 0, "b"),
+        ("", 2, 1, 5, "c"),
+        ("", 3, 2, 5, "d"),
+        ("", 9, 2, 5, ""),
+        ("b", 1, 0, 0, "b"),
+        ("c", 9, 0, 0, ""),
+    ] {
+        check(
+            &rt,
+            finds(rt.alloc(), prefix, most, told, largest, last),
+            "a look",
+        );
     }
 }

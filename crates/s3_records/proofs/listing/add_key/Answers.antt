@@ -8,7 +8,7 @@ pub add_older-requires : goal.add_older-requires
 add_older-requires c =
     let row = version_row c.args.key.now true c.in-Some.newest.now in
     one_fits c.args.most c.args.rows.now.items c.push.new.rows.items row c.requires
-    (one_behind c.args.rows.now.items c.reserve.new.self.items c.push.new.rows.items row c.reserve.ensures.items (c.in-Ok.ensures row c.version_row.ensures))
+    (one_behind c.args.rows.now.items c.reserve.new.self.items c.push.new.rows.items row c.reserve.ensures.items (c.in-Ok.ensures.ok row c.version_row.ensures))
 
 pub returns-in-Ok-clause-ok : goal.returns-in-Ok-clause-ok
 returns-in-Ok-clause-ok c =
@@ -17,6 +17,6 @@ returns-in-Ok-clause-ok c =
     let row = version_row key true c.in-Some.newest.now in
     then_ok c.add_older.result
     (λ ok. ok ∙ more_behind c.args.most have c.push.new.rows.items row (each (version_row key false) c.in-Some.older.now)
-    (one_behind have c.reserve.new.self.items c.push.new.rows.items row c.reserve.ensures.items (c.in-Ok.ensures row c.version_row.ensures))
+    (one_behind have c.reserve.new.self.items c.push.new.rows.items row c.reserve.ensures.items (c.in-Ok.ensures.ok row c.version_row.ensures))
     ∙ ap (λ versions. take c.args.most (have ++ rows_under key versions)) (sym c.in-Some.ensures.cases.0))
     c.add_older.ensures.ok

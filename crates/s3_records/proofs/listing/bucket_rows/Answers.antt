@@ -5,7 +5,7 @@ use Rattle.s3_records.proofs.listing.bucket_rows.Goals as goal
 pub loop-name-preserved : goal.loop-name-preserved
 loop-name-preserved c =
     row_added listed_bucket c.loop-name.rows.items c.push.new.rows.items _ (c.in-Some.name.now, c.in-Some.bucket.now) c.loop-name.name-iterator c.next.new.self c.loop-name.invariant c.in-Some.ensures.steps
-    (c.in-Ok.ensures (listed_bucket (c.in-Some.name.now, c.in-Some.bucket.now)) c.listed_bucket.ensures)
+    (c.in-Ok.ensures.ok (listed_bucket (c.in-Some.name.now, c.in-Some.bucket.now)) c.listed_bucket.ensures)
 
 pub returns-in-Err-clause-memory : goal.returns-in-Err-clause-memory
 returns-in-Err-clause-memory c =

@@ -7,7 +7,7 @@ pub loop-id-preserved : goal.loop-id-preserved
 loop-id-preserved c =
     let row = upload_row c.args.key.now in
     let made = subst (λ id. IfOk c.upload_row.result (λ is. is ≡ row (id, c.in-Some.upload.now))) c.of.ensures c.upload_row.ensures in
-    let adds = c.in-Ok.ensures (row (c.in-Some.id.now, c.in-Some.upload.now)) made in
+    let adds = c.in-Ok.ensures.ok (row (c.in-Some.id.now, c.in-Some.upload.now)) made in
     record {
       rows = row_added row c.loop-id.rows.items c.push.new.rows.items _ (c.in-Some.id.now, c.in-Some.upload.now) c.loop-id.id-iterator c.next.new.self c.loop-id.invariant.rows c.in-Some.ensures.steps adds;
       few = one_fits c.args.most c.loop-id.rows.items c.push.new.rows.items (row (c.in-Some.id.now, c.in-Some.upload.now))
