@@ -1,8 +1,9 @@
 -- Days and times of the calendar, and the digits that spell them.
-use Rattle.std.proofs.Common.{◌≡◌, ℕ, ◌+◌, ◌-◌, Bool, List, length, take, drop, ◌<◌, ◌≤◌, inl, inr, true, refl, arith, rules, ℤ, pos, negsuc, ◌≤ℤ◌, unsigned_abs, sym, ap, ◌∙◌}
+use Rattle.std.proofs.Common.{◌≡◌, ℕ, ◌+◌, ◌-◌, Bool, List, length, take, drop, ◌<◌, ◌≤◌, inl, inr, true, false, refl, to_z, arith, rules, ℤ, pos, negsuc, ◌≤ℤ◌, unsigned_abs, sym, ap, ◌∙◌}
+use Rattle.std.specs.Int.{w8, w16}
 use Rattle.std.proofs.lemmas.Int.{to_z_pos}
 use Rattle.std.proofs.lemmas.Bool.{and_parts, eqb-true}
-use Rattle.std.proofs.lemmas.List.{drop-take, take-take, take-append-drop, drop-drop}
+use Rattle.std.proofs.lemmas.List.{length-take, length-drop, drop-take, take-take, take-append-drop, drop-drop}
 use Rattle.std.proofs.lemmas.List.Folds.{list_all-append}
 use Rattle.std.specs.List.{list_all}
 use Rattle.std.specs.Char.{is_ascii_digit}
@@ -10,10 +11,11 @@ use Rattle.std.proofs.lemmas.Bool.Decides.{nat_tests}
 use Rattle.jiff_core.specs.declared.civil.date.Date.{Date}
 use Rattle.jiff_core.specs.Calendar.{IsDate}
 use Rattle.jiff_core.specs.Date.{epoch_day}
+use Rattle.jiff_core.proofs.CalendarLemmas.{days_in_month_bounds}
 use Rattle.jiff_core.proofs.SignedLemmas.{signed_arith}
 use Rattle.jiff_core.proofs.DateLemmas.{cases_date, epoch_day-lt, epoch_day_same}
 use Rattle.jiff_core.proofs.StandardFacts.{known_days}
-use Rattle.s3_calendar.specs.Moment.{is_day, is_stamp_form, is_stamp}
+use Rattle.s3_calendar.specs.Moment.{is_day, is_time, is_stamp_form, is_stamp}
 
 first_day : Date
 first_day = record { year = pos 1970; month = 1; day = 1; year_in = search rules; month_in = search rules; day_in = search rules }
@@ -54,6 +56,25 @@ is_day-true y m d late h = grind (arith, nat_tests, signed_arith)
 pub date_from_test : (y m d : ℕ) → y < 10_000 → is_day y m d ≡ true → IsDate (pos y) (pos m) (pos d)
 date_from_test y m d short e = grind (arith, nat_tests, signed_arith)
 
+no_true : (test : Bool) → (test ≡ true → false ≡ true) → false ≡ test
+no_true true absent = absent refl
+no_true false absent = refl
+
+pub is_day-false : (y m d : ℕ) → y < 10_000 → (IsDate (pos y) (pos m) (pos d) → false ≡ true) → false ≡ is_day y m d
+is_day-false y m d short absent = no_true (is_day y m d) (λ e. absent (date_from_test y m d short e))
+
+-- the parts of a date from the year 1970 on have room in a stamp
+pub short_date : (d : Date) → pos 1970 ≤ℤ d.year → (unsigned_abs d.year < 10_000) × (d.month < 100) × (d.day < 100)
+short_date d late =
+    (omega (arith, unsigned_abs-le d.year 9999 (omega (arith, signed_arith)) d.year_in.1), omega (arith, d.month_in), omega (arith, d.day_in, days_in_month_bounds d.year d.month))
+
+pub is_time-true : (h m s : ℕ) → h < 24 → m < 60 → s < 60 → is_time h m s ≡ true
+is_time-true h m s hour minute second = grind (arith, nat_tests)
+
+-- numbers that short are the same as signed ones
+pub as_signed : (y m d : ℕ) → y < 10_000 → m < 100 → d < 100 → (to_z w16 y ≡ pos y) × (to_z w8 m ≡ pos m) × (to_z w8 d ≡ pos d)
+as_signed y m d year month day = (to_z_pos w16 y (omega arith), to_z_pos w8 m (omega arith), to_z_pos w8 d (omega arith))
+
 -- what holds of each byte holds of those before and behind a place
 list_all-cut : (p : ℕ → Bool) (n : ℕ) (xs : List ℕ) → list_all p xs ≡ true → (list_all p (take n xs) ≡ true) × (list_all p (drop n xs) ≡ true)
 list_all-cut p n xs h =
@@ -73,8 +94,17 @@ list_all-part p a m k n xs from room h =
 pub date_digits : (t : List ℕ) → is_stamp_form t ≡ true → list_all is_ascii_digit (take 8 t) ≡ true
 date_digits t h = (and_parts _ _ (and_parts _ _ (and_parts _ _ (and_parts _ _ h).0).0).0).1
 
+pub year_digits : (t : List ℕ) → is_stamp_form t ≡ true → list_all is_ascii_digit (take 4 t) ≡ true
+year_digits t h = list_all-part is_ascii_digit 0 8 0 4 t (omega arith) (omega arith) (date_digits t h)
+
+pub month_digits : (t : List ℕ) → is_stamp_form t ≡ true → list_all is_ascii_digit (take 2 (drop 4 t)) ≡ true
+month_digits t h = list_all-part is_ascii_digit 0 8 4 2 t (omega arith) (omega arith) (date_digits t h)
+
 pub day_digits : (t : List ℕ) → is_stamp_form t ≡ true → list_all is_ascii_digit (take 2 (drop 6 t)) ≡ true
 day_digits t h = list_all-part is_ascii_digit 0 8 6 2 t (omega arith) (omega arith) (date_digits t h)
+
+pub hour_digits : (t : List ℕ) → is_stamp_form t ≡ true → list_all is_ascii_digit (take 2 (drop 9 t)) ≡ true
+hour_digits t h = list_all-part is_ascii_digit 9 6 9 2 t (omega arith) (omega arith) (and_parts _ _ (and_parts _ _ h).0).1
 
 pub minute_digits : (t : List ℕ) → is_stamp_form t ≡ true → list_all is_ascii_digit (take 2 (drop 11 t)) ≡ true
 minute_digits t h = list_all-part is_ascii_digit 9 6 11 2 t (omega arith) (omega arith) (and_parts _ _ (and_parts _ _ h).0).1
@@ -85,6 +115,10 @@ second_digits t h = list_all-part is_ascii_digit 9 6 13 2 t (omega arith) (omega
 -- the text of a stamp has sixteen bytes
 pub form_length : (t : List ℕ) → is_stamp_form t ≡ true → length t ≡ 16
 form_length t h = eqb-true (length t) 16 (and_parts _ _ (and_parts _ _ (and_parts _ _ (and_parts _ _ h).0).0).0).0
+
+-- and so a part of it has all of its bytes
+pub part_length : (n k : ℕ) (t : List ℕ) → k + n ≤ 16 → is_stamp_form t ≡ true → length (take n (drop k t)) ≡ n
+part_length n k t room h = grind (arith, length-take, length-drop, form_length t h)
 
 pub length-stamp : (t : List ℕ) → is_stamp t ≡ true → length t ≡ 16
 unfolding is_stamp

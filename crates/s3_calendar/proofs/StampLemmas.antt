@@ -53,6 +53,13 @@ four_spelled a b c d rest h =
     let of_d = digit_value-of_digit d fourth.0 in
     (four_same a b c d _ _ _ _ (omega arith) (omega arith) (omega arith) (omega arith), omega arith, fourth.1)
 
+-- the two digits of a number under 100 spell it
+pub two_written : (n a b : ℕ) → n < 100 → a ≡ 48 + n / 10 → b ≡ 48 + n % 10 → digits_value 10 (a ∷ b ∷ []) ≡ n
+two_written n a b short high low =
+    let first : is_ascii_digit a ≡ true = grind (arith, nat_tests) in
+    let second : is_ascii_digit b ≡ true = grind (arith, nat_tests) in
+    omega (arith, digit_value-of_digit a first, digit_value-of_digit b second)
+
 joined : (y y2 m m2 d d2 h h2 n n2 s s2 : List ℕ) (t z : ℕ) → y ≡ y2 → m ≡ m2 → d ≡ d2 → h ≡ h2 → n ≡ n2 → s ≡ s2 → t ≡ 84 → z ≡ 90 → y ++ m ++ d ++ t ∷ h ++ n ++ s ++ z ∷ [] ≡ y2 ++ m2 ++ d2 ++ 84 ∷ h2 ++ n2 ++ s2 ++ 90 ∷ []
 joined y y2 m m2 d d2 h h2 n n2 s s2 t z one two three four five six letter ending = rw (one, two, three, four, five, six, letter, ending)
 

@@ -19,7 +19,7 @@ const DAY_SECONDS: u64 = 86_400;
 
 /// A moment: whole seconds since 1970-01-01T00:00:00Z, without leap seconds, up to the last second
 /// of the year 9999.
-#[derive(Clone, Copy, Debug, PartialEq, Eq)]
+#[derive(Clone, Copy, PartialEq, Eq)]
 pub struct Moment {
     seconds: u64,
 }
@@ -59,7 +59,7 @@ impl Moment {
 
 /// A stamp, as `20130524T000000Z`: the date and the time of day of a moment (AWS Signature
 /// Version 4: the basic format of ISO 8601, `yyyymmddThhmmssZ`).
-#[derive(Clone, Copy, Debug)]
+#[derive(Clone, Copy)]
 pub struct Stamp {
     text: [u8; 16],
     seconds: u64,

@@ -1,5 +1,6 @@
 -- What a parse gives, by the words alone.
-use Rattle.std.proofs.Common.{◌≡◌, ◌≢◌, ◌∙◌, ◌||◌, Bool, true, false, List, [], ◌∷◌, codes, refl, sym, ap, ap₂, subst, inl, inr, Option, Some, None, option_map}
+use Rattle.std.proofs.Common.{◌≡◌, ◌≢◌, ◌∙◌, ◌||◌, Bool, true, false, List, [], ◌∷◌, codes, refl, sym, ap, ap₂, subst, inl, inr, Option, Some, None, option_map, Result, Ok, Err, IfOk, IfErr}
+use Rattle.std.specs.Result.{IsErrAnd}
 use Rattle.clap.specs.Words.{App, Row, Rule, Text, with_rule, HasMatchesOf, HasKind, kind_of, is_simple, is_simple_and_free, fault_of, subcommand_of, subcommand_rows_of, subcommand_name_of}
 use Rattle.clap.specs.declared.error.Error.{Error}
 use Rattle.clap.specs.declared.error.kind.ErrorKind.TheVariants.{OutOfMemory}
@@ -7,6 +8,8 @@ use Rattle.clap.specs.declared.parser.matches.ArgMatches.{ArgMatches}
 use Rattle.clap.specs.declared.parser.matches.ArgMatches.TheViews.{out-ArgMatches}
 use Rattle.clap.proofs.OnLiterals.{clap_on_literals}
 use Rattle.clap.proofs.WalkLemmas.{first_value-rows, raw_values-rows}
+use Rattle.s3_command_line.specs.declared.error.WordsError.{WordsError}
+use Rattle.s3_command_line.specs.declared.error.WordsError.TheVariants.{OutOfMemory as NoMemory}
 use Rattle.s3_command_line.specs.declared.task.Asked.{Asked}
 use Rattle.s3_command_line.specs.declared.task.Asked.TheVariants.{Work, Server}
 use Rattle.s3_command_line.specs.declared.task.Task.TheVariants.{Replay, Sign}
@@ -55,6 +58,16 @@ rows_are a words m same has =
 name_is : (a : App) (words : List Text) (m : ArgMatches) → a ≡ s3d_app → HasMatchesOf a words m → subcommand_name_of m ≡ option_map (λ p. p.0) (subcommand_of s3d_app words)
 name_is a words m same has =
     firsts _ _ (out-ArgMatches m).subcommand ∙ ap (option_map (λ p. p.0)) (rows_are a words m same has)
+
+-- an error is no value
+pub no_value : {T E : Type 0} (r : Result T E) (P : T → Type 0) (Q : E → Type 0) → IsErrAnd r Q → IfOk r P
+no_value (Ok x) P Q is = absurd is
+no_value (Err e) P Q is = tt
+
+-- and says nothing of the words
+pub no_memory : {T : Type 0} (r : Result T WordsError) (P : WordsError → Type 0) → IsErrAnd r (λ e. e ≡ NoMemory) → IfErr r (λ e. e ≢ NoMemory → P e)
+no_memory (Ok x) P is = absurd is
+no_memory (Err e) P is = λ other. absurd (other is)
 
 -- where the matches have neither subcommand the words are wrong
 pub words_unnamed : (a : App) (words : List Text) (m : ArgMatches) → a ≡ s3d_app → HasMatchesOf a words m → AskForNothing m → AreRightWords words → ⊥

@@ -23,7 +23,7 @@ pub(crate) enum Stage {
 }
 
 /// What a connection wants, once all that it wrote is out.
-#[derive(Clone, Copy, Debug, PartialEq, Eq)]
+#[derive(Clone, Copy)]
 pub enum Wants {
     /// More bytes, or the end.
     Input,

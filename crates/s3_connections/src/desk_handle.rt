@@ -2,14 +2,14 @@
 
 ghost use Rattle.std.specs.Prelude.{◌≡◌, [], IfOk};
 
+use crate::turns::Turns;
 use s3_history::Describes;
-use s3_journal::{Desk, Ground, Report, Seat, asks_long_list};
-use s3_machine::{Answer, Command, Turn};
+use s3_journal::{Desk, Ground, Report, Seat};
+use s3_machine::{Answer, Turn};
 use s3_pump::StoreHandle;
 use s3_records::Records;
 use s3_terms::NoMemory;
 use std::marker::Model;
-use std::mem;
 use std::sync::Wait;
 
 /// A seat of its own at a store that many share. Contracts see the seat.
@@ -18,11 +18,8 @@ pub struct DeskHandle<'a, J: Ground, S: Records + Drop, P: Report, W: Wait> {
     rt: &'a W,
     desk: &'a Desk<J, S, P>,
     seat: Seat<J>,
-    // How many turns of its own asked for no long list.
-    own: u64,
-    // How many turns of others had asked for none when it came, or when it asked for a long list last.
-    others: u64,
-    has_listed: bool,
+    // What its turns are, which decides whether it rests.
+    pub(crate) turns: Turns,
 }
 
 impl<'a, J: Ground, S: Records + Drop, P: Report, W: Wait> Model for DeskHandle<'a, J, S, P, W> {
@@ -43,9 +40,7 @@ impl<'a, J: Ground, S: Records + Drop, P: Report, W: Wait> DeskHandle<'a, J, S, 
             rt,
             desk,
             seat,
-            own: 0,
-            others: desk.short_turns(),
-            has_listed: false,
+            turns: Turns::new(desk.short_turns()),
         })
     }
 
@@ -54,27 +49,6 @@ impl<'a, J: Ground, S: Records + Drop, P: Report, W: Wait> DeskHandle<'a, J, S, 
         ensures { result.now ≡ self.now }
     {
         &self.seat
-    }
-
-    /// Whether it asked for a long list since this was last asked, and others had turns that ask for none since it came or
-    /// asked for the list before that.
-    pub(crate) fn take_listed(&mut self) -> bool
-        ensures { self.new ≡ self.old }
-    {
-        mem::replace(&mut self.has_listed, false)
-    }
-
-    // Notes what comes now.
-    fn note(&mut self, command: &Command)
-        ensures { self.new ≡ self.old }
-    {
-        if !asks_long_list(command) {
-            self.own = self.own.wrapping_add(1);
-            return;
-        }
-        let others = self.desk.short_turns().wrapping_sub(self.own);
-        self.has_listed = self.has_listed || others != self.others;
-        self.others = others;
     }
 
     /// Gives the seat back, with what `D` tells of a value, which has to fit the seat's entries. It waits for the desk, and
@@ -86,9 +60,7 @@ impl<'a, J: Ground, S: Records + Drop, P: Report, W: Wait> DeskHandle<'a, J, S, 
             rt,
             desk,
             seat,
-            own: _,
-            others: _,
-            has_listed: _,
+            turns: _,
         } = self;
         desk.leave::<X, D>(rt, seat, about);
     }
@@ -104,7 +76,7 @@ impl<J: Ground, S: Records + Drop, P: Report, W: Wait> StoreHandle for DeskHandl
     ghost may_lack = { λ handle turn. MayLack S.is_in_memory J.base.settings.min_part (left_by J.base handle.seen) turn };
 
     fn call(&mut self, turn: Turn) -> Result<Answer, NoMemory> {
-        self.note(&turn.command);
+        self.turns.note(&turn.command, self.desk.short_turns());
         self.desk.submit(self.rt, &mut self.seat, turn)
     }
 }

@@ -8,9 +8,11 @@ ghost use Rattle.s3_connections.specs.Held.{HasGoneOn, account_of, outcome_of};
 
 use crate::account::{Account, AsAccount, Told};
 use crate::desk_handle::DeskHandle;
+use crate::service::Service;
 use crate::sharing::Sharing;
 use crate::socket::Socket;
 use crate::time_limits::Awaited;
+use crate::waiting::Waiting;
 use mio::{Registry, Token};
 use s3_calendar::Moment;
 use s3_devices::Recorded;
@@ -22,8 +24,8 @@ use s3_pump::{
 };
 use s3_records::MapRecords;
 use s3_terms::NoMemory;
+use slab::Slab;
 use std::alloc::Global;
-use std::io;
 use std::marker::Model;
 use std::mem::drop;
 use std::sync::Wait;
@@ -35,7 +37,7 @@ const MOVES: u32 = 16;
 const KIB: u64 = 1024;
 
 // For how many microseconds a connection rests for each KiB of lists that it was told.
-const REST: u64 = 80;
+const REST: u64 = 160;
 
 // And for how many at most.
 const MOST_REST: u64 = 100_000;
@@ -54,8 +56,7 @@ pub struct Held<'a, J: Ground, W: Wait> {
     seat: DeskHandle<'a, J, MapRecords, Account, W>,
     moments: Recorder<Moment>,
     outcome: Option<Outcome>,
-    awaited: Awaited,
-    since: Instant,
+    waiting: Waiting,
     told: MessageLog<'a, W>,
 }
 
@@ -116,15 +117,9 @@ impl<'a, J: Ground, W: Wait + Clock> Held<'a, J, W> {
             seat,
             moments,
             outcome: None,
-            awaited: Awaited::Message,
-            since: now,
+            waiting: Waiting::new(now),
             told,
         }
-    }
-
-    /// Has it reported under a token when it may go on.
-    pub fn register(&self, registry: &Registry, token: Token) -> io::Result<()> {
-        self.socket.stream().register(registry, token)
     }
 
     /// What it wrote so far is as it has to be: a law about it, with nothing to run.
@@ -154,7 +149,7 @@ impl<'a, J: Ground, W: Wait + Clock> Held<'a, J, W> {
         if buffer.is_empty() {
             return false;
         }
-        if let Awaited::End = self.awaited {
+        if self.waiting.is_for_end() {
             return self.socket.stream().drains(buffer, registry, token);
         }
         if self.outcome.is_some() {
@@ -175,8 +170,7 @@ impl<'a, J: Ground, W: Wait + Clock> Held<'a, J, W> {
             seat,
             moments,
             outcome,
-            awaited: _,
-            since: _,
+            waiting: _,
             told: _,
         } = self;
         drop(pump);
@@ -234,43 +228,84 @@ impl<'a, J: Ground, W: Wait + Clock> Held<'a, J, W> {
         let awaited = Awaited::behind(step, is_in_body, is_within);
         let socket = self.socket.stream();
         let (has_read, has_written) = (socket.take_read(), socket.take_written());
-        self.since = awaited.since(self.awaited, self.since, has_read, has_written, now);
-        self.awaited = awaited;
+        self.waiting.note(awaited, has_read, has_written, now);
     }
 
-    /// For how long it is to rest before its next message, if it is, which is asked behind each step: once all that it wrote is
-    /// out, and it asked for a long list, while others had their turns.
-    pub fn take_rest(&mut self) -> Option<Duration>
+    // For how long it is to rest before its next message, if it is, which is asked behind each step: once all that it wrote is
+    // out, and it asked for a long list, while others had their turns.
+    fn take_rest(&mut self) -> Option<Duration>
         ensures { self.new ≡ self.old }
     {
         if self.pump.has_unsent() {
             return None;
         }
         let sent = self.socket.stream().take_sent();
-        if self.seat.take_listed() {
+        if self.seat.turns.take_listed() {
             rest_behind(sent)
         } else {
             None
         }
     }
+}
 
-    /// Since when it waits for the next message, or for its peer's end; `None` where a part of a message has come, or a reply isn't out.
-    pub fn idle_since(&self) -> Option<Instant> {
-        match self.awaited {
-            Awaited::Message | Awaited::End => Some(self.since),
-            Awaited::Head | Awaited::Body | Awaited::Room => None,
-        }
+/// A worker serves its connections so.
+impl<'a, J: Ground, W: Wait + Clock> Service for Sharing<'a, J, W> {
+    type Held = Held<'a, J, W>;
+
+    type Runtime = W;
+
+    fn runtime(&self) -> &W {
+        self.rt()
     }
 
-    /// Whether it has waited too long.
-    pub fn is_over(&self, now: Instant) -> bool {
-        self.awaited.is_over(self.since, now)
+    fn memory(&self) -> Global {
+        self.alloc()
+    }
+
+    fn comes(&self, socket: Socket, number: u64, now: Instant) -> Option<Held<'a, J, W>> {
+        Held::new(self, socket, number, now).ok()
+    }
+
+    fn is_reported(held: &Held<'a, J, W>, registry: &Registry, token: Token) -> bool {
+        held.socket.stream().register(registry, token).is_ok()
+    }
+
+    fn goes_on(
+        &self,
+        held: &mut Held<'a, J, W>,
+        moment: Moment,
+        buffer: &mut [u8],
+        registry: &Registry,
+        token: Token,
+        now: Instant,
+    ) -> bool {
+        held.serve(self, moment, buffer, registry, token, now)
+    }
+
+    fn take_rest(held: &mut Held<'a, J, W>) -> Option<Duration> {
+        held.take_rest()
+    }
+
+    fn leaves(held: Held<'a, J, W>) {
+        held.leave();
+    }
+
+    fn all_have_left(held: Slab<Held<'a, J, W>>) {
+        drop(held);
+    }
+
+    fn waits_since(held: &Held<'a, J, W>) -> Option<Instant> {
+        held.waiting.idle_since()
+    }
+
+    fn is_over(held: &Held<'a, J, W>, now: Instant) -> bool {
+        held.waiting.is_over(now)
     }
 }
 
 // For how long a connection rests behind lists of so many bytes. To make a KiB of one takes some five microseconds of a
-// processor, and its client takes its own, so that both work about a tenth of the time. What went before a list in one row
-// with it counts too, up to a limit.
+// processor, and its client takes its own, so that both work about a twentieth of the time. What went before a list in one
+// row with it counts too, up to a limit.
 fn rest_behind(sent: u64) -> Option<Duration> {
     if sent < LEAST_SENT {
         return None;

@@ -10,6 +10,8 @@ mod service;
 mod sharing;
 mod socket;
 mod time_limits;
+mod turns;
+mod waiting;
 
 pub use account::Account;
 pub use clock::WorkerClock;

@@ -1,14 +1,10 @@
 //! What a worker asks of those that serve its connections.
 
-use crate::held::Held;
-use crate::sharing::Sharing;
 use crate::socket::Socket;
 use mio::{Registry, Token};
 use s3_calendar::Moment;
-use s3_journal::Ground;
 use slab::Slab;
 use std::alloc::Global;
-use std::mem::drop;
 use std::sync::Wait;
 use std::time::{Clock, Duration, Instant};
 
@@ -58,58 +54,4 @@ pub trait Service: Sized {
 
     /// Whether it has waited too long.
     fn is_over(held: &Self::Held, now: Instant) -> bool;
-}
-
-impl<'a, J: Ground, W: Wait + Clock> Service for Sharing<'a, J, W> {
-    type Held = Held<'a, J, W>;
-
-    type Runtime = W;
-
-    fn runtime(&self) -> &W {
-        self.rt()
-    }
-
-    fn memory(&self) -> Global {
-        self.alloc()
-    }
-
-    fn comes(&self, socket: Socket, number: u64, now: Instant) -> Option<Held<'a, J, W>> {
-        Held::new(self, socket, number, now).ok()
-    }
-
-    fn is_reported(held: &Held<'a, J, W>, registry: &Registry, token: Token) -> bool {
-        held.register(registry, token).is_ok()
-    }
-
-    fn goes_on(
-        &self,
-        held: &mut Held<'a, J, W>,
-        moment: Moment,
-        buffer: &mut [u8],
-        registry: &Registry,
-        token: Token,
-        now: Instant,
-    ) -> bool {
-        held.serve(self, moment, buffer, registry, token, now)
-    }
-
-    fn take_rest(held: &mut Held<'a, J, W>) -> Option<Duration> {
-        held.take_rest()
-    }
-
-    fn leaves(held: Held<'a, J, W>) {
-        held.leave();
-    }
-
-    fn all_have_left(held: Slab<Held<'a, J, W>>) {
-        drop(held);
-    }
-
-    fn waits_since(held: &Held<'a, J, W>) -> Option<Instant> {
-        held.idle_since()
-    }
-
-    fn is_over(held: &Held<'a, J, W>, now: Instant) -> bool {
-        held.is_over(now)
-    }
 }

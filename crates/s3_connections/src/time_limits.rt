@@ -10,7 +10,7 @@ use s3_pump::Step;
 use std::time::{Duration, Instant};
 
 /// What a connection waits for.
-#[derive(Clone, Copy, PartialEq, Eq)]
+#[derive(Clone, Copy)]
 pub enum Awaited {
     /// The next message.
     Message,

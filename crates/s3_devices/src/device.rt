@@ -7,7 +7,7 @@ ghost use Rattle.s3_devices.specs.Device.{Reads, Traffic, Writes};
 use std::io::IoSlice;
 
 /// What came of a read.
-#[derive(Clone, Copy, Debug)]
+#[derive(Clone, Copy)]
 pub enum Reading {
     /// So many bytes, at least one, stand at the front of the buffer.
     Bytes(usize),
@@ -20,7 +20,7 @@ pub enum Reading {
 }
 
 /// What came of a write.
-#[derive(Clone, Copy, Debug)]
+#[derive(Clone, Copy)]
 pub enum Writing {
     /// So many bytes in front, at least one, were taken.
     Took(usize),
@@ -31,7 +31,7 @@ pub enum Writing {
 }
 
 /// What a connection waits for.
-#[derive(Clone, Copy, Debug)]
+#[derive(Clone, Copy)]
 pub enum Wanted {
     /// That its device can be read.
     Input,

@@ -3,6 +3,7 @@ pub mod CompletionLemmas
 pub mod CopiedLemmas
 pub mod DataLemmas
 pub mod DateLemmas
+pub mod FieldLemmas
 pub mod IdLemmas
 pub mod LawLemmas
 pub mod PlainLemmas

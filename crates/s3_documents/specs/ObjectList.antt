@@ -1,7 +1,7 @@
 -- The list of a bucket's objects (Amazon S3 API Reference, ListObjectsV2, whose document is XML there).
 use Rattle.std.specs.Prelude.{ℕ, ◌+◌, ◌==◌, if◌then◌else◌, List, [], ◌∷◌, ◌++◌, map, length, codes, Option, Some, None, option_map, is_some}
 use Rattle.hex.specs.Hex.{encode_lower}
-use Rattle.s3_listings.specs.declared.asked.ObjectsAsked.{ObjectsAsked}
+use Rattle.s3_prefixes.specs.declared.asked.ObjectsAsked.{ObjectsAsked}
 use Rattle.s3_listings.specs.declared.object_page.ListedObject.{ListedObject}
 use Rattle.s3_listings.specs.Objects.{ObjectsTold}
 use Rattle.s3_documents.specs.Copied.{tag_told}

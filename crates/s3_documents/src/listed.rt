@@ -15,10 +15,10 @@ use crate::upload_list::UploadsList;
 use crate::version_list::VersionsList;
 use s3_bodies::Body;
 use s3_listings::{
-    ObjectPage, ObjectsAsked, PartPage, PartsAsked, UploadPage, UploadsAsked, VersionPage,
-    VersionsAsked,
+    ObjectPage, PartPage, PartsAsked, UploadPage, UploadsAsked, VersionPage, VersionsAsked,
 };
 use s3_names::{BucketName, Key, Tag, UploadId};
+use s3_prefixes::ObjectsAsked;
 use s3_terms::NoMemory;
 use std::alloc::Global;
 use std::marker::Model;

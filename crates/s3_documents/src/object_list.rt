@@ -10,8 +10,9 @@ use crate::printer::{Field, Leaf, Printer, Row, text_of};
 use crate::reserved::Told;
 use crate::room::{Bounded, known_of, room_of_fields, room_of_rows, room_of_text};
 use crate::texts::{key_told, name_told, quoted, text_told};
-use s3_listings::{ListedObject, ObjectPage, ObjectsAsked, Text};
+use s3_listings::{ListedObject, ObjectPage};
 use s3_names::BucketName;
+use s3_prefixes::{ObjectsAsked, Text};
 use s3_terms::NoMemory;
 use std::alloc::{AllocError, Global};
 

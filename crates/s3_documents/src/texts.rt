@@ -8,8 +8,8 @@ ghost use Rattle.s3_documents.specs.VersionList.{marker_told};
 
 use crate::printer::text_of;
 use arrayvec::ArrayVec;
-use s3_listings::Text;
 use s3_names::{BucketName, Key, Tag, UploadId, VersionId};
+use s3_prefixes::Text;
 
 /// No tag is longer, with its double quotes.
 const TAG_MAX: usize = 40;

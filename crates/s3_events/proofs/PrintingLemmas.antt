@@ -1,7 +1,7 @@
 -- Digits and lines of outputs, one after another.
-use Rattle.std.proofs.Common.{◌≡◌, ℕ, ◌+◌, ◌/◌, ◌%◌, ◌<◌, List, [], ◌∷◌, ◌++◌, length, get_or, take, Result, Ok, Err, refl, subst, sym, ◌∙◌, ap, arith, append_assoc, append-nil}
+use Rattle.std.proofs.Common.{◌≡◌, ℕ, ◌+◌, ◌/◌, ◌%◌, ◌<◌, ◌≤◌, List, [], ◌∷◌, ◌++◌, length, get_or, take, Result, Ok, Err, refl, subst, sym, ◌∙◌, ap, arith, append_assoc, append-nil}
 use Rattle.std.specs.Prelude.{OnOk, slice_index}
-use Rattle.std.proofs.lemmas.List.{take_more}
+use Rattle.std.proofs.lemmas.List.{take_more, take_at, take-take, length-take}
 use Rattle.hex.specs.Hex.{encode_with, encode_lower, lower_digits}
 use Rattle.s3_events.specs.Printing.{output_line, outputs_from, outputs_text}
 
@@ -41,3 +41,16 @@ one_line_more {T = T} {E = E} (Ok x) r before text between after output c more s
     subst (λ (r : Result T E). OnOk r (after ≡ outputs_text (before ++ output ∷ []))) (sym same) (one_printed_more before text after output c all is (stays ∙ more))
 one_line_more {T = T} {E = E} (Err e) r before text between after output c more stays same all is =
     subst (λ (r : Result T E). OnOk r (after ≡ outputs_text (before ++ output ∷ []))) (sym same) tt
+
+-- a text begins with the one to which something was added, and with all that this one begins with
+pub begins : (text more after : List ℕ) → after ≡ text ++ more → take (length text) after ≡ text
+begins text more after is = ap (take (length text)) is ∙ take_at text more (length text) refl
+
+pub begins_then : (text between after : List ℕ) → take (length text) between ≡ text → take (length between) after ≡ between → take (length text) after ≡ text
+begins_then text between after first then =
+    let size : length (take (length text) between) ≡ length text = ap length first in
+    let within : length text ≤ length between = omega (arith, size, length-take (length text) between) in
+    sym (take-take (length text) (length between) after within) ∙ ap (take (length text)) then ∙ first
+
+pub begins_same : (text between after : List ℕ) → take (length text) between ≡ text → after ≡ between → take (length text) after ≡ text
+begins_same text between after first is = ap (take (length text)) is ∙ first

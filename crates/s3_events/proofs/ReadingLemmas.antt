@@ -1,11 +1,15 @@
 -- Lines that are read one after another.
-use Rattle.std.proofs.Common.{◌≡◌, ℕ, ◌+◌, ◌<◌, ◌≤◌, Bool, true, false, not, ◌&&◌, List, [], ◌∷◌, ◌++◌, length, get_or, take, drop, refl, sym, ◌∙◌, ap, ap₂, subst, arith, inl, inr, Option, Some, None}
+use Rattle.std.proofs.Common.{◌≡◌, ℕ, ◌+◌, ◌<◌, ◌≤◌, Bool, true, false, not, ◌&&◌, List, [], ◌∷◌, ◌++◌, length, get_or, take, drop, refl, sym, ◌∙◌, ap, ap₂, subst, arith, inl, inr, Option, Some, None, Result, Ok, Err}
+use Rattle.std.specs.Prelude.{IfErr}
+use Rattle.std.specs.Result.{IsErrAnd}
 use Rattle.std.proofs.lemmas.Bool.{cases_eq}
-use Rattle.std.proofs.lemmas.List.{take_more, drop_more, length-drop}
+use Rattle.std.proofs.lemmas.List.{take_more, drop_more, length-drop, append-nil, take-append-drop}
 use Rattle.s3_text.specs.Lines.{IsFirstBadLine}
 use Rattle.s3_events.specs.declared.script.Script.{Script}
+use Rattle.s3_events.specs.declared.error.EventsError.{EventsError}
+use Rattle.s3_events.specs.declared.error.EventsError.TheVariants.{OutOfMemory}
 use Rattle.s3_events.specs.Lines.{Said, connection, are_moments, line_of, all_said, are_event_lines, AreEventLines}
-use Rattle.s3_events.specs.Script.{connections}
+use Rattle.s3_events.specs.Script.{connections, Has, IsScriptOf, AsksRoom, IsEventsFault}
 use Rattle.s3_events.specs.Reading.{is_named, may_follow, Collects}
 use Rattle.s3_events.proofs.SaidLemmas.{said_with, right_with_last}
 
@@ -61,3 +65,20 @@ collected_more lines rest line n script (Some said) is says may collects =
     let named : not (are_moments said && is_named (connection said) (all_said (take n lines))) ≡ true = subst (λ (o : Option Said). may_follow (all_said (take n lines)) o ≡ true) says may in
     let all : all_said (take (n + 1) lines) ≡ all_said (take n lines) ++ said ∷ [] = ap all_said (next_line lines rest line n is).taken ∙ said_with (take n lines) line said says in
     subst (λ (l : List Said). Collects (connections l) script l) (sym all) (collects said refl (unless_named (are_moments said && is_named (connection said) (all_said (take n lines))) named))
+
+-- where none is left, all make the script
+pub none_left : (lines left : List (List ℕ)) (n : ℕ) (script : Script) → drop n lines ≡ left → left ≡ [] → ((k : ℕ) → k ≤ n → are_event_lines (take k lines) ≡ true)
+    → Collects (connections (all_said (take n lines))) script (all_said (take n lines)) → IsScriptOf lines script
+none_left lines left n script is none right collects =
+    let all : take n lines ≡ lines = sym (append-nil (take n lines)) ∙ ap (λ (l : List (List ℕ)). take n lines ++ l) (sym (is ∙ none)) ∙ take-append-drop n lines in
+    let has : Has script (all_said (take n lines)) = record { connections = collects.connections; moments = collects.moments; events = collects.events } in
+    record { right = subst AreEventLines all (right n (omega arith)); has = subst (λ (l : List (List ℕ)). Has script (all_said l)) all has }
+
+-- where one may follow, the first one is right: memory may run out for it
+pub asks_room : {T : Type 0} (r : Result T EventsError) (lines rest : List (List ℕ)) (line : List ℕ) (n : ℕ) → IsErrAnd r (λ error. error ≡ OutOfMemory)
+    → drop n lines ≡ line ∷ rest → ((k : ℕ) → k ≤ n → are_event_lines (take k lines) ≡ true) → may_follow (all_said (take n lines)) (line_of line) ≡ true → IfErr r (IsEventsFault lines)
+asks_room (Ok x) lines rest line n told is right may = tt
+asks_room (Err e) lines rest line n told is right may =
+    let next = next_line lines rest line n is in
+    let asks : AsksRoom lines = record { some = omega (arith, next.within); right = right_more lines rest line n is right may 1 (omega arith) } in
+    subst (IsEventsFault lines) (sym told) asks

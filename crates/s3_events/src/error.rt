@@ -6,7 +6,7 @@ ghost use Rattle.s3_events.specs.declared.error.EventsError.TheVariants.{OutOfMe
 use s3_terms::NoMemory;
 
 /// Why a text spells no events.
-#[derive(Clone, Copy, PartialEq, Eq)]
+#[derive(Clone, Copy)]
 pub enum EventsError {
     /// The line with this number, from 1, is the first that is wrong.
     BadLine(usize),

@@ -7,7 +7,7 @@ ghost use Rattle.s3_http_heads.specs.Find.{head_limit, skip_pairs, text_length, 
 pub const HEAD_LIMIT: usize = 16_384;
 
 /// What the bytes of a connection begin with, after the skipped empty lines.
-#[derive(Clone, Copy, Debug, PartialEq, Eq)]
+#[derive(Clone, Copy, PartialEq, Eq)]
 pub enum Found {
     /// Neither a head text nor too many bytes yet.
     NeedMore,

@@ -3,9 +3,9 @@
 use crate::desk::Desk;
 use crate::gone::Report;
 use crate::ground::Ground;
-use s3_listings::{ObjectsAsked, Text};
 use s3_machine::{BucketCommand, Command};
 use s3_names::{BucketName, Key};
+use s3_prefixes::{ObjectsAsked, Text};
 use s3_records::{LOOK_MAX, Look, Records, Start};
 use std::alloc::Global;
 use std::cmp::Ordering;

@@ -18,7 +18,7 @@ use Rattle.s3_records.specs.Rows.{Held, held_of, is_from, version_row, rows_unde
 use Rattle.s3_records.specs.declared.rows.VersionRow.{VersionRow}
 use Rattle.s3_records.specs.declared.rows.VersionStart.{VersionStart}
 use Rattle.s3_records.specs.declared.rows.VersionStart.TheVariants.{At, BehindVersion}
-use Rattle.s3_listings.specs.Objects.{is_before}
+use Rattle.s3_prefixes.specs.Items.{is_before}
 use Rattle.s3_listings.specs.Pages.{last_of}
 use Rattle.s3_listings.specs.Versions.{marked}
 use Rattle.s3_listings.proofs.FilterLemmas.{member-flat_map, member_behind}

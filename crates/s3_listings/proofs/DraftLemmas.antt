@@ -5,8 +5,10 @@ use Rattle.std.specs.List.{filter_map, cons_option, last_or, slice_get}
 use Rattle.std.proofs.lemmas.List.{length-append}
 use Rattle.std.proofs.lemmas.Bool.{cases_Bool}
 use Rattle.s3_listings.specs.declared.object_page.ListedObject.{ListedObject}
-use Rattle.s3_listings.specs.Objects.{Item, Object, CommonPrefix, text_of, object_in, prefix_in, ObjectsTold}
-use Rattle.s3_listings.specs.Drafts.{is_last, distinct, Drafted, page_of_draft, with_distinct, with_items, with_item, HasRoomFor, last_in, last_text}
+use Rattle.s3_prefixes.specs.Items.{Item, Object, CommonPrefix, text_of}
+use Rattle.s3_listings.specs.Objects.{object_in, prefix_in, ObjectsTold}
+use Rattle.s3_prefixes.specs.Tellings.{is_last}
+use Rattle.s3_listings.specs.Drafts.{distinct, Drafted, page_of_draft, with_distinct, with_items, with_item, HasRoomFor, last_in, last_text}
 
 -- the last of a list that was added to
 slice_get-push : {A : Type 0} (xs : List A) (x : A) → slice_get (xs ++ x ∷ []) (length xs) ≡ Some x

@@ -13,8 +13,9 @@ use Rattle.s3_text.specs.Order.{byte_order}
 use Rattle.s3_text.proofs.OptionLemmas.{some_kept}
 use Rattle.s3_versions.specs.declared.picking.Facts.{Facts}
 use Rattle.s3_records.specs.declared.rows.KeyRow.{KeyRow}
-use Rattle.s3_listings.specs.declared.asked.ObjectsAsked.{ObjectsAsked}
-use Rattle.s3_listings.specs.Objects.{Item, Object, CommonPrefix, text_of, is_before, up_to_first, rolled_up, common_prefix, is_asked, rolled, item_of}
+use Rattle.s3_prefixes.specs.declared.asked.ObjectsAsked.{ObjectsAsked}
+use Rattle.s3_prefixes.specs.Items.{Item, Object, CommonPrefix, text_of, is_before, up_to_first, rolled_up, common_prefix, is_asked, rolled}
+use Rattle.s3_listings.specs.Objects.{item_of}
 use Rattle.s3_listings.proofs.MemberLemmas.{SameOrBefore}
 use Rattle.s3_listings.proofs.OrderLemmas.{cut_order}
 

@@ -14,7 +14,6 @@ pub mod PlaceLemmas
 pub mod RowLemmas
 pub mod SeekLemmas
 pub mod SoughtLemmas
-pub mod TextLemmas
 pub mod UploadLemmas
 pub mod VersionLemmas
 pub mod VersionPageLemmas

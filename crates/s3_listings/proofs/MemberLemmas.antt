@@ -6,7 +6,7 @@ use Rattle.std.specs.Cmp.Lexicographic.{bytes_decides}
 use Rattle.std.proofs.lemmas.Bool.{false≢true, and_from, and_parts, and_cases, not-false, false_from_ne_true, eqb-true, ltb-false}
 use Rattle.std.proofs.lemmas.Option.{none-some, same_Some}
 use Rattle.s3_text.specs.Order.{rises}
-use Rattle.s3_listings.specs.Objects.{is_before}
+use Rattle.s3_prefixes.specs.Items.{is_before}
 use Rattle.s3_listings.specs.Pages.{last_of}
 use Rattle.s3_listings.specs.Sought.{Paired}
 use Rattle.s3_listings.proofs.OrderLemmas.{before_trans, not_before_itself, one_way}

@@ -1,23 +1,23 @@
 -- What a list of objects tells of rows, row by row.
-use Rattle.std.proofs.Common.{◌≡◌, ℕ, suc, ◌+◌, ◌==◌, ◌<◌, ◌≤◌, Bool, true, false, if◌then◌else◌, List, [], ◌∷◌, ◌++◌, filter, map, length, take, drop, get_or, Option, Some, None, IfSome, refl, sym, ap, ◌⊎◌, ◌∙◌, arith, subst, inl, inr, ⊎_elim, append_assoc, append-nil}
+use Rattle.std.proofs.Common.{◌≡◌, ℕ, suc, ◌+◌, ◌==◌, ◌≤◌, Bool, true, false, if◌then◌else◌, List, [], ◌∷◌, ◌++◌, filter, map, length, take, drop, Option, Some, None, IfSome, refl, sym, ap, ◌⊎◌, ◌∙◌, arith, subst, inl, inr, ⊎_elim, append_assoc, append-nil}
 use Rattle.std.specs.Prelude.{option_map, unwrap_or, nat_eq, ◌&&◌}
 use Rattle.std.specs.List.{dedup, dedup_from, starts_with, AllByRecursion}
 use Rattle.std.specs.Str.{bytes_eq}
 use Rattle.s3_text.proofs.OptionLemmas.{some_kept}
 use Rattle.std.specs.Cmp.Lexicographic.{pointwise}
-use Rattle.std.proofs.lemmas.List.{take-append-le, take_more, drop_more, take-append-drop, length-append, length-take-le}
-use Rattle.std.proofs.Math.Seq.{drop-append_seam, take-append_seam}
+use Rattle.std.proofs.lemmas.List.{take-append-le}
+use Rattle.std.proofs.Math.Seq.{drop-append_seam}
 use Rattle.std.proofs.lemmas.Bool.{cases_Bool, false≢true}
-use Rattle.std.specs.Str.{IsUtf8, IsCharBoundary}
-use Rattle.std.proofs.lemmas.Str.{IsUtf8-append, IsUtf8-take, IsCharBoundary-start}
 use Rattle.std.proofs.lemmas.Bool.Decides.{Decides-eqb}
 use Rattle.std.proofs.lemmas.Slice.Eq.{starts_is, bytes_eq-Decides}
 use Rattle.s3_text.specs.Order.{rises}
 use Rattle.s3_versions.specs.declared.picking.Facts.{Facts}
 use Rattle.s3_records.specs.declared.rows.KeyRow.{KeyRow}
-use Rattle.s3_listings.specs.declared.asked.ObjectsAsked.{ObjectsAsked}
-use Rattle.s3_listings.specs.Objects.{Item, text_of, is_before, up_to_first, rolled_up, common_prefix, is_asked, rolled, item_of, is_same}
-use Rattle.s3_listings.specs.Drafts.{first_rolled, is_last, distinct}
+use Rattle.s3_prefixes.specs.declared.asked.ObjectsAsked.{ObjectsAsked}
+use Rattle.s3_prefixes.specs.Items.{Item, text_of, is_before, up_to_first, rolled_up, common_prefix, is_asked, rolled}
+use Rattle.s3_prefixes.specs.Tellings.{is_last}
+use Rattle.s3_listings.specs.Objects.{item_of, is_same}
+use Rattle.s3_listings.specs.Drafts.{distinct}
 use Rattle.s3_listings.proofs.OrderLemmas.{before_trans, up_to_before, not_back}
 use Rattle.s3_listings.proofs.SeekLemmas.{not_before_front, between, not_itself}
 
@@ -108,7 +108,6 @@ split_found : (d : ℕ) (ds : List ℕ) (b : ℕ) (s f : List ℕ) → up_to_fir
     → ((starts_with nat_eq (b ∷ s) (d ∷ ds) ≡ true) × (f ≡ d ∷ ds)) ⊎ ((starts_with nat_eq (b ∷ s) (d ∷ ds) ≡ false) × ((g : List ℕ) × (f ≡ b ∷ g) × (up_to_first (d ∷ ds) s ≡ Some g)))
 split_found d ds b s f is = some_of_two (starts_with nat_eq (b ∷ s) (d ∷ ds)) (d ∷ ds) (up_to_first (d ∷ ds) s) (λ g. b ∷ g) f is
 
--- so does every text that begins with what was found
 pub found_begins : (d : ℕ) (ds s f : List ℕ) → up_to_first (d ∷ ds) s ≡ Some f → (s ≡ f ++ drop (length f) s) × (length (d ∷ ds) ≤ length f)
 found_begins d ds [] f is = absurd (cc)
 found_begins d ds (b ∷ s) f is = ⊎_elim
@@ -122,6 +121,7 @@ found_begins d ds (b ∷ s) f is = ⊎_elim
 starts_within : (g x y n : List ℕ) → length n ≤ length g → starts_with nat_eq (g ++ x) n ≡ starts_with nat_eq (g ++ y) n
 starts_within g x y n within = ap (pointwise nat_eq n) (take-append-le (length n) g x within ∙ sym (take-append-le (length n) g y within))
 
+-- a text that begins with what was found has the same found in it
 pub found_again : (d : ℕ) (ds s f rest : List ℕ) → up_to_first (d ∷ ds) s ≡ Some f → up_to_first (d ∷ ds) (f ++ rest) ≡ Some f
 found_again d ds [] f rest is = absurd (cc)
 found_again d ds (b ∷ s) f rest is = ⊎_elim
@@ -246,110 +246,3 @@ rising (row ∷ next ∷ rows) rise =
     let b = both _ _ rise in
     let rest = rising (next ∷ rows) b.1 in
     ((b.0, all_behind row.key next.key rows b.0 rest.0), rest)
-
--- ---- where the first delimiter ends
-
--- behind a place at which it isn't
-mapped_twice : (front : List ℕ) (b : ℕ) (o : Option (List ℕ)) → option_map (λ f. front ++ f) (option_map (λ f. b ∷ f) o) ≡ option_map (λ f. (front ++ b ∷ []) ++ f) o
-mapped_twice front b None = refl
-mapped_twice front b (Some f) = ap Some (sym (append_assoc front (b ∷ []) f))
-
-pub not_here : (delimiter text : List ℕ) (at : ℕ) → at < length text → starts_with nat_eq (drop at text) delimiter ≡ false
-    → option_map (λ f. take (at + 1) text ++ f) (up_to_first delimiter (drop (at + 1) text)) ≡ option_map (λ f. take at text ++ f) (up_to_first delimiter (drop at text))
-not_here delimiter text at within other =
-    let b = get_or text at 0 in
-    let more = drop_more text at 0 within in
-    let other_here : starts_with nat_eq (b ∷ drop (at + 1) text) delimiter ≡ false = ap (λ s. starts_with nat_eq s delimiter) (sym more) ∙ other in
-    ap (λ front. option_map (λ f. front ++ f) (up_to_first delimiter (drop (at + 1) text))) (take_more text at 0 within)
-    ∙ sym (mapped_twice (take at text) b (up_to_first delimiter (drop (at + 1) text)))
-    ∙ ap (option_map (λ f. take at text ++ f)) (sym (rw other_here refl))
-    ∙ ap (λ s. option_map (λ f. take at text ++ f) (up_to_first delimiter s)) (sym more)
-
--- a text up to the end of what stands at a place
-pub cut_behind : (text : List ℕ) (at : ℕ) (n rest : List ℕ) → at ≤ length text → drop at text ≡ n ++ rest → take (at + length n) text ≡ take at text ++ n
-cut_behind text at n rest within is =
-    let front = take at text in
-    let whole : text ≡ (front ++ n) ++ rest = sym (take-append-drop at text) ∙ ap (λ r. front ++ r) is ∙ sym (append_assoc front n rest) in
-    let long : length (front ++ n) ≡ at + length n = omega (arith, length-append front n, length-take-le at text within) in
-    ap (take (at + length n)) whole ∙ ap (λ k. take k ((front ++ n) ++ rest)) (sym long) ∙ take-append_seam (front ++ n) rest
-
--- at a place at which it is
-pub here : (delimiter text : List ℕ) (at : ℕ) → at < length text → starts_with nat_eq (drop at text) delimiter ≡ true
-    → option_map (λ f. take at text ++ f) (up_to_first delimiter (drop at text)) ≡ Some (take (at + length delimiter) text)
-here delimiter text at within begun =
-    let more = drop_more text at 0 within in
-    let begun_here : starts_with nat_eq (get_or text at 0 ∷ drop (at + 1) text) delimiter ≡ true = ap (λ s. starts_with nat_eq s delimiter) (sym more) ∙ begun in
-    let found : up_to_first delimiter (drop at text) ≡ Some delimiter = ap (up_to_first delimiter) more ∙ rw begun_here refl in
-    ap (option_map (λ f. take at text ++ f)) found ∙ ap Some (sym (cut_behind text at delimiter (drop (length delimiter) (drop at text)) (omega arith) (begins (drop at text) delimiter begun)))
-
--- ---- where the common prefix ends
-
-first_found : (delimiter text : List ℕ) → (length delimiter == 0) ≡ false → first_rolled delimiter text ≡ up_to_first delimiter text
-first_found delimiter text some = rw some refl
-
-pub found_first : (delimiter text : List ℕ) → 0 < length delimiter → up_to_first delimiter text ≡ first_rolled delimiter text
-found_first delimiter text some = sym (first_found delimiter text (grind arith))
-
-rolled-first : (prefix delimiter key : List ℕ) → rolled_up prefix delimiter key ≡ option_map (λ front. prefix ++ front) (first_rolled delimiter (drop (length prefix) key))
-rolled-first prefix delimiter key = ⊎_elim
-    (λ none. rw none refl)
-    (λ some. rw some refl)
-    (cases_Bool (length delimiter == 0))
-
--- a key up to the end of its first delimiter behind the prefix
-key_cut : (prefix key : List ℕ) (end : ℕ) → starts_with nat_eq key prefix ≡ true → end ≤ length (drop (length prefix) key) → take (length prefix + end) key ≡ prefix ++ take end (drop (length prefix) key)
-key_cut prefix key end begun within =
-    let w = drop (length prefix) key in
-    let whole = begins key prefix begun in
-    let long : length key ≡ length prefix + length w = ap length whole ∙ length-append prefix w in
-    let cut = cut_behind key (length prefix) (take end w) (drop end w) (omega arith) (sym (take-append-drop end w)) in
-    ap (λ n. take (length prefix + n) key) (sym (length-take-le end w within))
-    ∙ cut
-    ∙ ap (λ r. r ++ take end w) (ap (take (length prefix)) whole ∙ take-append_seam prefix w)
-
-pub common_cut : (prefix delimiter key : List ℕ) (end : ℕ) → starts_with nat_eq key prefix ≡ true → end ≤ length (drop (length prefix) key)
-    → Some (take end (drop (length prefix) key)) ≡ first_rolled delimiter (drop (length prefix) key) → Some (take (length prefix + end) key) ≡ rolled_up prefix delimiter key
-common_cut prefix delimiter key end begun within found =
-    ap Some (key_cut prefix key end begun within)
-    ∙ ap (option_map (λ front. prefix ++ front)) found
-    ∙ sym (rolled-first prefix delimiter key)
-
-pub common_none : (prefix delimiter key : List ℕ) → None ≡ first_rolled delimiter (drop (length prefix) key) → None ≡ rolled_up prefix delimiter key
-common_none prefix delimiter key none = ap (option_map (λ front. prefix ++ front)) none ∙ sym (rolled-first prefix delimiter key)
-
--- what was found ends with the delimiter
-found_ends : (d : ℕ) (ds s f : List ℕ) → up_to_first (d ∷ ds) s ≡ Some f → (g : List ℕ) × (f ≡ g ++ d ∷ ds)
-found_ends d ds [] f is = absurd (cc)
-found_ends d ds (b ∷ s) f is = ⊎_elim
-    (λ here. ([], here.1))
-    (λ later.
-    let tail = found_ends d ds s later.1.0 later.1.2 in
-    (b ∷ tail.0, later.1.1 ∙ ap (λ r. b ∷ r) tail.1))
-    (split_found d ds b s f is)
-
-get_or-behind : (front : List ℕ) (d : ℕ) (rest : List ℕ) → get_or (front ++ d ∷ rest) (length front) 0 ≡ d
-get_or-behind [] d rest = refl
-get_or-behind (b ∷ front) d rest = get_or-behind front d rest
-
--- a text may be cut behind another text in it
-cut_utf8 : (front : List ℕ) (d : ℕ) (ds rest key : List ℕ) → IsUtf8 key → IsUtf8 (d ∷ ds) → key ≡ front ++ (d ∷ ds ++ rest) → IsUtf8 (front ++ d ∷ ds)
-cut_utf8 front d ds rest key text delimiter is =
-    let at : get_or key (length front) 0 ≡ d = ap (λ k. get_or k (length front) 0) is ∙ get_or-behind front d (ds ++ rest) in
-    let long : length key ≡ length front + suc (length (ds ++ rest)) = ap length is ∙ length-append front (d ∷ ds ++ rest) in
-    let first = (IsCharBoundary-start (d ∷ ds) delimiter).1 (omega arith) in
-    let border : IsCharBoundary key (length front) = (omega arith, λ within high. rw at (first (rw (sym at) high))) in
-    let same : take (length front) key ≡ front = ap (take (length front)) is ∙ take-append_seam front (d ∷ ds ++ rest) in
-    IsUtf8-append front (d ∷ ds) (subst IsUtf8 same (IsUtf8-take key (length front) text border)) delimiter
-
-pub common_utf8 : (prefix delimiter key : List ℕ) (end : ℕ) → IsUtf8 key → IsUtf8 delimiter → starts_with nat_eq key prefix ≡ true → end ≤ length (drop (length prefix) key)
-    → Some (take end (drop (length prefix) key)) ≡ first_rolled delimiter (drop (length prefix) key) → IsUtf8 (take (length prefix + end) key)
-common_utf8 prefix [] key end text delimiter begun within found = absurd (cc)
-common_utf8 prefix (d ∷ ds) key end text delimiter begun within found =
-    let w = drop (length prefix) key in
-    let ends = found_ends d ds w (take end w) (sym (found ∙ first_found (d ∷ ds) w (some_length (length ds)))) in
-    let g = ends.0 in
-    let cut : take (length prefix + end) key ≡ (prefix ++ g) ++ d ∷ ds =
-    key_cut prefix key end begun within ∙ ap (λ r. prefix ++ r) ends.1 ∙ sym (append_assoc prefix g (d ∷ ds)) in
-    let whole : key ≡ (prefix ++ g) ++ (d ∷ ds ++ drop (length prefix + end) key) =
-    sym (take-append-drop (length prefix + end) key) ∙ ap (λ r. r ++ drop (length prefix + end) key) cut ∙ append_assoc (prefix ++ g) (d ∷ ds) (drop (length prefix + end) key) in
-    subst IsUtf8 (sym cut) (cut_utf8 (prefix ++ g) d ds (drop (length prefix + end) key) key text delimiter whole)

@@ -8,7 +8,7 @@ use Rattle.std.specs.FinMap.{nat_cmp-IsAntisymmetric, slice_cmp-IsAntisymmetric}
 use Rattle.std.proofs.lemmas.Bool.{false≢true, false_from_ne_true}
 use Rattle.std.proofs.lemmas.Cmp.{tied_itself}
 use Rattle.s3_text.specs.Order.{byte_order}
-use Rattle.s3_listings.specs.Objects.{is_before}
+use Rattle.s3_prefixes.specs.Items.{is_before}
 
 pub less : (o : Ordering) → is_lt o ≡ true → o ≡ Less
 less Less h = refl

@@ -8,9 +8,10 @@ use Rattle.s3_versions.specs.declared.picking.Facts.{Facts}
 use Rattle.s3_records.specs.Laws.{KeysRise}
 use Rattle.s3_records.specs.Rows.{key_rows}
 use Rattle.s3_records.specs.declared.rows.KeyRow.{KeyRow}
-use Rattle.s3_listings.specs.declared.asked.ObjectsAsked.{ObjectsAsked}
+use Rattle.s3_prefixes.specs.declared.asked.ObjectsAsked.{ObjectsAsked}
 use Rattle.s3_listings.specs.Pages.{last_of}
-use Rattle.s3_listings.specs.Objects.{Item, Object, CommonPrefix, text_of, is_before, is_same, rolled, rolled_up, common_prefix, is_behind_start, is_asked, item_of, is_behind_token, objects_asked, objects_page}
+use Rattle.s3_prefixes.specs.Items.{Item, Object, CommonPrefix, text_of, is_before, rolled, rolled_up, common_prefix, is_behind_start, is_asked, is_behind_token}
+use Rattle.s3_listings.specs.Objects.{is_same, item_of, objects_asked, objects_page}
 use Rattle.s3_listings.specs.Laws.{AreInOrder, ItemsRise, IsToldOf, ItemsAreOfKeys, KeysAreToldOnce, AsksForKeys, ListedAreKeys, ListedAreRead, behind, PagesJoin}
 use Rattle.s3_listings.specs.Sought.{Paired}
 use Rattle.s3_listings.proofs.HeldLemmas.{row_of, read_of_row, row_of_read}

@@ -11,9 +11,11 @@ use Rattle.s3_records.specs.Rows.{is_from}
 use Rattle.s3_records.specs.declared.rows.KeyRow.{KeyRow}
 use Rattle.s3_records.specs.declared.rows.Start.{Start}
 use Rattle.s3_records.specs.declared.rows.Start.TheVariants.{First, From, Behind}
-use Rattle.s3_listings.specs.declared.asked.ObjectsAsked.{ObjectsAsked}
-use Rattle.s3_listings.specs.Objects.{Item, CommonPrefix, text_of, is_before, common_prefix, is_asked, is_behind_start, rolled, item_of}
-use Rattle.s3_listings.specs.Drafts.{behind_token, is_last, AddsNothing, AreBehindStart, GoesBehind, IsDone, IsRaised, limit}
+use Rattle.s3_prefixes.specs.declared.asked.ObjectsAsked.{ObjectsAsked}
+use Rattle.s3_prefixes.specs.Items.{Item, CommonPrefix, text_of, is_before, common_prefix, is_asked, is_behind_start, rolled, behind_token}
+use Rattle.s3_listings.specs.Objects.{item_of}
+use Rattle.s3_prefixes.specs.Tellings.{is_last}
+use Rattle.s3_listings.specs.Drafts.{AddsNothing, AreBehindStart, GoesBehind, IsDone, IsRaised, limit}
 use Rattle.s3_listings.proofs.OrderLemmas.{up_to_order, up_to_before, before_up_to, not_back}
 use Rattle.s3_listings.proofs.SeekLemmas.{not_before_front, not_true, not_itself, between, raised_behind, below_raised}
 use Rattle.s3_listings.proofs.ObjectLemmas.{begins, begins_with, common_begins, common_again, text_not_behind, told_by}

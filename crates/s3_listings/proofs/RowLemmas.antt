@@ -14,10 +14,12 @@ use Rattle.s3_records.specs.Rows.{is_from}
 use Rattle.s3_records.specs.declared.rows.KeyRow.{KeyRow}
 use Rattle.s3_records.specs.declared.rows.Start.{Start}
 use Rattle.s3_records.specs.declared.rows.Start.TheVariants.{First, From, Behind}
-use Rattle.s3_listings.specs.declared.asked.ObjectsAsked.{ObjectsAsked}
+use Rattle.s3_prefixes.specs.declared.asked.ObjectsAsked.{ObjectsAsked}
 use Rattle.s3_listings.specs.Pages.{page_of}
-use Rattle.s3_listings.specs.Objects.{Item, text_of, object_in, prefix_in, is_before, item_of, is_behind_token, objects_asked, objects_told, told_of}
-use Rattle.s3_listings.specs.Drafts.{behind_token, told, is_last, distinct, Drafted, page_of_draft, with_distinct, with_items, with_rows, no_items, last_in, goes_on_at, left_from, AddsNothing, GoesBehind, steps_left, TakesBatch, Begins}
+use Rattle.s3_prefixes.specs.Items.{Item, text_of, is_before, is_behind_token, behind_token}
+use Rattle.s3_listings.specs.Objects.{object_in, prefix_in, item_of, objects_asked, objects_told, told_of}
+use Rattle.s3_prefixes.specs.Tellings.{is_last}
+use Rattle.s3_listings.specs.Drafts.{told, distinct, Drafted, page_of_draft, with_distinct, with_items, with_rows, no_items, last_in, goes_on_at, left_from, AddsNothing, GoesBehind, steps_left, TakesBatch, Begins}
 use Rattle.s3_listings.proofs.OrderLemmas.{before_trans, up_to_order, up_to_before, before_up_to, not_back}
 use Rattle.s3_listings.proofs.SeekLemmas.{not_true, not_itself}
 use Rattle.s3_listings.proofs.ObjectLemmas.{dedup-is, filter-distinct, StaysPassed, AllPass, told_by, text_rises, last_again, AllBehind, Rising, rising}

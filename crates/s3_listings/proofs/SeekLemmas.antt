@@ -6,7 +6,7 @@ use Rattle.std.specs.Ordering.{ordering_then, is_lt, nat_cmp}
 use Rattle.std.proofs.lemmas.Cmp.{nat_list_cmp_total, tied_itself, nat_cmp_total}
 use Rattle.std.proofs.lemmas.Bool.{cases_order, false≢true}
 use Rattle.s3_text.specs.Order.{byte_order}
-use Rattle.s3_listings.specs.Objects.{is_before}
+use Rattle.s3_prefixes.specs.Items.{is_before}
 
 pub not_true : (b : Bool) → not b ≡ true → b ≡ false
 not_true true h = absurd (cc)

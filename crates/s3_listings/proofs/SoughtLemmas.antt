@@ -7,7 +7,7 @@ use Rattle.std.proofs.lemmas.Bool.{false≢true, false_from_ne_true, true_from_n
 use Rattle.s3_records.specs.Rows.{is_from}
 use Rattle.s3_records.specs.declared.rows.Start.{Start}
 use Rattle.s3_records.specs.declared.rows.Start.TheVariants.{First, From, Behind}
-use Rattle.s3_listings.specs.Objects.{is_before}
+use Rattle.s3_prefixes.specs.Items.{is_before}
 use Rattle.s3_listings.specs.Sought.{UpTo, AreByKey, AreBehind, begins_with, is_at_least, is_later, rows_from, rows_at_least}
 use Rattle.s3_listings.proofs.FilterLemmas.{filter_all, filter_alike, filter_stronger, filter_fewer, all_from_front, take_while-take, take_while-filter}
 use Rattle.s3_listings.proofs.ItemLemmas.{starts_from, starts_of, not_before_beginning}

@@ -11,7 +11,7 @@ use Rattle.s3_records.specs.declared.rows.UploadRow.{UploadRow}
 use Rattle.s3_records.specs.declared.rows.UploadStart.TheVariants.{BehindUpload}
 use Rattle.s3_listings.specs.declared.asked.UploadsAsked.{UploadsAsked}
 use Rattle.s3_listings.specs.Laws.{Joins, behind_upload, UploadPagesJoin}
-use Rattle.s3_listings.specs.Objects.{is_before}
+use Rattle.s3_prefixes.specs.Items.{is_before}
 use Rattle.s3_listings.specs.Pages.{last_of}
 use Rattle.s3_listings.specs.Sought.{UpTo, AreByKey, AreBehind, is_later}
 use Rattle.s3_listings.specs.Uploads.{marked, is_asked, uploads_asked, uploads_page}

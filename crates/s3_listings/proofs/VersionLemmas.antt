@@ -16,7 +16,7 @@ use Rattle.s3_records.specs.declared.rows.Start.TheVariants.{First}
 use Rattle.s3_records.specs.declared.rows.VersionRow.{VersionRow}
 use Rattle.s3_records.specs.declared.rows.VersionStart.{VersionStart}
 use Rattle.s3_records.specs.declared.rows.VersionStart.TheVariants.{At, BehindVersion}
-use Rattle.s3_listings.specs.Objects.{is_before}
+use Rattle.s3_prefixes.specs.Items.{is_before}
 use Rattle.s3_listings.specs.Sought.{Paired, UpTo, AreByKey, AreBehind, is_later, rows_from}
 use Rattle.s3_listings.specs.Versions.{marked}
 use Rattle.s3_listings.proofs.FilterLemmas.{filter_none, filter_all, filter_parts, member_of_either, member-flat_map, member_of_flat_map, paired-flat_map}

@@ -1,30 +1,20 @@
 -- A page of a list of objects while it is made: what it has so far, and what becomes of it with the rows that are left.
-use Rattle.std.specs.Prelude.{◌≡◌, ℕ, Bool, true, false, not, nat_lt, if◌then◌else◌, List, [], ◌∷◌, ◌++◌, take, filter, length, map as each, Option, Some, None, IfSome, option_map, option_and_then, ◌+◌, ◌-◌, ◌<◌, nat_eq, IsTrue, ◌||◌, ◌≤◌, ◌==◌, ⊤, MatchBool, IsUtf8}
+use Rattle.std.specs.Prelude.{◌≡◌, ℕ, Bool, true, false, not, nat_lt, if◌then◌else◌, List, [], ◌∷◌, ◌++◌, take, filter, length, map as each, Option, Some, None, IfSome, option_map, option_and_then, ◌+◌, ◌-◌, ◌<◌, nat_eq, IsTrue, ◌||◌, MatchBool}
 use Rattle.std.specs.List.{AllByRecursion, filter_map, last_or, cons_option, slice_get, starts_with}
 use Rattle.std.specs.Option.{option_map_or, option_or}
-use Rattle.std.specs.Str.{bytes_eq}
 use Rattle.s3_records.specs.Rows.{is_from}
 use Rattle.s3_records.specs.declared.rows.KeyRow.{KeyRow}
 use Rattle.s3_records.specs.declared.rows.Start.{Start}
-use Rattle.s3_versions.specs.declared.picking.Facts.{Facts}
-use Rattle.s3_listings.specs.declared.asked.ObjectsAsked.{ObjectsAsked}
+use Rattle.s3_prefixes.specs.declared.asked.ObjectsAsked.{ObjectsAsked}
 use Rattle.s3_listings.specs.declared.draft.Draft.{Draft}
 use Rattle.s3_listings.specs.declared.object_page.ListedObject.{ListedObject}
-use Rattle.s3_listings.specs.declared.rolling.Telling.{Telling}
-use Rattle.s3_listings.specs.declared.rolling.Telling.TheVariants.{Nothing, Itself, Prefix}
-use Rattle.s3_listings.specs.Objects.{Item, Object, CommonPrefix, up_to_first, text_of, is_before, is_behind_start, common_prefix, item_of, is_behind_token, object_in, prefix_in, ObjectsTold}
-
--- an item, where it stands behind the token
-abbrev pub behind_token : ObjectsAsked → Item → Option Item
-behind_token asked item = if is_behind_token asked item then Some item else None
+use Rattle.s3_prefixes.specs.Items.{Item, text_of, is_before, is_behind_start, common_prefix, behind_token}
+use Rattle.s3_prefixes.specs.Tellings.{is_last}
+use Rattle.s3_listings.specs.Objects.{item_of, object_in, prefix_in, ObjectsTold}
 
 -- as which item a row is told, where it is
 abbrev pub told : ObjectsAsked → KeyRow → Option Item
 told asked row = option_and_then (behind_token asked) (item_of asked row)
-
--- the text is the last one
-abbrev pub is_last : Option (List ℕ) → List ℕ → Bool
-is_last last text = option_map_or (bytes_eq text) last false
 
 -- the items that follow one with the last text, without those that it is again
 abbrev pub distinct : Option (List ℕ) → List Item → List Item
@@ -112,22 +102,6 @@ TakesItem takes before after text =
     MatchBool takes
     ((after ≡ before) × HasRoomFor before text)
     ((item : Item) (items : List Item) → text_of item ≡ text → with_items after items ≡ with_items before (item ∷ items))
-
--- as which item a key is told
-abbrev pub item_by : Telling → List ℕ → Facts → Option Item
-item_by Nothing key facts = None
-item_by Itself key facts = Some (Object key facts)
-item_by (Prefix len) key facts = Some (CommonPrefix (take len key))
-
--- the key may be cut where its common prefix ends
-abbrev pub IsCut : Telling → List ℕ → Type 0
-IsCut Nothing key = ⊤
-IsCut Itself key = ⊤
-IsCut (Prefix len) key = (len ≤ length key) × IsUtf8 (take len key)
-
--- a text up to the end of the first delimiter in it, where the delimiter isn't empty
-abbrev pub first_rolled : List ℕ → List ℕ → Option (List ℕ)
-first_rolled delimiter text = if length delimiter == 0 then None else up_to_first delimiter text
 
 -- where to go on, and nowhere
 abbrev pub goes_on_at : Option Start → List ℕ → Bool

@@ -13,12 +13,13 @@ use Rattle.s3_records.specs.declared.rows.VersionRow.{VersionRow}
 use Rattle.s3_uploads.specs.Parts.{PartList, numbers_of}
 use Rattle.s3_uploads.specs.Parts.{rises as rising}
 use Rattle.s3_uploads.specs.declared.part.PartRow.{PartRow}
-use Rattle.s3_listings.specs.declared.asked.ObjectsAsked.{ObjectsAsked}
+use Rattle.s3_prefixes.specs.declared.asked.ObjectsAsked.{ObjectsAsked}
 use Rattle.s3_listings.specs.declared.asked.PartsAsked.{PartsAsked}
 use Rattle.s3_listings.specs.declared.asked.UploadsAsked.{UploadsAsked}
 use Rattle.s3_listings.specs.declared.asked.VersionsAsked.{VersionsAsked}
 use Rattle.s3_listings.specs.Pages.{Page, next_of}
-use Rattle.s3_listings.specs.Objects.{Item, Object, text_of, item_of, is_same, is_behind_token, objects_asked, objects_page}
+use Rattle.s3_prefixes.specs.Items.{Item, Object, text_of, is_behind_token}
+use Rattle.s3_listings.specs.Objects.{item_of, is_same, objects_asked, objects_page}
 use Rattle.s3_listings.specs.Parts.{parts_asked, parts_page}
 use Rattle.s3_listings.specs.Uploads.{uploads_asked, uploads_page}
 use Rattle.s3_listings.specs.Versions.{versions_asked, versions_page}

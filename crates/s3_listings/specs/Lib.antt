@@ -4,7 +4,8 @@ pub mod Objects
 pub mod Pages
 pub mod Parts
 pub mod Sought
-pub mod Text
 pub mod Uploads
 pub mod Versions
+pub use Rattle.s3_prefixes.specs.Items
+pub use Rattle.s3_prefixes.specs.Tellings
 pub use Rattle.s3_records.specs.Rows

@@ -3,7 +3,7 @@ use Rattle.std.specs.Prelude.{◌≡◌, ℕ, Bool, false, not, nat_eq, List, []
 use Rattle.std.specs.List.{AllByRecursion, starts_with}
 use Rattle.s3_records.specs.Rows.{is_from}
 use Rattle.s3_records.specs.declared.rows.Start.{Start}
-use Rattle.s3_listings.specs.Objects.{is_before}
+use Rattle.s3_prefixes.specs.Items.{is_before}
 
 -- a row's key begins with a prefix
 abbrev pub begins_with : {A : Type 0} → (A → List ℕ) → List ℕ → A → Bool

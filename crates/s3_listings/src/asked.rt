@@ -1,22 +1,7 @@
 //! What is asked of a list.
 
-use crate::Text;
 use s3_names::{UploadId, VersionId};
-
-/// What is asked of a list of a bucket's objects (Amazon S3 API Reference, ListObjectsV2).
-#[derive(Drop)]
-pub struct ObjectsAsked {
-    /// Only keys that begin so are told.
-    pub prefix: Text,
-    /// Keys that are alike up to the first of it behind the prefix are told as one common prefix; none are where it is empty.
-    pub delimiter: Text,
-    /// Only keys behind this one are told, where there is no token.
-    pub start_after: Option<Text>,
-    /// Only items behind this one are told: the last one of the page before.
-    pub token: Option<Text>,
-    /// How many items a page has at most, from 0 to 1,000.
-    pub max_keys: u16,
-}
+use s3_prefixes::Text;
 
 /// What is asked of a list of a bucket's versions (Amazon S3 API Reference, ListObjectVersions).
 #[derive(Drop)]

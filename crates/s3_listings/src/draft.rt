@@ -2,12 +2,13 @@
 ghost use Rattle.std.specs.Prelude.{◌≡◌, ◌<◌, ◌∷◌, List, IsUtf8, IfOk, OnOk, OnErr, IfSome, Some, None, true, if◌then◌else◌, ◌++◌};
 ghost use Rattle.std.specs.Option.{option_copied};
 ghost use Rattle.s3_records.specs.declared.rows.KeyRow.{KeyRow};
-ghost use Rattle.s3_listings.specs.Objects.{Item, Object, CommonPrefix, text_of, is_behind_start};
-ghost use Rattle.s3_listings.specs.Drafts.{drafted, is_last, AreBehindStart, with_item, with_items, with_rows, no_items, page_of_draft, TakesItem};
+ghost use Rattle.s3_prefixes.specs.Items.{Item, Object, CommonPrefix, is_behind_start};
+ghost use Rattle.s3_prefixes.specs.Tellings.{is_last};
+ghost use Rattle.s3_listings.specs.Drafts.{drafted, AreBehindStart, with_item, with_items, with_rows, no_items, page_of_draft, TakesItem};
 
-use crate::rolling::{Telling, is_last, told_as};
-use crate::{ListedObject, ObjectPage, ObjectsAsked, Text};
+use crate::{ListedObject, ObjectPage};
 use s3_names::Key;
+use s3_prefixes::{ObjectsAsked, Telling, Text, is_last, told_as};
 use s3_records::KeyRow;
 use s3_terms::NoMemory;
 use s3_versions::Facts;

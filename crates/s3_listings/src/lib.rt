@@ -11,13 +11,11 @@ mod object_page;
 mod objects;
 mod parts;
 mod places;
-mod rolling;
 mod sought;
-mod text;
 mod uploads;
 mod versions;
 
-pub use asked::{ObjectsAsked, PartsAsked, UploadsAsked, VersionsAsked};
+pub use asked::{PartsAsked, UploadsAsked, VersionsAsked};
 pub use laws::{
     items_are_distinct, listed_keys_are_read, pages_join, part_pages_join, upload_pages_join,
     version_pages_join,
@@ -26,6 +24,5 @@ pub use list_page::{ListPage, PartPage, UploadPage, VersionPage};
 pub use object_page::{ListedObject, ObjectPage};
 pub use objects::list_objects;
 pub use parts::list_parts;
-pub use text::Text;
 pub use uploads::list_uploads;
 pub use versions::list_versions;

@@ -2,8 +2,8 @@
 ghost use Rattle.std.specs.Prelude.{◌≡◌};
 ghost use Rattle.std.specs.Option.{option_copied};
 
-use crate::Text;
 use s3_names::Key;
+use s3_prefixes::Text;
 use s3_versions::Facts;
 use std::marker::Model;
 

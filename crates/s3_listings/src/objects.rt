@@ -7,10 +7,11 @@ ghost use Rattle.s3_records.specs.declared.rows.Start.{Start};
 ghost use Rattle.s3_listings.specs.Objects.{objects_told};
 ghost use Rattle.s3_listings.specs.Drafts.{drafted, left_from, AreBehindStart, with_rows, TakesBatch, IsLastKey};
 
+use crate::ObjectPage;
 use crate::draft::Draft;
 use crate::places::{are_behind_start, first_place, next_place};
-use crate::{ObjectPage, ObjectsAsked};
 use s3_names::{BucketName, Key};
+use s3_prefixes::ObjectsAsked;
 use s3_records::{KeyRow, Records, Start, keys_rise};
 use s3_terms::NoMemory;
 use std::alloc::Global;
@@ -81,9 +82,14 @@ fn step<R: Records>(
     ensures same { R.catalogue records.new ≡ R.catalogue records.old }
 {
     let most = rows_at_once(asked, draft.room());
-    let rows = records.keys_from(alloc, bucket, &start, most)?;
+    let found = records.keys_from(alloc, bucket, &start, most);
     let are_behind = are_behind_start(asked, &start);
-    take_batch(alloc, asked, draft, rows, most, are_behind)
+    // So it is dropped once, and not on each way out.
+    drop(start);
+    match found {
+        Ok(rows) => take_batch(alloc, asked, draft, rows, most, are_behind),
+        Err(no_memory) => Err(no_memory),
+    }
 }
 
 // How many rows to ask for, for a page that takes so many items more: enough to fill it and to know of one more. With a

@@ -5,12 +5,12 @@ ghost use Rattle.std.specs.Option.{option_copied, option_map_or};
 ghost use Rattle.s3_names.specs.Names.{is_key};
 ghost use Rattle.s3_records.specs.Rows.{is_from};
 ghost use Rattle.s3_records.specs.declared.rows.Start.TheVariants.{From};
-ghost use Rattle.s3_listings.specs.Objects.{is_before, is_behind_start};
-ghost use Rattle.s3_listings.specs.Drafts.{is_last, limit, Begins, GoesBehind, IsDone, IsRaised};
+ghost use Rattle.s3_prefixes.specs.Items.{is_before, is_behind_start};
+ghost use Rattle.s3_prefixes.specs.Tellings.{is_last};
+ghost use Rattle.s3_listings.specs.Drafts.{limit, Begins, GoesBehind, IsDone, IsRaised};
 
-use crate::rolling::{is_before, is_behind_token, is_last, prefix_len};
-use crate::{ObjectsAsked, Text};
 use s3_names::Key;
+use s3_prefixes::{ObjectsAsked, Text, is_before, is_behind_token, is_last, prefix_len};
 use s3_records::Start;
 use s3_terms::{Code, NoMemory};
 use std::alloc::Global;

@@ -1,16 +1,16 @@
 //! Lists whose rows stand by key: from which place on their rows are asked for, and which of these a page has.
-ghost use Rattle.std.specs.Prelude.{◌≡◌, ◌≢◌, ◌<◌, ◌+◌, ℕ, List, nat_eq, not, true, false, filter, take, take_while, length, slice_get, slice_index_or, Option, Some, None, IfOk, OnErr, IfSome, All};
+ghost use Rattle.std.specs.Prelude.{◌≡◌, ◌≢◌, ◌<◌, ◌+◌, ℕ, List, not, true, false, filter, take, take_while, length, slice_get, slice_index_or, Option, Some, None, IfOk, OnErr, IfSome, All};
 ghost use Rattle.std.specs.List.{AllWithin, starts_with};
 ghost use Rattle.s3_names.specs.Names.{is_key};
 ghost use Rattle.s3_records.specs.Catalogue.{Catalogue};
-ghost use Rattle.s3_listings.specs.Objects.{is_before};
+ghost use Rattle.s3_prefixes.specs.Items.{is_before};
 ghost use Rattle.s3_listings.specs.Pages.{page_of};
-ghost use Rattle.s3_listings.specs.Sought.{AreByKey, AreBehind, begins_with, is_at_least, rows_from, rows_at_least};
+ghost use Rattle.s3_listings.specs.Sought.{AreByKey, AreBehind, begins_with, rows_from, rows_at_least};
 
+use crate::ListPage;
 use crate::places::{from_text, read_key};
-use crate::rolling::is_before;
-use crate::{ListPage, Text};
 use s3_names::{BucketName, Key};
+use s3_prefixes::{Text, is_before};
 use s3_records::{Records, Start};
 use s3_terms::NoMemory;
 use std::alloc::Global;

@@ -17,10 +17,11 @@ use Rattle.s3_records.specs.Catalogue.{Bucket, Catalogue, has_bucket, versions_i
 use Rattle.s3_records.specs.Laws.{OpeningIsEmpty}
 use Rattle.s3_records.specs.Places.{ChangesAreByPlace}
 use Rattle.s3_records.specs.Rows.{key_rows}
-use Rattle.s3_listings.specs.declared.asked.ObjectsAsked.{ObjectsAsked}
+use Rattle.s3_prefixes.specs.declared.asked.ObjectsAsked.{ObjectsAsked}
 use Rattle.s3_listings.specs.declared.asked.VersionsAsked.{VersionsAsked}
 use Rattle.s3_listings.specs.Laws.{ListedAreRead}
-use Rattle.s3_listings.specs.Objects.{Object as Item, objects_asked, objects_told}
+use Rattle.s3_prefixes.specs.Items.{Object as Item}
+use Rattle.s3_listings.specs.Objects.{objects_asked, objects_told}
 use Rattle.s3_listings.specs.Versions.{versions_page}
 use Rattle.s3_documents.specs.ObjectList.{objects_text}
 use Rattle.s3_documents.specs.VersionList.{versions_text}

@@ -18,7 +18,7 @@ use Rattle.s3_uploads.specs.declared.upload.Upload.{Upload}
 use Rattle.s3_records.specs.Catalogue.{opening}
 use Rattle.s3_records.specs.Places.{version_at}
 use Rattle.s3_records.specs.Rows.{key_rows}
-use Rattle.s3_listings.specs.declared.asked.ObjectsAsked.{ObjectsAsked}
+use Rattle.s3_prefixes.specs.declared.asked.ObjectsAsked.{ObjectsAsked}
 use Rattle.s3_listings.specs.declared.asked.VersionsAsked.{VersionsAsked}
 use Rattle.s3_listings.specs.Objects.{objects_told}
 use Rattle.s3_listings.specs.Versions.{versions_page}

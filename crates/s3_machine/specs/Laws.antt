@@ -15,11 +15,12 @@ use Rattle.s3_uploads.specs.declared.upload.Upload.{Upload}
 use Rattle.s3_records.specs.Catalogue.{has_bucket}
 use Rattle.s3_records.specs.Places.{AreBelow}
 use Rattle.s3_records.specs.Rows.{key_rows}
-use Rattle.s3_listings.specs.declared.asked.ObjectsAsked.{ObjectsAsked}
+use Rattle.s3_prefixes.specs.declared.asked.ObjectsAsked.{ObjectsAsked}
 use Rattle.s3_listings.specs.declared.asked.PartsAsked.{PartsAsked}
 use Rattle.s3_listings.specs.declared.asked.UploadsAsked.{UploadsAsked}
 use Rattle.s3_listings.specs.declared.asked.VersionsAsked.{VersionsAsked}
-use Rattle.s3_listings.specs.Objects.{Object, objects_asked, objects_told}
+use Rattle.s3_prefixes.specs.Items.{Object}
+use Rattle.s3_listings.specs.Objects.{objects_asked, objects_told}
 use Rattle.s3_listings.specs.Parts.{parts_page}
 use Rattle.s3_listings.specs.Uploads.{uploads_page}
 use Rattle.s3_listings.specs.Versions.{versions_page}

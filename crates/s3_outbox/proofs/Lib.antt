@@ -1,3 +1,5 @@
-pub mod WovenLemmas
-pub mod SentLemmas
+pub mod AllLemmas
 pub mod PartLemmas
+pub mod SendLemmas
+pub mod SentLemmas
+pub mod WovenLemmas

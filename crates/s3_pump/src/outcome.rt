@@ -3,7 +3,7 @@
 use s3_devices::Wanted;
 
 /// How a connection has ended.
-#[derive(Clone, Copy, Debug, PartialEq, Eq)]
+#[derive(Clone, Copy, PartialEq, Eq)]
 pub enum Outcome {
     /// The end of its input was read, or its output has ended; all of that is written.
     Closed,
@@ -14,7 +14,7 @@ pub enum Outcome {
 }
 
 /// What comes after a step of a connection.
-#[derive(Clone, Copy, Debug)]
+#[derive(Clone, Copy)]
 pub enum Step {
     /// Nothing until this is there.
     Waits(Wanted),

@@ -1,9 +1,9 @@
 -- Lists that are cut at a length.
-use Rattle.std.proofs.Common.{◌≡◌, ◌≢◌, refl, sym, ap, subst, ◌∙◌, Bool, true, false, cond, nat_lt, Some, None, ℕ, zero, suc, ◌+◌, ◌-◌, ◌<◌, ◌≤◌, List, [], ◌∷◌, ◌++◌, length, take, drop, map, append_assoc, arith}
+use Rattle.std.proofs.Common.{◌≡◌, ◌≢◌, refl, sym, ap, subst, ◌∙◌, Bool, true, false, cond, nat_lt, Some, None, ℕ, zero, suc, ◌+◌, ◌-◌, ◌<◌, ◌≤◌, List, [], ◌∷◌, ◌++◌, length, take, drop, get_or, map, append_assoc, arith}
 use Rattle.std.proofs.Math.Seq.{take-append-add}
 use Rattle.std.proofs.Math.ListN.{drop_of_length-le}
 use Rattle.std.proofs.lemmas.Bool.{ltb-false}
-use Rattle.std.proofs.lemmas.List.{take_all, take-map, length-drop, length-take, length_push}
+use Rattle.std.proofs.lemmas.List.{take_all, take_more, take-map, map_push, length-drop, length-take, length_push}
 use Rattle.std.proofs.lemmas.Option.{none-some, same_Some}
 use Rattle.std.specs.List.{position, position_or_len, after_first, flat_map}
 
@@ -47,6 +47,14 @@ some_behind (x ∷ xs) ys some = cons-some x (xs ++ ys)
 pub some_before : {A : Type 0} (xs ys : List A) → xs ≢ [] → xs ++ ys ≢ []
 some_before [] ys some = absurd (some refl)
 some_before (x ∷ xs) ys some = cons-some x (xs ++ ys)
+
+-- what the items of a list so far give, with what one more gives
+pub mapped_more : {A C : Type 0} (f : A → C) (front before after : List C) (xs : List A) (i : ℕ) (x : A) → i < length xs → x ≡ get_or xs i x
+    → before ≡ front ++ map f (take i xs) → after ≡ before ++ f x ∷ [] → after ≡ front ++ map f (take (i + 1) xs)
+mapped_more f front before after xs i x within is had more =
+    more ∙ ap (λ zs. zs ++ f x ∷ []) had ∙ ap (λ y. (front ++ map f (take i xs)) ++ f y ∷ []) is
+    ∙ append_assoc front (map f (take i xs)) (f (get_or xs i x) ∷ [])
+    ∙ ap (λ ys. front ++ ys) (sym (map_push f (take i xs) (get_or xs i x)) ∙ ap (map f) (sym (take_more xs i x within)))
 
 -- what stands behind the first place that passes
 one_past : (n k : ℕ) → n ≤ k → n ≤ k + 1

@@ -1,8 +1,5 @@
 //! One bucket, in memory.
-ghost use Rattle.std.specs.Prelude.{◌≡◌, ◌≢◌, [], None, Some, IfOk, OnOk, OnErr, IsTrue, is_some, option_map, find, filter, take, map as each};
-ghost use Rattle.std.specs.List.{flat_map};
-ghost use Rattle.std.specs.Option.{option_copied};
-ghost use Rattle.std.specs.FinMap as map;
+ghost use Rattle.std.specs.Prelude.{◌≡◌, ◌≢◌, [], None, Some, IfOk, OnOk, OnErr, IsTrue, is_some, option_map, find, filter, map as each};
 ghost use Rattle.s3_uploads.specs.Parts.{part_at};
 ghost use Rattle.s3_uploads.specs.Uploads.{with_part};
 ghost use Rattle.s3_versions.specs.Rules.{is_under, replaced, is_new_number, VersionPut, KeyDeleted, VersionDropped};
@@ -10,14 +7,14 @@ ghost use Rattle.s3_versions.specs.Rules.{is_under, replaced, is_new_number, Ver
 use crate::keys::KeyMap;
 use crate::looks::Look;
 use crate::records::BucketFacts;
-use crate::rows::{KeyRow, Start, UploadRow, UploadStart, VersionRow, VersionStart};
+use crate::rows::Start;
 use crate::uploads::UploadMap;
 use s3_bodies::Body;
 use s3_calendar::Moment;
 use s3_names::{Key, PartNumber, UploadId, VersionId};
 use s3_terms::NoMemory;
 use s3_uploads::{Part, Upload};
-use s3_versions::{Content, Data, Version, Versioning, VersioningStatus, Versions};
+use s3_versions::{Content, Data, Version, Versioning, VersioningStatus};
 use std::alloc::Global;
 use std::marker::Model;
 
@@ -26,8 +23,8 @@ use std::marker::Model;
 pub(crate) struct StoredBucket {
     made: Moment,
     versioning: Versioning,
-    keys: KeyMap,
-    uploads: UploadMap,
+    pub(crate) keys: KeyMap,
+    pub(crate) uploads: UploadMap,
 }
 
 impl Model for StoredBucket {
@@ -46,9 +43,9 @@ impl Model for StoredBucket {
 impl StoredBucket {
     ghost use Rattle.s3_records.specs.Catalogue.{new_bucket, facts_of, is_empty_in, versions_at};
     ghost use Rattle.s3_records.specs.Changes.{set_in, change_in, upload_change_in};
-    ghost use Rattle.s3_records.specs.OpenUploads.{upload_under, parts_sent, upload_rows_in, is_upload_from};
+    ghost use Rattle.s3_records.specs.OpenUploads.{upload_under, parts_sent};
     ghost use Rattle.s3_records.specs.Looks.{look_at, IsLongKey};
-    ghost use Rattle.s3_records.specs.Rows.{is_from, key_row, held_in, rows_at};
+    ghost use Rattle.s3_records.specs.Rows.{is_from, key_row, held_in};
 
     /// A bucket made at this moment, unversioned and empty. It takes no memory yet.
     pub(crate) fn new(alloc: Global, made: Moment) -> StoredBucket
@@ -79,28 +76,6 @@ impl StoredBucket {
         self.keys.is_empty() && self.uploads.is_empty()
     }
 
-    /// The versions under the key; `None` where there are none.
-    pub(crate) fn versions(&self, key: &Key) -> Option<&Versions<Body>>
-        ensures { option_copied result ≡ map.get self.now.keys key.now }
-    {
-        self.keys.get(key)
-    }
-
-    /// The rows of its keys from a place on, at most so many.
-    pub(crate) fn keys_from(
-        &self,
-        alloc: Global,
-        start: &Start,
-        most: usize,
-    ) -> Result<Vec<KeyRow>, NoMemory>
-        ensures value { IfOk result (λ rows. rows.items
-            ≡ take most (filter (λ row. is_from start.now row.key) (each key_row (held_in (Some self.now))))) }
-        ensures memory { OnErr result (
-            take most (filter (λ row. is_from start.now row.key) (each key_row (held_in (Some self.now)))) ≢ []) }
-    {
-        self.keys.keys_from(alloc, start, most)
-    }
-
     /// Looks at its keys from a place on, at most so many and at most 256, as long as they begin with the prefix.
     pub(crate) fn look_from(
         &self,
@@ -114,19 +89,6 @@ impl StoredBucket {
             IsLongKey (look_at prefix.now most (filter (λ row. is_from start.now row.key) (each key_row (held_in (Some self.now))))).last) }
     {
         self.keys.look_from(prefix, start, most)
-    }
-
-    /// The rows of its versions from a place on, at most so many.
-    pub(crate) fn versions_from(
-        &self,
-        alloc: Global,
-        start: &VersionStart,
-        most: usize,
-    ) -> Result<Vec<VersionRow>, NoMemory>
-        ensures value { IfOk result (λ rows. rows.items ≡ take most (flat_map (rows_at start.now) (held_in (Some self.now)))) }
-        ensures memory { OnErr result (take most (flat_map (rows_at start.now) (held_in (Some self.now))) ≢ []) }
-    {
-        self.keys.versions_from(alloc, start, most)
     }
 
     /// Sets its versioning.
@@ -192,28 +154,6 @@ impl StoredBucket {
         ensures gone { result ≡ find (is_under id) (versions_at self.old.keys key.now) }
     {
         self.keys.drop_version(key, id)
-    }
-
-    /// The upload of this id to the key.
-    pub(crate) fn upload(&self, key: &Key, id: UploadId) -> Option<&Upload<Body>>
-        ensures { option_copied result ≡ upload_under self.now.uploads key.now id }
-    {
-        self.uploads.get(key, id)
-    }
-
-    /// The rows of its uploads from a place on, at most so many.
-    pub(crate) fn uploads_from(
-        &self,
-        alloc: Global,
-        start: &UploadStart,
-        most: usize,
-    ) -> Result<Vec<UploadRow>, NoMemory>
-        ensures value { IfOk result (λ rows. rows.items
-            ≡ take most (filter (is_upload_from start.now) (upload_rows_in (Some self.now)))) }
-        ensures memory { OnErr result (
-            take most (filter (is_upload_from start.now) (upload_rows_in (Some self.now))) ≢ []) }
-    {
-        self.uploads.rows_from(alloc, start, most)
     }
 
     /// Puts in an upload, in the place of the one that has its key and its id. `NoMemory` leaves the bucket as it was.

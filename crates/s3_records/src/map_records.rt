@@ -92,7 +92,7 @@ impl MapRecords {
     {
         match self.found_bucket(bucket) {
             None => None,
-            Some(bucket) => bucket.versions(key),
+            Some(bucket) => bucket.keys.get(key),
         }
     }
 
@@ -117,7 +117,7 @@ impl MapRecords {
     {
         match self.found_bucket(bucket) {
             None => None,
-            Some(bucket) => bucket.upload(key, id),
+            Some(bucket) => bucket.uploads.get(key, id),
         }
     }
 
@@ -213,7 +213,7 @@ impl Records for MapRecords {
     ) -> Result<Vec<KeyRow>, NoMemory> {
         match self.found_bucket(bucket) {
             None => Ok(Vec::new(alloc)),
-            Some(bucket) => bucket.keys_from(alloc, start, most),
+            Some(bucket) => bucket.keys.keys_from(alloc, start, most),
         }
     }
 
@@ -239,7 +239,7 @@ impl Records for MapRecords {
     ) -> Result<Vec<VersionRow>, NoMemory> {
         match self.found_bucket(bucket) {
             None => Ok(Vec::new(alloc)),
-            Some(bucket) => bucket.versions_from(alloc, start, most),
+            Some(bucket) => bucket.keys.versions_from(alloc, start, most),
         }
     }
 
@@ -333,7 +333,7 @@ impl Records for MapRecords {
     ) -> Result<Vec<UploadRow>, NoMemory> {
         match self.found_bucket(bucket) {
             None => Ok(Vec::new(alloc)),
-            Some(bucket) => bucket.uploads_from(alloc, start, most),
+            Some(bucket) => bucket.uploads.rows_from(alloc, start, most),
         }
     }
 

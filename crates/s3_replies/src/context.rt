@@ -3,7 +3,7 @@
 use s3_calendar::Moment;
 
 /// What a reply takes from the message that it answers.
-#[derive(Clone, Copy, Debug, PartialEq, Eq)]
+#[derive(Clone, Copy)]
 pub struct Context {
     /// The moment of the message, which dates the reply.
     pub moment: Moment,

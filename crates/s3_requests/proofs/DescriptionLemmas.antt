@@ -1,12 +1,12 @@
 -- Names of metadata, sorted and each once, and the values of the lines of a name.
-use Rattle.std.proofs.Common.{◌≡◌, inl, inr, ℕ, suc, ◌+◌, ◌≤◌, Bool, true, false, List, [], ◌∷◌, ◌++◌, map, filter, length, take, refl, sym, ap, ◌∙◌, arith, append-nil, cond, slice_get, Option, Some, None, if◌then◌else◌, IsPermutation}
+use Rattle.std.proofs.Common.{◌≡◌, inl, inr, ℕ, suc, ◌+◌, ◌≤◌, ◌<◌, Bool, true, false, List, [], ◌∷◌, ◌++◌, map, filter, length, take, drop, min, refl, sym, ap, ◌∙◌, arith, append-nil, cond, slice_get, get_or, Option, Some, None, if◌then◌else◌, IsPermutation}
 use Rattle.std.specs.List.{dedup, dedup_from, filter_map, cons_option, join_with_byte}
 use Rattle.std.specs.List.Sorted.{IsSorted}
 use Rattle.std.specs.Option.{option_to_list}
-use Rattle.std.specs.Str.{bytes_eq}
+use Rattle.std.specs.Str.{bytes_eq, str_to_ascii_lowercase}
 use Rattle.std.proofs.lemmas.Bool.{cases_Bool}
 use Rattle.std.proofs.lemmas.Cmp.{nat_list_cmp_total}
-use Rattle.std.proofs.lemmas.List.{take_all, take_more, map_push, length-map}
+use Rattle.std.proofs.lemmas.List.{take_all, take_more, take_min, drop_min, map_push, length-map}
 use Rattle.std.proofs.lemmas.List.Filters.{dedup_is}
 use Rattle.std.specs.List.Retain.{IsFiltered, DiffersFromLast}
 use Rattle.std.proofs.lemmas.List.Elements.{filter_more, filter_map-append}
@@ -18,7 +18,7 @@ use Rattle.s3_text.specs.Sorting.{sorted_by}
 use Rattle.s3_text.proofs.JoinLemmas.{join_with_byte_push}
 use Rattle.s3_text.proofs.SortingLemmas.{sorted_by-unique, IsSorted-map}
 use Rattle.s3_http_heads.specs.Head.{HeadParts, is_named, values_of}
-use Rattle.s3_requests.specs.Description.{name_in}
+use Rattle.s3_requests.specs.Description.{front, name_in}
 use Rattle.s3_requests.specs.Name.{text_of, texts}
 use Rattle.s3_requests.specs.declared.description.Name.{Name}
 
@@ -55,6 +55,28 @@ few : {X Y : Type 0} (h : X → Option Y) (xs : List X) → length (filter_map h
 few h [] = omega arith
 few h (x ∷ xs) = one_more (h x) (filter_map h xs) (length xs) (few h xs)
 
+-- what a line's name holds, as its front was judged
+judged : (sent part : List ℕ) (n : ℕ) (named : Bool) → n ≡ min (length sent) 11 → part ≡ take n sent → bytes_eq (str_to_ascii_lowercase part) front ≡ named
+    → name_in sent ≡ (if named then Some (str_to_ascii_lowercase (drop 11 sent)) else None)
+judged sent part n named is cut eq =
+    let short : n ≡ min 11 (length sent) = omega (arith, is) in
+    let same = cut ∙ ap (λ k. take k sent) short ∙ take_min 11 sent in
+    ap (λ b. if b then Some (str_to_ascii_lowercase (drop 11 sent)) else None) (ap (λ p. bytes_eq (str_to_ascii_lowercase p) front) (sym same) ∙ eq)
+
+-- a line with another front holds no name
+pub name_no : (names : List (List ℕ)) (sent part : List ℕ) (n : ℕ) → n ≡ min (length sent) 11 → part ≡ take n sent → bytes_eq (str_to_ascii_lowercase part) front ≡ false
+    → names ≡ names ++ option_to_list (name_in sent)
+name_no names sent part n is cut other =
+    sym (ap (λ more. names ++ option_to_list more) (judged sent part n false is cut other) ∙ append-nil names)
+
+-- one with that front holds what follows
+pub name_yes : (sent part rest text : List ℕ) (n : ℕ) → n ≡ min (length sent) 11 → part ≡ take n sent → rest ≡ drop n sent → bytes_eq (str_to_ascii_lowercase part) front ≡ true
+    → text ≡ str_to_ascii_lowercase rest → text ∷ [] ≡ option_to_list (name_in sent)
+name_yes sent part rest text n is cut left named low =
+    let short : n ≡ min 11 (length sent) = omega (arith, is) in
+    let same = left ∙ ap (λ k. drop k sent) short ∙ drop_min 11 sent in
+    ap (λ name. name ∷ []) (low ∙ ap str_to_ascii_lowercase same) ∙ sym (ap option_to_list (judged sent part n true is cut named))
+
 -- there are no more of them than lines
 pub names_few : (names : List Name) (lines : Lines) → texts names ≡ names_in lines → length names ≤ length lines
 names_few names lines is =
@@ -86,6 +108,16 @@ pub names_listed : {xs ys zs : List Name} {sent : List (List ℕ)} → IsPermuta
     → IsFiltered (DiffersFromLast same_name) [] ys zs → texts xs ≡ sent → texts zs ≡ dedup bytes_eq (sorted_by byte_order sent)
 names_listed {xs} {ys} {zs} {sent} same up filtered is =
     ap texts (dedup_is same_name ys zs filtered) ∙ names_once ys ∙ ap (dedup bytes_eq) (names_sorted xs ys same up ∙ ap (sorted_by byte_order) is)
+
+-- one name more, and its entry
+pub entries_more : {Y : Type 0} (f : List ℕ → Y) (names : List Name) (i : ℕ) (name : Name) (rows new : List Y) (row : Y) → i < length names → name ≡ get_or names i name
+    → rows ≡ map f (texts (take i names)) → row ≡ f (text_of name) → new ≡ rows ++ row ∷ [] → new ≡ map f (texts (take (i + 1) names))
+entries_more f names i name rows new row within is before this added =
+    let more = take_more names i name within ∙ ap (λ n. take i names ++ n ∷ []) (sym is) in
+    added
+    ∙ ap (λ rs. rs ++ row ∷ []) before
+    ∙ ap (λ r. map f (texts (take i names)) ++ r ∷ []) this
+    ∙ sym (ap (λ ns. map f (texts ns)) more ∙ ap (map f) (map_push text_of (take i names) name) ∙ map_push f (texts (take i names)) (text_of name))
 
 -- ---- the values of a name
 

@@ -10,7 +10,7 @@ use lib.Utf8.{scalar, scalars, scalar_cases, encode, encodes}
 use Rattle.hex.specs.Hex.{IsBytes, encode_with, encode_lower, lower_digits}
 use Rattle.hex.proofs.HexLemmas.{decode_of-encode_lower}
 use Rattle.s3_text.specs.Characters.{is_lower_hex}
-use Rattle.s3_listings.specs.Text.{text_read}
+use Rattle.s3_prefixes.specs.Text.{text_read}
 use Rattle.s3_requests.specs.ListArguments.{bytes_spelled}
 use Rattle.s3_requests.specs.Laws.{TokensAreReadBack}
 

@@ -13,8 +13,8 @@ use Rattle.s3_terms.specs.declared.code.Code.TheVariants.{InvalidArgument, NotIm
 use Rattle.s3_names.specs.Ids.{upload_id}
 use Rattle.s3_names.specs.declared.ids.VersionId.{VersionId}
 use Rattle.s3_http_heads.specs.Target.{TargetParts, first_parameter, has_parameter}
-use Rattle.s3_listings.specs.Text.{text_read}
-use Rattle.s3_listings.specs.declared.asked.ObjectsAsked.{ObjectsAsked}
+use Rattle.s3_prefixes.specs.Text.{text_read}
+use Rattle.s3_prefixes.specs.declared.asked.ObjectsAsked.{ObjectsAsked}
 use Rattle.s3_listings.specs.declared.asked.PartsAsked.{PartsAsked}
 use Rattle.s3_listings.specs.declared.asked.UploadsAsked.{UploadsAsked}
 use Rattle.s3_listings.specs.declared.asked.VersionsAsked.{VersionsAsked}

@@ -18,11 +18,12 @@ use crate::write_condition::absence_of;
 use s3_bodies::Payload;
 use s3_documents::{read_completion, read_versioning};
 use s3_http_heads::{Head, Target};
-use s3_listings::{ObjectsAsked, PartsAsked, UploadsAsked, VersionsAsked};
+use s3_listings::{PartsAsked, UploadsAsked, VersionsAsked};
 use s3_machine::{
     BucketCommand, Command, KeyCommand, ObjectCopy, ObjectPut, ObjectRead, UploadCommand,
 };
 use s3_names::{BucketName, Key, PartNumber, UploadId};
+use s3_prefixes::ObjectsAsked;
 use s3_terms::{Code, NoMemory};
 use std::alloc::Global;
 

@@ -1,3 +1,4 @@
+pub mod AdmittingLemmas
 pub mod AloneLemmas
 pub mod AtOnceLemmas
 pub mod EarlyLemmas

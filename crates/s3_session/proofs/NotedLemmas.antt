@@ -14,6 +14,7 @@ use Rattle.s3_session.specs.declared.incoming.Incoming.{Incoming}
 use Rattle.s3_session.specs.declared.opening.Opening.TheVariants as opening
 use Rattle.s3_session.specs.declared.session.Stage.{Stage}
 use Rattle.s3_session.specs.declared.session.Stage.TheVariants as stages
+use Rattle.s3_session.specs.declared.session.Closing.{Closing}
 use Rattle.s3_session.specs.declared.session.Closing.TheVariants as closings
 use Rattle.s3_session.specs.Incoming.{Opens}
 use Rattle.s3_session.specs.Output.{HasText, is_waiting}
@@ -77,6 +78,10 @@ module _ (settings : Settings) (old new : Connection) where
       };
       admitted = admitted;
     }
+
+-- one that is closed has no head that is admitted
+pub closed_noted : (stage : Stage) (closing : Closing) (noted : Bool) → stage ≡ stages.Closed closing → is_admitted stage ≡ true → noted ≡ true
+closed_noted stage closing noted at is = let same = sym is ∙ ap is_admitted at in absurd (cc)
 
 waits_admitted : (stage : Stage) → is_waiting (standing_at stage) ≡ true → is_admitted stage ≡ true
 waits_admitted stages.Reading is = let never = is in absurd (cc)

@@ -54,6 +54,15 @@ pub added_on : (old mid new text : List ℕ) → mid ≡ old ++ text → new ≡
 added_on old mid new text first second =
     added_text old new (text ++ added mid new) (second ∙ ap (λ l. l ++ added mid new) first ∙ append_assoc old text (added mid new))
 
+-- what was written behind a text begins with it
+pub longer_by : (old new text : List ℕ) → new ≡ old ++ text → IsLonger old new
+longer_by old new text is = is ∙ ap (λ l. old ++ l) (sym (added_text old new text is))
+
+-- so does what was written in two steps
+pub longer_on : (old mid new text : List ℕ) → mid ≡ old ++ text → IsLonger mid new → IsLonger old new
+longer_on old mid new text first second =
+    longer_by old new (text ++ added mid new) (second ∙ ap (λ l. l ++ added mid new) first ∙ append_assoc old text (added mid new))
+
 -- ---- what stands behind a message for which memory ran out
 
 module _ (settings : Settings) (new : Connection) (rest : List ℕ) (moment : ℕ) where

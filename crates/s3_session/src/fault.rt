@@ -7,7 +7,7 @@ use crate::session::{Closing, Stage};
 use s3_terms::Code;
 
 /// The first message of a connection that is refused. None behind it is read.
-#[derive(Clone, Copy, PartialEq, Eq)]
+#[derive(Clone, Copy)]
 pub struct Fault {
     /// Which of the connection's messages it is, counted from 0; `u64::MAX` where that is more.
     pub message: u64,

@@ -59,7 +59,7 @@ pub struct Fed {
 }
 
 /// What a connection needs behind an answer.
-#[derive(Clone, Copy, Debug, PartialEq, Eq)]
+#[derive(Clone, Copy)]
 pub enum Next {
     /// More bytes, or the end of the input.
     More,

@@ -1,2 +1,3 @@
+pub mod DeviceLemmas
 pub mod KeysLemmas
 pub mod WriterLemmas

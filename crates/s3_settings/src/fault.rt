@@ -15,7 +15,7 @@ use std::io::{self, Write};
 
 /// Why the program ends with status 1. Its text is what the line on the standard error says after
 /// `s3d: `.
-#[derive(Clone, Copy, PartialEq, Eq)]
+#[derive(Clone, Copy)]
 pub enum Fault<'a> {
     /// The file at this path could not be read.
     CannotRead(&'a str),

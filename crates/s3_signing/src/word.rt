@@ -8,7 +8,7 @@ use s3_text::read_hex_digest;
 
 /// What the value of `x-amz-content-sha256` says of the body (Amazon S3 API Reference,
 /// "Authenticating requests: signature calculations").
-#[derive(Clone, Copy, PartialEq, Eq)]
+#[derive(Clone, Copy)]
 pub enum Word {
     /// The body's SHA-256, in 64 lower-case hexadecimal digits.
     Hash([u8; 64]),

@@ -1,2 +1,3 @@
+pub mod CallLemmas
 pub mod StepLemmas
 pub mod UploadLemmas

@@ -14,11 +14,10 @@ ghost use Rattle.s3_store.specs.Steps.{bucket_step};
 use crate::bucket_steps::refused;
 use s3_bodies::Body;
 use s3_documents::{Document, buckets_document};
-use s3_listings::{
-    ObjectsAsked, UploadsAsked, VersionsAsked, list_objects, list_uploads, list_versions,
-};
+use s3_listings::{UploadsAsked, VersionsAsked, list_objects, list_uploads, list_versions};
 use s3_machine::{BucketCommand, Command, Outcome};
 use s3_names::BucketName;
+use s3_prefixes::ObjectsAsked;
 use s3_records::Records;
 use s3_terms::{Code, NoMemory};
 use std::alloc::Global;

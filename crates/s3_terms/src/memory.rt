@@ -7,7 +7,7 @@ use std::alloc::{AllocError, AllocFailed};
 
 /// Memory ran out, and the call did nothing that lasts. It is the one error of calls that refuse no
 /// request.
-#[derive(Clone, Copy, Debug, PartialEq, Eq)]
+#[derive(Clone, Copy, PartialEq, Eq)]
 pub struct NoMemory;
 
 impl From<AllocError> for NoMemory {

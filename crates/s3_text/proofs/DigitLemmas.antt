@@ -29,6 +29,13 @@ pub number_so_far : (radix : ℕ) (ds : List ℕ) (i : ℕ) → 2 ≤ radix → 
 number_so_far radix ds i low lt =
     omega (arith, digits_value_more radix ds i lt, digits_value-take-le radix ds (i + 1) (omega arith))
 
+-- and so the number of those before it has room, without and with that one
+pub step_fits : (radix : ℕ) (ds : List ℕ) (i most : ℕ) → 2 ≤ radix → i < length ds → digits_value radix ds < most
+    → (digits_value radix (take i ds) * radix < most) × (digits_value radix (take i ds) * radix + digit_value (get_or ds i 0) < most)
+step_fits radix ds i most low lt room =
+    let so_far = number_so_far radix ds i low lt in
+    (omega (arith, so_far), omega (arith, so_far))
+
 -- bytes that all pass a test of digits are digits
 digits_by_test : (radix : ℕ) (p : ℕ → Bool) → ((c : ℕ) → p c ≡ true → digit_value c < radix) → (ds : List ℕ) → list_all p ds ≡ true → AllDigits radix ds
 digits_by_test radix p digit [] h = tt

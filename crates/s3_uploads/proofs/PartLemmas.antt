@@ -1,5 +1,5 @@
 -- The rows of parts.
-use Rattle.std.proofs.Common.{◌≡◌, ◌≢◌, refl, sym, ap, ◌∙◌, ◌<◌, ◌++◌, ℕ, zero, suc, true, false, cond, ◌&&◌, List, [], ◌∷◌, length, take, nat_lt, arith, Result, Ok, Err, OnErr, IsTrue}
+use Rattle.std.proofs.Common.{◌≡◌, ◌≢◌, refl, sym, ap, subst, ◌∙◌, ◌<◌, ◌≤◌, ◌++◌, append_assoc, ℕ, zero, suc, true, false, cond, ◌&&◌, List, [], ◌∷◌, length, take, nat_lt, arith, Result, Ok, Err, OnErr, IsTrue}
 use Rattle.std.specs.BTreeMap.Range.{entries_between}
 use Rattle.std.specs.Ordering.{nat_cmp, is_lt}
 use Rattle.std.specs.declared.ops.Bound.TheVariants.{Excluded, Unbounded}
@@ -7,6 +7,7 @@ use Rattle.std.specs.List.{AllByRecursion, list_all}
 use Rattle.std.specs.List.Sorted.{IsStrictlySortedBy}
 use Rattle.std.specs.declared.cmp.Ordering.TheVariants.{Less}
 use Rattle.std.proofs.lemmas.Bool.{and_from}
+use Rattle.std.proofs.lemmas.List.{length_push}
 use Rattle.s3_uploads.specs.Parts.{PartList, rises, part_row, part_rows, rows_behind}
 use Rattle.s3_uploads.specs.declared.part.Part.{Part}
 use Rattle.s3_uploads.specs.declared.part.PartRow.{PartRow}
@@ -34,6 +35,13 @@ some_taken (suc most) (r ∷ rows) rest x room none = absurd (cc)
 pub rows_left : {B : Type 0} (most : ℕ) (rows all : List PartRow) (left rest : PartList B) (e : ℕ × Part B) → length rows < most → rows ++ part_rows left ≡ all → left ≡ e ∷ rest → take most all ≢ []
 rows_left most rows all left rest e room are is none =
     some_taken most rows (part_rows rest) (part_row e) room (ap (λ es. take most (rows ++ part_rows es)) (sym is) ∙ ap (take most) are ∙ none)
+
+pub row_added : {B : Type 0} (rows now all : List PartRow) (left rest : PartList B) (e : ℕ × Part B) → rows ++ part_rows left ≡ all → left ≡ e ∷ rest → now ≡ rows ++ part_row e ∷ [] → now ++ part_rows rest ≡ all
+row_added rows now all left rest e are is adds =
+    ap (λ now. now ++ part_rows rest) adds ∙ append_assoc rows (part_row e ∷ []) (part_rows rest) ∙ ap (λ es. rows ++ part_rows es) (sym is) ∙ are
+
+pub row_fits : {X : Type 0} (most : ℕ) (rows now : List X) (x : X) → length rows < most → now ≡ rows ++ x ∷ [] → length now ≤ most
+row_fits most rows now x room adds = subst (λ n. n ≤ most) (sym (ap length adds ∙ length_push rows x)) (omega arith)
 
 pub on_err : {T E P : Type 0} (r : Result T E) → P → OnErr r P
 on_err (Ok x) p = tt

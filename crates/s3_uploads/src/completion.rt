@@ -13,7 +13,7 @@ use s3_versions::Data;
 use std::alloc::Global;
 
 /// Why an upload isn't completed.
-#[derive(Clone, Copy, PartialEq, Eq)]
+#[derive(Clone, Copy)]
 pub enum CompletionError {
     /// What is listed can't be joined: `InvalidPartOrder`, `InvalidPart` or `EntityTooSmall`.
     Refused(Code),

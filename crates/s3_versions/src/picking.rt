@@ -9,7 +9,7 @@ use s3_names::{Tag, VersionId};
 use s3_terms::Code;
 
 /// Why no version is read.
-#[derive(Clone, Copy, PartialEq, Eq)]
+#[derive(Clone, Copy)]
 pub struct Refusal {
     pub code: Code,
     /// Whether what was asked for is a delete marker.

@@ -11,7 +11,7 @@ use std::alloc::Global;
 
 /// Whether a bucket keeps the versions that a new one would replace (Amazon S3 User Guide, "Using
 /// versioning in S3 buckets").
-#[derive(Clone, Copy, PartialEq, Eq)]
+#[derive(Clone, Copy)]
 pub enum Versioning {
     /// Versioning has never been enabled: a new version takes the place of the one there.
     Unversioned,

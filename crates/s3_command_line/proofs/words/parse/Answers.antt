@@ -1,4 +1,4 @@
-use Rattle.s3_command_line.proofs.WordsLemmas.{words_refused, words_unnamed, asked_by}
+use Rattle.s3_command_line.proofs.WordsLemmas.{words_refused, words_unnamed, asked_by, no_value, no_memory}
 use Rattle.s3_command_line.proofs.words.parse.Goals as goal
 
 pub returns-in-Err-clause-refused : goal.returns-in-Err-clause-refused
@@ -12,3 +12,20 @@ returns-in-Some-clause-value g c =
 pub returns-clause-refused : goal.returns-clause-refused
 returns-clause-refused g c other =
     words_unnamed _ _ c.in-Ok.matches c.requires c.in-Ok.ensures.ok.2 (rw c.in-None.is at c.in_ok-asked.ensures)
+
+-- no memory is no value, and says nothing of the words
+pub returns-in_err-asked-clause-value : goal.returns-in_err-asked-clause-value
+returns-in_err-asked-clause-value g c = no_value c.from_residual.result _ _ c.from_residual.ensures.1
+
+pub returns-in_err-asked-clause-refused : goal.returns-in_err-asked-clause-refused
+returns-in_err-asked-clause-refused g c = no_memory c.from_residual.result _ c.from_residual.ensures.1
+
+-- an error is no value, and a value no error
+pub returns-in-Err-clause-value : goal.returns-in-Err-clause-value
+returns-in-Err-clause-value g c = tt
+
+pub returns-in-Some-clause-refused : goal.returns-in-Some-clause-refused
+returns-in-Some-clause-refused g c = tt
+
+pub returns-clause-value : goal.returns-clause-value
+returns-clause-value g c = tt

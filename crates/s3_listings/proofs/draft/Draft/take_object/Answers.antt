@@ -1,5 +1,5 @@
 use Rattle.std.proofs.Common.{sym}
-use Rattle.s3_listings.specs.Objects.{Object}
+use Rattle.s3_prefixes.specs.Items.{Object}
 use Rattle.s3_listings.specs.Drafts.{drafted}
 use Rattle.s3_listings.proofs.DraftLemmas.{item_taken}
 use Rattle.s3_listings.proofs.draft.Draft.take_object.Goals as goal

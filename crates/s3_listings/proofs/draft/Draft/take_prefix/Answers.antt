@@ -1,4 +1,4 @@
-use Rattle.s3_listings.specs.Objects.{CommonPrefix}
+use Rattle.s3_prefixes.specs.Items.{CommonPrefix}
 use Rattle.s3_listings.specs.Drafts.{drafted}
 use Rattle.s3_listings.proofs.DraftLemmas.{item_taken}
 use Rattle.s3_listings.proofs.draft.Draft.take_prefix.Goals as goal

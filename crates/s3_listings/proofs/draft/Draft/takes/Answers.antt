@@ -1,5 +1,6 @@
 use Rattle.std.proofs.Common.{sym, ap, ◌∙◌, ◌∷◌, refl, true}
-use Rattle.s3_listings.specs.Drafts.{drafted, is_last}
+use Rattle.s3_prefixes.specs.Tellings.{is_last}
+use Rattle.s3_listings.specs.Drafts.{drafted}
 use Rattle.s3_listings.proofs.DraftLemmas.{full, once_more, overfull}
 use Rattle.s3_listings.proofs.draft.Draft.takes.Goals as goal
 use Rattle.s3_listings.proofs.draft.Draft.takes.Goals.{then-self-via-then-self, then-self-via-else-self+then-ends_with}

@@ -2,10 +2,10 @@ use Rattle.std.proofs.Common.{◌≡◌, ℕ, [], ◌∷◌, ◌++◌, ap, refl,
 use Rattle.std.specs.Prelude.{if◌then◌else◌}
 use Rattle.s3_http_heads.specs.Search.{Holds}
 use Rattle.s3_replies.specs.Replies.{PrintsRefusal, continue_line, internal_error}
-use Rattle.s3_session.specs.Session.{Connection, added, moment_at, unsent_of}
-use Rattle.s3_session.specs.Verified.{is_admitted}
-use Rattle.s3_session.proofs.NotedLemmas.{admitted_moment, noted_begun}
-use Rattle.s3_session.proofs.ReceivingLemmas.{begins_admitted, begins_dead, begins_refused}
+use Rattle.s3_session.specs.declared.session.Need.TheVariants as needs
+use Rattle.s3_session.specs.Session.{Connection, Needs, added, moment_at, standing_at, unsent_of}
+use Rattle.s3_session.proofs.NotedLemmas.{admitted_moment, closed_noted, noted_begun}
+use Rattle.s3_session.proofs.ReceivingLemmas.{begins_admitted, begins_dead, begins_refused, longer_by, longer_on}
 use Rattle.s3_session.proofs.session.Session.begin.Goals as goal
 
 pub returns-in-Ok-clause-fed : goal.returns-in-Ok-clause-fed
@@ -29,6 +29,25 @@ returns-in-Err-clause-fed c rest held whole =
     begins_dead c.args.config.now c.args.moment rest c.args.piece.now c.args.self.now _ whole c.die.ensures.stage
     (c.die.ensures.written ∙ ap (λ t. t ++ internal_error) same) _ refl
 
+pub returns-in-Died-clause-fed : goal.returns-in-Died-clause-fed
+returns-in-Died-clause-fed c rest held whole =
+    begins_dead c.args.config.now c.args.moment rest c.args.piece.now c.args.self.now _ whole c.die-in-Died.ensures.stage
+    (c.die-in-Died.ensures.written ∙ ap (λ (s : Connection). unsent_of s ++ internal_error) c.self.view_is) _ refl
+
+pub returns-in-Ok-clause-longer : goal.returns-in-Ok-clause-longer
+returns-in-Ok-clause-longer c =
+    let written = subst (λ (s : Connection). unsent_of c.invite.new.self ≡ unsent_of s ++ (if c.in-Admitted.invited then continue_line else [])) c.self.view_is c.in-Ok.ensures.written in
+    longer_on _ _ _ _ written c.read_body.ensures.longer
+
+pub returns-in-Err-clause-longer : goal.returns-in-Err-clause-longer
+returns-in-Err-clause-longer c =
+    let same = subst (λ (s : Connection). unsent_of c.invite.new.self ≡ unsent_of s) c.self.view_is c.in-Err.ensures.same in
+    longer_by _ _ internal_error (c.die.ensures.written ∙ ap (λ t. t ++ internal_error) same)
+
+pub returns-in-Died-clause-longer : goal.returns-in-Died-clause-longer
+returns-in-Died-clause-longer c =
+    longer_by _ _ internal_error (c.die-in-Died.ensures.written ∙ ap (λ (s : Connection). unsent_of s ++ internal_error) c.self.view_is)
+
 pub returns-in-Ok-clause-noted : goal.returns-in-Ok-clause-noted
 returns-in-Ok-clause-noted c rest held whole =
     let same = c.read_body.ensures.head.1 ∙ c.in-Ok.ensures.head.1 in
@@ -44,7 +63,7 @@ returns-in-Refused-clause-noted c rest held whole =
     noted_begun c.args.config.now c.args.self.now _ c.args.moment rest held whole c.searches_find.ensures.head
     c.text.result (c.text.ensures.text rest (subst (λ (s : Connection). Holds s.search rest) (sym c.self.view_is) held))
     (c.refuse.ensures.head.0 ∙ ap (λ (s : Connection). s.search) c.self.view_is) (ap moment_at c.refuse.ensures.stage)
-    (λ is. c.in-Refused.ensures.noted (sym c.refuse.ensures.head.1 ∙ is)) (λ is. (let same = sym is ∙ ap is_admitted c.refuse.ensures.stage in absurd (cc)))
+    (λ is. c.in-Refused.ensures.noted (sym c.refuse.ensures.head.1 ∙ is)) (closed_noted _ _ _ c.refuse.ensures.stage)
 
 pub returns-in-Err-clause-noted : goal.returns-in-Err-clause-noted
 returns-in-Err-clause-noted c rest held whole =
@@ -52,11 +71,34 @@ returns-in-Err-clause-noted c rest held whole =
     c.text.result (c.text.ensures.text rest (subst (λ (s : Connection). Holds s.search rest) (sym c.self.view_is) held))
     (c.die.ensures.head.0 ∙ c.in-Err.ensures.head.0 ∙ ap (λ (s : Connection). s.search) c.self.view_is) (ap moment_at c.die.ensures.stage)
     (λ is. c.in-Admitted.ensures.noted (sym (c.die.ensures.head.1 ∙ c.in-Err.ensures.head.1) ∙ is))
-    (λ is. (let same = sym is ∙ ap is_admitted c.die.ensures.stage in absurd (cc)))
+    (closed_noted _ _ _ c.die.ensures.stage)
 
 pub returns-in-Died-clause-noted : goal.returns-in-Died-clause-noted
 returns-in-Died-clause-noted c rest held whole =
     noted_begun c.args.config.now c.args.self.now _ c.args.moment rest held whole c.searches_find.ensures.head
     c.text.result (c.text.ensures.text rest (subst (λ (s : Connection). Holds s.search rest) (sym c.self.view_is) held))
     (c.die-in-Died.ensures.head.0 ∙ ap (λ (s : Connection). s.search) c.self.view_is) (ap moment_at c.die-in-Died.ensures.stage)
-    (λ is. c.in-Died.ensures.noted (sym c.die-in-Died.ensures.head.1 ∙ is)) (λ is. (let same = sym is ∙ ap is_admitted c.die-in-Died.ensures.stage in absurd (cc)))
+    (λ is. c.in-Died.ensures.noted (sym c.die-in-Died.ensures.head.1 ∙ is)) (closed_noted _ _ _ c.die-in-Died.ensures.stage)
+
+-- what is closed is to be closed
+pub returns-in-Refused-clause-needs : goal.returns-in-Refused-clause-needs
+returns-in-Refused-clause-needs c = subst (λ stage. Needs needs.Close (standing_at stage)) (sym c.refuse.ensures.stage) tt
+
+pub returns-in-Err-clause-needs : goal.returns-in-Err-clause-needs
+returns-in-Err-clause-needs c = subst (λ stage. Needs needs.Close (standing_at stage)) (sym c.die.ensures.stage) tt
+
+pub returns-in-Died-clause-needs : goal.returns-in-Died-clause-needs
+returns-in-Died-clause-needs c = subst (λ stage. Needs needs.Close (standing_at stage)) (sym c.die-in-Died.ensures.stage) tt
+
+-- no message is answered
+pub returns-in-Ok-clause-count : goal.returns-in-Ok-clause-count
+returns-in-Ok-clause-count c = c.read_body.ensures.count ∙ c.in-Ok.ensures.count ∙ ap (λ (s : Connection). s.answered) c.self.view_is
+
+pub returns-in-Refused-clause-count : goal.returns-in-Refused-clause-count
+returns-in-Refused-clause-count c = c.refuse.ensures.count ∙ ap (λ (s : Connection). s.answered) c.self.view_is
+
+pub returns-in-Err-clause-count : goal.returns-in-Err-clause-count
+returns-in-Err-clause-count c = c.die.ensures.count ∙ c.in-Err.ensures.count ∙ ap (λ (s : Connection). s.answered) c.self.view_is
+
+pub returns-in-Died-clause-count : goal.returns-in-Died-clause-count
+returns-in-Died-clause-count c = c.die-in-Died.ensures.count ∙ ap (λ (s : Connection). s.answered) c.self.view_is

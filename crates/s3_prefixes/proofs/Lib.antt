@@ -1,0 +1,2 @@
+pub mod RollingLemmas
+pub mod TextLemmas

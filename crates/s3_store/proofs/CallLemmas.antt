@@ -1,0 +1,157 @@
+-- What comes of commands, from what the calls ensure that carry them out.
+use Rattle.std.proofs.Common.{◌≡◌, ap, ◌∙◌, sym, subst, ℕ, Bool, true, false, ◌&&◌, List, Option, Some, None, Result, Ok, Err, IfOk, OnErr, option_and_then}
+use Rattle.std.specs.Prelude.{is_ok, is_some}
+use Rattle.s3_terms.specs.declared.code.Code.TheVariants.{BucketAlreadyOwnedByYou, NoSuchBucket, NoSuchUpload}
+use Rattle.s3_terms.specs.Fault.{◌>>◌}
+use Rattle.s3_bodies.specs.Payload.{tag_of}
+use Rattle.s3_conditions.specs.declared.conditions.Selection.{Selection}
+use Rattle.s3_versions.specs.declared.picking.Facts.{Facts}
+use Rattle.s3_versions.specs.declared.picking.Refusal.{Refusal}
+use Rattle.s3_versions.specs.declared.version.Data.{Data}
+use Rattle.s3_versions.specs.declared.version.Versioning.{Versioning}
+use Rattle.s3_versions.specs.Rules.{stored, asked_for, facts_read, pick}
+use Rattle.s3_uploads.specs.Parts.{part_sent}
+use Rattle.s3_uploads.specs.declared.listed.ListedPart.{ListedPart}
+use Rattle.s3_records.specs.declared.records.BucketFacts.{BucketFacts}
+use Rattle.s3_records.specs.Catalogue.{has_bucket, versions_of, versioning_of}
+use Rattle.s3_records.specs.Changes.{BucketAdded, PartPut, changed}
+use Rattle.s3_records.specs.OpenUploads.{completed_at, upload_at}
+use Rattle.s3_machine.specs.Effects.{is_refused}
+use Rattle.s3_machine.specs.Fault.{refuse}
+use Rattle.s3_machine.specs.declared.command.BucketCommand.TheVariants as bucket_commands
+use Rattle.s3_machine.specs.declared.command.Found.{Found}
+use Rattle.s3_machine.specs.declared.command.KeyCommand.TheVariants as key_commands
+use Rattle.s3_machine.specs.declared.command.ObjectCopy.{ObjectCopy}
+use Rattle.s3_machine.specs.declared.command.ObjectRead.{ObjectRead}
+use Rattle.s3_machine.specs.declared.command.Source.{Source}
+use Rattle.s3_machine.specs.declared.command.Outcome.{Outcome}
+use Rattle.s3_machine.specs.declared.command.Outcome.TheVariants as outcomes
+use Rattle.s3_machine.specs.declared.command.UploadCommand.TheVariants as upload_commands
+use Rattle.s3_machine.specs.Step.{State, Stepped, bucket_done, copied, is_taken, stepped}
+use Rattle.s3_store.specs.Steps.{bucket_step, key_step, upload_step, copy_step, copied_as, completed_as, barred_code, data_found, read_as_found, selected_by, got_of, MayEnter}
+use Rattle.s3_store.proofs.StepLemmas.{read_shown, read_refused, read_accepted, copies, copy_accepted, source_found, source_lost, source_read}
+use Rattle.s3_store.proofs.UploadLemmas.{upload_lost, part_put, completes, completion_barred}
+
+pub on_err : {T E P : Type 0} (r : Result T E) → P → OnErr r P
+on_err (Ok x) p = tt
+on_err (Err e) p = p
+
+-- a call that takes the step b takes the step a, where they are one
+pub then_steps : {E : Type 0} (r : Result Outcome E) (a b : Stepped) (after : State) → a ≡ b → IfOk r (λ o. b ≡ (after, o)) → IfOk r (λ o. a ≡ (after, o))
+then_steps (Ok o) a b after is steps = is ∙ steps
+then_steps (Err e) a b after is steps = tt
+
+-- and one that is refused only where b is, is refused only where a is
+pub then_accepted : {T E : Type 0} (P : Type 0) (r : Result T E) (a b : Stepped) → a ≡ b → OnErr r (P → is_refused b.1 ≡ false) → OnErr r (P → is_refused a.1 ≡ false)
+then_accepted P (Ok x) a b is accepts = tt
+then_accepted P (Err e) a b is accepts = λ p. ap (λ (st : Stepped). is_refused st.1) is ∙ accepts p
+
+-- a look leaves the state as it was
+pub may_enter : (s now : State) (n : ℕ) (name : List ℕ) (v : Versioning) → now ≡ s → MayEnter s n name v → MayEnter now n name v
+may_enter s now n name v same may = subst (λ s. MayEnter s n name v) (sym same) may
+
+-- ---- reads
+
+module _ (s now : State) (name key : List ℕ) (asked : ObjectRead) (facts : Result Facts Refusal) (chosen : Result Selection Refusal) where
+  -- what is told of the version, and what is chosen of it
+  pub record IsChosen : Type 0 where
+    pub told : facts ≡ facts_read (pick asked.version (versions_of s name key))
+    pub is : chosen ≡ selected_by asked.conditions facts
+    pub same : now ≡ s
+
+  chosen_as : IsChosen → (r : Result Selection Refusal) → chosen ≡ r → selected_by asked.conditions (facts_read (pick asked.version (versions_of s name key))) ≡ r
+  chosen_as h r is = ap (selected_by asked.conditions) (sym h.told) ∙ sym h.is ∙ is
+
+  pub read_told : IsChosen → (after : State) (v : Versioning) (selection : Selection) (read : Result (Found (List ℕ)) Refusal) (outcome : Outcome)
+      → chosen ≡ Ok selection → v ≡ versioning_of s name → read ≡ read_as_found v (pick asked.version (versions_of now name key)) → after ≡ now → outcome ≡ got_of selection read
+      → (n t : ℕ) → key_step s n t name key (key_commands.Read asked) ≡ (after, outcome)
+  read_told h after v selection read outcome is of reads same got n t = let step = read_shown s n t name key asked selection (chosen_as h (Ok selection) is) in cc
+
+  pub read_fails : IsChosen → (refusal : Refusal) (outcome : Outcome) → chosen ≡ Err refusal → outcome ≡ outcomes.Refused refusal.code refusal.is_delete_marker
+      → (n t : ℕ) → key_step s n t name key (key_commands.Read asked) ≡ (now, outcome)
+  read_fails h refusal outcome is refused n t = let step = read_refused s n t name key asked refusal (chosen_as h (Err refusal) is) in cc
+
+  pub read_unrefused : IsChosen → (selection : Selection) → chosen ≡ Ok selection → (n t : ℕ) → is_refused (key_step s n t name key (key_commands.Read asked)).1 ≡ false
+  read_unrefused h selection is n t = read_accepted s n t name key asked selection (chosen_as h (Ok selection) is)
+
+-- ---- sources of copies
+
+module _ (s : State) (source : Source) (facts : Option BucketFacts) (there : is_some facts ≡ has_bucket s source.bucket) where
+  pub none_copied : facts ≡ None → Err (record { code = NoSuchBucket; is_delete_marker = false }) ≡ copied s source
+  none_copied is = sym (source_lost s source (sym there ∙ ap is_some is))
+
+  pub found_copied : (now : State) (f : BucketFacts) (found : Result (Found (List ℕ)) Refusal) (d : Result (Data (List ℕ)) Refusal) → facts ≡ Some f → now ≡ s
+      → found ≡ read_as_found f.versioning (pick source.version (versions_of now source.bucket source.key)) → d ≡ data_found found → d ≡ copied s source
+  found_copied now f found d is same reads has = let step = source_found s source f.versioning (sym there ∙ ap is_some is) in cc
+
+  pub stored_copied : (now : State) (f : BucketFacts) → facts ≡ Some f → now ≡ s
+      → (option_and_then stored (asked_for source.version (versions_of now source.bucket source.key)) ≡ None → ⊥) → is_ok (copied s source) ≡ true
+  stored_copied now f is same stores =
+      source_read s source (sym there ∙ ap is_some is) (subst (λ s. option_and_then stored (asked_for source.version (versions_of s source.bucket source.key)) ≡ None → ⊥) same stores)
+
+-- ---- copies
+
+module _ (s : State) (n t : ℕ) (name key : List ℕ) (asked : ObjectCopy) where
+  pub copy_unrefused : is_ok (copied s asked.source) ≡ true → is_refused (key_step s n t name key (key_commands.Copy asked)).1 ≡ false
+  copy_unrefused is = ap (λ (st : Stepped). is_refused st.1) (copies s n t name key asked) ∙ copy_accepted s n t name key (copied s asked.source) is
+
+  pub copy_fails : (now : State) (read : Result (Data (List ℕ)) Refusal) (refusal : Refusal) (outcome : Outcome) → read ≡ copied s asked.source → read ≡ Err refusal → now ≡ s
+      → outcome ≡ outcomes.Refused refusal.code refusal.is_delete_marker → key_step s n t name key (key_commands.Copy asked) ≡ (now, outcome)
+  copy_fails now read refusal outcome reads is same refused = let step = copies s n t name key asked ∙ ap (copied_as s n t name key) (sym reads ∙ is) in cc
+
+  pub copy_puts : (now : State) (read : Result (Data (List ℕ)) Refusal) (d : Data (List ℕ)) → read ≡ copied s asked.source → read ≡ Ok d → now ≡ s
+      → key_step s n t name key (key_commands.Copy asked) ≡ copy_step now n t name key d
+  copy_puts now read d reads is same =
+      copies s n t name key asked ∙ ap (copied_as s n t name key) (sym reads ∙ is) ∙ ap (λ s. copy_step s n t name key d) (sym same)
+
+-- ---- parts
+
+module _ (s : State) (t : ℕ) (name key : List ℕ) (id number : ℕ) (payload : List ℕ) where
+  pub part_puts : {E : Type 0} (now : State) (r : Result Outcome E) (after : State) → is_some (upload_at s name key id) ≡ true → now ≡ s
+      → IfOk r (λ o. after ≡ changed now name (PartPut key id number (part_sent t payload))) → IfOk r (λ o. o ≡ outcomes.PartPut (tag_of payload))
+      → IfOk r (λ o. (least n : ℕ) → upload_step least s n t name key id (upload_commands.PutPart number payload) ≡ (after, o))
+  part_puts now (Ok o) after there same puts tells = λ least n. let step = part_put least s n t name key id number payload there in cc
+  part_puts now (Err e) after there same puts tells = tt
+
+  pub part_unrefused : is_some (upload_at s name key id) ≡ true → (least n : ℕ) → is_refused (upload_step least s n t name key id (upload_commands.PutPart number payload)).1 ≡ false
+  part_unrefused there least n = ap (λ (st : Stepped). is_refused st.1) (part_put least s n t name key id number payload there)
+
+  pub part_fails : (now : State) (outcome : Outcome) → is_some (upload_at s name key id) ≡ false → now ≡ s → outcome ≡ outcomes.Refused NoSuchUpload false
+      → (least n : ℕ) → upload_step least s n t name key id (upload_commands.PutPart number payload) ≡ (now, outcome)
+  part_fails now outcome lost same refused least n = let step = upload_lost least s n t name key id (upload_commands.PutPart number payload) lost in cc
+
+-- ---- completions
+
+module _ (least : ℕ) (s now : State) (n t : ℕ) (name key : List ℕ) (id : ℕ) (listed : List ListedPart) (if_absent : Bool) (same : now ≡ s) where
+  pub joins : (if_absent && is_taken s name key) ≡ false
+      → upload_step least s n t name key id (upload_commands.Complete listed if_absent) ≡ completed_as now n t name key id (completed_at least listed (upload_at now name key id))
+  joins free =
+      completes least s n t name key id listed if_absent free
+      ∙ ap (λ (s : State). completed_as s n t name key id (completed_at least listed (upload_at s name key id))) (sym same)
+
+  pub completion_fails : {E : Type 0} (r : Result Outcome E) (after : State) → (if_absent && is_taken s name key) ≡ true → after ≡ now
+      → IfOk r (λ o. o ≡ outcomes.Refused (barred_code (upload_at now name key id)) false)
+      → IfOk r (λ o. upload_step least s n t name key id (upload_commands.Complete listed if_absent) ≡ (after, o))
+  completion_fails (Ok o) after barred left refused = let step = completion_barred least s n t name key id listed if_absent barred in cc
+  completion_fails (Err e) after barred left refused = tt
+
+-- ---- buckets that are made
+
+module _ (s : State) (t : ℕ) (name : List ℕ) (facts : Option BucketFacts) (there : is_some facts ≡ has_bucket s name) where
+  bucket_chosen : (b : Bool) → is_some facts ≡ b
+      → bucket_step s t name bucket_commands.Create
+      ≡ stepped s (refuse b BucketAlreadyOwnedByYou >> Ok (changed s name (BucketAdded t), outcomes.BucketMade name))
+  unfolding bucket_done
+  bucket_chosen b is =
+      ap (λ (b : Bool). stepped s (refuse b BucketAlreadyOwnedByYou >> Ok (changed s name (BucketAdded t), outcomes.BucketMade name))) (sym there ∙ is)
+
+  pub bucket_made : (now after : State) (kept made : List ℕ) → facts ≡ None → now ≡ s → kept ≡ name → made ≡ name → after ≡ changed now kept (BucketAdded t)
+      → bucket_step s t name bucket_commands.Create ≡ (after, outcomes.BucketMade made)
+  bucket_made now after kept made is same keeps makes adds = let step = bucket_chosen false (ap is_some is) in cc
+
+  pub bucket_unrefused : facts ≡ None → is_refused (bucket_step s t name bucket_commands.Create).1 ≡ false
+  bucket_unrefused is = ap (λ (st : Stepped). is_refused st.1) (bucket_chosen false (ap is_some is))
+
+  pub bucket_stands : (now : State) (f : BucketFacts) (outcome : Outcome) → facts ≡ Some f → now ≡ s → outcome ≡ outcomes.Refused BucketAlreadyOwnedByYou false
+      → bucket_step s t name bucket_commands.Create ≡ (now, outcome)
+  bucket_stands now f outcome is same refused = let step = bucket_chosen true (ap is_some is) in cc
