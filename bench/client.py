@@ -1,66 +1,46 @@
-"""A client of S3 for the scripts of this folder: signed requests as bytes, and connections that stay."""
+"""A client of S3 for `bench/` and `checks/`: signed requests as bytes, and connections that stay."""
 
-import hashlib
-import hmac
 import itertools
 import json
 import socket
 import sys
-import time
-import urllib.parse
 from pathlib import Path
 
-sys.path.insert(0, str(Path(__file__).resolve().parent.parent / "interop"))
+TOP = Path(__file__).resolve().parent.parent
+sys.path += [str(TOP / "interop"), str(TOP / "examples")]
 
 from server import BUCKET, ID, REGION, SECRET, Peer, Server  # noqa: E402,F401
+from signing import CHUNKED, Signer, encoded, length_in_chunks, sha256  # noqa: E402
 
 
-def code(key, text):
-    return hmac.new(key, text.encode(), hashlib.sha256).digest()
+def asked_for(key, query=None):
+    """The target of a key of the bucket, or of the bucket where that is empty, with these parameters."""
+    path = encoded(f"/{BUCKET}/{key}", "/")
+    asked = "&".join(sorted(f"{name}={encoded(value)}" for name, value in (query or {}).items()))
+    return f"{path}?{asked}" if asked else path
 
 
-def signed_head(address, method, key, sha, length, moment=None, more=None, query=None):
-    """A signed head, as bytes; and what signs the chunks behind it: their key, the moment and the scope, and the signature."""
-    stamp = time.strftime("%Y%m%dT%H%M%SZ", time.gmtime(moment))
-    path = urllib.parse.quote(f"/{BUCKET}/{key}", safe="/~")
-    asked = "&".join(sorted(f"{name}={urllib.parse.quote(value, safe='~')}" for name, value in (query or {}).items()))
-    target = f"{path}?{asked}" if asked else path
-    signed = {"host": address, "x-amz-content-sha256": sha, "x-amz-date": stamp, **(more or {})}
-    signed = dict(sorted(signed.items()))
-    names = ";".join(signed)
-    lines = "".join(f"{name}:{value}\n" for name, value in signed.items())
-    canonical = hashlib.sha256(f"{method}\n{path}\n{asked}\n{lines}\n{names}\n{sha}".encode()).hexdigest()
-    scope = f"{stamp[:8]}/{REGION}/s3/aws4_request"
-    by_day = code(("AWS4" + SECRET).encode(), stamp[:8])
-    by_scope = code(code(code(by_day, REGION), "s3"), "aws4_request")
-    signature = code(by_scope, f"AWS4-HMAC-SHA256\n{stamp}\n{scope}\n{canonical}").hex()
-    head = [f"{method} {target} HTTP/1.1", *(f"{name}: {value}" for name, value in signed.items())]
-    if method in ("PUT", "POST"):
-        head.append(f"content-length: {length}")
-    head.append(
-        f"authorization: AWS4-HMAC-SHA256 Credential={ID}/{scope}, SignedHeaders={names}, Signature={signature}"
-    )
-    return ("\r\n".join(head) + "\r\n\r\n").encode(), (by_scope, f"{stamp}\n{scope}", signature)
+def head_of(method, target, lines, length):
+    """A head as bytes, which tells the length of its body where it has one, as the last line but one."""
+    *signed, authorization = lines.items()
+    sized = [("content-length", length)] if method in ("PUT", "POST") else []
+    told = [f"{name}: {value}\r\n" for name, value in [*signed, *sized, authorization]]
+    return f"{method} {target} HTTP/1.1\r\n{''.join(told)}\r\n".encode()
 
 
 def request(address, method, key, body=b"", moment=None, more=None, query=None):
-    """One signed request, as bytes, with more header lines and with parameters, where some are given; no key stands for the bucket."""
-    sha = hashlib.sha256(body).hexdigest()
-    return signed_head(address, method, key, sha, len(body), moment, more, query)[0] + body
+    """One signed request, as bytes, with more header lines and with parameters, where some are given."""
+    target, signer = asked_for(key, query), Signer(ID, SECRET, REGION, moment)
+    lines = signer.signed(method, target, {"host": address, **(more or {})}, sha256(body))
+    return head_of(method, target, lines, len(body)) + body
 
 
 def chunked(address, key, data, size):
     """A signed put, as bytes, whose body comes in signed chunks of this size."""
-    pieces = [data[at : at + size] for at in range(0, len(data), size)] + [b""]
-    length = sum(len(f"{len(piece):x};chunk-signature=") + 64 + 4 + len(piece) for piece in pieces)
-    more = {"x-amz-decoded-content-length": str(len(data))}
-    head, (by, place, before) = signed_head(address, "PUT", key, "STREAMING-AWS4-HMAC-SHA256-PAYLOAD", length, more=more)
-    nothing, chunks = hashlib.sha256(b"").hexdigest(), []
-    for piece in pieces:
-        text = f"AWS4-HMAC-SHA256-PAYLOAD\n{place}\n{before}\n{nothing}\n{hashlib.sha256(piece).hexdigest()}"
-        before = code(by, text).hex()
-        chunks.append(f"{len(piece):x};chunk-signature={before}\r\n".encode() + piece + b"\r\n")
-    return head + b"".join(chunks)
+    target, signer = asked_for(key), Signer(ID, SECRET, REGION)
+    told = {"host": address, "x-amz-decoded-content-length": str(len(data))}
+    lines = signer.signed("PUT", target, told, CHUNKED)
+    return head_of("PUT", target, lines, length_in_chunks(data, size)) + signer.in_chunks(lines, data, size)
 
 
 def place_of(address):

@@ -1,4 +1,5 @@
-"""Load for the scripts of this folder: processes with kept connections, each of which sends signed requests in turn."""
+"""Load for the scripts of this folder: processes with kept connections, each of which sends signed requests in
+turn."""
 
 import multiprocessing
 import re
@@ -18,8 +19,8 @@ class Failed(Exception):
 
 
 class Lane:
-    """A kept connection: a request is sent once the reply to the one before is there. Where the server ends the connection behind
-    a reply, as moto's does, another one is made."""
+    """A kept connection: a request is sent once the reply to the one before is there. Where the server ends the
+    connection behind a reply, as moto's does, another one is made."""
 
     def __init__(self, address, requests):
         self.address, self.requests, self.done = address, requests, 0

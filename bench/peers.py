@@ -70,7 +70,8 @@ class Started:
         self.folder = tempfile.mkdtemp(dir="/dev/shm" if os.path.isdir("/dev/shm") else None)
         self.address = free_address()
         words = self.words()
-        self.running = subprocess.Popen(words, stdin=subprocess.DEVNULL, stdout=subprocess.DEVNULL, stderr=subprocess.DEVNULL)
+        silent = dict.fromkeys(("stdin", "stdout", "stderr"), subprocess.DEVNULL)
+        self.running = subprocess.Popen(words, **silent)
         for _ in range(150):
             try:
                 Connection(self.address, 5).open()

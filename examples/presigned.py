@@ -1,20 +1,21 @@
 #!/usr/bin/env python3
-"""Lets somebody without a key put an object, and get it, for an hour: by addresses that `s3d sign` signs, with nothing but Python.
+"""Lets somebody without a key put an object, and get it, for an hour, with nothing but Python.
 
     examples/presigned.py [--keys FILE] HOST:PORT BUCKET KEY FILE
 
-`put` and `get` are all that the other side needs: they know an address, and no secret.
+`put` and `get` are all that the other side needs: they know an address, and no secret. `signing.py` beside this file
+signs the addresses.
 """
 
 import argparse
-import subprocess
 import sys
-import time
 import urllib.parse
 import urllib.request
 from pathlib import Path
 
-TOP = Path(__file__).resolve().parent.parent
+from signing import Signer, first_key
+
+KEYS = Path(__file__).resolve().parent / "keys"
 HOUR = 3600
 # The addresses are signed for the server itself, so that no proxy is asked.
 DIRECT = urllib.request.build_opener(urllib.request.ProxyHandler({}))
@@ -22,11 +23,9 @@ DIRECT = urllib.request.build_opener(urllib.request.ProxyHandler({}))
 
 def address_for(asked, method):
     """An address that may be asked by this method, by whoever has it, for an hour."""
-    key_id = Path(asked.keys).read_text().split(" ", 1)[0]
     target = f"/{asked.bucket}/{urllib.parse.quote(asked.key, safe='/~')}"
-    words = [asked.program, "sign", "--keys", asked.keys, "--id", key_id, "--moment", str(int(time.time())), "--region", asked.region]
-    words += ["--host", asked.address, "--method", method, "--target", target, "--presign", str(HOUR), "--url"]
-    return subprocess.run(words, check=True, stdout=subprocess.PIPE, text=True).stdout.strip()
+    signer = Signer(*first_key(asked.keys), asked.region)
+    return f"http://{asked.address}{signer.presigned(method, target, asked.address, HOUR)}"
 
 
 def put(address, data):
@@ -44,9 +43,8 @@ def main():
     words.add_argument("bucket", metavar="BUCKET")
     words.add_argument("key", metavar="KEY")
     words.add_argument("file", metavar="FILE", type=Path)
-    words.add_argument("--keys", default=TOP / "examples/keys")
+    words.add_argument("--keys", default=KEYS)
     words.add_argument("--region", default="us-east-1")
-    words.add_argument("--program", default=TOP / "crates/s3d/out/s3d")
     asked = words.parse_args()
     to_put, to_get = address_for(asked, "PUT"), address_for(asked, "GET")
     print(f"put to {to_put}\nget from {to_get}")

@@ -1,10 +1,11 @@
 #!/usr/bin/env python3
-"""Puts a file into a bucket in parts, over several connections at once, with nothing but Python and `s3d sign`, and reads it back.
+"""Puts a file into a bucket in parts, over several connections at once, with nothing but Python, and reads it back.
 
     examples/upload.py [--part MIB] [--connections N] HOST:PORT BUCKET KEY FILE
 
-An object that is larger than a body may be is sent so: the upload begins, its parts are sent in any order, and a document that lists them with
-their tags completes it. Where something fails, the upload is aborted, and nothing of it is left.
+An object that is larger than a body may be is sent so: the upload begins, its parts are sent in any order, and a
+document that lists them with their tags completes it. Where something fails, the upload is aborted, and nothing of it
+is left. `signing.py` beside this file signs the requests.
 """
 
 import argparse
@@ -12,16 +13,15 @@ import contextlib
 import hashlib
 import http.client
 import json
-import subprocess
 import sys
-import tempfile
 import threading
-import time
 import urllib.parse
 from concurrent.futures import ThreadPoolExecutor
 from pathlib import Path
 
-TOP = Path(__file__).resolve().parent.parent
+from signing import Signer, first_key, sha256
+
+KEYS = Path(__file__).resolve().parent / "keys"
 MIB = 1 << 20
 # Seconds that the server may take for one answer.
 PATIENCE = 120
@@ -32,25 +32,15 @@ class Refused(Exception):
 
 
 class Client:
-    """Asks a server, over a connection of its own in each thread. `s3d sign` signs the requests."""
+    """Asks a server, over a connection of its own in each thread."""
 
     def __init__(self, asked):
-        self.asked, self.kept = asked, threading.local()
-
-    def signed(self, method, target, body):
-        """The header lines of a request whose body stands in this file."""
-        key_id = Path(self.asked.keys).read_text().split(" ", 1)[0]
-        words = [self.asked.program, "sign", "--keys", self.asked.keys, "--id", key_id, "--moment", str(int(time.time()))]
-        words += ["--region", self.asked.region, "--host", self.asked.address, "--method", method, "--target", target, "--body", body]
-        head, _, _ = subprocess.run(words, check=True, stdout=subprocess.PIPE).stdout.partition(b"\r\n\r\n")
-        return dict(line.split(": ", 1) for line in head.decode().split("\r\n")[1:])
+        self.asked, self.key, self.kept = asked, first_key(asked.keys), threading.local()
 
     def ask(self, method, target, data=b""):
         """The reply to a request, whose body isn't read yet."""
-        with tempfile.NamedTemporaryFile() as body:
-            body.write(data)
-            body.flush()
-            lines = self.signed(method, target, body.name)
+        signer = Signer(*self.key, self.asked.region)
+        lines = signer.signed(method, target, {"host": self.asked.address}, sha256(data))
         if not hasattr(self.kept, "connection"):
             self.kept.connection = http.client.HTTPConnection(self.asked.address, timeout=PATIENCE)
         self.kept.connection.request(method, target, data or None, lines)
@@ -118,9 +108,8 @@ def main():
     words.add_argument("file", metavar="FILE", type=Path)
     words.add_argument("--part", type=int, default=8, metavar="MIB")
     words.add_argument("--connections", type=int, default=4)
-    words.add_argument("--keys", default=TOP / "examples/keys")
+    words.add_argument("--keys", default=KEYS)
     words.add_argument("--region", default="us-east-1")
-    words.add_argument("--program", default=TOP / "crates/s3d/out/s3d")
     asked = words.parse_args()
     client, target = Client(asked), f"/{asked.bucket}/{urllib.parse.quote(asked.key, safe='/~')}"
     try:

@@ -51,8 +51,8 @@ XML = "what was asked for is done, and the answer can't be read: it is JSON wher
 
 
 class Client:
-    """A client of S3. Each method raises `Missing`, `Refused`, `Unchanged` or `Unmet` where the server says so, and any other error
-    where the client fails."""
+    """A client of S3. Each method raises `Missing`, `Refused`, `Unchanged` or `Unmet` where the server says so, and
+    any other error where the client fails."""
 
     name = ""
     # What the client can't do here: the names of checks, and why. They are tried, and count only where they pass.
@@ -97,8 +97,8 @@ class Client:
         raise Lacking()
 
     def listed(self, prefix, delimiter, page=None):
-        """The objects whose keys begin so, with their sizes, and the common prefixes, with None, in their order; the server is asked for
-        so many at a time, or for as many as the client asks for."""
+        """The objects whose keys begin so, with their sizes, and the common prefixes, with None, in their order; the
+        server is asked for so many at a time, or for as many as the client asks for."""
         raise Lacking()
 
     def put_parts(self, key, data):
@@ -179,8 +179,8 @@ class Curl(Client):
         return " ".join(first_line(["curl", "--version"]).split()[:2])
 
     def asked(self, method, key, data=b"", more=(), query=""):
-        """The bytes that a request is answered. (It signs a query as it stands, so its names have to rise, each with its `=`, and its values to have
-        their escapes.)"""
+        """The bytes that a request is answered. (It signs a query as it stands, so its names have to rise, each with
+        its `=`, and its values to have their escapes.)"""
         url = f"http://{self.address}/{BUCKET}/{urllib.parse.quote(key, safe='/~')}{query}"
         out = self.path()
         words = ["curl", "-sS", "--path-as-is", "-o", out, "-w", "%{http_code}", "--aws-sigv4", f"aws:amz:{REGION}:s3"]

@@ -10,7 +10,8 @@ import time
 import urllib.parse
 from pathlib import Path
 
-from clients import HOUR, MIB, PART, PATIENCE, TOLD, Client, Lacking, first_line, in_order, listed_parts, of_page, ran, told
+from clients import HOUR, MIB, PART, PATIENCE, TOLD, Client, Lacking
+from clients import first_line, in_order, listed_parts, of_page, ran, told
 from server import BUCKET, ID, PROGRAM, REGION, SECRET, TOP
 
 # Files that are larger are sent in parts.
@@ -48,7 +49,8 @@ class Command(Client):
 
 
 class Signer(Command):
-    """`s3d sign`, each of whose requests goes over a connection of its own, and `examples/list.py`, which has it sign too."""
+    """`s3d sign`, each of whose requests goes over a connection of its own. Lists and uploads are those of
+    `examples/`."""
 
     name = "s3d sign"
     program = PROGRAM
@@ -60,8 +62,9 @@ class Signer(Command):
     def signed(self, method, key, words, query=""):
         """What `s3d sign` writes."""
         target = f"/{BUCKET}/{urllib.parse.quote(key, safe='/~')}{query}"
-        common = ["--keys", self.keys(), "--id", ID, "--moment", str(int(time.time())), "--region", REGION, "--host", self.address]
-        status, request, said = ran([self.program, "sign", *common, "--method", method, "--target", target, *words])
+        common = ["--keys", self.keys(), "--id", ID, "--moment", str(int(time.time()))]
+        common += ["--region", REGION, "--host", self.address, "--method", method, "--target", target]
+        status, request, said = ran([self.program, "sign", *common, *words])
         told(status, said)
         return request
 
@@ -110,7 +113,7 @@ class Signer(Command):
         self.asked("PUT", other, lines=[f"x-amz-copy-source:/{BUCKET}/{key}"])
 
     def listed(self, prefix, delimiter, page=None):
-        words = [sys.executable, TOP / "examples/list.py", "--keys", self.keys(), "--program", self.program, "--region", REGION]
+        words = [sys.executable, TOP / "examples/list.py", "--keys", self.keys(), "--region", REGION]
         words += ["--prefix", prefix, "--delimiter", delimiter, *([] if page is None else ["--page", str(page)])]
         status, wrote, said = ran([*words, self.address, BUCKET])
         told(status, said)
@@ -118,7 +121,7 @@ class Signer(Command):
         return [(key, None if size == "-" else int(size)) for key, size in lines]
 
     def put_parts(self, key, data):
-        words = [sys.executable, TOP / "examples/upload.py", "--keys", self.keys(), "--program", self.program, "--region", REGION]
+        words = [sys.executable, TOP / "examples/upload.py", "--keys", self.keys(), "--region", REGION]
         status, _, said = ran([*words, self.address, BUCKET, key, self.path(data)])
         told(status, said)
 
@@ -225,7 +228,8 @@ class AwsApi(Aws):
 
     def listed(self, prefix, delimiter, page=None):
         words = ["--prefix", prefix, "--delimiter", delimiter, *([] if page is None else ["--page-size", str(page)])]
-        return of_page(json.loads(self.aws("s3api", "list-objects-v2", "--bucket", BUCKET, "--output", "json", *words) or "{}"))
+        page = self.aws("s3api", "list-objects-v2", "--bucket", BUCKET, "--output", "json", *words)
+        return of_page(json.loads(page or "{}"))
 
     def delete(self, key):
         self.api("delete-object", key)
@@ -257,8 +261,9 @@ class AwsCopy(Aws):
 
     def listed(self, prefix, delimiter, page=None):
         words = [*([] if delimiter else ["--recursive"]), *([] if page is None else ["--page-size", str(page)])]
-        rows = [line.split(maxsplit=3) for line in self.aws("s3", "ls", *words, f"s3://{BUCKET}/{prefix}").decode().splitlines()]
-        objects = [(row[3] if "--recursive" in words else prefix + row[3], int(row[2])) for row in rows if row[0] != "PRE"]
+        told = self.aws("s3", "ls", *words, f"s3://{BUCKET}/{prefix}").decode()
+        rows, front = [line.split(maxsplit=3) for line in told.splitlines()], "" if "--recursive" in words else prefix
+        objects = [(front + row[3], int(row[2])) for row in rows if row[0] != "PRE"]
         return in_order(objects, [prefix + row[1] for row in rows if row[0] == "PRE"])
 
     def delete(self, key):
@@ -281,7 +286,8 @@ class S3cmd(Command):
 
     def s3cmd(self, *words, in_parts=False):
         config = [f"access_key = {ID}", f"secret_key = {self.secret}", f"host_base = {self.address}"]
-        config += [f"multipart_chunk_size_mb = {PART // MIB}", f"host_bucket = {self.address}", f"bucket_location = {REGION}", "use_https = False"]
+        config += [f"multipart_chunk_size_mb = {PART // MIB}", f"host_bucket = {self.address}"]
+        config += [f"bucket_location = {REGION}", "use_https = False"]
         config += [f"enable_multipart = {in_parts}", "signature_v2 = False", "max_retries = 1"]
         path = self.path(("[default]\n" + "\n".join(config) + "\n").encode())
         status, wrote, said = ran(["s3cmd", "-c", path, "--no-progress", *words], environment())
@@ -354,7 +360,8 @@ class Rclone(Command):
         return Path(path).read_bytes()
 
     def part(self, key, first, count):
-        return self.rclone("cat", "--no-traverse", "--offset", str(first), "--count", str(count), f"pail:{BUCKET}/{key}")
+        words = ["--no-traverse", "--offset", str(first), "--count", str(count)]
+        return self.rclone("cat", *words, f"pail:{BUCKET}/{key}")
 
     def head(self, key):
         return json.loads(self.rclone("lsjson", "--stat", f"pail:{BUCKET}/{key}"))["Size"]
@@ -384,9 +391,8 @@ class S4cmd(Command):
 
     name = program = "s4cmd"
     LISTS = "it asks for a list of objects first"
-    limits = dict.fromkeys(
-        ["get", "put again", "head", "delete", "missing key", "wrong secret", "wrong, 8 MiB", "empty", "8 MiB", "odd key"], LISTS
-    )
+    ASKING = ["get", "put again", "head", "delete", "missing key", "wrong secret", "wrong, 8 MiB"]
+    limits = dict.fromkeys([*ASKING, "empty", "8 MiB", "odd key"], LISTS)
 
     def s4cmd(self, *words):
         env = environment(S3_ACCESS_KEY=ID, S3_SECRET_KEY=self.secret)
@@ -410,8 +416,8 @@ class S4cmd(Command):
 
 
 class S3backer(Command):
-    """`s3backer`, a disk whose blocks are objects: a put writes to the front of a new disk that is named as the key, and a
-    get reads that from the disk, which is mounted anew."""
+    """`s3backer`, a disk whose blocks are objects: a put writes to the front of a new disk that is named as the key,
+    and a get reads that from the disk, which is mounted anew."""
 
     name = program = "s3backer"
     SIZE = 8 << 20
@@ -420,7 +426,8 @@ class S3backer(Command):
 
     @classmethod
     def absent(cls):
-        return super().absent() or (None if Path("/dev/fuse").exists() and shutil.which("fusermount") else "no FUSE here")
+        has_fuse = Path("/dev/fuse").exists() and shutil.which("fusermount")
+        return super().absent() or (None if has_fuse else "no FUSE here")
 
     def __init__(self, address, folder, secret=SECRET):
         super().__init__(address, folder, secret)
@@ -430,7 +437,8 @@ class S3backer(Command):
         """What comes of work on the disk's file while it is mounted."""
         mount = Path(self.path() + "-disk")
         mount.mkdir()
-        words = ["s3backer", "-f", f"--baseURL=http://{self.address}/", f"--accessId={ID}", f"--accessKey={self.secret}"]
+        words = ["s3backer", "-f", f"--baseURL=http://{self.address}/"]
+        words += [f"--accessId={ID}", f"--accessKey={self.secret}"]
         words += ["--blockSize=64k", f"--size={self.SIZE}", f"--prefix={urllib.parse.quote(key, safe='')}-", "--force"]
         running = subprocess.Popen([*words, "--maxRetryPause=500", BUCKET, mount], stderr=subprocess.PIPE, text=True)
         try:

@@ -1,4 +1,5 @@
-"""Starts `s3d serve` on a free port of 127.0.0.1, with a keys file of its own, for the scripts of `interop/` and `bench/`."""
+"""Starts `s3d serve` on a free port of 127.0.0.1, with a keys file of its own, for the scripts of `interop/`,
+`bench/` and `checks/`."""
 
 import os
 import signal
@@ -65,8 +66,8 @@ class Server:
             os.sched_setaffinity(int(thread.name), processors)
 
     def processor_seconds(self):
-        """The seconds of processor time that it took: of its threads as they are, by the scheduler's clock, which counts nanoseconds; where
-        that isn't kept, of all threads in hundredths of a second."""
+        """The seconds of processor time that it took: of its threads as they are, by the scheduler's clock, which
+        counts nanoseconds; where that isn't kept, of all threads in hundredths of a second."""
         process = Path(f"/proc/{self.running.pid}")
         spent = sum(int(times.read_text().split()[0]) for times in process.glob("task/*/schedstat"))
         if spent:

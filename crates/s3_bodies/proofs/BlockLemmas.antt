@@ -1,11 +1,11 @@
 -- Blocks one behind another.
-use Rattle.std.proofs.Common.{◌≡◌, refl, sym, ap, ◌∙◌, ℕ, zero, suc, ◌+◌, ◌-◌, ◌*◌, ◌<◌, ◌≤◌, List, [], ◌∷◌, ◌++◌, length, take, drop, get_or, arith, length-append, length-drop, length-take, append_assoc, append-nil}
+use Rattle.std.proofs.Common.{◌≡◌, refl, sym, ap, ◌∙◌, ℕ, zero, suc, min, ◌+◌, ◌-◌, ◌*◌, ◌<◌, ◌≤◌, List, [], ◌∷◌, ◌++◌, length, take, drop, get_or, arith, length-append, length-drop, length-take, append_assoc, append-nil}
 use Rattle.std.proofs.lemmas.List.{take-append-drop}
 use Rattle.std.proofs.lemmas.List.Folds.{concat-append}
 use Rattle.std.proofs.lemmas.Grind.{elements}
 use Rattle.std.specs.List.{All, concat}
 use Rattle.s3_bodies.specs.Pieces.{IsPieceAt, AreBlocks}
-use Rattle.s3_bodies.proofs.PieceLemmas.{elsewhere, rest_at, before, behind}
+use Rattle.s3_bodies.proofs.PieceLemmas.{piece_ends, elsewhere, rest_at, before, behind}
 
 next_place : (block : List ℕ) (width index from : ℕ) → length block ≡ width → length block + (index * width + from) ≡ suc index * width + from
 next_place block width index from is = grind (arith, is)
@@ -44,6 +44,20 @@ in_last (block ∷ full) last width (suc index) from all fits past inside =
     let further = in_last full last width index from (later width block full all) fits (omega arith) (omega arith) in
     (further.0, rw (append_assoc block (concat full) last) (elsewhere _ _ _ _ place (behind block (concat full ++ last) _ (index * width + from) further.1)))
 
+-- how many bytes are left from there on
+left_in_last : (full : List (List ℕ)) (last : List ℕ) (width index from : ℕ) → All (λ block. length block ≡ width) full → length last ≤ width
+    → length full ≤ index → index * width + from < length (concat full ++ last)
+    → length (concat full ++ last) ≡ index * width + from + (length last - from)
+left_in_last [] last width zero from all fits past inside = omega arith
+left_in_last [] last width (suc index) from all fits past inside = absurd (too_far width index from (length last) fits inside)
+left_in_last (block ∷ full) last width zero from all fits past inside = absurd (omega arith)
+left_in_last (block ∷ full) last width (suc index) from all fits past inside =
+    let place = next_place block width index from (all 0 [] (omega arith)) in
+    let length_is : length ((block ++ concat full) ++ last) ≡ length block + length (concat full ++ last) =
+    ap length (append_assoc block (concat full) last) ∙ length-append block (concat full ++ last) in
+    let further = left_in_last full last width index from (later width block full all) fits (omega arith) (omega arith) in
+    omega (arith, place, length_is, further)
+
 -- the same, as the code finds them
 module _ (width : ℕ) (full : List (List ℕ)) (last bytes : List ℕ) (are : AreBlocks width full last bytes) (at index from : ℕ) (place : index * width + from ≡ at) where
   pub full_inside : (block : List ℕ) → from < width → index < length full → block ≡ get_or full index block → from ≤ length block
@@ -62,6 +76,18 @@ module _ (width : ℕ) (full : List (List ℕ)) (last bytes : List ℕ) (are : A
   last_piece piece inside past piece_is =
       rw (piece_is, ← are.bytes_are, ← place)
       (in_last full last width index from are.full_width are.last_width past (rw (place, are.bytes_are) inside)).1
+
+  -- how long these pieces are
+  pub full_size : (block piece : List ℕ) → from < width → index < length full → block ≡ get_or full index block → piece ≡ drop from block
+      → length piece ≡ min (width - from) (length bytes - at)
+  full_size block piece from_in index_in block_is piece_is =
+      let ends = piece_ends bytes piece at (full_piece block piece from_in index_in block_is piece_is) in
+      omega (arith, ends, are.full_width index block index_in, ap length block_is, ap length piece_is, length-drop from block)
+
+  pub last_size : (piece : List ℕ) → at < length bytes → length full ≤ index → piece ≡ drop from last → length piece ≡ min (width - from) (length bytes - at)
+  last_size piece inside past piece_is =
+      let left = left_in_last full last width index from are.full_width are.last_width past (rw (place, are.bytes_are) inside) in
+      omega (arith, left, place, ap length are.bytes_are, ap length piece_is, length-drop from last, are.last_width, last_inside inside past)
 
 -- one more block
 pub concat_push : (full : List (List ℕ)) (block : List ℕ) → concat (full ++ block ∷ []) ≡ concat full ++ block

@@ -2,6 +2,7 @@
 
 ghost use Rattle.std.specs.Prelude.{◌≡◌, ◌≤◌, ◌<◌, [], ◌++◌, length, drop, IfOk, MatchResult};
 
+use crate::piece::Piece;
 use s3_terms::NoMemory;
 use std::alloc::Global;
 use std::marker::Model;
@@ -42,6 +43,29 @@ impl Block {
         Ok(Block { bytes })
     }
 
+    /// These bytes, which are moved and not copied.
+    pub(crate) fn of(bytes: Vec<u8>) -> Block
+        ensures { result ≡ bytes.items }
+    {
+        Block { bytes }
+    }
+
+    /// The same bytes, which are copied.
+    pub(crate) fn copy(&self) -> Result<Block, NoMemory>
+        ensures { IfOk result (λ block. block ≡ self.now) }
+    {
+        Ok(Block {
+            bytes: self.bytes.clone()?,
+        })
+    }
+
+    /// All bytes.
+    pub(crate) fn as_bytes(&self) -> &[u8]
+        ensures { result.now ≡ self.now }
+    {
+        self.bytes.as_slice()
+    }
+
     /// How many bytes it has.
     pub(crate) fn len(&self) -> usize
         ensures { result ≡ length self.now }
@@ -49,12 +73,12 @@ impl Block {
         self.bytes.len()
     }
 
-    /// The bytes from a place on.
-    pub(crate) fn rest(&self, at: usize) -> &[u8]
+    /// All bytes from a place on.
+    pub(crate) fn rest(&self, at: usize) -> Piece<'_>
         requires { at ≤ length self.now }
-        ensures { result.now ≡ drop at self.now }
+        ensures { result ≡ record { rest = drop at self.now; run = length (drop at self.now); bytes = drop at self.now } }
     {
-        &self.bytes.as_slice()[at..]
+        Piece::in_block(self, at)
     }
 
     /// Puts a copy of these bytes behind its own, which aren't moved while there is room.

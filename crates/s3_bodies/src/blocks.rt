@@ -1,8 +1,10 @@
 //! The blocks of a body.
 
-ghost use Rattle.std.specs.Prelude.{◌≡◌, ◌<◌, [], ◌++◌, length, IfOk, OnErr, MatchResult};
+ghost use Rattle.std.specs.Prelude.{◌≡◌, ◌<◌, ◌-◌, ◌%◌, min, take, [], ◌++◌, length, IfOk, OnErr, MatchResult};
+ghost use Rattle.s3_bodies.specs.Pieces.{IsPieceAt};
 
 use crate::block::{BLOCK_SIZE, Block};
+use crate::piece::Piece;
 use crate::row::{Row, add, cut};
 use crate::shared::InPieces;
 use s3_terms::NoMemory;
@@ -99,7 +101,12 @@ impl InPieces for Blocks {
         self.size
     }
 
-    fn piece(&self, at: u64) -> &[u8] {
+    fn piece(&self, at: u64) -> Piece<'_>
+        requires { at < length self.now }
+        ensures stands { IsPieceAt at self.now result.bytes }
+        ensures to_end { result.bytes ≡ take result.run result.rest }
+        ensures size { length result.bytes ≡ min (65536 - at % 65536) (length self.now - at) }
+    {
         let index = at as usize / BLOCK_SIZE;
         let from = at as usize % BLOCK_SIZE;
         if index < self.row.full.len() {

@@ -9,14 +9,27 @@ use crate::blocks::Blocks;
 use crate::own::Own;
 use crate::runs::Runs;
 use crate::shared::{InPieces, Shared};
-use crate::{BodyBuilder, Sink};
+use crate::{BodyBuilder, Piece, Sink};
 use s3_terms::NoMemory;
 use std::alloc::Global;
 use std::marker::Model;
 
-/// The bytes of an object or of a part, in shared blocks of 1 to 65,536 bytes, which don't change. Contracts see a body
-/// as the list of its bytes. To copy it, to cut a range out of it and to join it with others moves no byte; its memory is
-/// given back with the last body that has some of it. The bytes of a document may be one body's alone.
+/// The bytes of an object or of a part. They don't change. Contracts see a body as the list of its bytes.
+///
+/// The bytes lie in blocks of 1 to 65,536, which bodies share. To copy a body, to cut a range out of it and to join it
+/// with others moves no byte. A block is given back with the last body that has some of it. The bytes of a document may
+/// be one body's alone.
+///
+/// ```
+/// let body = Body::of(alloc, b"hello world")?;
+/// let range = body.copy()?.slice(6, 5);
+/// let joined = Body::join(alloc, &[&range, &body])?;   // "worldhello world"
+/// let mut at = 0;
+/// while at < joined.size() {
+///     let bytes = joined.piece(at).bytes();   // "world", then "hello world"
+///     at += bytes.len() as u64;
+/// }
+/// ```
 #[derive(Drop)]
 pub struct Body {
     content: Content,
@@ -141,15 +154,18 @@ impl Body {
         Body { content }
     }
 
-    /// Some bytes that lie together, from a place on: those of a block, or less at the ends of a range. It takes no
-    /// memory, and the time to find the place: by the logarithm of how many bodies were joined.
+    /// The bytes that lie together from a place on: all from there to the end of a block, or, in a joined body, to the
+    /// end of a run of blocks of one of the bodies. Only the end of this body cuts them short. It takes no memory. It takes
+    /// the time to find the place, which grows with the logarithm of how many bodies were joined.
     #[tactic(auto, using(crate::proofs::PieceLemmas::piece_ends))]
-    pub fn piece(&self, at: u64) -> &[u8]
+    pub fn piece(&self, at: u64) -> Piece<'_>
         requires { at < length self.now }
-        ensures piece { IsPieceAt at self.now result.now }
-        ensures within { at + length result.now ≤ length self.now }
+        ensures piece { IsPieceAt at self.now result.bytes }
+        ensures whole { result.bytes ≡ take (length self.now - at) (take result.run result.rest) }
+        ensures within { at + length result.bytes ≤ length self.now }
     {
         match &self.content {
+            // No place is before the end of no bytes.
             Content::Nothing => unreachable!(),
             Content::Alone(part) => part.piece(at),
             Content::One(part) => part.piece(at),
@@ -192,16 +208,18 @@ impl Body {
     }
 
     /// Puts a copy of the bytes from a place on behind others. `NoMemory` comes only where there is no room for them
-    /// already.
+    /// already. It leaves a beginning of the copy behind the others.
     pub fn copy_to(&self, from: u64, out: &mut Vec<u8>) -> Result<(), NoMemory>
         requires { from ≤ length self.now }
         ensures copied { OnOk result (out.new.items ≡ out.old.items ++ drop from self.now) }
+        ensures left { OnErr result
+            (out.new.items ≡ out.old.items ++ take (vec_len out.new - vec_len out.old) (drop from self.now)) }
         ensures memory { OnErr result (vec_capacity out.old < vec_len out.old + (length self.now - from)) }
         ensures capacity { OnOk result (vec_capacity out.old ≤ vec_capacity out.new) }
     {
         let mut at = from;
         while at < self.size() {
-            let piece = self.piece(at);
+            let piece = self.piece(at).bytes();
             out.extend_from_slice(piece)?;
             at += piece.len() as u64;
         }

@@ -1,15 +1,17 @@
 //! Bytes that one body alone has.
 
-ghost use Rattle.std.specs.Prelude.{◌≡◌, ◌+◌, ◌<◌, ◌≤◌, length, take, drop, IfOk};
+ghost use Rattle.std.specs.Prelude.{◌≡◌, ◌+◌, ◌-◌, ◌<◌, ◌≤◌, length, take, drop, IfOk};
 ghost use Rattle.s3_bodies.specs.Pieces.{IsPieceAt};
 
+use crate::block::Block;
+use crate::piece::Piece;
 use s3_terms::NoMemory;
 use std::marker::Model;
 
 /// A part of bytes that lie together and aren't shared. Contracts see it as the list of its bytes.
 #[derive(Drop)]
 pub(crate) struct Own {
-    whole: Vec<u8>,
+    whole: Block,
     from: u64,
     size: u64,
 }
@@ -20,9 +22,9 @@ impl Model for Own {
 
     ghost Value = { List ℕ };
 
-    ghost view = { λ part. take part.size (drop part.from part.whole.items) };
+    ghost view = { λ part. take part.size (drop part.from part.whole) };
 
-    ghost invariant = { λ part. IsWithin part.from part.size part.whole.items };
+    ghost invariant = { λ part. IsWithin part.from part.size part.whole };
 }
 
 // So many of these bytes from a place on.
@@ -41,7 +43,7 @@ impl Own {
     {
         let size = whole.len() as u64;
         Own {
-            whole,
+            whole: Block::of(whole),
             from: 0,
             size,
         }
@@ -58,7 +60,7 @@ impl Own {
     pub(crate) fn as_bytes(&self) -> &[u8]
         ensures { result.now ≡ self.now }
     {
-        cut(self.whole.as_slice(), self.from, self.size)
+        cut(self.whole.as_bytes(), self.from, self.size)
     }
 
     /// The same bytes, which are copied.
@@ -66,7 +68,7 @@ impl Own {
         ensures { IfOk result (λ part. part ≡ self.now) }
     {
         Ok(Own {
-            whole: self.whole.clone()?,
+            whole: self.whole.copy()?,
             from: self.from,
             size: self.size,
         })
@@ -90,10 +92,14 @@ impl Own {
     }
 
     /// All of them from a place on.
-    pub(crate) fn piece(&self, at: u64) -> &[u8]
+    #[tactic(auto, using(crate::proofs::PartLemmas::pieces_of_own))]
+    pub(crate) fn piece(&self, at: u64) -> Piece<'_>
         requires { at < length self.now }
-        ensures { IsPieceAt at self.now result.now }
+        ensures stands { IsPieceAt at self.now result.bytes }
+        ensures all { result.bytes ≡ take (length self.now - at) (take result.run result.rest) }
+        ensures to_end { at + length result.bytes ≡ length self.now }
     {
-        &self.as_bytes()[at as usize..]
+        let rest = self.whole.rest((self.from + at) as usize);
+        rest.within(self.size - at)
     }
 }

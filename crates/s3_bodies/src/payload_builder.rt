@@ -51,6 +51,7 @@ impl PayloadBuilder {
         ensures { result ≡ md5 self.now }
     {
         let Ok(digest) = self.digest.clone() else {
+            // A hasher has no memory of its own, so its copy needs none.
             unreachable!()
         };
         digest.finalize()

@@ -74,9 +74,11 @@ fn fill(row: &mut Row, data: &[u8], more: Row) -> Result<(), NoMemory>
     row.last.append(data)?;
     let filled = replace(&mut row.last, last);
     let Ok(()) = row.full.push(filled) else {
+        // Its place was reserved above.
         unreachable!()
     };
     let Ok(()) = row.full.append(&mut behind) else {
+        // Their places were reserved above.
         unreachable!()
     };
     Ok(())

@@ -6,6 +6,7 @@ ghost use Rattle.s3_bodies.specs.Pieces.{IsPieceAt};
 ghost use Rattle.s3_bodies.specs.Runs.{HaveEnds, bytes_of_runs};
 
 use crate::blocks::Blocks;
+use crate::piece::Piece;
 use crate::shared::{InPieces, Shared};
 use s3_terms::NoMemory;
 use std::alloc::Global;
@@ -103,8 +104,8 @@ impl InPieces for Runs {
         self.size
     }
 
-    fn piece(&self, at: u64) -> &[u8] {
+    fn piece(&self, at: u64) -> Piece<'_> {
         let (run, from) = found(self.runs.as_slice(), at);
-        run.piece(from)
+        run.piece(from).in_run(run, from)
     }
 }

@@ -1,8 +1,9 @@
 //! A part of what is shared.
 
-ghost use Rattle.std.specs.Prelude.{◌≡◌, ℕ, ◌+◌, ◌<◌, ◌≤◌, List, length, take, drop, IfOk};
+ghost use Rattle.std.specs.Prelude.{◌≡◌, ℕ, ◌+◌, ◌-◌, ◌<◌, ◌≤◌, List, length, take, drop, IfOk};
 ghost use Rattle.s3_bodies.specs.Pieces.{IsPieceAt};
 
+use crate::piece::Piece;
 use s3_terms::NoMemory;
 use std::alloc::Global;
 use std::marker::Model;
@@ -16,10 +17,11 @@ pub(crate) trait InPieces {
     fn size(&self) -> u64
         ensures { result ≡ length (bytes self.now) };
 
-    /// Some that lie together from a place on.
-    fn piece(&self, at: u64) -> &[u8]
+    /// Those that lie together from a place on, up to the end of a block or of a run.
+    fn piece(&self, at: u64) -> Piece<'_>
         requires { at < length (bytes self.now) }
-        ensures { IsPieceAt at (bytes self.now) result.now };
+        ensures stands { IsPieceAt at (bytes self.now) result.bytes }
+        ensures to_end { result.bytes ≡ take result.run result.rest };
 }
 
 /// A part of bytes that are shared and don't change. Contracts see it as the list of its bytes.
@@ -40,16 +42,6 @@ impl<T: InPieces> Model for Shared<T> {
     ghost view = { λ part. take part.size (drop part.from (T.bytes (arc_value part.whole))) };
 
     ghost invariant = { λ part. IsWithin part.from part.size (T.bytes (arc_value part.whole)) };
-}
-
-// At most so many of these bytes.
-fn clipped(piece: &[u8], most: u64) -> &[u8]
-    ensures { result.now ≡ take most piece.now }
-{
-    if (piece.len() as u64) <= most {
-        return piece;
-    }
-    &piece[..most as usize]
 }
 
 impl<T: InPieces + Drop> Shared<T> {
@@ -101,11 +93,13 @@ impl<T: InPieces + Drop> Shared<T> {
         }
     }
 
-    /// Some that lie together from a place on.
-    pub(crate) fn piece(&self, at: u64) -> &[u8]
+    /// Those that lie together from a place on: only the end of all cuts off more of the same block or run.
+    #[tactic(auto, using(crate::proofs::PartLemmas::pieces_of_part))]
+    pub(crate) fn piece(&self, at: u64) -> Piece<'_>
         requires { at < length self.now }
-        ensures { IsPieceAt at self.now result.now }
+        ensures stands { IsPieceAt at self.now result.bytes }
+        ensures to_end { result.bytes ≡ take (length self.now - at) (take result.run result.rest) }
     {
-        clipped(self.whole.piece(self.from + at), self.size - at)
+        self.whole.piece(self.from + at).within(self.size - at)
     }
 }

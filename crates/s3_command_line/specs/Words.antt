@@ -3,10 +3,10 @@
 use Rattle.std.specs.Prelude.{◌≡◌, ◌⊎◌, Bool, true, false, List, [], ◌∷◌, map, codes, Option, Some, None, option_map, unwrap_or, bytes_eq}
 use Rattle.clap.specs.Words.{App, Row, Rule, Text, new_app, new_rule, with_rule, with_subcommand, subcommand_of, first_of, all_of, fault_of}
 use Rattle.clap.specs.declared.builder.action.ArgAction.TheVariants.{Append, SetTrue}
-use Rattle.s3_options.specs.declared.options.Options.{Options}
-use Rattle.s3_options.specs.declared.options.ReplayOptions.{ReplayOptions}
-use Rattle.s3_options.specs.declared.options.ServeOptions.{ServeOptions}
-use Rattle.s3_options.specs.declared.options.SignOptions.{SignOptions}
+use Rattle.s3_settings.specs.declared.options.Options.{Options}
+use Rattle.s3_settings.specs.declared.options.ReplayOptions.{ReplayOptions}
+use Rattle.s3_settings.specs.declared.options.ServeOptions.{ServeOptions}
+use Rattle.s3_settings.specs.declared.options.SignOptions.{SignOptions}
 use Rattle.s3_command_line.specs.declared.task.Asked.{Asked}
 use Rattle.s3_command_line.specs.declared.task.Asked.TheVariants.{Work, Server}
 use Rattle.s3_command_line.specs.declared.task.Task.{Task}

@@ -25,7 +25,7 @@ pub(crate) const WORKERS: &str = "8";
 pub(crate) const MAX_CONNECTIONS: &str = "1024";
 
 // What `s3d --version` says behind the name.
-const VERSION: &str = "0.1.0";
+const VERSION: &str = "0.2.0";
 
 // An argument of a command line.
 #[derive(Clone, Copy)]

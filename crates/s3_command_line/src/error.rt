@@ -1,13 +1,15 @@
 //! Why words ask for no task.
 
-ghost use Rattle.std.specs.Prelude.{◌≡◌, ◌≢◌};
+ghost use Rattle.std.specs.Prelude.{◌≡◌, ◌≢◌, []};
 ghost use Rattle.clap.specs.Words.{kind_of};
 ghost use Rattle.s3_command_line.specs.declared.error.WordsError.TheVariants.{OutOfMemory};
 
 use clap::Error;
 use clap::error::ErrorKind;
-use std::alloc::AllocError;
-use std::fmt;
+use std::alloc::{AllocError, Global};
+
+// What is told where the parser has no text.
+const NO_TEXT: &str = "error: wrong words\n";
 
 /// Why the words of a command line ask for no task.
 #[derive(Drop)]
@@ -18,21 +20,36 @@ pub enum WordsError {
     Usage(Usage),
 }
 
-/// What the user is told of words that are wrong or ask for help; its `Display` is the text.
+/// What the user is told of words that are wrong or ask for help.
 #[derive(Drop)]
 pub struct Usage {
-    error: Error,
+    text: String,
+}
+
+impl Usage {
+    /// The text, which isn't empty.
+    pub fn text(&self) -> &str
+        ensures { result.now ≢ [] }
+    {
+        if self.text.is_empty() {
+            NO_TEXT
+        } else {
+            self.text.as_str()
+        }
+    }
 }
 
 impl WordsError {
     /// The same said of the error of a parse.
-    pub(crate) fn of_parse(error: Error) -> WordsError
+    pub(crate) fn of_parse(alloc: Global, error: Error) -> WordsError
         ensures { result ≢ OutOfMemory → kind_of error ≢ ErrorKind.OutOfMemory }
     {
         if error.kind() == ErrorKind::OutOfMemory {
-            WordsError::OutOfMemory
-        } else {
-            WordsError::Usage(Usage { error })
+            return WordsError::OutOfMemory;
+        }
+        match format!(in alloc; "{error}") {
+            Ok(text) => WordsError::Usage(Usage { text }),
+            Err(_) => WordsError::OutOfMemory,
         }
     }
 }
@@ -42,11 +59,5 @@ impl From<AllocError> for WordsError {
 
     fn from(_e: AllocError) -> Self {
         WordsError::OutOfMemory
-    }
-}
-
-impl fmt::Display for Usage {
-    fn fmt<W: fmt::Write>(&self, f: &mut fmt::Formatter<W>) -> fmt::Result {
-        write!(f, "{}", self.error)
     }
 }

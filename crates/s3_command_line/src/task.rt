@@ -7,7 +7,7 @@ ghost use Rattle.s3_command_line.specs.Task.{AskFor, AskForNothing, AskForNoTask
 
 use crate::command::{BODY_LIMIT, MAX_CONNECTIONS, MIN_PART, REGION, WORKERS};
 use clap::ArgMatches;
-use s3_options::{Options, ReplayOptions, ServeOptions, SignOptions};
+use s3_settings::{Options, ReplayOptions, ServeOptions, SignOptions};
 use std::alloc::{AllocError, Global};
 
 /// What the words of a command line ask for.

@@ -35,11 +35,11 @@ fn parse<'a, S: AsStr>(
 {
     let matches = match command.try_get_matches_from_mut(words) {
         Ok(matches) => matches,
-        Err(error) => return Err(WordsError::of_parse(error)),
+        Err(error) => return Err(WordsError::of_parse(alloc, error)),
     };
     match Asked::of_matches(alloc, &matches)? {
         Some(asked) => Ok(asked),
-        None => Err(WordsError::of_parse(no_subcommand(command))),
+        None => Err(WordsError::of_parse(alloc, no_subcommand(command))),
     }
 }
 

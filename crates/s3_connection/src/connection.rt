@@ -29,10 +29,10 @@ use std::marker::Model;
 use std::mem;
 use std::snapshot::Snapshot;
 
-/// A connection: it takes bytes at any time, and keeps those that come while a command waits.
+/// One connection that takes bytes at any time. It keeps those that come while a command waits.
 ///
-/// It makes no call of the system: the caller moves the bytes, says at which moment they come, takes the turns of its commands,
-/// gives their answers, and has it go on behind each. At rest it is small.
+/// It makes no call of the system. The caller moves the bytes, and says at which moment they come. It takes the turns
+/// of commands, gives their answers, and has the connection go on after each. At rest a connection is small.
 #[derive(Drop)]
 pub struct Connection {
     session: Session,
@@ -54,7 +54,7 @@ impl Model for Connection {
 impl Connection {
     ghost use Rattle.s3_connection.specs.Connection as rules;
 
-    /// A connection of which nothing has come. It takes no memory.
+    /// A connection of which nothing has come. It wants input, and has written nothing. It takes no memory.
     pub fn new(alloc: Global) -> Connection
         ensures begins { (settings : Settings) → Holds result settings rules.nothing_received [] [] [] }
         ensures standing { rules.standing_of result ≡ Reading }
@@ -70,19 +70,34 @@ impl Connection {
         }
     }
 
-    /// Takes a piece of what the peer sent, and answers whether a message of it has this moment: the one whose head became whole,
-    /// or too large, with it. While a command waits, and until the connection has gone on behind its answer, the piece is kept.
-    /// Where no more is read, and where the end has come, it is dropped. Otherwise it goes through the session, up to the message
-    /// whose command waits; what is behind that is kept, and where there is no memory for it the connection ends as where
-    /// memory runs out at the message's turn.
+    /// Takes a piece of what the peer sent. Answers whether a message has the moment `now`: the one whose head became
+    /// whole, or too large, with this piece.
     ///
-    /// The settings have to be the same at every call for a connection: its promises are about one.
+    /// What the connection wants (`wants`) decides what becomes of the piece:
     ///
-    /// Takes time and memory as `Session::feed` does, and memory for what is kept.
+    /// - `Input`: it goes through the session, up to the first message whose command waits. What comes after that
+    ///   message is kept. Where there is no memory for this, the connection ends as it does where memory runs out at
+    ///   that message's turn.
+    /// - `Answer`, `ToGoOn`: it is kept, and goes through the session in a later call of `go_on`.
+    /// - `Nothing`: it is dropped. So it is after `end`, whatever the connection wants.
+    ///
+    /// The settings have to be the same at every call for a connection, since its promises are about one.
+    ///
+    /// It takes time and memory as `Session::feed` does, and memory for what is kept.
     ///
     /// # Errors
     ///
-    /// `NoMemory` where there is no memory for a piece that has to be kept whole; nothing has changed then.
+    /// `NoMemory` where there is no memory for a piece that has to be kept whole. The connection is as it was then.
+    ///
+    /// ```text
+    /// connection.piece(alloc, &config, now, &buffer[..count])?;
+    /// while let Some(turn) = connection.take_turn() {
+    ///     connection.answer(alloc, book.enter(seat, turn));
+    ///     connection.go_on(alloc, &config, now);
+    /// }
+    /// let written = socket.write(connection.out())?;
+    /// connection.sent(written);
+    /// ```
     pub fn piece(
         &mut self,
         alloc: Global,
@@ -113,7 +128,7 @@ impl Connection {
         }
     }
 
-    // Keeps a piece that comes while a command waits, or before the connection has gone on behind its answer.
+    // Keeps a piece that comes while a command waits, or before the connection has gone on after its answer.
     fn keep(&mut self, piece: &[u8]) -> Result<(), NoMemory>
         requires waits { (rules.wants_of self.old ≡ Wants.Answer) ⊎ (rules.wants_of self.old ≡ Wants.ToGoOn) }
         ensures kept { OnOk result (self.new ≡ record self.old { kept = self.old.kept ++ piece.now }) }
@@ -141,8 +156,8 @@ impl Connection {
         has_moment
     }
 
-    /// Says that no more bytes come. While a command waits, and until the connection has gone on behind its answer, this is kept in
-    /// mind. A second end does nothing. It takes no memory.
+    /// Says that no more bytes come. While a command waits, and until the connection has gone on after its answer, this
+    /// is kept in mind. A second end does nothing. It takes no memory.
     pub fn end(&mut self)
         ensures holds { (settings : Settings) (input : Input) (moments : List ℕ) (entries : List Entry) (sent : List ℕ)
             → Holds self.old settings input moments entries sent
@@ -170,8 +185,8 @@ impl Connection {
         self.stage.wants()
     }
 
-    /// Hands out the turn that waits, which has to be answered then; `None` where none waits or it was taken before. It takes no
-    /// memory.
+    /// Hands out the turn that waits, which the caller then has to answer. `None` where none waits, or where it was
+    /// taken before. It takes no memory.
     pub fn take_turn(&mut self) -> Option<Turn>
         ensures value { result ≡ rules.turn_of self.old }
         ensures taken { rules.turn_of self.old ≢ None → rules.taken_of self.new ≡ result }
@@ -188,6 +203,7 @@ impl Connection {
             return None;
         }
         let Stage::Waiting(turn) = mem::replace(&mut self.stage, Stage::Done) else {
+            // A stage that has a turn is that one.
             unreachable!()
         };
         self.stage
@@ -195,8 +211,11 @@ impl Connection {
         Some(turn)
     }
 
-    /// Answers the turn that was taken: the reply is written, or, where memory ran out at the turn, what stands for one, and
-    /// nothing more is read. It takes no memory.
+    /// Answers the turn that was taken. One has to have been taken, and not been answered yet.
+    ///
+    /// `Ok` has the answer of the store, whose reply is written. The connection then wants to go on (`go_on`), unless
+    /// this reply closes it. `Err` tells that memory ran out at the turn. The reply that says so is written then, and
+    /// nothing more is read. Where nothing more is read, what was kept is dropped. It takes no memory.
     pub fn answer(&mut self, alloc: Global, answered: Result<Answer, NoMemory>)
         requires taken { rules.taken_of self.old ≢ None }
         ensures holds { (settings : Settings) (input : Input) (moments : List ℕ) (entries : List Entry) (turn : Turn) (sent : List ℕ)
@@ -218,10 +237,11 @@ impl Connection {
         }
     }
 
-    /// Goes on behind an answer: what is kept goes through the session, up to the next message whose command waits, and behind all of
-    /// it the end, if that has come. Answers whether a message has this moment. Where nothing was answered it does nothing.
+    /// Goes on after an answer: what is kept goes through the session, up to the next message whose command waits.
+    /// After all of it the session hears of the end, if that has come. Where nothing was answered it does nothing.
     ///
-    /// Takes time and memory as `Session::feed` does for what it takes.
+    /// Answers whether a message has the moment `now`, as `piece` does. It takes time and memory as `Session::feed`
+    /// does for what it takes.
     pub fn go_on(&mut self, alloc: Global, config: &Config, now: Moment) -> bool
         ensures holds { (input : Input) (moments : List ℕ) (entries : List Entry) (sent : List ℕ)
             → Holds self.old config.now input moments entries sent
@@ -237,7 +257,7 @@ impl Connection {
         }
     }
 
-    // Takes what is kept behind an answer, and hears of the end behind that, if it has come.
+    // Takes what is kept after an answer, and then hears of the end, if it has come.
     fn take_on(&mut self, alloc: Global, config: &Config, now: Moment) -> bool
         requires answered { self.old.stage ≡ Stage.Answered }
         ensures holds { (input : Input) (moments : List ℕ) (entries : List Entry) (sent : List ℕ)
@@ -255,7 +275,7 @@ impl Connection {
         has_moment
     }
 
-    // Takes what is kept behind an answer, where the end has not come.
+    // Takes what is kept after an answer, where the end has not come.
     fn read_kept(&mut self, alloc: Global, config: &Config, now: Moment) -> bool
         requires answered { self.old.stage ≡ Stage.Answered }
         requires goes_on { self.old.is_ended ≡ false }
@@ -284,7 +304,7 @@ impl Connection {
         self.session.in_body()
     }
 
-    /// What has come of the head of the message at hand, until that is answered; `None` where memory ran out for it. It takes no
+    /// What has come of the head of the message at hand, until that is answered. `None` where memory ran out for it. It takes no
     /// memory.
     pub fn head(&self) -> Option<&[u8]>
         ensures text { (bytes : List ℕ) → heads.Holds self.now.session.search bytes → IfSome result (λ text. text.now ≡ skip_pairs bytes) }
@@ -293,11 +313,16 @@ impl Connection {
         self.session.head()
     }
 
-    /// Whether the signature of the message at hand was verified, until that is answered: for the log of a server. It takes no
-    /// memory.
+    /// Whether the signature of the message at hand was verified, for the log of a server. It is told until the message is
+    /// answered, also where a later rule, the body or the command refuses the message.
+    ///
+    /// Where memory ran out for the message, false may be told of a signature that verifies. It takes no memory.
     pub fn is_verified(&self) -> bool
         ensures verified { (settings : Settings) (input : Input) (moments : List ℕ) (entries : List Entry) (sent : List ℕ)
             → Holds self.now settings input moments entries sent → result ≡ true → HoldsVerified settings self.now.session }
+        ensures told { (settings : Settings) (input : Input) (moments : List ℕ) (entries : List Entry) (sent : List ℕ)
+            → Holds self.now settings input moments entries sent → is_dead (rules.standing_of self.now) ≡ false
+            → HoldsVerified settings self.now.session → result ≡ true }
         ensures waits { (settings : Settings) (input : Input) (moments : List ℕ) (entries : List Entry) (sent : List ℕ)
             → Holds self.now settings input moments entries sent → is_waiting (rules.standing_of self.now) ≡ true → result ≡ true }
     {
@@ -305,14 +330,14 @@ impl Connection {
     }
 
     /// The first of its messages that was refused, if one was: of all that it received but what is kept, while a command waits or
-    /// before it has gone on behind an answer. It takes no memory.
+    /// before it has gone on after an answer. It takes no memory.
     pub fn fault(&self) -> Option<Fault>
         ensures some { (settings : Settings) (input : Input) (moments : List ℕ) (entries : List Entry) (sent : List ℕ)
             → Holds self.now settings input moments entries sent
             → IfSome result (λ fault. IsFault settings input.bytes input.ended moments fault.message fault.code) }
         ensures over { result ≢ None → rules.standing_of self.now ≡ Over }
 
-        // More moments make none, but where a command waits, behind which messages may stand.
+        // More moments make none, but where a command waits, after whose message others may stand.
         ensures none { (settings : Settings) (input : Input) (moments : List ℕ) (entries : List Entry) (sent given : List ℕ)
             → Holds self.now settings input moments entries sent
             → is_dead (rules.standing_of self.now) ≡ false → rules.wants_of self.now ≢ Wants.ToGoOn

@@ -1,5 +1,6 @@
-//! One connection, whoever moves its bytes: pieces come at any time, its end comes, its turns are taken and answered, and what
-//! it wrote is sent. What comes behind a message whose command waits is kept. What it writes stands in `specs/Output.antt`.
+//! One connection, whoever moves its bytes. Its pieces and its end come at any time; bytes that come while a command
+//! waits are kept. Its turns are taken and answered, and what it wrote is sent. `specs/Output.antt` says what it
+//! writes.
 #![tactic(auto)]
 
 mod connection;

@@ -29,7 +29,7 @@ pub enum Wants {
     Input,
     /// That its turn is taken and answered.
     Answer,
-    /// That it goes on behind an answer.
+    /// That it goes on after an answer.
     ToGoOn,
     /// Nothing: no more is read.
     Nothing,

@@ -41,8 +41,8 @@ pub trait Row {
 }
 
 /// A document that is printed: an object, of which all but the last brace stands there. A contract sees the tokens so
-/// far, and the room that is left for more without taking memory. After an error nothing is known of the tokens, and
-/// the document is given up.
+/// far, and the room that is left for more without taking memory. An error leaves some of the tokens that were to be
+/// printed: no clause says which, so the caller gives the document up.
 #[derive(Drop)]
 pub struct Printer {
     writer: Writer,
@@ -206,6 +206,7 @@ pub fn text_of(bytes: &[u8]) -> &str
 {
     match str::from_utf8(bytes) {
         Ok(text) => text,
+        // The caller knows that the bytes are UTF-8.
         Err(_) => unreachable!(),
     }
 }

@@ -62,6 +62,7 @@ impl<P: Told> Reserved<P> {
         let Reserved { told, room } = self;
         match printed(&told, room) {
             Ok(text) => text,
+            // The room that was taken has room for all of the text.
             Err(_) => unreachable!(),
         }
     }

@@ -48,12 +48,11 @@ abbrev pub pair_of : List ℕ → List ℕ × List ℕ
 pair_of piece = (percent_decode (before_first (λ b. b == equals_sign) piece), percent_decode (after_first (λ b. b == equals_sign) piece))
 
 -- the path, decoded; the bucket, which stands before the next slash that was sent, and the key behind that,
--- both decoded; whether a query was sent; and its parameters, decoded, in the order in which they were sent
+-- both decoded; and the parameters of its query, decoded, in the order in which they were sent
 pub record TargetParts : Type 0 where
   pub path : List ℕ
   pub bucket : List ℕ
   pub key : List ℕ
-  pub has_query : Bool
   pub parameters : List (List ℕ × List ℕ)
 
 -- what a target says if it can be read
@@ -62,7 +61,6 @@ target_parts target = record {
   path = percent_decode (path_of target);
   bucket = percent_decode (before_first (λ b. b == slash) (address_of target));
   key = percent_decode (after_first (λ b. b == slash) (address_of target));
-  has_query = nat_lt 0 (length (query_of target));
   parameters = map pair_of (pieces_of (query_of target));
 }
 

@@ -1,4 +1,4 @@
-//! What a request target says: its path, the bucket and the key in it, and whether it has a query.
+//! What a request target says: its path, the bucket and the key in it, and its parameters.
 ghost use Rattle.std.specs.Prelude.{◌≡◌, ◌≤◌, ◌<◌, ◌==◌, ◌++◌, ◌∷◌, [], not, true, nat_eq, nat_lt, length, take, drop, ok_or, Some, IfOk, slice_get};
 ghost use Rattle.std.specs.List.{starts_with, before_first, after_first};
 ghost use Rattle.std.specs.Option.{option_copied};
@@ -14,8 +14,8 @@ use s3_text::{after_first, before_first};
 use std::alloc::{AllocError, Global};
 use std::marker::Model;
 
-/// What a request target says, with its escapes read: its path, the bucket and the key in it, whether it
-/// has a query, and the parameters of that, in the order in which they were sent.
+/// What a request target says, with its escapes read: its path, the bucket and the key in it, and
+/// the parameters of its query, in the order in which they were sent.
 ///
 /// It owns the decoded bytes, which are no more than those of the target, and 12 bytes for each parameter.
 #[derive(Drop)]
@@ -23,7 +23,6 @@ pub struct Target {
     path: Vec<u8>,
     // Where the slash and the bucket end in the path.
     bucket_end: usize,
-    has_query: bool,
     parameters: Parameters,
 }
 
@@ -37,7 +36,6 @@ impl Model for Target {
       path = t.path.items;
       bucket = drop 1 (take t.bucket_end t.path.items);
       key = drop 1 (drop t.bucket_end t.path.items);
-      has_query = t.has_query;
       parameters = t.parameters;
     } };
 
@@ -68,7 +66,6 @@ impl Target {
         Ok(Target {
             path,
             bucket_end,
-            has_query: !query.is_empty(),
             parameters,
         })
     }
@@ -92,13 +89,6 @@ impl Target {
         ensures { result.now ≡ self.now.key }
     {
         without_first(&self.path[self.bucket_end..])
-    }
-
-    /// Whether a byte follows the first `?` of the target.
-    pub fn has_query(&self) -> bool
-        ensures { result ≡ self.now.has_query }
-    {
-        self.has_query
     }
 
     /// How many parameters there are.

@@ -2,7 +2,6 @@ pub mod Book
 pub mod Calls
 pub mod Desk
 pub mod Gone
-pub mod LongLists
 pub mod Recorded
 pub use Rattle.s3_machine.specs.History
 pub use Rattle.s3_store.specs.Steps

@@ -1,17 +1,14 @@
 //! The book.
-ghost use Rattle.std.specs.Prelude.{◌≡◌, ◌++◌, ◌∷◌, [], length, true, IfOk, OnErr};
+ghost use Rattle.std.specs.Prelude.{◌≡◌, ◌++◌, ◌∷◌, [], length, IfOk, OnErr};
 ghost use mathlib.Core.List.{IsPrefix};
 ghost use Rattle.s3_journal.specs.Book.{KeepsHistory, MayLack};
 ghost use Rattle.s3_journal.specs.Recorded.{recorded};
-ghost use Rattle.s3_records.specs.Looks.{look_at, IsLongKey};
-ghost use Rattle.s3_records.specs.Rows.{keys_from};
 ghost use Rattle.s3_store.specs.Steps.{after_step, outcome_of};
 
 use crate::entry::Entry;
 use s3_history::{AsItself, Recorder};
 use s3_machine::{Answer, Turn, one_more_entry};
-use s3_names::BucketName;
-use s3_records::{Look, Records, Start};
+use s3_records::Records;
 use s3_store::Store;
 use s3_terms::NoMemory;
 use std::alloc::Global;
@@ -21,9 +18,11 @@ use std::snapshot::Snapshot;
 /// What is known of a book's history: a beginning of it. It has no bytes.
 pub type Prefix = s3_history::Prefix<Entry>;
 
-/// A store, and the history of the commands that it answered, which no memory holds. Contracts see which history it is, the
-/// least size of a part, the store as it was when the book was opened, the entries since then, and the store as it is. Its
-/// type keeps that the entries are a legal history, which leads from the one to the other.
+/// A store, and the history of the commands that it answered, which no memory holds.
+///
+/// Contracts see which history it is, and the least size of a part. They see the store as it was when the book was
+/// opened, the entries since then, and the store as it is. Its type keeps that the entries are a legal history, which
+/// leads from the one to the other.
 #[derive(Drop)]
 pub struct Book<R: Records + Drop> {
     store: Store<R>,
@@ -53,8 +52,8 @@ impl<R: Records + Drop> Model for Book<R> {
 }
 
 impl<R: Records + Drop> Book<R> {
-    /// A book that opens with this store, with no entry. `least_part` is the least size of a part that is not the last, the
-    /// same for all commands. The error never comes, though no contract can say so.
+    /// A book that opens with this store, with no entry. `least_part` is the least size, in bytes, of a part that isn't
+    /// the last; all commands have the same. The error never comes, though no contract can say so.
     pub fn new(alloc: Global, least_part: u64, store: Store<R>) -> Result<Book<R>, NoMemory>
         ensures { IfOk result (λ book.
             book ≡ record { origin = book.origin; least = least_part; opening = store; entries = []; store = store }) }
@@ -76,10 +75,16 @@ impl<R: Records + Drop> Book<R> {
         })
     }
 
-    /// Answers a command for a seat, as one entry more, or leaves all as it was. Nothing is stored for the entry.
+    /// Answers a turn at the store, as one entry more of the history. The entry has this seat's number.
     ///
-    /// `NoMemory` comes too where the numbers are used up. Where the rows are in memory, it stands in the place of no refusal,
-    /// and comes only where the command takes room.
+    /// The command is applied at the moment of its turn, by `Store::apply`, whose costs it has. Nothing is stored for
+    /// the entry.
+    ///
+    /// # Errors
+    ///
+    /// `NoMemory` leaves the book as it was; the turn is dropped. It comes where memory runs out, and where the numbers
+    /// are used up. If the rows are in memory and numbers are left, it comes only for a command that isn't refused and
+    /// takes room.
     pub fn enter(&mut self, seat: u64, turn: Turn) -> Result<Answer, NoMemory>
         ensures entry { IfOk result (λ answer. self.new.entries ≡ self.old.entries ++ recorded seat turn answer ∷ []) }
         ensures answer { IfOk result (λ answer. answer
@@ -104,23 +109,6 @@ impl<R: Records + Drop> Book<R> {
         };
         self.recorder.record::<Entry, AsItself>(&entry);
         Ok(answer)
-    }
-
-    /// Looks at the first rows of a bucket's keys from a place on, as the store does. It is no entry.
-    pub(crate) fn look_from(
-        &mut self,
-        bucket: &BucketName,
-        prefix: &[u8],
-        start: &Start,
-        most: usize,
-    ) -> Result<Look, NoMemory>
-        ensures value { IfOk result (λ look. look
-            ≡ look_at prefix.now most (keys_from self.old.store.state bucket.now start.now)) }
-        ensures same { self.new ≡ self.old }
-        ensures memory { OnErr result (
-            R.is_in_memory ≡ true → IsLongKey (look_at prefix.now most (keys_from self.old.store.state bucket.now start.now)).last) }
-    {
-        self.store.look_from(bucket, prefix, start, most)
     }
 
     /// The store as it is, to which the history leads. The history is legal, so that every law of `s3_machine` about legal

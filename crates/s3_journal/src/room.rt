@@ -15,8 +15,7 @@ use crate::numbers::Numbers;
 use crate::seat::Seat;
 use s3_history::{Describes, Recorder};
 use s3_machine::{Answer, Turn};
-use s3_names::BucketName;
-use s3_records::{Look, Records, Start};
+use s3_records::Records;
 use s3_terms::NoMemory;
 use std::alloc::Global;
 use std::marker::Model;
@@ -127,17 +126,6 @@ impl<J: Ground, R: Records + Drop, P: Report> Room<J, R, P> {
                 Err(none)
             }
         }
-    }
-
-    /// Looks at the first rows of a bucket's keys from a place on, as the store does. It is nobody's turn.
-    pub(crate) fn look_from(
-        &mut self,
-        bucket: &BucketName,
-        prefix: &[u8],
-        start: &Start,
-        most: usize,
-    ) -> Result<Look, NoMemory> {
-        self.book.look_from(bucket, prefix, start, most)
     }
 
     /// Takes a seat back, of which this is told.

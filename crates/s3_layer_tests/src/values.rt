@@ -14,7 +14,6 @@ mod ids;
 mod names;
 mod outbox;
 mod payloads;
-mod records;
 mod settings;
 mod steps;
 mod versioning;

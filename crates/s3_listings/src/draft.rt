@@ -68,8 +68,8 @@ impl Draft {
         self.room
     }
 
-    /// Takes rows in their order, which are moved into the page or dropped. Room for as many objects is taken at once. Where all
-    /// are known to be behind the key that the list is to start after, none is compared with it.
+    /// Takes rows in their order, which are moved into the page or dropped. Room for as many objects is taken at once.
+    /// Where all are known to be behind the key that the list is to start after, none is compared with it.
     pub(crate) fn take_rows(
         &mut self,
         alloc: Global,
@@ -135,7 +135,7 @@ impl Draft {
     fn take_object(&mut self, key: Key, facts: Facts) -> Result<(), NoMemory>
         ensures { OnOk result ((items : List Item) → with_items (drafted self.new) items ≡ with_items (drafted self.old) (Object key facts ∷ items)) }
     {
-        if self.takes(key.as_bytes()) {
+        if self.make_way(key.as_bytes()) {
             self.push_object(key, facts)
         } else {
             Ok(())
@@ -147,16 +147,16 @@ impl Draft {
         requires { IsUtf8 prefix.now }
         ensures { OnOk result ((items : List Item) → with_items (drafted self.new) items ≡ with_items (drafted self.old) (CommonPrefix prefix.now ∷ items)) }
     {
-        if self.takes(prefix) {
+        if self.make_way(prefix) {
             self.push_prefix(alloc, prefix)
         } else {
             Ok(())
         }
     }
 
-    // Whether the page takes an item of this text: it isn't the last one again, and there is room. Where there is none, the
-    // page is truncated.
-    fn takes(&mut self, text: &[u8]) -> bool
+    // Makes way for an item of this text, and answers whether there is: it isn't the last one again, and there is room.
+    // Where there is none, the page is truncated.
+    fn make_way(&mut self, text: &[u8]) -> bool
         ensures { TakesItem result (drafted self.old) (drafted self.new) text.now }
     {
         if self.is_truncated || self.ends_with(text) {

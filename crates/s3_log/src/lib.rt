@@ -1,5 +1,5 @@
-//! The log of a server: a line for each message of its connections, for those who run it, by one writer that nobody waits
-//! for. Nothing that is told here decides what a connection does.
+//! The log of a server, for those who run it: one line for each message of its connections. One writer writes it, and
+//! nobody waits for that. Nothing that is told here decides what a connection does.
 #![tactic(auto)]
 
 mod beginning;

@@ -16,8 +16,8 @@ use std::time::{Clock, Duration};
 // How many milliseconds a writer waits for more.
 const PAUSE: u64 = 50;
 
-/// The lines that some tell, which wait here for their writer: 4 MiB at most, beside which further ones are lost and counted.
-/// Whoever tells one waits for the lock alone. A server has one for each of its workers, so that none waits for another.
+/// Lines that wait here for their writer, 4 MiB at most. Further ones are lost, and counted. Whoever tells a line waits
+/// for the lock alone. A server has one log for each of its workers, so that none waits for another.
 #[derive(Drop)]
 pub struct Log {
     pending: Mutex<Pending>,
@@ -77,9 +77,11 @@ impl LogWriter {
         })
     }
 
-    /// Writes what these logs are told to the file at a path, until the last teller has left: every 50 milliseconds what waits then, in one
-    /// write for each log, to the file that has the path at that time, so that a file which was moved away is left alone from then on.
-    /// What can't be written is lost. In front of the next lines stands how many were lost.
+    /// Writes what these logs are told to the file at a path, until the last teller has left.
+    ///
+    /// Every 50 milliseconds it writes what waits then, in one write for each log. It writes to the file that has the
+    /// path at that time, so that a file which was moved away is left alone from then on. What can't be written is
+    /// lost. Before the next lines it writes how many were lost.
     pub fn write<R: Wait + Clock, F: Files>(
         &mut self,
         rt: &R,

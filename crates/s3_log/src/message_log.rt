@@ -84,14 +84,14 @@ impl<'a, W: Wait + Clock> MessageLog<'a, W> {
     }
 
     /// What happens from now on was found ready at a time.
-    pub fn is_at(&mut self, now: Instant) {
+    pub fn set_time(&mut self, now: Instant) {
         if let Some(telling) = &mut self.telling {
             telling.now = now;
         }
     }
 
     /// The connection has ended: what is still to be told is told.
-    pub fn leaves(&mut self) {
+    pub fn leave(&mut self) {
         if let Some(telling) = &mut self.telling {
             telling.tell();
         }

@@ -3,13 +3,14 @@
 use crate::result::Told;
 use s3_calendar::Moment;
 
-/// Who is told what becomes of the messages of a connection, in their order. It answers nothing, so that nothing of what the
+/// Who is told what becomes of the messages of a connection, in their order. It answers nothing, so nothing that the
 /// connection does depends on it.
 pub trait Witness {
     /// A message begins: its whole head has come at this moment, or more than a head may have.
     fn begins(&mut self, now: Moment);
 
-    /// It ends so. `head` is what has come of its head's text, where memory held that.
+    /// It ends so. `head` is what has come of its head's text, where memory held that. `is_verified` says whether the
+    /// signature of that head was verified.
     fn ends(&mut self, head: Option<&[u8]>, is_verified: bool, told: Told);
 
     /// So many bytes were written, and whether nothing is left to write.

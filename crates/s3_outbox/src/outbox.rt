@@ -136,6 +136,7 @@ impl Outbox {
         ensures ended { self.new ≡ with_end self.old «text».now }
     {
         let Ok(()) = self.last.try_extend_from_slice(text) else {
+            // It is empty until the end, and has room for 512 bytes.
             unreachable!()
         };
         self.last_sent = 0;

@@ -25,7 +25,7 @@ fn next_of(body: &Body, from: u64) -> (&[u8], u64)
     if from == body.size() {
         return (&[], from);
     }
-    let piece = body.piece(from);
+    let piece = body.piece(from).bytes();
     (piece, from + piece.len() as u64)
 }
 

@@ -69,6 +69,7 @@ impl Pending {
         ensures bodies_stay { deque_capacity self.old.bodies ≤ deque_capacity self.new.bodies }
     {
         let Ok(()) = self.text.extend_from_slice(head) else {
+            // The room that was set aside has room for a head.
             unreachable!()
         };
         place(&mut self.bodies, self.text.len(), body);
@@ -99,7 +100,7 @@ impl Pending {
                 if self.at < first.behind {
                     &self.text[self.at..first.behind]
                 } else {
-                    first.body.piece(self.taken as u64)
+                    first.body.piece(self.taken as u64).bytes()
                 }
             }
         }

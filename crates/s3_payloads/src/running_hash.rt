@@ -38,6 +38,7 @@ impl RunningHash {
         ensures { (bytes : List ℕ) → Holds256 self.now.running bytes → result ≡ has_hash (Some self.now.told) bytes }
     {
         let Ok(running) = self.running.clone() else {
+            // A hasher has no memory of its own, so its copy needs none.
             unreachable!()
         };
         let mut digits = [0u8; 64];

@@ -1,5 +1,5 @@
-//! A connection over a device. A `Pump` moves bytes between the two, and gives the connection's turns to a handle, a step at a
-//! time, or `serve`, to its end; what it wrote stands in `specs/Ended.antt`.
+//! One connection over a device. A `Pump` moves bytes between the two, and gives the connection's turns to a handle, a
+//! step at a time. `serve` does so to its end. `specs/Ended.antt` says what the connection wrote then.
 #![tactic(auto)]
 
 mod handle;

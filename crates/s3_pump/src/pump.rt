@@ -19,9 +19,10 @@ use s3_terms::{Code, NoMemory};
 use std::alloc::Global;
 use std::marker::Model;
 
-/// A connection that is served over a device, a step at a time. At rest it is small: the buffer that its device is read into
-/// belongs to whoever serves it, and of what was read it keeps only the bytes behind a message whose command waits, until its
-/// reply is out.
+/// One connection that is served over a device, a step at a time.
+///
+/// At rest it is small. The buffer that its device is read into belongs to whoever serves it. Of what was read it keeps
+/// only the bytes after a message whose command waits, until the reply to that is out.
 #[derive(Drop)]
 pub struct Pump {
     connection: Connection,
@@ -60,15 +61,25 @@ impl Pump {
         self.connection.is_in_body()
     }
 
-    /// Serves the connection as far as it goes without waiting, and no further than this many moves: a read or a write each,
-    /// a turn, or what had come behind one. What it wrote goes out first: nothing is read, no turn is taken, and nothing that is
-    /// kept is taken, while anything of it isn't out. The messages whose heads become whole meanwhile have this moment, which is
-    /// told to the recorder.
+    /// Serves the connection as far as it goes without waiting, by at most `moves` moves. A move is a read, a write, a
+    /// turn, or what came while a turn waited.
     ///
-    /// The witness is told what becomes of its messages. `buffer` is what the device is read into; it isn't needed between two steps. The settings have to be the same at every
-    /// step of a connection, and nobody else may use its device, its handle or its recorder: its promises are about one.
+    /// What was written goes out first. While any of it isn't out, nothing is read, no turn is taken, and nothing kept
+    /// is taken. Messages whose heads become whole meanwhile have the moment `now`, which the recorder is told. The
+    /// witness is told what becomes of messages.
     ///
-    /// Takes time and memory as `Connection::piece` does for what it reads, and the handle's.
+    /// `buffer` is what the device is read into. It may not be empty, and nothing in it is needed after the call. The
+    /// settings have to be the same at every step of a connection. Nobody else may use its device, its handle or its
+    /// recorder, since the promises are about one connection.
+    ///
+    /// The result tells what comes next:
+    ///
+    /// - `Waits`: the device has to be waited for, for input or for room.
+    /// - `MayGoOn`: all moves were made, and the connection may go on at once.
+    /// - `Ended`: the connection has ended, at the first failure of its device or with all that it wrote out.
+    ///
+    /// Where memory runs out, the connection writes the reply that says so, and ends. It takes time and memory as
+    /// `Connection::piece` of `s3_connection` does for what it reads, and as the handle does for turns.
     pub fn step<N: StoreHandle, D: Device, L: Witness>(
         &mut self,
         alloc: Global,
@@ -233,7 +244,7 @@ impl Pump {
         }
     }
 
-    // Goes on behind an answer.
+    // Goes on after an answer.
     fn go_on<L: Witness>(
         &mut self,
         alloc: Global,

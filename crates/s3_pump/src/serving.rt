@@ -91,5 +91,6 @@ fn serve_on<R: Wait, N: StoreHandle, D: Device>(
             Step::MayGoOn => {}
         }
     }
+    // `forever` has no last turn.
     unreachable!()
 }

@@ -4,7 +4,6 @@ pub mod KeyLemmas
 pub mod LawLemmas
 pub mod ListingLemmas
 pub mod ListLemmas
-pub mod LookLemmas
 pub mod MapLemmas
 pub mod OrderedLemmas
 pub mod PlaceLemmas

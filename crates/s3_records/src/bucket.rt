@@ -1,13 +1,11 @@
 //! One bucket, in memory.
-ghost use Rattle.std.specs.Prelude.{◌≡◌, ◌≢◌, [], None, Some, IfOk, OnOk, OnErr, IsTrue, is_some, option_map, find, filter, map as each};
+ghost use Rattle.std.specs.Prelude.{◌≡◌, ◌≢◌, [], None, Some, IfOk, OnOk, OnErr, IsTrue, is_some, option_map, find};
 ghost use Rattle.s3_uploads.specs.Parts.{part_at};
 ghost use Rattle.s3_uploads.specs.Uploads.{with_part};
 ghost use Rattle.s3_versions.specs.Rules.{is_under, replaced, is_new_number, VersionPut, KeyDeleted, VersionDropped};
 
 use crate::keys::KeyMap;
-use crate::looks::Look;
 use crate::records::BucketFacts;
-use crate::rows::Start;
 use crate::uploads::UploadMap;
 use s3_bodies::Body;
 use s3_calendar::Moment;
@@ -44,8 +42,6 @@ impl StoredBucket {
     ghost use Rattle.s3_records.specs.Catalogue.{new_bucket, facts_of, is_empty_in, versions_at};
     ghost use Rattle.s3_records.specs.Changes.{set_in, change_in, upload_change_in};
     ghost use Rattle.s3_records.specs.OpenUploads.{upload_under, parts_sent};
-    ghost use Rattle.s3_records.specs.Looks.{look_at, IsLongKey};
-    ghost use Rattle.s3_records.specs.Rows.{is_from, key_row, held_in};
 
     /// A bucket made at this moment, unversioned and empty. It takes no memory yet.
     pub(crate) fn new(alloc: Global, made: Moment) -> StoredBucket
@@ -74,21 +70,6 @@ impl StoredBucket {
         ensures { result ≡ is_empty_in (Some self.now) }
     {
         self.keys.is_empty() && self.uploads.is_empty()
-    }
-
-    /// Looks at its keys from a place on, at most so many and at most 256, as long as they begin with the prefix.
-    pub(crate) fn look_from(
-        &self,
-        prefix: &[u8],
-        start: &Start,
-        most: usize,
-    ) -> Result<Look, NoMemory>
-        ensures value { IfOk result (λ look. look
-            ≡ look_at prefix.now most (filter (λ row. is_from start.now row.key) (each key_row (held_in (Some self.now))))) }
-        ensures memory { OnErr result (
-            IsLongKey (look_at prefix.now most (filter (λ row. is_from start.now row.key) (each key_row (held_in (Some self.now))))).last) }
-    {
-        self.keys.look_from(prefix, start, most)
     }
 
     /// Sets its versioning.

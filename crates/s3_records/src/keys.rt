@@ -9,7 +9,6 @@ ghost use Rattle.s3_versions.specs.Rules.{is_under, without, after_adding, repla
 
 use crate::adding::put;
 use crate::listing::{add_keys, add_older, behind, first_key, key_rows_from};
-use crate::looks::{Look, seen_from};
 use crate::rows::{KeyRow, Start, VersionRow, VersionStart};
 use s3_bodies::Body;
 use s3_calendar::Moment;
@@ -45,7 +44,6 @@ impl Model for KeyMap {
 impl KeyMap {
     ghost use Rattle.s3_records.specs.Catalogue.{versions_at, has_no_keys};
     ghost use Rattle.s3_records.specs.Changes.{with_versions};
-    ghost use Rattle.s3_records.specs.Looks.{look_at, IsLongKey};
     ghost use Rattle.s3_records.specs.Rows.{is_from, key_row, version_row, behind_version, rows_of, rows_at};
     ghost use Rattle.s3_records.specs.declared.rows.VersionStart.TheVariants.{At};
 
@@ -85,21 +83,6 @@ impl KeyMap {
             take most (filter (λ row. is_from start.now row.key) (each key_row (map.entries self.now))) ≢ []) }
     {
         key_rows_from(alloc, &self.by_key, first_key(start), most)
-    }
-
-    /// Looks at the keys from a place on, at most so many and at most 256, as long as they begin with the prefix.
-    pub(crate) fn look_from(
-        &self,
-        prefix: &[u8],
-        start: &Start,
-        most: usize,
-    ) -> Result<Look, NoMemory>
-        ensures value { IfOk result (λ look. look
-            ≡ look_at prefix.now most (filter (λ row. is_from start.now row.key) (each key_row (map.entries self.now)))) }
-        ensures memory { OnErr result (
-            IsLongKey (look_at prefix.now most (filter (λ row. is_from start.now row.key) (each key_row (map.entries self.now)))).last) }
-    {
-        Look::of_seen(seen_from(&self.by_key, prefix, first_key(start), most))
     }
 
     /// The rows of the versions from a place on, at most so many.

@@ -1,5 +1,5 @@
-//! The records of a server: which buckets there are, and the versions and the open uploads under their keys, with their
-//! bytes. `Records` is what every keeper of them promises, of one catalogue, and `MapRecords` keeps them in memory.
+//! The records of a server: which buckets there are, and under their keys the versions and the open uploads, with their
+//! bytes. `Records` is what every keeper of one catalogue promises. `MapRecords` keeps it in memory.
 #![tactic(auto)]
 
 mod adding;
@@ -7,7 +7,6 @@ mod bucket;
 mod keys;
 mod laws;
 mod listing;
-mod looks;
 mod map_records;
 mod records;
 mod rows;
@@ -19,7 +18,6 @@ pub use laws::{
     empty_has_nothing, held_is_got, keys_rise, numbers_stay_below, uploads_are_listed,
     versions_stay_in_order,
 };
-pub use looks::{LOOK_MAX, Look};
 pub use map_records::MapRecords;
 pub use records::{BucketFacts, ListedBucket, Records};
 pub use rows::{KeyRow, Start, UploadRow, UploadStart, VersionRow, VersionStart};

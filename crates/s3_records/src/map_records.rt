@@ -10,12 +10,10 @@ ghost use Rattle.s3_records.specs.Catalogue.{opening, new_bucket, found_versions
 use crate::adding::put;
 use crate::bucket::StoredBucket;
 use crate::listing::bucket_rows;
-use crate::looks::Look;
 use crate::records::{BucketFacts, ListedBucket, Records};
 use crate::rows::{KeyRow, Start, UploadRow, UploadStart, VersionRow, VersionStart};
 use s3_bodies::Body;
 use s3_calendar::Moment;
-use s3_config::Config;
 use s3_names::{BucketName, Key, PartNumber, UploadId, VersionId};
 use s3_terms::{Code, NoMemory};
 use s3_uploads::{CompletionError, ListedPart, Part, PartRow, Upload};
@@ -49,16 +47,7 @@ impl Model for MapRecords {
 }
 
 impl MapRecords {
-    /// The records that a server with these settings opens with: its first buckets, unversioned and empty,
-    /// made at moment 0. Their names are copied; without one no memory is taken.
-    pub fn open(alloc: Global, config: &Config) -> Result<MapRecords, NoMemory>
-        ensures value { IfOk result (λ records. records ≡ opening config.now.buckets) }
-        ensures memory { OnErr result (config.now.buckets ≢ []) }
-    {
-        MapRecords::of_buckets(alloc, config.buckets())
-    }
-
-    /// Records with these buckets, which are unversioned and empty, made at moment 0. A name that stands twice is one
+    /// Records with these first buckets, which are unversioned and empty, made at moment 0. A name that stands twice is one
     /// bucket. The names are copied; without one no memory is taken.
     pub fn of_buckets(alloc: Global, names: &[BucketName]) -> Result<MapRecords, NoMemory>
         ensures value { IfOk result (λ records. records ≡ opening names.now) }
@@ -166,18 +155,6 @@ impl Records for MapRecords {
         }
     }
 
-    fn versions_of(
-        &mut self,
-        alloc: Global,
-        bucket: &BucketName,
-        key: &Key,
-    ) -> Result<Vec<Version<Body>>, NoMemory> {
-        match self.found_versions(bucket, key) {
-            None => Ok(Vec::new(alloc)),
-            Some(versions) => versions.to_vec(alloc),
-        }
-    }
-
     fn version(
         &mut self,
         alloc: Global,
@@ -217,19 +194,6 @@ impl Records for MapRecords {
         }
     }
 
-    fn look_from(
-        &mut self,
-        bucket: &BucketName,
-        prefix: &[u8],
-        start: &Start,
-        most: usize,
-    ) -> Result<Look, NoMemory> {
-        match self.found_bucket(bucket) {
-            None => Ok(Look::nothing()),
-            Some(bucket) => bucket.look_from(prefix, start, most),
-        }
-    }
-
     fn versions_from(
         &mut self,
         alloc: Global,
@@ -264,6 +228,7 @@ impl Records for MapRecords {
         status: VersioningStatus,
     ) -> Result<(), NoMemory> {
         match self.by_name.get_mut(name) {
+            // The caller knows that the bucket is there.
             None => unreachable!(),
             Some(bucket) => {
                 bucket.set_versioning(status);
@@ -282,6 +247,7 @@ impl Records for MapRecords {
         stored: Data<Body>,
     ) -> Result<(), NoMemory> {
         match self.by_name.get_mut(bucket) {
+            // The caller knows that the bucket is there.
             None => unreachable!(),
             Some(bucket) => bucket.put(alloc, key, number, moment, stored),
         }
@@ -296,6 +262,7 @@ impl Records for MapRecords {
         moment: Moment,
     ) -> Result<(), NoMemory> {
         match self.by_name.get_mut(bucket) {
+            // The caller knows that the bucket is there.
             None => unreachable!(),
             Some(bucket) => bucket.delete(alloc, key, number, moment),
         }
@@ -309,6 +276,7 @@ impl Records for MapRecords {
         id: VersionId,
     ) -> Result<Option<Version<Body>>, NoMemory> {
         match self.by_name.get_mut(bucket) {
+            // The caller knows that the bucket is there.
             None => unreachable!(),
             Some(bucket) => Ok(bucket.drop_version(key, id)),
         }
@@ -376,6 +344,7 @@ impl Records for MapRecords {
         upload: Upload<Body>,
     ) -> Result<(), NoMemory> {
         match self.by_name.get_mut(bucket) {
+            // The caller knows that the bucket is there.
             None => unreachable!(),
             Some(bucket) => bucket.add_upload(alloc, key, id, upload),
         }
@@ -391,6 +360,7 @@ impl Records for MapRecords {
         part: Part<Body>,
     ) -> Result<Option<Part<Body>>, NoMemory> {
         match self.by_name.get_mut(bucket) {
+            // The caller knows that the bucket is there.
             None => unreachable!(),
             Some(bucket) => bucket.put_part(key, id, number, part),
         }
@@ -404,6 +374,7 @@ impl Records for MapRecords {
         id: UploadId,
     ) -> Result<Option<Upload<Body>>, NoMemory> {
         match self.by_name.get_mut(bucket) {
+            // The caller knows that the bucket is there.
             None => unreachable!(),
             Some(bucket) => Ok(bucket.drop_upload(key, id)),
         }
@@ -420,6 +391,7 @@ impl Records for MapRecords {
         stored: Data<Body>,
     ) -> Result<Option<Upload<Body>>, NoMemory> {
         match self.by_name.get_mut(bucket) {
+            // The caller knows that the bucket is there.
             None => unreachable!(),
             Some(bucket) => {
                 let gone = bucket.complete(alloc, &key, id, number, moment, stored);
@@ -436,6 +408,7 @@ fn first_moment() -> Moment
 {
     match Moment::new(0) {
         Some(moment) => moment,
+        // The caller knows that the bucket is there.
         None => unreachable!(),
     }
 }

@@ -5,10 +5,8 @@ ghost use Rattle.s3_records.specs.Catalogue.{Catalogue, facts_in, listed_buckets
 ghost use Rattle.s3_uploads.specs.Parts.{part_at, rows_behind};
 ghost use Rattle.s3_records.specs.Changes.{changed, BucketAdded, BucketDropped, VersioningSet, KeyChanged, UploadAdded, PartPut, UploadDropped, UploadCompleted};
 ghost use Rattle.s3_records.specs.OpenUploads.{upload_at, parts_at, completed_at, uploads_from};
-ghost use Rattle.s3_records.specs.Looks.{look_at, IsLongKey};
 ghost use Rattle.s3_records.specs.Rows.{keys_from, versions_from};
 
-use crate::looks::Look;
 use crate::rows::{KeyRow, Start, UploadRow, UploadStart, VersionRow, VersionStart};
 use s3_bodies::Body;
 use s3_calendar::Moment;
@@ -34,49 +32,44 @@ pub struct ListedBucket {
     pub made: Moment,
 }
 
-/// A keeper of one catalogue: buckets, and the versions and the open uploads under their keys. Each call answers
-/// from the catalogue as it is; a change is the named one where it answers `Ok`, and none where it answers
-/// `NoMemory`. What is passed by value to a call that answers `NoMemory` is dropped.
+/// A keeper of one catalogue: buckets, and under their keys the versions and the open uploads, with their bytes. The
+/// rules of versions and uploads are those of Amazon S3 (`docs/PROTOCOL.md`, "Versions" and "Uploads").
 ///
-/// Each version and each part is kept with its bytes, and a change that takes one away drops these too.
+/// A call that asks answers from the catalogue as it is, and leaves that. A call that changes makes the named change
+/// where it answers `Ok`. What a change takes away is dropped with its bytes, unless it is answered.
+///
+/// Each call has `NoMemory` as its only error, and leaves the catalogue as it was then. What was passed to it by value
+/// is dropped. A keeper may hold all in memory (`is_in_memory`). A call tells where such a keeper can have the error;
+/// where it tells nothing, that can come at any time.
 pub trait Records {
     ghost catalogue: { Self → Catalogue (List ℕ) };
 
     // Whether the keeper holds all in memory, so that what needs no more room never lacks it.
     ghost is_in_memory: { Bool };
 
-    /// When a bucket was made, and its versioning; `None` where there is no such bucket.
+    /// When a bucket was made, and its versioning. `None` where there is no such bucket. A keeper in memory has no
+    /// error here.
     fn bucket(&mut self, alloc: Global, name: &BucketName) -> Result<Option<BucketFacts>, NoMemory>
         ensures value { IfOk result (λ facts. facts ≡ facts_in (catalogue self.old) name.now) }
         ensures there { IfOk result (λ facts. is_some facts ≡ has_bucket (catalogue self.old) name.now) }
         ensures same { catalogue self.new ≡ catalogue self.old }
         ensures memory { OnErr result (is_in_memory ≡ false) };
 
-    /// All buckets, by name in the order of bytes.
+    /// All buckets, by name in the order of bytes. A keeper in memory has no error where there is none.
     fn buckets(&mut self, alloc: Global) -> Result<Vec<ListedBucket>, NoMemory>
         ensures value { IfOk result (λ rows. rows.items ≡ listed_buckets (catalogue self.old)) }
         ensures same { catalogue self.new ≡ catalogue self.old }
         ensures memory { OnErr result (is_in_memory ≡ true → listed_buckets (catalogue self.old) ≢ []) };
 
-    /// Whether a bucket has nothing in it, not even a delete marker or an open upload; true where there is no such bucket.
+    /// Whether a bucket has nothing in it, not even a delete marker or an open upload. It is true where there is no
+    /// such bucket. A keeper in memory has no error here.
     fn is_empty(&mut self, alloc: Global, name: &BucketName) -> Result<bool, NoMemory>
         ensures value { IfOk result (λ is_empty. is_empty ≡ is_empty_bucket (catalogue self.old) name.now) }
         ensures same { catalogue self.new ≡ catalogue self.old }
         ensures memory { OnErr result (is_in_memory ≡ false) };
 
-    /// The versions under a key, newest first; none where there is no such bucket. Costs each of them.
-    fn versions_of(
-        &mut self,
-        alloc: Global,
-        bucket: &BucketName,
-        key: &Key,
-    ) -> Result<Vec<Version<Body>>, NoMemory>
-        ensures value { IfOk result (λ versions. versions.items ≡ versions_of (catalogue self.old) bucket.now key.now) }
-        ensures same { catalogue self.new ≡ catalogue self.old }
-        ensures memory { OnErr result (is_in_memory ≡ true → versions_of (catalogue self.old) bucket.now key.now ≢ []) };
-
-    /// The version that a request asks for: that of the id that it names, or the current one where it names
-    /// none; `None` where there is none.
+    /// The version that a request asks for: that of the id that it names, or the current one where it names none.
+    /// `None` where there is none. A keeper in memory has an error only where there is one that is no delete marker.
     fn version(
         &mut self,
         alloc: Global,
@@ -89,7 +82,8 @@ pub trait Records {
         ensures memory { OnErr result (
             is_in_memory ≡ true → option_and_then stored (asked_for asked (versions_of (catalogue self.old) bucket.now key.now)) ≢ None) };
 
-    /// What is known of the version that a request reads beside what its put sent, or why none is read.
+    /// What is known, beside what its put sent, of the version that a request reads; or why none is read. A keeper in
+    /// memory has no error here.
     fn facts(
         &mut self,
         alloc: Global,
@@ -102,8 +96,11 @@ pub trait Records {
         ensures same { catalogue self.new ≡ catalogue self.old }
         ensures memory { OnErr result (is_in_memory ≡ false) };
 
-    /// The rows of the keys of a bucket from a place on, by key in the order of bytes, and at most so many; none where there
-    /// is no such bucket. Costs the rows that are told, and to find the first of them.
+    /// The rows of the keys of a bucket from a place on, by key in the order of bytes, and at most so many. There are
+    /// none where there is no such bucket.
+    ///
+    /// It costs the rows that are told, and to find the first of them. A keeper in memory has no error where no row is
+    /// told.
     fn keys_from(
         &mut self,
         alloc: Global,
@@ -116,27 +113,11 @@ pub trait Records {
         ensures memory { OnErr result (
             is_in_memory ≡ true → take most (keys_from (catalogue self.old) bucket.now start.now) ≢ []) };
 
-    /// Looks at the keys of a bucket from a place on, at most so many and at most 256, as long as they begin with the
-    /// prefix: how many of their rows in a list (`keys_from`) tell of an object, how large the largest of these is, and
-    /// which key is the last one, if all that it may look at are there. There is no key where there is no such bucket. Costs
-    /// to find the first of them, and to read each key and its current version; the last key alone is copied. Where records
-    /// are in memory, `NoMemory` comes only where that key has more than 38 bytes.
-    fn look_from(
-        &mut self,
-        bucket: &BucketName,
-        prefix: &[u8],
-        start: &Start,
-        most: usize,
-    ) -> Result<Look, NoMemory>
-        ensures value { IfOk result (λ look. look
-            ≡ look_at prefix.now most (keys_from (catalogue self.old) bucket.now start.now)) }
-        ensures same { catalogue self.new ≡ catalogue self.old }
-        ensures memory { OnErr result (
-            is_in_memory ≡ true → IsLongKey (look_at prefix.now most (keys_from (catalogue self.old) bucket.now start.now)).last) };
-
-    /// The rows of the versions of a bucket from a place on, by key in the order of bytes and of one key newest first, and at
-    /// most so many; none where there is no such bucket. Costs the rows that are told, to find the first key, and the length
-    /// of the list of its versions.
+    /// The rows of the versions of a bucket from a place on, and at most so many. They stand by key in the order of
+    /// bytes, and of one key newest first. There are none where there is no such bucket.
+    ///
+    /// It costs the rows that are told, to find the first key, and the length of the list of its versions. A keeper in
+    /// memory has no error where no row is told.
     fn versions_from(
         &mut self,
         alloc: Global,
@@ -149,7 +130,7 @@ pub trait Records {
         ensures memory { OnErr result (
             is_in_memory ≡ true → take most (versions_from (catalogue self.old) bucket.now start.now) ≢ []) };
 
-    /// Makes a bucket at this moment, unversioned and empty. There is none of this name.
+    /// Makes a bucket at this moment, unversioned and empty. There may be none of this name.
     fn add_bucket(
         &mut self,
         alloc: Global,
@@ -160,7 +141,7 @@ pub trait Records {
         ensures ok { OnOk result (catalogue self.new ≡ changed (catalogue self.old) name (BucketAdded moment)) }
         ensures err { OnErr result (catalogue self.new ≡ catalogue self.old) };
 
-    /// Drops a bucket, which is there and has nothing in it.
+    /// Drops a bucket, which has to be there and to have nothing in it. A keeper in memory has no error here.
     fn drop_bucket(&mut self, alloc: Global, name: &BucketName) -> Result<(), NoMemory>
         requires there { IsTrue (has_bucket (catalogue self.old) name.now) }
         requires empty { IsTrue (is_empty_bucket (catalogue self.old) name.now) }
@@ -168,7 +149,7 @@ pub trait Records {
         ensures err { OnErr result (catalogue self.new ≡ catalogue self.old) }
         ensures memory { OnErr result (is_in_memory ≡ false) };
 
-    /// Sets the versioning of a bucket, which is there.
+    /// Sets the versioning of a bucket, which has to be there. A keeper in memory has no error here.
     fn set_versioning(
         &mut self,
         alloc: Global,
@@ -180,9 +161,11 @@ pub trait Records {
         ensures err { OnErr result (catalogue self.new ≡ catalogue self.old) }
         ensures memory { OnErr result (is_in_memory ≡ false) };
 
-    /// Puts a version under a key of a bucket, which is there, by the rules of the bucket's versioning. The
-    /// entry of this number makes it at this moment; the number is above those of the key's versions. The
+    /// Puts a version under a key of a bucket, which has to be there, by the rules of the bucket's versioning. The
+    /// entry of this number makes it at this moment. The number has to be above those of the key's versions. The
     /// version that goes is dropped.
+    ///
+    /// A keeper in memory has an error only where no version goes.
     fn put_version(
         &mut self,
         alloc: Global,
@@ -200,9 +183,11 @@ pub trait Records {
         ensures memory { OnErr result (is_in_memory ≡ true
             → replaced (versioning_of (catalogue self.old) bucket.now) number (versions_of (catalogue self.old) bucket.now key) ≡ None) };
 
-    /// Deletes a key of a bucket, which is there, without naming a version, by the rules of the bucket's
-    /// versioning. The entry has this number, above those of the key's versions, and this moment. The version
-    /// that goes is dropped.
+    /// Deletes a key of a bucket, which has to be there, without naming a version, by the rules of the bucket's
+    /// versioning. The entry has this number and this moment. The number has to be above those of the key's versions.
+    /// The version that goes is dropped.
+    ///
+    /// A keeper in memory has an error only where no version goes and the bucket's versioning is enabled or suspended.
     fn delete(
         &mut self,
         alloc: Global,
@@ -221,8 +206,8 @@ pub trait Records {
         ensures held { OnErr result (is_in_memory ≡ true
             → versioning_of (catalogue self.old) bucket.now ≢ Versioning.Unversioned) };
 
-    /// Drops the version of this id under a key of a bucket, which is there; other versions stay. The version
-    /// that goes is answered.
+    /// Drops the version of this id under a key of a bucket, which has to be there. Other versions stay. The version
+    /// that goes is answered; `None` where there was none. A keeper in memory has no error here.
     fn drop_version(
         &mut self,
         alloc: Global,
@@ -237,7 +222,7 @@ pub trait Records {
         ensures err { OnErr result (catalogue self.new ≡ catalogue self.old) }
         ensures memory { OnErr result (is_in_memory ≡ false) };
 
-    /// Whether an upload is open: that of this id to this key.
+    /// Whether the upload of this id to this key is open. A keeper in memory has no error here.
     fn has_upload(
         &mut self,
         alloc: Global,
@@ -249,8 +234,11 @@ pub trait Records {
         ensures same { catalogue self.new ≡ catalogue self.old }
         ensures memory { OnErr result (is_in_memory ≡ false) };
 
-    /// The rows of the open uploads of a bucket from a place on, by key in the order of bytes and of one key by id, and at
-    /// most so many; none where there is no such bucket. Costs the rows that are told, and to find the first of them.
+    /// The rows of the open uploads of a bucket from a place on, and at most so many. They stand by key in the order of
+    /// bytes, and of one key by id. There are none where there is no such bucket.
+    ///
+    /// It costs the rows that are told, and to find the first of them. A keeper in memory has no error where no row is
+    /// told.
     fn uploads_from(
         &mut self,
         alloc: Global,
@@ -263,8 +251,11 @@ pub trait Records {
         ensures memory { OnErr result (
             is_in_memory ≡ true → take most (uploads_from (catalogue self.old) bucket.now start.now) ≢ []) };
 
-    /// The rows of the parts of an upload whose numbers are above this one, by number, and at most so many; none where
-    /// there is no such upload. Costs the rows that are told, and to find the first of them.
+    /// The rows of the parts of an upload whose numbers are above `last`, by number, and at most so many. There are
+    /// none where there is no such upload.
+    ///
+    /// It costs the rows that are told, and to find the first of them. A keeper in memory has no error where no row is
+    /// told.
     fn parts_from(
         &mut self,
         alloc: Global,
@@ -280,8 +271,9 @@ pub trait Records {
         ensures memory { OnErr result (is_in_memory ≡ true
             → take most (rows_behind last (parts_at (catalogue self.old) bucket.now key.now id)) ≢ []) };
 
-    /// What the completion of an upload stores that lists these parts, of which each but the last has this many bytes; or why
-    /// it is refused. The upload stays.
+    /// What the completion of an upload stores that lists these parts, or why it is refused. Each part but the last has
+    /// to have `least` bytes. The upload stays. A keeper in memory has an error only where the completion isn't
+    /// refused.
     fn completed(
         &mut self,
         alloc: Global,
@@ -297,7 +289,7 @@ pub trait Records {
         ensures memory { OnErr result (is_in_memory ≡ true
             → IsOk (completed_at least listed.now (upload_at (catalogue self.old) bucket.now key.now id))) };
 
-    /// Begins an upload of this id to a key of a bucket, which is there.
+    /// Begins an upload of this id to a key of a bucket, which has to be there.
     fn add_upload(
         &mut self,
         alloc: Global,
@@ -310,7 +302,8 @@ pub trait Records {
         ensures ok { OnOk result (catalogue self.new ≡ changed (catalogue self.old) bucket.now (UploadAdded key id upload)) }
         ensures err { OnErr result (catalogue self.new ≡ catalogue self.old) };
 
-    /// Puts a part under its number to an upload, which is there, and answers the one that it replaces.
+    /// Puts a part under its number to an upload, which has to be open. The part that it replaces is answered; `None`
+    /// where there was none. A keeper in memory has an error only where it replaces none.
     fn put_part(
         &mut self,
         alloc: Global,
@@ -329,7 +322,8 @@ pub trait Records {
         ensures memory { OnErr result (is_in_memory ≡ true
             → part_at number (parts_at (catalogue self.old) bucket.now key.now id) ≡ None) };
 
-    /// Drops an upload with its parts, in a bucket that is there, and answers it.
+    /// Drops an upload with its parts, in a bucket that has to be there. The upload is answered; `None` where none was
+    /// open. A keeper in memory has no error here.
     fn drop_upload(
         &mut self,
         alloc: Global,
@@ -343,7 +337,8 @@ pub trait Records {
         ensures err { OnErr result (catalogue self.new ≡ catalogue self.old) }
         ensures memory { OnErr result (is_in_memory ≡ false) };
 
-    /// Completes an upload: puts a version under its key, as `put_version` does, and drops the upload, which is answered.
+    /// Completes an upload: puts a version under its key, as `put_version` does, and drops the upload. That is
+    /// answered; `None` where none was open. A keeper in memory has an error only where no version goes.
     fn complete(
         &mut self,
         alloc: Global,

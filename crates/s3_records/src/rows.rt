@@ -9,9 +9,9 @@ use s3_versions::Facts;
 pub enum Start {
     /// At the first key.
     First,
-    /// At this key or, where it isn't there, behind it.
+    /// At this key or, where it isn't there, at the next one.
     From(Key),
-    /// Behind this key.
+    /// After this key.
     Behind(Key),
 }
 
@@ -20,7 +20,7 @@ pub enum Start {
 pub enum VersionStart {
     /// At the newest version of the first key from here on.
     At(Start),
-    /// Behind the version of this id under this key; behind all of the key's, where it has none of this id.
+    /// After the version of this id under this key; after all of the key's, where it has none of this id.
     BehindVersion(Key, VersionId),
 }
 
@@ -29,7 +29,7 @@ pub enum VersionStart {
 pub enum UploadStart {
     /// At the first upload to the first key from here on.
     At(Start),
-    /// Behind the upload of this id to this key, whether it is there or not.
+    /// After the upload of this id to this key, whether it is there or not.
     BehindUpload(Key, UploadId),
 }
 

@@ -141,6 +141,7 @@ impl OpenUploads {
         ensures memory { OnErr result (part_at number (parts_sent (map.get self.old id)) ≡ None) }
     {
         match self.by_id.get_mut(&id.number()) {
+            // The caller knows that the upload is open.
             None => unreachable!(),
             Some(upload) => upload.put_part(number, part),
         }
@@ -328,6 +329,7 @@ impl UploadMap {
         ensures memory { OnErr result (part_at number (parts_sent (upload_under self.old key.now id)) ≡ None) }
     {
         match self.by_key.get_mut(key) {
+            // The caller knows that the key has an open upload.
             None => unreachable!(),
             Some(uploads) => uploads.put_part(id, number, part),
         }

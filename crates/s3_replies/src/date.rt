@@ -35,6 +35,7 @@ impl DateText {
             Ok(date) => DateText {
                 bytes: date.to_bytes(),
             },
+            // Each moment is before the year 10000, up to which dates of HTTP go.
             Err(_) => unreachable!(),
         }
     }

@@ -102,6 +102,7 @@ fn whole_reply<R: Room>(out: &mut R, opening: Opening, outcome: Outcome, head_on
             code,
             is_delete_marker,
         } => error_reply(out, opening, code, is_delete_marker, head_only),
+        // These have a body, and the caller knows that this one has none.
         Outcome::Told { .. } | Outcome::Completed { .. } | Outcome::Got { .. } => unreachable!(),
     }
 }
@@ -132,6 +133,7 @@ fn headed_reply<R: Room>(
             got_reply(out, opening, &found, selection, modified, head_only);
             shown_body(head_only, found.stored.body, selection)
         }
+        // All others have no body, and the caller knows that this one has one.
         _ => unreachable!(),
     }
 }

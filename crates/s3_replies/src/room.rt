@@ -34,6 +34,7 @@ impl Room for Vec<u8> {
 
     fn write(&mut self, text: &[u8]) {
         let Ok(()) = self.extend_from_slice(text) else {
+            // The caller knows that there is room for the text.
             unreachable!()
         };
     }

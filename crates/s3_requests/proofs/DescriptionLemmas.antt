@@ -1,7 +1,9 @@
 -- Names of metadata, sorted and each once, and the values of the lines of a name.
-use Rattle.std.proofs.Common.{◌≡◌, inl, inr, ℕ, suc, ◌+◌, ◌≤◌, ◌<◌, Bool, true, false, List, [], ◌∷◌, ◌++◌, map, filter, length, take, drop, min, refl, sym, ap, ◌∙◌, arith, append-nil, cond, slice_get, get_or, Option, Some, None, if◌then◌else◌, IsPermutation}
+use Rattle.std.proofs.Common.{◌≡◌, inl, inr, ℕ, suc, ◌+◌, ◌≤◌, ◌<◌, Bool, true, false, List, [], ◌∷◌, ◌++◌, map, filter, length, take, drop, min, refl, sym, ap, subst, ◌∙◌, arith, append-nil, cond, slice_get, get_or, Option, Some, None, if◌then◌else◌, IsPermutation}
 use Rattle.std.specs.List.{dedup, dedup_from, filter_map, cons_option, join_with_byte}
-use Rattle.std.specs.List.Sorted.{IsSorted}
+use Rattle.std.specs.List.Sorted.{IsSorted, IsStrictlySortedBy}
+use Rattle.std.specs.Cmp.Lexicographic.{texts_ties}
+use Rattle.std.proofs.lemmas.List.Kept.{IsStrictlySortedBy-dedup}
 use Rattle.std.specs.Option.{option_to_list}
 use Rattle.std.specs.Str.{bytes_eq, str_to_ascii_lowercase}
 use Rattle.std.proofs.lemmas.Bool.{cases_Bool}
@@ -18,7 +20,8 @@ use Rattle.s3_text.specs.Sorting.{sorted_by}
 use Rattle.s3_text.proofs.JoinLemmas.{join_with_byte_push}
 use Rattle.s3_text.proofs.SortingLemmas.{sorted_by-unique, IsSorted-map}
 use Rattle.s3_http_heads.specs.Head.{HeadParts, is_named, values_of}
-use Rattle.s3_requests.specs.Description.{front, name_in}
+use Rattle.s3_versions.specs.Metadata.{Entry, names_in as names_in_entries, AreInOrder}
+use Rattle.s3_requests.specs.Description.{front, name_in, entry_of}
 use Rattle.s3_requests.specs.Name.{text_of, texts}
 use Rattle.s3_requests.specs.declared.description.Name.{Name}
 
@@ -108,6 +111,25 @@ pub names_listed : {xs ys zs : List Name} {sent : List (List ℕ)} → IsPermuta
     → IsFiltered (DiffersFromLast same_name) [] ys zs → texts xs ≡ sent → texts zs ≡ dedup bytes_eq (sorted_by byte_order sent)
 names_listed {xs} {ys} {zs} {sent} same up filtered is =
     ap texts (dedup_is same_name ys zs filtered) ∙ names_once ys ∙ ap (dedup bytes_eq) (names_sorted xs ys same up ∙ ap (sorted_by byte_order) is)
+
+-- and each of them is below those after it
+pub names_rise : {xs ys zs : List Name} → IsPermutation xs ys → IsSorted (λ p q. byte_order (text_of p) (text_of q)) ys
+    → IsFiltered (DiffersFromLast same_name) [] ys zs → IsStrictlySortedBy byte_order (texts zs)
+names_rise {xs} {ys} {zs} same up filtered =
+    subst (IsStrictlySortedBy byte_order) (sym (ap texts (dedup_is same_name ys zs filtered) ∙ names_once ys))
+    (IsStrictlySortedBy-dedup nat_list_cmp_total texts_ties (texts ys) (IsSorted-map text_of byte_order ys up))
+
+pub ruleset names_in_order = (names_listed, names_rise)
+
+-- entries have the names that they were made of
+pub names_kept : (head : HeadParts) (names : List (List ℕ)) → names_in_entries (map (entry_of head) names) ≡ names
+names_kept head [] = refl
+names_kept head (name ∷ names) = ap (λ ns. name ∷ ns) (names_kept head names)
+
+-- so they are in order
+pub entries_rise : (head : HeadParts) (entries : List Entry) (names : List (List ℕ)) → entries ≡ map (entry_of head) names
+    → IsStrictlySortedBy byte_order names → AreInOrder entries
+entries_rise head entries names is rise = subst (IsStrictlySortedBy byte_order) (sym (ap names_in_entries is ∙ names_kept head names)) rise
 
 -- one name more, and its entry
 pub entries_more : {Y : Type 0} (f : List ℕ → Y) (names : List Name) (i : ℕ) (name : Name) (rows new : List Y) (row : Y) → i < length names → name ≡ get_or names i name

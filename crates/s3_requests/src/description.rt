@@ -1,10 +1,15 @@
 //! What the head of a put, or of the beginning of an upload, says of its object: its media type and its user metadata.
-ghost use Rattle.std.specs.Prelude.{◌≡◌, ◌++◌, ◌∷◌, ◌≤◌, if◌then◌else◌, map, length, IfOk};
-ghost use Rattle.std.specs.List.{filter_map, join_with_byte};
+ghost use Rattle.std.specs.Prelude.{◌≡◌, ◌++◌, ◌∷◌, ◌≤◌, if◌then◌else◌, map, length, IfOk, OnOk};
+ghost use Rattle.std.specs.List.{dedup, filter_map, join_with_byte};
+ghost use Rattle.std.specs.List.Sorted.{IsStrictlySortedBy};
+ghost use Rattle.std.specs.Str.{bytes_eq};
+ghost use Rattle.s3_text.specs.Order.{byte_order};
+ghost use Rattle.s3_text.specs.Sorting.{sorted_by};
 ghost use Rattle.std.specs.Option.{option_copied, option_to_list};
 ghost use Rattle.s3_terms.specs.Fault.{Follows, FollowsToEnd};
 ghost use Rattle.s3_text.specs.Characters.{comma};
 ghost use Rattle.s3_http_heads.specs.Head.{values_of};
+ghost use Rattle.s3_versions.specs.Metadata.{AreInOrder};
 ghost use Rattle.s3_requests.specs.Description as rules;
 ghost use Rattle.s3_requests.specs.Name.{texts};
 
@@ -63,17 +68,29 @@ fn metadata_of(alloc: Global, head: &Head) -> Result<Metadata, Code>
     }
 }
 
-// The entries of the metadata.
+// The entries of the metadata, in the order of their names.
 fn entries_of(alloc: Global, head: &Head) -> Result<Vec<MetadataEntry>, AllocError>
     ensures value { IfOk result (λ entries. entries.items ≡ map (rules.entry_of head.now) (rules.names_of head.now)) }
+    ensures order { IfOk result (λ entries. AreInOrder entries.items) }
     ensures count { IfOk result (λ entries. length entries.items ≤ 64) }
 {
     head.has_few_lines();
     let mut names = names_sent(alloc, head)?;
-    names.sort()?;
-    names.dedup();
+    put_in_order(&mut names)?;
     let entries = entries_under(alloc, head, &names)?;
     Ok(entries)
+}
+
+// Sorts names by their bytes, and leaves each once.
+#[tactic(auto, using(crate::proofs::DescriptionLemmas::names_in_order))]
+fn put_in_order(names: &mut Vec<Name>) -> Result<(), AllocError>
+    ensures value { OnOk result (texts names.new.items ≡ dedup bytes_eq (sorted_by byte_order (texts names.old.items))) }
+    ensures order { OnOk result (IsStrictlySortedBy byte_order (texts names.new.items)) }
+    ensures count { OnOk result (length names.new.items ≤ length names.old.items) }
+{
+    names.sort()?;
+    names.dedup();
+    Ok(())
 }
 
 /// A name of metadata, in lower case. Its order is that of its bytes.

@@ -2,7 +2,7 @@
 use Rattle.std.specs.Prelude.{◌≡◌, ◌⊎◌, ℕ, List, Option, Some, option_map}
 use Rattle.std.specs.Borrow.{Bor}
 use Rattle.s3_config.specs.Settings.{Settings}
-use Rattle.s3_options.specs.declared.options.ServeOptions.{ServeOptions}
+use Rattle.s3_settings.specs.declared.options.ServeOptions.{ServeOptions}
 use Rattle.s3_settings.specs.declared.fault.Fault.{Fault}
 use Rattle.s3_settings.specs.declared.fault.Fault.TheVariants.{CannotListen, CannotWrite, OutputFailed, OutOfMemory}
 use Rattle.s3_settings.specs.declared.server.ServeMode.{ServeMode}

@@ -3,7 +3,7 @@
 use crate::worker::{Now, Worker};
 use mio::net::{TcpListener, TcpStream};
 use mio::{Interest, Poll, Token};
-use s3_connections::{Service, Socket};
+use s3_sockets::{Service, Socket};
 use std::io::{self, ErrorKind};
 use std::net::{self, Net};
 use std::time::{Duration, Instant};
@@ -28,8 +28,8 @@ enum Stance {
 /// The connections that come to a worker.
 #[derive(Drop)]
 pub(crate) struct Arrivals {
-    // Whether connections may wait to be taken; whether the listener has reported one since the last try; and whether one that is
-    // held may be let go for such a one.
+    // Whether connections may wait to be taken; whether the listener has reported one since the last try; and whether
+    // one that is held may be let go for such a one.
     pub(crate) has_waiting: bool,
     is_reported: bool,
     may_make_room: bool,
@@ -63,13 +63,13 @@ impl Arrivals {
     }
 
     /// The listener has reported one.
-    pub(crate) fn are_reported(&mut self) {
+    pub(crate) fn note_report(&mut self) {
         self.has_waiting = true;
         self.is_reported = true;
     }
 
     /// Some may wait, and others may be let go for them.
-    pub(crate) fn may_come(&mut self) {
+    pub(crate) fn expect_more(&mut self) {
         self.has_waiting = true;
         self.may_make_room = true;
     }
@@ -86,16 +86,17 @@ impl Arrivals {
 impl<S: Service> Worker<'_, S> {
     /// Takes a connection that waits, if it may, and gives one up where another worker wants its place.
     pub(crate) fn take_and_give_up(&mut self, now: &Now) {
-        if self.arrivals.has_waiting && !self.places.is_full() && self.takes_next(now) {
+        if self.arrivals.has_waiting && !self.places.is_full() && self.take_stance(now) {
             self.take_one(now);
         }
         self.let_in(now);
         self.give_up_one(now);
     }
 
-    // Whether it takes one of those that wait. With more than its share it leaves them to the others for a while: each would wait
-    // here for those that it holds. Where the others don't come to it, it takes them all the same.
-    fn takes_next(&mut self, now: &Now) -> bool {
+    // Takes a stance towards those that wait, and answers whether it takes one of them. With more than its share it
+    // leaves them to the others for a while: each would wait here for those that it holds. Where the others don't come
+    // to it, it takes them all the same.
+    fn take_stance(&mut self, now: &Now) -> bool {
         let is_within = self.places.is_within_share(self.held.len() as u64);
         self.arrivals.stance = match self.arrivals.stance {
             Stance::Takes => Stance::Takes,
@@ -107,8 +108,8 @@ impl<S: Service> Worker<'_, S> {
         !self.arrivals.are_left()
     }
 
-    // Takes a connection that waits, if none has no place yet, and leaves the others: a worker that took all that wait would serve
-    // them alone.
+    // Takes a connection that waits, if none has no place yet, and leaves the others: a worker that took all that wait
+    // would serve them alone.
     fn take_one(&mut self, now: &Now) {
         if self.arrivals.has_one() {
             return;
@@ -119,16 +120,16 @@ impl<S: Service> Worker<'_, S> {
                 self.arrivals.may_make_room = true;
             }
             Err(error) => {
-                self.arrivals.has_waiting = self.may_take(error.kind(), now);
+                self.arrivals.has_waiting = self.recover(error.kind(), now);
                 self.arrivals.stance = Stance::Shares;
             }
         }
         self.arrivals.is_reported = false;
     }
 
-    // Whether one may be taken at once after that was refused so. Beside what passes by itself, the system lacks descriptors or
-    // memory.
-    fn may_take(&mut self, refused: ErrorKind, now: &Now) -> bool {
+    // Does what can be done where one was refused so, and answers whether one may be taken at once. Beside what passes
+    // by itself, the system lacks descriptors or memory.
+    fn recover(&mut self, refused: ErrorKind, now: &Now) -> bool {
         match refused {
             ErrorKind::WouldBlock => false,
             ErrorKind::ConnectionAborted
@@ -136,16 +137,16 @@ impl<S: Service> Worker<'_, S> {
             | ErrorKind::NetworkDown
             | ErrorKind::NetworkUnreachable
             | ErrorKind::HostUnreachable => true,
-            _ => self.makes_room(now),
+            _ => self.make_room(now),
         }
     }
 
-    // Lets a connection go for one that the system can't hand over, and answers whether it did: once, and if that was no help,
-    // again after the next look. The system says that it lacks descriptors where nobody waits, too: where the listener has
-    // reported nobody it is asked to.
-    fn makes_room(&mut self, now: &Now) -> bool {
+    // Lets a connection go for one that the system can't hand over, and answers whether it did: once, and if that was
+    // no help, again after the next look. The system says that it lacks descriptors where nobody waits, too: where the
+    // listener has reported nobody it is asked to.
+    fn make_room(&mut self, now: &Now) -> bool {
         if !self.arrivals.is_reported {
-            self.has_waiting_reported();
+            self.ask_who_waits();
             return false;
         }
         if !self.arrivals.may_make_room {
@@ -162,7 +163,7 @@ impl<S: Service> Worker<'_, S> {
     }
 
     // Has the listener report who waits already. If the system can't, the next look tries again.
-    fn has_waiting_reported(&mut self) {
+    fn ask_who_waits(&mut self) {
         drop(
             self.poll
                 .registry()
@@ -176,10 +177,10 @@ impl<S: Service> Worker<'_, S> {
             self.arrivals.taken = None;
         }
         if !self.arrivals.has_one() {
-            self.asks_no_more();
+            self.ask_no_more();
             return;
         }
-        if self.has_place(now) {
+        if self.take_place(now) {
             self.take_in(now);
         }
     }
@@ -187,7 +188,7 @@ impl<S: Service> Worker<'_, S> {
     // Holds the connection that was taken, for which a place is taken.
     fn take_in(&mut self, now: &Now) {
         let is_held = match self.arrivals.taken.take() {
-            Some(stream) => self.holds(stream, now),
+            Some(stream) => self.hold(stream, now),
             None => false,
         };
         if !is_held {
@@ -195,12 +196,12 @@ impl<S: Service> Worker<'_, S> {
         }
     }
 
-    // Whether it holds this connection, which is counted.
-    fn holds(&mut self, stream: TcpStream, now: &Now) -> bool {
+    // Holds this connection, which is counted, and answers whether it does.
+    fn hold(&mut self, stream: TcpStream, now: &Now) -> bool {
         let Some(number) = self.places.count_one() else {
             return false;
         };
-        self.held.holds(
+        self.held.hold(
             self.service,
             self.poll.registry(),
             Socket::new(stream),
@@ -209,11 +210,12 @@ impl<S: Service> Worker<'_, S> {
         )
     }
 
-    // Whether it has taken a place for the connection that was taken: a free one, or that of the connection which has waited longest
-    // for its next message. Where it holds none such, the other workers are asked. It asks no more before it takes one, so that
-    // they offer none behind that; and no place is given up for a connection that has gone, which counts as one that came.
-    fn has_place(&mut self, now: &Now) -> bool {
-        self.asks_no_more();
+    // Takes a place for the connection that was taken, and answers whether it did: a free one, or that of the
+    // connection which has waited longest for its next message. Where it holds none such, the other workers are asked.
+    // It asks no more before it takes one, so that they offer none behind that; and no place is given up for a
+    // connection that has gone, which counts as one that came.
+    fn take_place(&mut self, now: &Now) -> bool {
+        self.ask_no_more();
         if self.places.take_place() {
             return true;
         }
@@ -234,15 +236,15 @@ impl<S: Service> Worker<'_, S> {
     }
 
     /// Takes back that it asked the other workers for a place, if it did.
-    pub(crate) fn asks_no_more(&mut self) {
+    pub(crate) fn ask_no_more(&mut self) {
         if self.arrivals.has_asked {
             self.places.want_no_place();
             self.arrivals.has_asked = false;
         }
     }
 
-    // Lets the connection go that has waited longest for its next message, where another worker wants a place, none is free, and
-    // no third one lets one go for it.
+    // Lets the connection go that has waited longest for its next message, where another worker wants a place, none is
+    // free, and no third one lets one go for it.
     fn give_up_one(&mut self, now: &Now) {
         if self.arrivals.has_one() || self.places.is_full() || !self.places.lacks_places() {
             return;

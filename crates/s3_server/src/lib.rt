@@ -1,15 +1,14 @@
-//! The server that listens on a socket. Its workers have a thread and connections of their own each: a worker waits until some of
-//! these are ready, and has each go on as far as it can. How a connection is served and held `s3_connections` says,
-//! and what the store does `s3_journal`; here are the listener, the places and the threads.
+//! The server that listens on a socket. Its workers have a thread and connections of their own each: a worker waits
+//! until some of these are ready, and has each go on as far as it can. How a connection is served and held `s3_sockets`
+//! says, and what the store does `s3_journal`; here are the listener, the places and the threads.
 #![tactic(auto)]
 
 mod arrivals;
-mod connections;
+mod connection_table;
 mod limits;
 mod listener;
 mod logging;
 mod places;
-mod resting;
 mod serve;
 mod worker;
 

@@ -1,7 +1,7 @@
 //! The limits of time, and which connections are idle.
 
 use crate::worker::{Now, Worker};
-use s3_connections::Service;
+use s3_sockets::Service;
 use std::time::{Duration, Instant};
 
 // Milliseconds between two looks at the time limits.
@@ -38,13 +38,14 @@ fn is_ago(looked: Option<Instant>, millis: u64, now: Instant) -> bool {
 }
 
 impl<S: Service> Worker<'_, S> {
-    /// Has each connection that has waited too long go on once more, and lets it go if it waits still, if it didn't look just now.
+    /// Has each connection that has waited too long go on once more, and lets it go if it waits still, if it didn't
+    /// look just now.
     pub(crate) fn look(&mut self, now: &Now) {
         if !is_ago(self.looks.limits, BETWEEN_LOOKS, now.instant) {
             return;
         }
         self.looks.limits = Some(now.instant);
-        self.arrivals.may_come();
+        self.arrivals.expect_more();
         for key in 0..self.held.capacity() {
             if self.held.is_over(key, now.instant) {
                 self.try_again(key, now);
@@ -52,8 +53,9 @@ impl<S: Service> Worker<'_, S> {
         }
     }
 
-    // Has the connection under a key go on that has waited too long, and lets it go if it does so still. The system tells
-    // of room only where much of it is free, so that a peer which takes its reply slowly isn't reported for minutes.
+    // Has the connection under a key go on that has waited too long, and lets it go if it does so still. The system
+    // tells of room only where much of it is free, so that a peer which takes its reply slowly isn't reported for
+    // minutes.
     fn try_again(&mut self, key: usize, now: &Now) {
         self.serve_key(key, now);
         if self.held.is_over(key, now.instant) {
@@ -61,8 +63,8 @@ impl<S: Service> Worker<'_, S> {
         }
     }
 
-    /// The key of the connection that has waited longest for its next message, and waits for it still where it has gone on once
-    /// more: a request may just have come. To look through all of them takes time where there are thousands.
+    /// The key of the connection that has waited longest for its next message, and waits for it still where it has gone
+    /// on once more: a request may just have come. To look through all of them takes time where there are thousands.
     pub(crate) fn spare_key(&mut self, now: &Now) -> Option<usize> {
         if !is_ago(self.looks.none_idle, BETWEEN_SEARCHES, now.instant) {
             return None;

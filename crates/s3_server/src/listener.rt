@@ -7,8 +7,8 @@ use s3_settings::Fault;
 use std::io::{self, ErrorKind};
 use std::net::{self, Net, ToSocketAddrs};
 
-/// Listens on an address, a host and a port, of which 0 stands for any that is free. `CannotListen` where the host has no
-/// address on which this program may listen.
+/// Listens on an address, a host and a port, of which 0 stands for any that is free. `CannotListen` where the host has
+/// no address on which this program may listen.
 pub fn listen<'a, R: Net>(rt: &R, address: &'a str) -> Result<net::TcpListener, Fault<'a>>
     ensures refused { IfErr result (λ fault. fault ≡ Fault.CannotListen address.entry) }
 {

@@ -19,8 +19,8 @@ pub(crate) struct Logging<'a, F: Files> {
 }
 
 impl<'a, F: Files> Logging<'a, F> {
-    /// The logs that a server is asked for, if it is, one for each of its workers. `CannotWrite` where nothing can be written to their
-    /// file.
+    /// The logs that a server is asked for, if it is, one for each of its workers. `CannotWrite` where nothing can be
+    /// written to their file.
     pub(crate) fn asked(
         alloc: Global,
         mode: &ServeMode<'a>,

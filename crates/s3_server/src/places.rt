@@ -2,9 +2,9 @@
 
 use std::sync::atomic::{AtomicU64, Ordering};
 
-/// How many connections came and are held, what the most is of both, how many workers hold them, how many of these want a place
-/// that another one may give, and how many offer one.
-/// All workers count in one, so that no clause can tell what a call finds; tests tell it of one worker.
+/// How many connections came and are held, what the most is of both, how many workers hold them, how many of these want
+/// a place that another one may give, and how many offer one. All workers count in one, so that no clause can tell what
+/// a call finds; tests tell it of one worker.
 #[derive(Drop)]
 pub struct Places {
     came: AtomicU64,
@@ -17,8 +17,8 @@ pub struct Places {
 }
 
 impl Places {
-    /// None came yet. After `most` the server ends, without such a number it goes on for ever; and it holds no more than
-    /// `most_held` at a time.
+    /// None came yet. After `most` the server ends, without such a number it goes on for ever; and it holds no more
+    /// than `most_held` at a time.
     pub fn new(most: Option<u64>, most_held: u64) -> Places {
         Places {
             came: AtomicU64::new(0),
@@ -75,8 +75,8 @@ impl Places {
         self.workers.fetch_sub(1, Ordering::SeqCst);
     }
 
-    /// Whether a worker that holds this many connections has no more than its share of all that are held. While nothing comes or
-    /// goes, that is so of one that works at least.
+    /// Whether a worker that holds this many connections has no more than its share of all that are held. While nothing
+    /// comes or goes, that is so of one that works at least.
     pub fn is_within_share(&self, mine: u64) -> bool {
         let workers = self.workers.load(Ordering::SeqCst);
         mine.saturating_mul(workers) <= self.held.load(Ordering::SeqCst)
@@ -102,8 +102,8 @@ impl Places {
         self.lacks_beside(self.offers.load(Ordering::SeqCst))
     }
 
-    /// Counts a worker that offers the place of a connection, until it takes that back, if more workers want a place than there are
-    /// free and offered ones; answers whether it did.
+    /// Counts a worker that offers the place of a connection, until it takes that back, if more workers want a place
+    /// than there are free and offered ones; answers whether it did.
     pub fn offer_place(&self) -> bool {
         let offers = self.offers.fetch_add(1, Ordering::SeqCst);
         let lacks = self.lacks_beside(offers);

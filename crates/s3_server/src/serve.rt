@@ -1,34 +1,35 @@
 //! A server from its options to its end.
 
-ghost use Rattle.std.specs.Prelude.{◌≡◌, ◌⊎◌, IfOk, IfErr, IfSome, OnOk, IsOk};
+ghost use Rattle.std.specs.Prelude.{◌≡◌, ◌⊎◌, Ok, IfOk, IfErr, IfSome, OnErr, OnOk};
+ghost use Rattle.std.specs.Io.KnownBytes.{Appends};
 ghost use Rattle.s3_journal.specs.Desk.{most_seats};
 ghost use Rattle.s3_journal.specs.Gone.{IsClosed};
 ghost use Rattle.s3_records.specs.Catalogue.{opening};
 ghost use Rattle.s3_store.specs.Steps.{opened};
-ghost use Rattle.s3_settings.specs.Devices.{AppendsBeginning};
+ghost use Rattle.s3_settings.specs.Devices.{AppendsBeginning, IsTold};
 ghost use Rattle.s3_settings.specs.Fault.{line_of};
 ghost use Rattle.s3_settings.specs.declared.fault.Fault.{Fault};
-ghost use Rattle.s3_connections.specs.Account.{Fits};
+ghost use Rattle.s3_sockets.specs.Account.{Fits};
 ghost use Rattle.s3_server.specs.Serve.{IsServeFault, IsModeFault, IsToldFault, IsListenFault};
-ghost use Rattle.s3_server.specs.Served.{HasServed, HasServedAs};
+ghost use Rattle.s3_server.specs.Served.{HasServed, HasServedAs, HasServedAndTold, IsToldInPart, IsToldPlace, address_line, entries_line};
 
 use crate::listener::listen;
 use crate::logging::Logging;
 use crate::places::Places;
 use crate::worker::{Means, NoMeans, Worker};
 use s3_config::Config;
-use s3_connections::{Account, Service, Sharing};
+use s3_devices::Device;
 use s3_journal::{Closed, Desk, Ground, Start};
 use s3_log::{Log, LogWriter};
-use s3_options::ServeOptions;
 use s3_records::MapRecords;
-use s3_settings::{Fault, Files, ServeMode, server_settings, write_flushed};
+use s3_settings::{Fault, Files, ServeMode, ServeOptions, server_settings, write_flushed};
+use s3_sockets::{Account, Service, Sharing};
 use s3_store::Store;
 use s3_terms::NoMemory;
 use std::alloc::Global;
 use std::io::Write;
 use std::marker::Brand;
-use std::net::{self, Net};
+use std::net::{self, Net, SocketAddr};
 use std::sync::Wait;
 use std::thread::{self, Threads};
 use std::time::Clock;
@@ -39,15 +40,20 @@ const DONE: u8 = 0;
 // The status of a server that failed.
 const FAILED: u8 = 1;
 
-/// Serves as the options say, and answers the exit status: 0 after the last connection, and 1 otherwise, with one line on
-/// `errors`. A worker whose waiting fails ends with its connections, and the others go on; after the last such worker the status is
-/// 0 too. `output` is told `listening ADDR`, with the port that was taken, and at the end `entries K`, the number of commands that the
-/// store answered. The log that the options ask for is told of each message by one line, or of its loss.
+/// Starts a server as `options` say, serves until its end, and answers the exit status. `files` has the keys file, and
+/// takes the log. `output` takes `listening ADDR` at the beginning, with the port that was taken, and `entries K` at
+/// the end: the number of commands that the store answered. The log gets one line for each message, or for its loss.
 ///
-/// A server that ended has served what `HasServedAs` says: there is one legal history from the opening of the store; each connection has
-/// the entries in it that its own commands made; there are no others; and what each connection wrote is what its own bytes and entries
-/// make, or a beginning of that. Which connections come is the system's to say.
-pub fn serve_words<R: Wait + Threads + Net + Clock + Sync, F: Files + Sync, W: Write, E: Write>(
+/// The status is one of these:
+///
+/// - 0: the last connection that was asked for has ended, and `errors` takes nothing. A worker whose waiting fails ends with
+///   its connections; the others go on. The status is 0 too after the last such worker.
+/// - 1: the server failed. `errors` takes the line of the fault ([`Fault::tell`]), and `output` has a beginning of its lines.
+///
+/// For status 0, `served` says that there are a legal history and accounts of connections that fit the settings and
+/// each other, and that K is the length of this history. It says nothing of sockets yet: not that these are the
+/// connections that came, and not what they were sent.
+pub fn serve_words<R: Wait + Threads + Net + Clock + Sync, F: Files + Sync, W: Write, E: Device>(
     rt: &R,
     alloc: Global,
     options: &ServeOptions<'_>,
@@ -57,14 +63,15 @@ pub fn serve_words<R: Wait + Threads + Net + Clock + Sync, F: Files + Sync, W: W
 ) -> u8
     ensures status { (result ≡ DONE) ⊎ (result ≡ FAILED) }
     ensures silent { result ≡ DONE → errors.new ≡ errors.old }
-    ensures served { result ≡ DONE → HasServedAs (F.known files.now) options.now }
+    ensures served { result ≡ DONE → HasServedAs (F.known files.now) options.now (W.contents output.old) (W.contents output.new) }
     ensures failed { result ≡ FAILED → (fault : Fault) × IsServeFault (F.known files.now) options.now fault
-        × AppendsBeginning (E.contents errors.old) (E.contents errors.new) (line_of fault) }
+        × IsTold (E.traffic errors.old) (E.traffic errors.new) (line_of fault) }
+    ensures begun { result ≡ FAILED → IsToldInPart (W.contents output.old) (W.contents output.new) }
 {
     match serve(rt, alloc, options, files, output) {
         Ok(()) => DONE,
         Err(fault) => {
-            let _ = fault.tell(errors);
+            fault.tell(rt, errors);
             FAILED
         }
     }
@@ -80,6 +87,7 @@ enum Job {
 }
 
 // Serves as the options say.
+#[tactic(auto, using(crate::proofs::ServedLemmas::telling))]
 fn serve<'a, R: Wait + Threads + Net + Clock + Sync, F: Files + Sync, W: Write>(
     rt: &R,
     alloc: Global,
@@ -87,14 +95,16 @@ fn serve<'a, R: Wait + Threads + Net + Clock + Sync, F: Files + Sync, W: Write>(
     files: &'a F,
     output: &mut W,
 ) -> Result<(), Fault<'a>>
-    ensures served { OnOk result (HasServedAs (F.known files.now) options.now) }
+    ensures served { OnOk result (HasServedAs (F.known files.now) options.now (W.contents output.old) (W.contents output.new)) }
     ensures refused { IfErr result (IsServeFault (F.known files.now) options.now) }
+    ensures begun { OnErr result (IsToldInPart (W.contents output.old) (W.contents output.new)) }
 {
     let (mode, config) = server_settings(alloc, options, files)?;
     serve_mode(rt, alloc, &mode, &config, files, output)
 }
 
 // Serves with these settings.
+#[tactic(auto, using(crate::proofs::ServedLemmas::telling))]
 fn serve_mode<'a, R: Wait + Threads + Net + Clock + Sync, F: Files + Sync, W: Write>(
     rt: &R,
     alloc: Global,
@@ -103,14 +113,16 @@ fn serve_mode<'a, R: Wait + Threads + Net + Clock + Sync, F: Files + Sync, W: Wr
     files: &'a F,
     output: &mut W,
 ) -> Result<(), Fault<'a>>
-    ensures served { OnOk result (HasServed config.now) }
+    ensures served { OnOk result (HasServedAndTold config.now (W.contents output.old) (W.contents output.new)) }
     ensures refused { IfErr result (IsModeFault mode.now) }
+    ensures begun { OnErr result (IsToldInPart (W.contents output.old) (W.contents output.new)) }
 {
     let logging = Logging::asked(alloc, mode, files)?;
     serve_logged(rt, alloc, mode, config, logging.as_ref(), output)
 }
 
 // Serves with this log, if there is one.
+#[tactic(auto, using(crate::proofs::ServedLemmas::telling))]
 fn serve_logged<'a, R: Wait + Threads + Net + Clock + Sync, F: Files + Sync, W: Write>(
     rt: &R,
     alloc: Global,
@@ -119,8 +131,9 @@ fn serve_logged<'a, R: Wait + Threads + Net + Clock + Sync, F: Files + Sync, W: 
     logging: Option<&Logging<'a, F>>,
     output: &mut W,
 ) -> Result<(), Fault<'a>>
-    ensures served { OnOk result (HasServed config.now) }
+    ensures served { OnOk result (HasServedAndTold config.now (W.contents output.old) (W.contents output.new)) }
     ensures refused { IfErr result (IsToldFault mode.now.address) }
+    ensures begun { OnErr result (IsToldInPart (W.contents output.old) (W.contents output.new)) }
 {
     let start = start(alloc, config)?;
     let entries = serve_start(rt, alloc, mode, config, logging, start, output)?;
@@ -137,6 +150,7 @@ fn start(alloc: Global, config: &Config) -> Result<Start<MapRecords>, NoMemory>
 }
 
 // Serves from there, and answers how many commands were answered.
+#[tactic(auto, using(crate::proofs::ServedLemmas::telling))]
 fn serve_start<'a, R: Wait + Threads + Net + Clock + Sync, F: Files + Sync, W: Write>(
     rt: &R,
     alloc: Global,
@@ -148,8 +162,10 @@ fn serve_start<'a, R: Wait + Threads + Net + Clock + Sync, F: Files + Sync, W: W
 ) -> Result<u64, Fault<'a>>
     requires settings { start.base.settings ≡ config.now }
     requires store { start.base.store ≡ opened (opening config.now.buckets) }
-    ensures served { OnOk result (HasServed config.now) }
+    ensures served { IfOk result (HasServed config.now) }
+    ensures told { OnOk result (IsToldPlace (W.contents output.old) (W.contents output.new)) }
     ensures refused { IfErr result (IsToldFault mode.now.address) }
+    ensures begun { OnErr result (IsToldInPart (W.contents output.old) (W.contents output.new)) }
 {
     match listening(rt, alloc, mode, output) {
         Ok(jobs) => {
@@ -162,20 +178,23 @@ fn serve_start<'a, R: Wait + Threads + Net + Clock + Sync, F: Files + Sync, W: W
 
 // How many commands were answered, where there was memory.
 fn entries_of<'a>(entries: Result<u64, NoMemory>) -> Result<u64, Fault<'a>>
-    ensures same { OnOk result (IsOk entries) }
+    ensures same { IfOk result (λ count. entries ≡ Ok count) }
     ensures refused { IfErr result (λ fault. fault ≡ Fault.OutOfMemory) }
 {
     Ok(entries?)
 }
 
 // What is to be done, on the address that was asked for, once it is told.
+#[tactic(auto, using(crate::proofs::ServedLemmas::telling))]
 fn listening<'a, R: Net, W: Write>(
     rt: &R,
     alloc: Global,
     mode: &ServeMode<'a>,
     output: &mut W,
 ) -> Result<Vec<Job>, Fault<'a>>
+    ensures told { OnOk result (IsToldPlace (W.contents output.old) (W.contents output.new)) }
     ensures refused { IfErr result (IsToldFault mode.now.address) }
+    ensures begun { OnErr result (IsToldInPart (W.contents output.old) (W.contents output.new)) }
 {
     let listener = listen(rt, mode.address)?;
     let jobs = all_jobs(rt, alloc, mode, &listener)?;
@@ -183,8 +202,8 @@ fn listening<'a, R: Net, W: Write>(
     Ok(jobs)
 }
 
-// What is to be done: a worker's work each, and behind them the writing of the log. It stands last, so that it doesn't stand in
-// front of a worker for which the system makes no thread.
+// What is to be done: a worker's work each, and behind them the writing of the log. It stands last, so that it doesn't
+// stand in front of a worker for which the system makes no thread.
 fn all_jobs<'a, R: Net>(
     rt: &R,
     alloc: Global,
@@ -232,7 +251,7 @@ fn run_all<R: Wait + Threads + Clock + Sync, F: Files + Sync>(
 ) -> Result<u64, NoMemory>
     requires settings { start.base.settings ≡ config.now }
     requires store { start.base.store ≡ opened (opening config.now.buckets) }
-    ensures served { OnOk result (HasServed config.now) }
+    ensures served { IfOk result (HasServed config.now) }
 {
     run::<Brand, R, F>(rt, alloc, config, places, logging, start, jobs)
 }
@@ -252,7 +271,7 @@ fn run<J: Ground + Send + Sync, R: Wait + Threads + Clock + Sync, F: Files + Syn
     requires parts { J.parts ≡ most_seats }
     requires settings { J.base.settings ≡ config.now }
     requires store { J.base.store ≡ opened (opening config.now.buckets) }
-    ensures served { OnOk result (HasServed config.now) }
+    ensures served { IfOk result (HasServed config.now) }
 {
     let desk = Desk::<J, MapRecords, Account>::open(alloc, start)?;
     work_all(rt, alloc, config, places, &desk, logging, jobs)?;
@@ -268,7 +287,7 @@ fn entries_left<J: Ground>(
     requires closed { IfSome closed (λ closed. IsClosed (Fits J.base.settings) J.base closed.book closed.gone.entries) }
     requires settings { J.base.settings ≡ config.now }
     requires store { J.base.store ≡ opened (opening config.now.buckets) }
-    ensures served { OnOk result (HasServed config.now) }
+    ensures served { IfOk result (HasServed config.now) }
 {
     let _ = config;
     match closed {
@@ -365,24 +384,44 @@ fn works_with<S: Service>(service: &S, places: &Places, means: Means) {
 }
 
 // Tells where the server listens.
+#[tactic(auto, using(crate::proofs::ServedLemmas::telling))]
 fn tell_address<'a, W: Write>(
     alloc: Global,
     mode: &ServeMode<'a>,
     listener: &net::TcpListener,
     output: &mut W,
 ) -> Result<(), Fault<'a>>
+    ensures told { OnOk result (IsToldPlace (W.contents output.old) (W.contents output.new)) }
     ensures refused { IfErr result (IsToldFault mode.now.address) }
+    ensures begun { OnErr result (IsToldInPart (W.contents output.old) (W.contents output.new)) }
 {
     let Ok(place) = listener.local_addr() else {
         return Err(Fault::CannotListen(mode.address));
     };
+    tell_place(alloc, place, output)
+}
+
+// Tells that it listens at this place.
+#[tactic(auto, using(crate::proofs::ServedLemmas::telling))]
+fn tell_place<'a, W: Write>(
+    alloc: Global,
+    place: SocketAddr,
+    output: &mut W,
+) -> Result<(), Fault<'a>>
+    ensures told { OnOk result (Appends (W.contents output.old) (W.contents output.new) (address_line place)) }
+    ensures refused { IfErr result (λ fault. (fault ≡ Fault.OutOfMemory) ⊎ (fault ≡ Fault.OutputFailed)) }
+    ensures begun { OnErr result (AppendsBeginning (W.contents output.old) (W.contents output.new) (address_line place)) }
+{
     let line = format!(in alloc; "listening {place}\n")?;
     write_flushed(output, line.as_bytes())
 }
 
 // Tells how many entries there are at the end.
+#[tactic(auto, using(crate::proofs::ServedLemmas::telling))]
 fn tell_entries<'a, W: Write>(alloc: Global, entries: u64, output: &mut W) -> Result<(), Fault<'a>>
+    ensures told { OnOk result (Appends (W.contents output.old) (W.contents output.new) (entries_line entries)) }
     ensures refused { IfErr result (λ fault. (fault ≡ Fault.OutOfMemory) ⊎ (fault ≡ Fault.OutputFailed)) }
+    ensures begun { OnErr result (AppendsBeginning (W.contents output.old) (W.contents output.new) (entries_line entries)) }
 {
     let line = format!(in alloc; "entries {entries}\n")?;
     write_flushed(output, line.as_bytes())

@@ -1,13 +1,13 @@
 //! A worker: it waits until some of its connections are ready, and has these go on.
 
 use crate::arrivals::{Arrivals, LISTENER, listening_poll};
-use crate::connections::Connections;
+use crate::connection_table::ConnectionTable;
 use crate::limits::Looks;
 use crate::places::Places;
 use mio::net::TcpListener;
 use mio::{Events, Poll};
 use s3_calendar::Moment;
-use s3_connections::{Service, WorkerClock};
+use s3_sockets::{Service, WorkerClock};
 use std::alloc::{AllocError, Global};
 use std::io;
 use std::net::{self, Net};
@@ -19,14 +19,11 @@ const EVENTS: usize = 256;
 // How many bytes a read takes at most.
 const BUFFER: usize = 262_144;
 
-// Milliseconds that it waits for events where the server goes on for ever, and where it ends some time or a connection is at the
-// door or left to the others.
+// Milliseconds that it waits for events where the server goes on for ever, and where it ends some time or a connection
+// is at the door or left to the others.
 const PATIENCE: u64 = 1000;
 
 const SHORT_PATIENCE: u64 = 20;
-
-// And where a connection rests.
-const REST_PATIENCE: u64 = 2;
 
 /// What a worker waits with, and what it reads into.
 #[derive(Drop)]
@@ -59,8 +56,8 @@ impl From<io::Error> for NoMeans {
 }
 
 impl Means {
-    /// What one worker works with, for connections from a listener that others have too. It takes all the memory that the worker
-    /// works with but that of its connections.
+    /// What one worker works with, for connections from a listener that others have too. It takes all the memory that
+    /// the worker works with but that of its connections.
     pub(crate) fn new<R: Net>(
         rt: &R,
         alloc: Global,
@@ -96,7 +93,7 @@ pub(crate) struct Worker<'a, S: Service> {
     events: Events,
     buffer: Vec<u8>,
     clock: WorkerClock,
-    pub(crate) held: Connections<S>,
+    pub(crate) held: ConnectionTable<S>,
     pub(crate) arrivals: Arrivals,
     pub(crate) looks: Looks,
 }
@@ -119,7 +116,7 @@ impl<'a, S: Service> Worker<'a, S> {
             events,
             buffer,
             clock,
-            held: Connections::new(service.memory()),
+            held: ConnectionTable::new(service.memory()),
             arrivals: Arrivals::new(),
             looks: Looks::new(),
         })
@@ -170,7 +167,6 @@ impl<'a, S: Service> Worker<'a, S> {
             moment: self.clock.now(rt),
         };
         self.serve_ready(&now);
-        self.serve_rested(&now);
         self.take_and_give_up(&now);
         self.look(&now);
         Ok(())
@@ -178,18 +174,8 @@ impl<'a, S: Service> Worker<'a, S> {
 
     // How long it waits for events.
     fn patience(&self) -> Duration {
-        let patience = self.patience_beside_rests();
-        Duration::from_millis(if self.held.resting() == 0 {
-            patience
-        } else {
-            patience.min(REST_PATIENCE)
-        })
-    }
-
-    // How many milliseconds it does where no connection rests.
-    fn patience_beside_rests(&self) -> u64 {
         let is_short = self.arrivals.has_one() || self.arrivals.are_left();
-        if is_short || self.places.lacks_places() {
+        Duration::from_millis(if is_short || self.places.lacks_places() {
             SHORT_PATIENCE
         } else if self.arrivals.has_waiting && !self.places.is_full() {
             0
@@ -197,17 +183,7 @@ impl<'a, S: Service> Worker<'a, S> {
             SHORT_PATIENCE
         } else {
             PATIENCE
-        }
-    }
-
-    // Has those connections go on that have rested.
-    fn serve_rested(&mut self, now: &Now) {
-        for _ in 0..self.held.resting() {
-            let Some(key) = self.held.next_rested(now.instant) else {
-                return;
-            };
-            self.serve_key(key, now);
-        }
+        })
     }
 
     // Has the connections go on that are ready; those that have ended are let go.
@@ -215,7 +191,7 @@ impl<'a, S: Service> Worker<'a, S> {
         for event in &self.events {
             let token = event.token();
             if token == LISTENER {
-                self.arrivals.are_reported();
+                self.arrivals.note_report();
                 continue;
             }
             let (buffer, registry) = (self.buffer.as_mut_slice(), self.poll.registry());
@@ -233,7 +209,7 @@ impl<'a, S: Service> Worker<'a, S> {
 
     // Lets all go, and asks for nothing more.
     fn let_all_go(&mut self) {
-        self.asks_no_more();
+        self.ask_no_more();
         for key in 0..self.held.capacity() {
             self.held.let_go(self.places, key);
         }

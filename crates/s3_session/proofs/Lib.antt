@@ -6,6 +6,7 @@ pub mod FaultEndLemmas
 pub mod FaultLemmas
 pub mod FrontLemmas
 pub mod InBodyLemmas
+pub mod HeldLemmas
 pub mod IncomingLemmas
 pub mod InvitationLemmas
 pub mod NotedLemmas

@@ -1,15 +1,14 @@
 -- What is noted of the signature of the head at hand.
-use Rattle.std.proofs.Common.{◌≡◌, ◌⊎◌, ℕ, Bool, true, false, List, [], ◌∷◌, length, Option, Some, None, IfSome, IsOk, refl, sym, ap, subst, ◌∙◌, inl, inr}
+use Rattle.std.proofs.Common.{◌≡◌, ◌⊎◌, ℕ, Bool, true, false, List, [], ◌∷◌, length, take, is_none, Option, Some, None, IfSome, refl, sym, ap, subst, ◌∙◌, inl, inr}
 use Rattle.std.specs.Borrow.{Bor}
 use Rattle.std.specs.Option.{option_copied}
 use Rattle.s3_config.specs.Settings.{Settings}
-use Rattle.s3_http_heads.specs.Find.{found_in, skip_pairs}
+use Rattle.s3_http_heads.specs.Find.{found_by, found_in, head_limit, skip_pairs, text_length}
 use Rattle.s3_http_heads.specs.declared.find.Found.TheVariants as found
 use Rattle.s3_http_heads.specs.Head.{HeadParts}
 use Rattle.s3_http_heads.specs.Search as search
 use Rattle.s3_http_heads.specs.declared.search.HeadSearch.{HeadSearch}
 use Rattle.s3_replies.specs.declared.context.Context.{Context}
-use Rattle.s3_signing.specs.Verdict.{head_verdict}
 use Rattle.s3_session.specs.declared.incoming.Incoming.{Incoming}
 use Rattle.s3_session.specs.declared.opening.Opening.TheVariants as opening
 use Rattle.s3_session.specs.declared.session.Stage.{Stage}
@@ -17,16 +16,37 @@ use Rattle.s3_session.specs.declared.session.Stage.TheVariants as stages
 use Rattle.s3_session.specs.declared.session.Closing.{Closing}
 use Rattle.s3_session.specs.declared.session.Closing.TheVariants as closings
 use Rattle.s3_session.specs.Incoming.{Opens}
-use Rattle.s3_session.specs.Output.{HasText, is_waiting}
+use Rattle.s3_session.specs.Output.{HasText, is_dead, is_waiting}
 use Rattle.s3_session.specs.Session.{Connection, KeepsHead, moment_at, standing_at, standing_of}
-use Rattle.s3_session.specs.Verified.{HoldsVerified, IsNoted, Verifies, VerifiesIn, is_admitted}
+use Rattle.s3_session.specs.Verified.{HoldsVerified, IsNoted, IsSigned, Verifies, VerifiesIn, is_admitted}
 
--- nothing is noted where no message has a moment
-pub none_noted : (settings : Settings) (session : Connection) → session.is_verified ≡ false → is_admitted session.stage ≡ false → IsNoted settings session
-none_noted settings session none other = record {
+-- nothing is noted where no head is held that verifies
+pub none_noted : (settings : Settings) (session : Connection) → session.is_verified ≡ false → is_admitted session.stage ≡ false
+    → ¬ (HoldsVerified settings session) → IsNoted settings session
+none_noted settings session none other never = record {
   only = λ is. (let same = sym none ∙ is in absurd (cc));
+  told = λ lives holds. absurd (never holds);
   admitted = λ is. (let same = sym other ∙ is in absurd (cc));
 }
+
+-- none is where no message has a moment
+pub without_moment : (settings : Settings) (session : Connection) → moment_at session.stage ≡ [] → ¬ (HoldsVerified settings session)
+without_moment settings session none holds = let same = sym none ∙ holds.given in absurd (cc)
+
+-- a search that lost nothing holds one text
+one_text : (s : HeadSearch) (a b : List ℕ) → search.is_lost s ≡ false → search.Holds s a → search.Holds s b → skip_pairs a ≡ skip_pairs b
+one_text s a b whole first second =
+    sym (subst (λ (lost : Bool). s.text.items ≡ search.kept lost (skip_pairs a)) whole first.text)
+    ∙ subst (λ (lost : Bool). s.text.items ≡ search.kept lost (skip_pairs b)) whole second.text
+
+-- nor is one where more came than a head may have
+pub without_head : (settings : Settings) (session : Connection) (rest : List ℕ) → search.Holds session.search rest → found_in rest ≡ found.TooLarge
+    → ¬ (HoldsVerified settings session)
+unfolding found_in
+without_head settings session rest held large holds =
+    let texts = one_text session.search holds.bytes rest holds.whole holds.held held in
+    let same : found_in holds.bytes ≡ found_in rest = ap (λ (text : List ℕ). found_by (text_length (take head_limit text)) (length text)) texts in
+    let clash = sym holds.found ∙ same ∙ large in absurd (cc)
 
 false_where : (b : Bool) → ¬ (b ≡ true) → b ≡ false
 false_where true never = absurd (never refl)
@@ -37,21 +57,26 @@ pub reads_unnoted : (settings : Settings) (session : Connection) → session.sta
 reads_unnoted settings session at noted =
     false_where session.is_verified (λ is. (let given = (noted.only is).given in let same = sym given ∙ ap moment_at at in absurd (cc)))
 
+-- a head that verifies does so as long as it is held, where the message at hand keeps its moment
+holds_on : (settings : Settings) (old new : Connection) → new.search ≡ old.search → moment_at new.stage ≡ moment_at old.stage
+    → HoldsVerified settings old → HoldsVerified settings new
+holds_on settings old new same moments h = record {
+  bytes = h.bytes;
+  held = subst (λ (s : HeadSearch). search.Holds s h.bytes) (sym same) h.held;
+  whole = ap search.is_lost same ∙ h.whole;
+  found = h.found;
+  moment = h.moment;
+  given = moments ∙ h.given;
+  verifies = h.verifies;
+}
+
 module _ (settings : Settings) (old new : Connection) where
   -- the note stays with the head, where the message at hand keeps its moment
   pub noted_on : KeepsHead old new → moment_at new.stage ≡ moment_at old.stage → (is_admitted new.stage ≡ true → is_admitted old.stage ≡ true)
-      → IsNoted settings old → IsNoted settings new
-  noted_on keeps moments admitted noted = record {
-    only = λ is.
-        (let h = noted.only (sym keeps.1 ∙ is) in
-        record {
-          bytes = h.bytes;
-          held = subst (λ (s : HeadSearch). search.Holds s h.bytes) (sym keeps.0) h.held;
-          found = h.found;
-          moment = h.moment;
-          given = moments ∙ h.given;
-          verifies = h.verifies;
-        });
+      → (is_dead (standing_of new) ≡ false → is_dead (standing_of old) ≡ false) → IsNoted settings old → IsNoted settings new
+  noted_on keeps moments admitted lives noted = record {
+    only = λ is. holds_on settings old new keeps.0 moments (noted.only (sym keeps.1 ∙ is));
+    told = λ alive h. keeps.1 ∙ noted.told (lives alive) (holds_on settings new old (sym keeps.0) (sym moments) h);
     admitted = λ is. keeps.1 ∙ noted.admitted (admitted is);
   }
 
@@ -63,14 +88,39 @@ module _ (settings : Settings) (old new : Connection) where
     text_verifies None is verifies = absurd verifies
     text_verifies (Some text) is verifies = subst (λ (t : List ℕ). Verifies settings moment t) is verifies
 
+    -- a text that verifies isn't lost
+    text_whole : (text : Option (Bor (List ℕ))) → is_none text ≡ search.is_lost old.search
+        → VerifiesIn settings moment (option_copied text) → search.is_lost old.search ≡ false
+    text_whole None lost verifies = absurd verifies
+    text_whole (Some text) lost verifies = sym lost
+
+    -- and a head that is held is a text that verifies
+    verifies_text : (text : Option (Bor (List ℕ))) → IfSome text (λ (t : Bor (List ℕ)). t.now ≡ skip_pairs rest)
+        → is_none text ≡ search.is_lost old.search → search.is_lost old.search ≡ false
+        → Verifies settings moment (skip_pairs rest) → VerifiesIn settings moment (option_copied text)
+    verifies_text None is lost whole verifies = let clash = lost ∙ whole in absurd (cc)
+    verifies_text (Some text) is lost whole verifies = subst (λ (t : List ℕ). Verifies settings moment t) (sym is) verifies
+
+    held_verifies : new.search ≡ old.search → moment_at new.stage ≡ moment ∷ [] → HoldsVerified settings new
+        → Verifies settings moment (skip_pairs rest)
+    held_verifies same given h =
+        let texts = one_text old.search h.bytes rest (sym (ap search.is_lost same) ∙ h.whole)
+        (subst (λ (s : HeadSearch). search.Holds s h.bytes) same h.held) held in
+        let moments : h.moment ≡ moment = let one = sym h.given ∙ given in cc in
+        subst (λ (m : ℕ). Verifies settings m (skip_pairs rest)) moments
+        (subst (λ (t : List ℕ). Verifies settings h.moment t) texts h.verifies)
+
     pub noted_begun : (text : Option (Bor (List ℕ))) → IfSome text (λ (t : Bor (List ℕ)). t.now ≡ skip_pairs rest)
-        → new.search ≡ old.search → moment_at new.stage ≡ moment ∷ []
+        → is_none text ≡ search.is_lost old.search → new.search ≡ old.search → moment_at new.stage ≡ moment ∷ []
         → (new.is_verified ≡ true → VerifiesIn settings moment (option_copied text))
+        → (is_dead (standing_of new) ≡ false → VerifiesIn settings moment (option_copied text) → new.is_verified ≡ true)
         → (is_admitted new.stage ≡ true → new.is_verified ≡ true) → IsNoted settings new
-    noted_begun text is same given verifies admitted = record {
+    noted_begun text is lost same given verifies told admitted = record {
+      told = λ lives h. told lives (verifies_text text is lost (sym (ap search.is_lost same) ∙ h.whole) (held_verifies same given h));
       only = λ noted. record {
         bytes = rest;
         held = subst (λ (s : HeadSearch). search.Holds s rest) (sym same) held;
+        whole = ap search.is_lost same ∙ text_whole text lost (verifies noted);
         found = whole.found ∙ ap found.Head (ends old.search rest whole.size held whole.found);
         moment = moment;
         given = given;
@@ -78,6 +128,14 @@ module _ (settings : Settings) (old new : Connection) where
       };
       admitted = admitted;
     }
+
+-- memory ran out there
+abbrev pub dies_at : Stage → Bool
+dies_at stage = is_dead (standing_at stage)
+
+-- and then it doesn't live
+pub dead_lives_not : {A : Type 0} (stage : Stage) (moment : ℕ) → stage ≡ stages.Closed (closings.Died moment) → is_dead (standing_at stage) ≡ false → A
+dead_lives_not stage moment at lives = let same = sym lives ∙ ap dies_at at in absurd (cc)
 
 -- one that is closed has no head that is admitted
 pub closed_noted : (stage : Stage) (closing : Closing) (noted : Bool) → stage ≡ stages.Closed closing → is_admitted stage ≡ true → noted ≡ true
@@ -93,7 +151,7 @@ waits_admitted (stages.Closed (closings.Died moment)) is = let never = is in abs
 
 -- what is noted now wasn't noted before
 pub verified_now : (settings : Settings) (moment : ℕ) (head : HeadParts) (before : Bool) → before ≡ false
-    → (before ≡ true) ⊎ IsOk (head_verdict settings head moment) → IsOk (head_verdict settings head moment)
+    → (before ≡ true) ⊎ IsSigned settings head moment → IsSigned settings head moment
 verified_now settings moment head before none (inl was) = let same = sym none ∙ was in absurd (cc)
 verified_now settings moment head before none (inr verified) = verified
 
@@ -104,6 +162,11 @@ admitted_moment settings moment None incoming invited died = let same = died in 
 admitted_moment settings moment (Some text) incoming invited (inl died) = let same = died in absurd (cc)
 admitted_moment settings moment (Some text) incoming invited (inr (inl (none, is))) = let same = is in absurd (cc)
 admitted_moment settings moment (Some text) incoming invited (inr (inr (head, says, opens))) = ap (λ (c : Context). c.moment) opens.1
+
+-- and so it was where the session tells it, unless memory ran out
+pub told_verified : (settings : Settings) (session : Connection) → IsNoted settings session → is_dead (standing_of session) ≡ false
+    → HoldsVerified settings session → session.is_verified ≡ true
+told_verified settings session noted = noted.told
 
 -- where a command waits its head was verified
 pub waits_verified : (settings : Settings) (session : Connection) → IsNoted settings session → is_waiting (standing_of session) ≡ true → session.is_verified ≡ true

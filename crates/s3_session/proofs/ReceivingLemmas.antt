@@ -36,7 +36,7 @@ use Rattle.s3_session.specs.declared.session.Stage.TheVariants as stages
 use Rattle.s3_session.specs.declared.session.Closing.TheVariants as closings
 use Rattle.s3_session.specs.Incoming.{IsIncoming, Opens, TextOpens, Progresses, is_open}
 use Rattle.s3_session.specs.Session.{Connection, IsLonger, added, moment_at, turns_of, unsent_of}
-use Rattle.s3_session.specs.Stands.{Asks, GoesOn, Here, IsDying, IsFed, StandsAt}
+use Rattle.s3_session.specs.Stands.{Asks, GoesOn, Here, HoldsHead, IsCutTo, IsDying, IsFed, StandsAt}
 use Rattle.s3_session.proofs.StayLemmas.{HeadsStay}
 use Rattle.s3_session.proofs.FrontLemmas.{IsFront, said_judged, said_invites}
 use Rattle.s3_session.proofs.UndecidedLemmas.{found_undecided, nothing_taken, searching, take_on}
@@ -393,3 +393,23 @@ pub fed_from : (settings : Settings) (old mid new : Connection) (rest last piece
 fed_from settings old mid new rest last piece n need same f =
     let texts : added (unsent_of mid) (unsent_of new) ≡ added (unsent_of old) (unsent_of new) = ap (λ u. added u (unsent_of new)) same in
     record { here = rw (← texts) f.here; all = f.all; at_once = f.at_once }
+
+pub cut_from : (settings : Settings) (context : Context) (rest : List ℕ) (mid old new : Connection) → unsent_of mid ≡ unsent_of old
+    → IsCutTo settings context rest mid new → IsCutTo settings context rest old new
+cut_from settings context rest mid old new same cut = record {
+  code = cut.code;
+  judged = cut.judged;
+  stage = cut.stage;
+  printed = subst (λ u. PrintsRefusal cut.code context.moment context.head_only (added u (unsent_of new))) same cut.printed;
+}
+
+-- the head that came whole with a piece, of which its body takes more, is held
+pub held_found : (session : Connection) (rest piece : List ℕ) (len behind : ℕ)
+    → HoldsHead session ((rest ++ take len piece) ++ take behind (take (length piece - len) (drop len piece)))
+    → HoldsHead session (rest ++ take (len + behind) piece)
+held_found session rest piece len behind h =
+    let all : take (length piece - len) (drop len piece) ≡ drop len piece = take_all (length piece - len) (drop len piece) (omega (arith, length-drop len piece)) in
+    let taken : (rest ++ take len piece) ++ take behind (take (length piece - len) (drop len piece)) ≡ rest ++ take (len + behind) piece =
+    ap (λ (p : List ℕ). (rest ++ take len piece) ++ take behind p) all
+    ∙ append_assoc rest (take len piece) (take behind (drop len piece)) ∙ ap (λ (l : List ℕ). rest ++ l) (take_on len behind piece) in
+    subst (λ (bytes : List ℕ). HoldsHead session bytes) taken h

@@ -13,7 +13,7 @@ use Rattle.s3_payloads.specs.Laws.{PayloadsJudge}
 use Rattle.s3_payloads.specs.Verdict as payloads
 use Rattle.s3_machine.specs.declared.command.Answer.{Answer}
 use Rattle.s3_replies.specs.declared.context.Context.{Context}
-use Rattle.s3_replies.specs.Replies.{Prints, PrintsRefusal, internal_error}
+use Rattle.s3_replies.specs.Replies.{Prints, internal_error}
 use Rattle.s3_session.specs.Verdict as verdicts
 use Rattle.s3_session.specs.Decision.{Decision, Judges, FoundJudged}
 use Rattle.s3_session.specs.Invitation.{Invites, FoundInvites}
@@ -21,7 +21,7 @@ use Rattle.s3_session.specs.Fault.{most_counted}
 use Rattle.s3_session.specs.Walk.{Message, Walks}
 use Rattle.s3_session.specs.Output.{Behind, Exchange, IsDead, IsRefused, IsReplied, IsWaiting, Past, Serves, Standing, Reading, Waiting, Over, Dead, message_of, nothing_yet, turn_of, written_for}
 use Rattle.s3_session.specs.Laws.{InvitationsStay, OutputsStay, VerdictsStay}
-use Rattle.s3_session.specs.Stands.{SessionsWrite, Here, HereOr, IsCutTo, IsFed, IsReady, IsRefusedWith, Stands, StandsAt, is_in_body}
+use Rattle.s3_session.specs.Stands.{SessionsWrite, Here, HereOr, HoldsHead, IsCutTo, IsFed, IsReady, IsRefusedWith, Stands, StandsAt, is_in_body}
 use Rattle.s3_machine.specs.declared.turn.Turn.{Turn}
 use Rattle.s3_session.specs.declared.incoming.Incoming.{Incoming}
 use Rattle.s3_session.specs.declared.session.Need.{Need}
@@ -31,7 +31,8 @@ use Rattle.s3_session.specs.declared.session.Closing.TheVariants as closings
 use Rattle.s3_session.specs.Incoming.{IsInBody}
 use Rattle.s3_session.specs.Session.{Connection, IsLonger, KeepsHead, added, fed, moment_at, moment_if, standing_at, standing_of, turns_of, unsent_of}
 use Rattle.s3_session.specs.Verified.{IsNoted, is_admitted}
-use Rattle.s3_session.proofs.NotedLemmas.{none_noted, noted_on}
+use Rattle.s3_session.proofs.HeldLemmas.{held_here, held_on, left_still}
+use Rattle.s3_session.proofs.NotedLemmas.{dead_lives_not, dies_at, none_noted, noted_on, without_moment}
 use Rattle.s3_session.proofs.StayLemmas.{HeadsStay}
 use Rattle.s3_session.proofs.EarlyLemmas.{sound_text}
 use Rattle.s3_session.proofs.FrontLemmas.{body_judged}
@@ -198,8 +199,9 @@ module _ (stay : VerdictsStay) (invited : InvitationsStay) (settings : Settings)
   fed_by : (left : Option (List ℕ)) (rest : List ℕ) (waiting : List Turn) (last : List ℕ) → left ≡ Some rest → waiting ≡ []
       → Serves settings past (sent ++ unsent_of old) left (moment_at old.stage) waiting last
       → IsFed settings old new rest last piece taken need
+      → (moment_at new.stage ≢ [] → HoldsHead new (rest ++ take taken piece))
       → Stands new settings (fed past (take taken piece) (gave_between old new) (turns_of need)) sent
-  fed_by left rest waiting last is none s f =
+  fed_by left rest waiting last is none s f head =
       let bytes = take taken piece in
       let moved = walk_more stay invited settings false bytes past (map message_of s.exchanges) left unended s.walk in
       let behind : option_map (λ (r : List ℕ). r ++ bytes) left ≡ Some (rest ++ bytes) = ap (option_map (λ (r : List ℕ). r ++ bytes)) is in
@@ -225,6 +227,7 @@ module _ (stay : VerdictsStay) (invited : InvitationsStay) (settings : Settings)
         end = unended ∙ sym end;
         counted = count ∙ counted;
         noted = noted;
+        head = held_here new (rest ++ bytes) head;
       }
 
 -- ---- what a call finds
@@ -319,7 +322,8 @@ module _ (settings : Settings) (old new : Connection) (past : Past) (sent : List
       here = (ready, refl, refl);
       end = h.end ∙ sym end;
       counted = counts count;
-      noted = none_noted settings new none (ap is_admitted ready);
+      noted = none_noted settings new none (ap is_admitted ready) (without_moment settings new (ap moment_at ready));
+      head = λ _ _ given. absurd (given (ap moment_at ready));
     }
     stands_replied false staying ready none count = record {
       left = Some [];
@@ -330,7 +334,8 @@ module _ (settings : Settings) (old new : Connection) (past : Past) (sent : List
           (record { searched = λ _. ready.1; found = empty_found; none = refl; nothing = refl });
       end = h.end ∙ sym end;
       counted = counts count;
-      noted = none_noted settings new none (ap is_admitted ready.0);
+      noted = none_noted settings new none (ap is_admitted ready.0) (without_moment settings new (ap moment_at ready.0));
+      head = λ _ _ given. absurd (given (ap moment_at ready.0));
     }
 
   -- memory ran out at its turn
@@ -367,7 +372,9 @@ module _ (settings : Settings) (old new : Connection) (past : Past) (sent : List
         here = subst (λ (l : Option (List ℕ)). HereOr settings new past.ended l h.waiting (h.last ++ internal_error)) (sym a.1) here;
         end = h.end ∙ sym end;
         counted = count ∙ h.counted;
-        noted = noted_on settings old new keeps (ap moment_at stage ∙ sym late_is) (λ is. (let same = sym is ∙ ap is_admitted stage in absurd (cc))) h.noted;
+        noted = noted_on settings old new keeps (ap moment_at stage ∙ sym late_is) (λ is. (let same = sym is ∙ ap is_admitted stage in absurd (cc)))
+            (dead_lives_not new.stage context.moment stage) h.noted;
+        head = left_still old new keeps.0 (dead_lives_not new.stage context.moment stage) h.left (ap moment_at stage ∙ sym late_is) h.head;
       }
 
 -- ---- what is sent
@@ -400,7 +407,9 @@ stands_sent settings old new past sent count stage searches ends counts verified
       here = here_left settings old new past.ended stage searches h.waiting h.last h.left h.here;
       end = h.end ∙ sym ends;
       counted = counts ∙ h.counted;
-      noted = noted_on settings old new (searches, verified) (ap moment_at stage) (λ is. sym (ap is_admitted stage) ∙ is) h.noted;
+      noted = noted_on settings old new (searches, verified) (ap moment_at stage) (λ is. sym (ap is_admitted stage) ∙ is)
+          (λ lives. sym (ap dies_at stage) ∙ lives) h.noted;
+      head = left_still old new searches (λ lives. sym (ap dies_at stage) ∙ lives) h.left (ap moment_at stage) h.head;
     }
 
 -- ---- the end of the bytes
@@ -470,7 +479,9 @@ module _ (stay : VerdictsStay) (invited : InvitationsStay) (heads : HeadsStay) (
           here = subst (λ (l : Option (List ℕ)). HereOr settings new true l h.waiting (h.last ++ added (unsent_of old) (unsent_of new))) (sym a.1) here;
           end = sym end;
           counted = count ∙ h.counted;
-          noted = noted_on settings old new keeps (ap moment_at k.stage ∙ sym (ap moment_at at)) (λ is. (let same = sym is ∙ ap is_admitted k.stage in absurd (cc))) h.noted;
+          noted = noted_on settings old new keeps (ap moment_at k.stage ∙ sym (ap moment_at at)) (λ is. (let same = sym is ∙ ap is_admitted k.stage in absurd (cc)))
+              (λ _. ap dies_at at) h.noted;
+          head = left_still old new keeps.0 (λ _. ap dies_at at) h.left (ap moment_at k.stage ∙ sym (ap moment_at at)) h.head;
         }
 
   -- and leaves all others as they are
@@ -512,7 +523,9 @@ module _ (stay : VerdictsStay) (invited : InvitationsStay) (heads : HeadsStay) (
           here = here_or_end h.left h.waiting h.last other (subst (λ e. HereOr settings old e h.left h.waiting h.last) unended h.here);
           end = sym end;
           counted = count ∙ h.counted;
-          noted = noted_on settings old new keeps (ap moment_at stage_same) (λ is. sym (ap is_admitted stage_same) ∙ is) h.noted;
+          noted = noted_on settings old new keeps (ap moment_at stage_same) (λ is. sym (ap is_admitted stage_same) ∙ is)
+              (λ lives. sym (ap dies_at stage_same) ∙ lives) h.noted;
+          head = left_still old new keeps.0 (λ lives. sym (ap dies_at stage_same) ∙ lives) h.left (ap moment_at stage_same) h.head;
         }
 
 -- ---- a connection of which nothing came
@@ -535,7 +548,8 @@ stands_first settings session stage searches nothing end none unnoted = record {
   here = subst (λ (g : Stage). StandsAt g settings session false [] [] []) (sym stage) (record { searched = λ _. searches; found = empty_found; none = refl; nothing = refl });
   end = sym end;
   counted = none;
-  noted = none_noted settings session unnoted (ap is_admitted stage);
+  noted = none_noted settings session unnoted (ap is_admitted stage) (without_moment settings session (ap moment_at stage));
+  head = λ _ _ given. absurd (given (ap moment_at stage));
 }
 
 -- ---- a piece at a connection that has no whole head, and at one that reads a body
@@ -545,14 +559,16 @@ module _ (stay : VerdictsStay) (invited : InvitationsStay) (settings : Settings)
       → new.is_ended ≡ false → new.answered ≡ old.answered
       → ((rest : List ℕ) → search.Stands old.search rest → IsFed settings old new rest [] piece taken need)
       → ((rest : List ℕ) → search.Stands old.search rest → IsNoted settings old → IsNoted settings new)
+      → ((rest : List ℕ) → search.Stands old.search rest → moment_at new.stage ≢ [] → HoldsHead new (rest ++ take taken piece))
       → Stands new settings (fed past (take taken piece) (gave_between old new) (turns_of need)) sent
-  fed_reading h at goes_on longer end count feeds notes =
+  fed_reading h at goes_on longer end count feeds notes holds =
       let unended = h.end ∙ goes_on in
       let a = reading_at settings old past.ended h.left h.waiting h.last at h.here in
       let later : moment_at new.stage ≡ moment_at old.stage ++ gave_between old new = rw at refl in
       let piece_fed = subst (λ (l : List ℕ). IsFed settings old new a.0 l piece taken need) (sym a.2.nothing) (feeds a.0 (a.2.searched unended)) in
       let noted = notes a.0 (a.2.searched unended) h.noted in
       fed_by stay invited settings old new past sent piece taken need unended longer later end count h.counted noted h.left a.0 h.waiting h.last a.1 a.2.none h.serves piece_fed
+      (holds a.0 (a.2.searched unended))
 
   pub fed_receiving : (incoming : Incoming) (h : Stands old settings past sent) → old.stage ≡ stages.Body incoming → old.is_ended ≡ false → IsLonger (unsent_of old) (unsent_of new)
       → new.is_ended ≡ false → new.answered ≡ old.answered → KeepsHead old new → moment_at new.stage ≡ incoming.context.moment ∷ []
@@ -562,9 +578,10 @@ module _ (stay : VerdictsStay) (invited : InvitationsStay) (settings : Settings)
       let unended = h.end ∙ goes_on in
       let a = receiving_at settings old past.ended incoming h.left h.waiting h.last at h.here in
       let later : moment_at new.stage ≡ moment_at old.stage ++ gave_between old new = rw (at, moment) refl in
-      let noted = noted_on settings old new keeps (moment ∙ sym (ap moment_at at)) (λ _. ap is_admitted at) h.noted in
+      let noted = noted_on settings old new keeps (moment ∙ sym (ap moment_at at)) (λ _. ap is_admitted at) (λ _. ap dies_at at) h.noted in
       fed_by stay invited settings old new past sent piece taken need unended longer later end count h.counted noted h.left a.0 h.waiting h.last a.1 a.2.none h.serves
       (feeds a.0 h.last a.2.body a.2.invites)
+      (λ _. held_on old new keeps.0 (λ _. ap dies_at at) a.0 (take taken piece) (h.head a.0 a.1 (λ none. (let clash = sym (ap moment_at at) ∙ none in absurd (cc)))))
 
 -- one stage has one body
 pub same_body : (a b : Incoming) → ◌≡◌ {A = Stage} (stages.Body a) (stages.Body b) → a ≡ b
@@ -575,13 +592,3 @@ body_in stages.Reading is = let never = is in absurd (cc)
 body_in (stages.Body incoming) is = (incoming, refl)
 body_in (stages.Waiting context) is = let never = is in absurd (cc)
 body_in (stages.Closed closing) is = let never = is in absurd (cc)
-
--- only what was unsent before counts
-pub cut_from : (settings : Settings) (context : Context) (rest : List ℕ) (mid old new : Connection) → unsent_of mid ≡ unsent_of old
-    → IsCutTo settings context rest mid new → IsCutTo settings context rest old new
-cut_from settings context rest mid old new same cut = record {
-  code = cut.code;
-  judged = cut.judged;
-  stage = cut.stage;
-  printed = subst (λ u. PrintsRefusal cut.code context.moment context.head_only (added u (unsent_of new))) same cut.printed;
-}

@@ -2,7 +2,7 @@
 -- `Stands` is what the clauses of the session carry along. What it comes to is a law, `sessions_write`: the output of the
 -- connection. So its inside need not be believed. A reader believes the law at the end; the others serve `Stands` and the
 -- clauses of private functions alone.
-use Rattle.std.specs.Prelude.{◌≡◌, ◌<◌, ◌⊎◌, ℕ, min, take, Bool, true, false, List, [], ◌∷◌, ◌++◌, length, Option, Some, None}
+use Rattle.std.specs.Prelude.{◌≡◌, ◌≢◌, ◌<◌, ◌⊎◌, ℕ, min, take, Bool, true, false, List, [], ◌∷◌, ◌++◌, length, Option, Some, None}
 use Rattle.s3_config.specs.Settings.{Settings}
 use Rattle.s3_terms.specs.declared.code.Code.{Code}
 use Rattle.s3_http_heads.specs.Find.{found_in}
@@ -18,7 +18,7 @@ use Rattle.s3_session.specs.Decision.{Judges}
 use Rattle.s3_session.specs.Fault.{most_counted}
 use Rattle.s3_session.specs.Invitation.{Invites}
 use Rattle.s3_session.specs.Incoming.{IsInBody}
-use Rattle.s3_session.specs.Output.{Past, Serves, Writes, IsOpen, IsRefused, IsDead, is_dead}
+use Rattle.s3_session.specs.Output.{HasText, Past, Serves, Writes, IsOpen, IsRefused, IsDead, is_dead}
 use Rattle.s3_session.specs.Session.{Connection, added, moment_at, standing_of, turns_of, unsent_of}
 use Rattle.s3_session.specs.Verified.{IsNoted}
 use Rattle.s3_session.specs.declared.incoming.Incoming.{Incoming}
@@ -78,7 +78,18 @@ abbrev pub HereOr : Settings → Connection → Bool → Option (List ℕ) → L
 HereOr settings session ended (Some rest) waiting last = Here settings session ended rest waiting last
 HereOr settings session ended None waiting last = (session.stage ≡ stages.Closed closings.Replied) × (waiting ≡ []) × (last ≡ [])
 
--- after all this, and with these bytes sent
+-- A session holds the head at the front of these bytes: its search has taken them up to the byte with which the head was whole, or
+-- too large. The text of a whole head isn't lost, unless memory ran out for its message.
+pub record HoldsHead (session : Connection) (rest : List ℕ) : Type 0 where
+  pub front : List ℕ
+  pub behind : List ℕ
+  pub joined : rest ≡ front ++ behind
+  pub held : search.Holds session.search front
+  pub decided : found_in front ≢ found.NeedMore
+  pub whole : HasText front → is_dead (standing_of session) ≡ false → search.is_lost session.search ≡ false
+
+-- After all this, and with these bytes sent. The head of the message at hand is held as long as that has its moment, also where it
+-- is refused.
 pub record Stands (session : Connection) (settings : Settings) (past : Past) (sent : List ℕ) : Type 0 where
   pub left : Option (List ℕ)
   pub waiting : List Turn
@@ -88,6 +99,7 @@ pub record Stands (session : Connection) (settings : Settings) (past : Past) (se
   pub end : past.ended ≡ session.is_ended
   pub counted : session.answered ≡ min (length past.answers) most_counted
   pub noted : IsNoted settings session
+  pub head : (rest : List ℕ) → left ≡ Some rest → moment_at session.stage ≢ [] → HoldsHead session rest
 
 -- with fewer than so many bytes of a piece behind these nothing is decided yet
 abbrev pub IsUndecided : Settings → List ℕ → List ℕ → List ℕ → ℕ → Type 0

@@ -1,29 +1,48 @@
 -- The signature of the head that a session holds (AWS Signature Version 4).
 use Rattle.std.specs.Prelude.{◌≡◌, ℕ, Bool, true, false, List, [], ◌∷◌, length, Option, Some, None, IsOk}
 use Rattle.s3_config.specs.Settings.{Settings}
+use Rattle.s3_http_heads.specs.BodyLength.{framing_of}
 use Rattle.s3_http_heads.specs.Find.{found_in, skip_pairs}
 use Rattle.s3_http_heads.specs.declared.find.Found.TheVariants as found
 use Rattle.s3_http_heads.specs.Head.{HeadParts, Says}
 use Rattle.s3_http_heads.specs.Search as search
 use Rattle.s3_signing.specs.Verdict.{head_verdict}
-use Rattle.s3_session.specs.Session.{Connection, moment_at}
+use Rattle.s3_session.specs.Decision.{text_at}
+use Rattle.s3_session.specs.Output.{is_dead}
+use Rattle.s3_session.specs.Session.{Connection, moment_at, standing_of}
 use Rattle.s3_session.specs.declared.opening.Opening.{Opening}
 use Rattle.s3_session.specs.declared.opening.Opening.TheVariants as opening
 use Rattle.s3_session.specs.declared.session.Stage.{Stage}
 use Rattle.s3_session.specs.declared.session.Stage.TheVariants as stages
 
--- this is the text of a head whose signature verifies at a moment
-abbrev pub Verifies : Settings → ℕ → List ℕ → Type 0
-Verifies settings moment text = (head : HeadParts) × Says text head × IsOk (head_verdict settings head moment)
+-- nothing refuses a head up to its signature, which verifies at a moment: its framing is judged first
+abbrev pub IsSigned : Settings → HeadParts → ℕ → Type 0
+IsSigned settings head moment = IsOk (framing_of head settings.body_limit) × IsOk (head_verdict settings head moment)
 
--- the head that a session holds is whole, and its signature verifies at the moment of the message that the session is at
+-- this is the text of such a head
+abbrev pub Verifies : Settings → ℕ → List ℕ → Type 0
+Verifies settings moment text = (head : HeadParts) × Says text head × IsSigned settings head moment
+
+-- a session holds a whole head, of which memory lost nothing, and its signature verifies at the moment of the message that the
+-- session is at
 pub record HoldsVerified (settings : Settings) (session : Connection) : Type 0 where
   pub bytes : List ℕ
   pub held : search.Holds session.search bytes
+  pub whole : search.is_lost session.search ≡ false
   pub found : found_in bytes ≡ found.Head (length (skip_pairs bytes))
   pub moment : ℕ
   pub given : moment_at session.stage ≡ moment ∷ []
   pub verifies : Verifies settings moment (skip_pairs bytes)
+
+-- of the bytes that are left, the head text at their front verifies, at the moment that the message has
+pub record HeadVerifies (settings : Settings) (left : Option (List ℕ)) (late : List ℕ) : Type 0 where
+  pub rest : List ℕ
+  pub left_is : left ≡ Some rest
+  pub moment : ℕ
+  pub late_is : late ≡ moment ∷ []
+  pub size : ℕ
+  pub found : found_in rest ≡ found.Head size
+  pub verifies : Verifies settings moment (text_at size rest)
 
 -- The others serve `Stands` and the clauses of private functions alone.
 
@@ -34,9 +53,10 @@ is_admitted (stages.Body incoming) = true
 is_admitted (stages.Waiting context) = true
 is_admitted (stages.Closed closing) = false
 
--- what is noted of its signature is so
+-- what is noted of its signature is so, and where memory didn't run out, it is noted wherever it verifies
 pub record IsNoted (settings : Settings) (session : Connection) : Type 0 where
   pub only : session.is_verified ≡ true → HoldsVerified settings session
+  pub told : is_dead (standing_of session) ≡ false → HoldsVerified settings session → session.is_verified ≡ true
   pub admitted : is_admitted session.stage ≡ true → session.is_verified ≡ true
 
 -- the text wasn't lost, and verifies

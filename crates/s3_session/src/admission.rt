@@ -1,9 +1,9 @@
 //! Whether a head is admitted: what has to hold before its body is looked at.
 
-ghost use Rattle.std.specs.Prelude.{◌≡◌, ◌⊎◌, true, IfOk, IsOk};
-ghost use Rattle.s3_signing.specs.Verdict.{head_verdict};
+ghost use Rattle.std.specs.Prelude.{◌≡◌, ◌⊎◌, true, Err, IfOk};
 ghost use Rattle.s3_session.specs.Admission.{admission_of};
 ghost use Rattle.s3_session.specs.Admitting as rules;
+ghost use Rattle.s3_session.specs.Verified.{IsSigned};
 
 use crate::signer::HeadSigner;
 use s3_calendar::Moment;
@@ -26,10 +26,12 @@ pub struct Admission {
     pub plan: Plan,
 }
 
-/// Judges a head that has been read: its framing, its signature, what it announces of its body, and its
-/// routing, in this order (`docs/PROTOCOL.md`, "Refusals"). The refusal is the first fault; `InternalError`
-/// says that memory ran out, past all that shows before the signature. `signer` is told whether it was verified, and keeps what
-/// `verify_head` does.
+/// Judges a head that has been read: its framing, its signature, what it announces of its body, and its routing, in
+/// this order (`docs/PROTOCOL.md`, "Refusals").
+///
+/// The error is the first fault. `InternalError` says that memory ran out; then nothing that shows before the signature
+/// refuses the head. `signer` is told whether the head was verified, also where the head is refused after that, and keeps
+/// what `verify_head` does.
 #[tactic(auto, unfolding(crate::specs::Admission::admission_of, crate::specs::Admitting::early_admission, s3_signing::specs::Verdict::head_verdict), using(crate::proofs::SoundLemmas::announced_size))]
 pub fn admit(
     alloc: Global,
@@ -41,7 +43,10 @@ pub fn admit(
     ensures admits { rules.Admits (rules.early_admission config.now head.now moment) result
         (admission_of config.now head.now moment) }
     ensures admitted { IfOk result (λ _. signer.new.is_verified ≡ true) }
-    ensures verified { signer.new.is_verified ≡ true → (signer.old.is_verified ≡ true) ⊎ IsOk (head_verdict config.now head.now moment) }
+    ensures verified { signer.new.is_verified ≡ true → (signer.old.is_verified ≡ true) ⊎ IsSigned config.now head.now moment }
+
+    // Whatever refuses it after its signature.
+    ensures told { IsSigned config.now head.now moment → (signer.new.is_verified ≡ true) ⊎ (result ≡ Err Code.InternalError) }
 {
     let length = framing(head, config.body_limit())?;
     let verified = verify_head(alloc, config, head, moment, &mut signer.key)?;

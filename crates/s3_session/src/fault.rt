@@ -6,7 +6,7 @@ ghost use Rattle.s3_session.specs.Session.{refused_at};
 use crate::session::{Closing, Stage};
 use s3_terms::Code;
 
-/// The first message of a connection that is refused. None behind it is read.
+/// The first message of a connection that is refused. None after it is read.
 #[derive(Clone, Copy)]
 pub struct Fault {
     /// Which of the connection's messages it is, counted from 0; `u64::MAX` where that is more.

@@ -1,18 +1,19 @@
 //! The head of the message at hand.
 
-ghost use Rattle.std.specs.Prelude.{◌≡◌, ℕ, true, List, is_none, IfSome};
+ghost use Rattle.std.specs.Prelude.{◌≡◌, ℕ, true, false, List, is_none, IfSome};
 ghost use Rattle.s3_config.specs.Settings.{Settings};
 ghost use Rattle.s3_http_heads.specs.Find.{skip_pairs};
 ghost use Rattle.s3_http_heads.specs.Search.{Holds, is_lost};
-ghost use Rattle.s3_session.specs.Output.{Past, is_waiting};
-ghost use Rattle.s3_session.specs.Session.{standing_of};
+ghost use Rattle.s3_session.specs.Output.{Past, is_dead, is_waiting};
+ghost use Rattle.s3_session.specs.Session.{moment_at, standing_of};
 ghost use Rattle.s3_session.specs.Stands.{Stands};
-ghost use Rattle.s3_session.specs.Verified.{HoldsVerified};
+ghost use Rattle.s3_session.specs.Verified.{HeadVerifies, HoldsVerified};
 
 use crate::session::Session;
+use s3_http_heads::{searches_find, verdict_is_exact, verdicts_stay};
 
 impl Session {
-    /// What has come of the head of the message at hand, until that is answered; `None` where memory ran out for it. It takes no
+    /// What has come of the head of the message at hand, until that is answered. `None` where memory ran out for it. It takes no
     /// memory.
     pub fn head(&self) -> Option<&[u8]>
         ensures text { (bytes : List ℕ) → Holds self.now.search bytes → IfSome result (λ text. text.now ≡ skip_pairs bytes) }
@@ -21,14 +22,25 @@ impl Session {
         self.search.text()
     }
 
-    /// Whether the signature of the message at hand was verified, until that is answered: for the log of a server. It takes no
-    /// memory.
+    /// Whether the signature of the message at hand was verified, for the log of a server. It is told until the message is
+    /// answered, also where a later rule, the body or the command refuses the message.
+    ///
+    /// Where memory ran out for the message, false may be told of a signature that verifies. It takes no memory.
     pub fn is_verified(&self) -> bool
         ensures verified { (settings : Settings) (past : Past) (sent : List ℕ) → Stands self.now settings past sent
             → result ≡ true → HoldsVerified settings self.now }
+        ensures told { (settings : Settings) (past : Past) (sent : List ℕ) → Stands self.now settings past sent
+            → is_dead (standing_of self.now) ≡ false → HoldsVerified settings self.now → result ≡ true }
+
+        // So it is wherever the head of the message at hand verifies.
+        ensures at_hand { (settings : Settings) (past : Past) (sent : List ℕ) (stands : Stands self.now settings past sent)
+            → is_dead (standing_of self.now) ≡ false → HeadVerifies settings stands.left (moment_at self.now.stage) → result ≡ true }
         ensures waits { (settings : Settings) (past : Past) (sent : List ℕ) → Stands self.now settings past sent
             → is_waiting (standing_of self.now) ≡ true → result ≡ true }
     {
+        verdicts_stay();
+        verdict_is_exact();
+        searches_find();
         self.signer.is_verified
     }
 }

@@ -1,5 +1,6 @@
-//! A connection as a machine (`Session`): what its bytes ask for, and what it writes. The laws say what all
-//! connections have in common.
+//! One connection as a machine (`Session`). It takes the bytes that a peer sent, hands out the turns of commands, and
+//! has the bytes to send. It makes no call of the system. The laws say what all connections have in common; they run
+//! nothing.
 #![tactic(auto)]
 
 mod admission;

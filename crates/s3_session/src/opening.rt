@@ -1,19 +1,18 @@
 //! What comes of a whole head.
 
-ghost use Rattle.std.specs.Prelude.{◌≡◌, ◌⊎◌, true, option_copied, IsOk};
-ghost use Rattle.s3_signing.specs.Verdict.{head_verdict};
+ghost use Rattle.std.specs.Prelude.{◌≡◌, ◌≢◌, ◌⊎◌, true, option_copied};
 ghost use Rattle.s3_session.specs.Admission.{admission_of};
 ghost use Rattle.s3_session.specs.Decision.{context_of};
 ghost use Rattle.s3_session.specs.Incoming as rules;
 ghost use Rattle.s3_session.specs.Invitation.{may_be_invited};
-ghost use Rattle.s3_session.specs.Verified.{VerifiesIn, opens_body};
+ghost use Rattle.s3_session.specs.Verified.{IsSigned, VerifiesIn, opens_body};
 
 use crate::admission::admit;
 use crate::incoming::{Incoming, Receiving};
 use crate::signer::HeadSigner;
 use s3_calendar::Moment;
 use s3_config::Config;
-use s3_http_heads::Head;
+use s3_http_heads::{Head, texts_say_one_thing};
 use s3_replies::Context;
 use s3_terms::{Code, NoMemory};
 use std::alloc::Global;
@@ -39,8 +38,10 @@ pub(crate) fn open_text(
 ) -> Opening
     ensures opens { rules.Opens config.now moment (option_copied text.entry) result }
     ensures noted { signer.new.is_verified ≡ true → VerifiesIn config.now moment (option_copied text.entry) }
+    ensures told { result ≢ Opening.Died → VerifiesIn config.now moment (option_copied text.entry) → signer.new.is_verified ≡ true }
     ensures admitted { opens_body result ≡ true → signer.new.is_verified ≡ true }
 {
+    texts_say_one_thing();
     signer.begins();
     let Some(text) = text else {
         return Opening::Died;
@@ -64,7 +65,8 @@ fn open_head(
     signer: &mut HeadSigner,
 ) -> Opening
     ensures opens { rules.HeadOpens head.now moment (admission_of config.now head.now moment) result }
-    ensures noted { signer.new.is_verified ≡ true → (signer.old.is_verified ≡ true) ⊎ IsOk (head_verdict config.now head.now moment) }
+    ensures noted { signer.new.is_verified ≡ true → (signer.old.is_verified ≡ true) ⊎ IsSigned config.now head.now moment }
+    ensures told { result ≢ Opening.Died → IsSigned config.now head.now moment → signer.new.is_verified ≡ true }
     ensures admitted { opens_body result ≡ true → signer.new.is_verified ≡ true }
 {
     match admit(alloc, config, head, moment, signer) {

@@ -1,5 +1,5 @@
-//! A connection as a machine: it is fed with bytes as they come, asks for a turn where a command waits, is given
-//! the answer, and hands out what it writes.
+//! One connection as a machine. It is fed with bytes as they come, and asks for a turn where a command waits. It is
+//! given the answer, and hands out what it writes.
 
 ghost use Rattle.std.specs.Prelude.{◌≡◌, ◌≢◌, ◌+◌, ◌<◌, ◌≤◌, ℕ, Bool, true, false, List, [], ◌∷◌, ◌++◌, length, take, drop, if◌then◌else◌, IfOk, OnOk, OnErr, IfSome, None};
 ghost use mathlib.Core.List.{IsPrefix};
@@ -53,12 +53,12 @@ pub struct Fed {
     pub len: usize,
     /// What it needs next.
     pub need: Need,
-    /// Whether the next message has the moment at which the piece came: with it that one's head is whole, or has more bytes than a
-    /// head may have.
+    /// Whether the message at hand has the moment at which the piece came. With this piece its head became whole, or
+    /// has more bytes than a head may have.
     pub has_moment: bool,
 }
 
-/// What a connection needs behind an answer.
+/// What a connection needs after an answer.
 #[derive(Clone, Copy)]
 pub enum Next {
     /// More bytes, or the end of the input.
@@ -99,17 +99,18 @@ fn go_to(stage: &mut Stage, next: Stage)
     drop(mem::replace(stage, next));
 }
 
-// What a connection needs behind a reply, which closes it or doesn't.
+// What a connection needs after a reply, which closes it or doesn't.
 fn next_behind(closes: bool) -> Next
     ensures { (session : Connection) → IsReady closes session → NeedsNext result (standing_of session) }
 {
     if closes { Next::Close } else { Next::More }
 }
 
-/// A connection, which is fed with bytes in any pieces and writes the same for every cut, as long as memory does not
-/// run out.
+/// One connection. It takes its bytes in pieces of any size. As long as memory doesn't run out, what it writes doesn't
+/// depend on how they are cut.
 ///
-/// It makes no call of the system: the caller moves the bytes. `docs/ARCHITECTURE.md` has a table of its states.
+/// It makes no call of the system: the caller moves the bytes. `docs/ARCHITECTURE.md` ("A connection, state by state")
+/// has the table of its states, and what a caller does in each.
 #[derive(Drop)]
 pub struct Session {
     pub(crate) search: HeadSearch,
@@ -136,7 +137,7 @@ impl Session {
     ghost use Rattle.s3_session.specs.Session as rules;
     ghost use Rattle.s3_session.specs.Stands as inside;
 
-    /// A connection of which nothing has come. It takes no memory.
+    /// A connection of which nothing has come. It reads, and has written nothing. It takes no memory.
     pub fn new(alloc: Global) -> Session
         ensures begins { (settings : Settings) → inside.Stands result settings nothing_yet [] }
         ensures standing { rules.standing_of result ≡ Reading }
@@ -153,18 +154,41 @@ impl Session {
         }
     }
 
-    /// Takes a piece of what the peer sent, up to the end of the message at hand, and answers how many of its bytes
-    /// it took, with what it needs next. `Turn` comes where the message is whole and sound, `Close` where the output
-    /// has ended: at the byte that refuses a message, or behind a reply that closes. What it did not take belongs
-    /// behind this message, and the caller offers it again after the answer. A message has the moment `now` of the call
-    /// with which its whole head has come, or more than a head may have; that is told too.
+    /// Takes a piece of what the peer sent, up to the end of the message at hand.
     ///
-    /// The settings have to be the same at every call for a connection: its promises are about one.
+    /// `config` has the settings. They have to be the same at every call for a connection, since the promises are about
+    /// one. `now` is the moment at which the piece comes. A message has the moment of the call with which its head
+    /// becomes whole, or too large. `has_moment` tells whether that is this call. It may not be called while a turn
+    /// waits, nor after `end`.
     ///
-    /// Takes time by the length of what it takes, and for each head that of `s3_signing::verify_head`; memory for the
-    /// bytes of a head, once that is verified for what is known of its message, for the data of the body that came and
-    /// for what its command reads in it, and for the Continue line and the reply. Where memory runs out, the connection ends with the reply that says so;
-    /// in the middle of a head it does once that is whole (a head that is too large is refused all the same).
+    /// The result tells how many bytes of the piece were taken (`len`), and what the connection needs next (`need`):
+    ///
+    /// - `More`: the whole piece was taken, and nothing is decided about the message yet.
+    /// - `Turn`: the message is whole and sound, and its command waits for the answer. The other bytes of the piece
+    ///   belong to later messages. The caller offers them again after `answer`.
+    /// - `Close`: no more is read. That is so from the byte that refuses a message, after a reply that closes, and
+    ///   where memory ran out. The caller sends what is unsent (`out`), and closes.
+    ///
+    /// A refusal is no error of the call: its reply is written. `docs/PROTOCOL.md` ("Refusals") has all of them in
+    /// their order. Where memory runs out, the reply that says so is written, and the connection ends with it. Within a
+    /// head this comes once the head is whole. A head that is too large is refused all the same.
+    ///
+    /// It takes time by the length of what it takes, and for each head that of `s3_signing::verify_head`. It takes
+    /// memory for the bytes of a head, and for the Continue line and the reply. Once the head is verified, it takes
+    /// memory for what is known of the message, and for the data of its body as they come. What the command reads in
+    /// these takes memory too.
+    ///
+    /// ```text
+    /// let Fed { len, need, .. } = session.feed(alloc, &config, now, piece);
+    /// match need {
+    ///     Need::More => {} // The next piece may come.
+    ///     Need::Turn(Turn { command, moment }) => {
+    ///         session.answer(store.apply(alloc, least_part, command, moment));
+    ///         rest = &piece[len..]; // These are fed next.
+    ///     }
+    ///     Need::Close => {} // What is unsent is sent, and no more is read.
+    /// }
+    /// ```
     pub fn feed(&mut self, alloc: Global, config: &Config, now: Moment, piece: &[u8]) -> Fed
         requires answered { is_waiting (rules.standing_of self.old) ≡ false }
         requires goes_on { self.old.is_ended ≡ false }
@@ -191,6 +215,7 @@ impl Session {
             Stage::Reading => self.read_head(alloc, config, now, piece),
             Stage::Body(_) => {
                 let Stage::Body(incoming) = mem::replace(&mut self.stage, Stage::Reading) else {
+                    // The match has found that stage.
                     unreachable!()
                 };
                 let (len, need) = self.read_body(alloc, incoming, piece);
@@ -216,6 +241,8 @@ impl Session {
         ensures fed { (rest : List ℕ) → Stands self.old.search rest
             → inside.IsFed config.now self.old self.new rest [] piece.now result.len result.need }
         ensures noted { (rest : List ℕ) → Stands self.old.search rest → IsNoted config.now self.old → IsNoted config.now self.new }
+        ensures held { (rest : List ℕ) → Stands self.old.search rest → rules.moment_at self.new.stage ≢ []
+            → inside.HoldsHead self.new (rest ++ take result.len piece.now) }
         ensures moment { rules.moment_at self.new.stage ≡ rules.moment_if result.has_moment now }
         ensures needs { rules.Needs result.need (rules.standing_of self.new) }
         ensures longer { rules.IsLonger (rules.unsent_of self.old) (rules.unsent_of self.new) }
@@ -261,6 +288,8 @@ impl Session {
         ensures fed { (rest : List ℕ) → Holds self.old.search rest → HasText rest
             → inside.IsFed config.now self.old self.new rest [] piece.now result.0 result.1 }
         ensures noted { (rest : List ℕ) → Holds self.old.search rest → HasText rest → IsNoted config.now self.new }
+        ensures held { (rest : List ℕ) → Holds self.old.search rest → HasText rest
+            → inside.HoldsHead self.new (rest ++ take result.0 piece.now) }
         ensures moment { rules.moment_at self.new.stage ≡ moment ∷ [] }
         ensures needs { rules.Needs result.1 (rules.standing_of self.new) }
         ensures longer { rules.IsLonger (rules.unsent_of self.old) (rules.unsent_of self.new) }
@@ -409,9 +438,13 @@ impl Session {
         go_to(&mut self.stage, Stage::Closed(Closing::Died(moment)));
     }
 
-    /// Answers the turn that was asked for: the reply is written, or, where memory ran out at the turn, what stands
-    /// for one. It tells what the connection needs next: `Close` behind a reply that closes it, and where memory ran
-    /// out. It takes no memory: the room was made before the turn was asked for.
+    /// Answers the turn that `feed` asked for, and tells what the connection needs next. A turn has to be waiting.
+    ///
+    /// `Ok` has the answer of the store, whose reply is written. The result is `Close` where this reply closes the
+    /// connection, and `More` otherwise. `Err` tells that memory ran out at the turn. The reply that says so is written
+    /// then, and the result is `Close`.
+    ///
+    /// It takes no memory: the room for the reply was taken before the turn was asked for.
     pub fn answer(&mut self, answered: Result<Answer, NoMemory>) -> Next
         requires waits { is_waiting (rules.standing_of self.old) ≡ true }
         ensures stands { (settings : Settings) (past : Past) (sent : List ℕ) → inside.Stands self.old settings past sent
@@ -422,6 +455,7 @@ impl Session {
         ensures end { self.new.is_ended ≡ self.old.is_ended }
     {
         let Stage::Waiting(context) = self.stage else {
+            // The caller knows that a command waits.
             unreachable!()
         };
         match answered {
@@ -472,8 +506,10 @@ impl Session {
         self.outbox.print(AnswerTo { answer, context });
     }
 
-    /// Says that no more bytes come; what `feed` did not take has to be offered before. A message whose body isn't whole
-    /// is refused with `IncompleteBody`; of a message whose head isn't whole nothing is said. A command that waits goes on waiting. It takes no memory.
+    /// Says that no more bytes come. What `feed` didn't take has to be offered before.
+    ///
+    /// A message whose body isn't whole is refused with `IncompleteBody`. Of a message whose head isn't whole nothing
+    /// is said. A command that waits goes on waiting. It takes no memory.
     pub fn end(&mut self)
         ensures stands { (settings : Settings) (past : Past) (sent : List ℕ) → inside.Stands self.old settings past sent
             → inside.Stands self.new settings (record past { ended = true }) sent }
@@ -507,6 +543,7 @@ impl Session {
         ensures count { self.new.answered ≡ self.old.answered }
     {
         let Stage::Body(incoming) = mem::replace(&mut self.stage, Stage::Reading) else {
+            // The caller knows that it is in a body.
             unreachable!()
         };
         let context = incoming.context();

@@ -4,8 +4,8 @@ ghost use Rattle.std.specs.Prelude.{◌≡◌, false};
 
 use s3_signing::KeptKey;
 
-/// The signing key of the last head that was verified, which saves time and decides nothing, and whether the head that its
-/// connection holds was verified.
+/// What is kept of heads that were verified. The signing key of the last one saves time, and decides nothing. Beside it
+/// stands whether the head that its connection holds was verified.
 #[derive(Drop)]
 pub struct HeadSigner {
     pub(crate) key: KeptKey,

@@ -1,12 +1,9 @@
 -- What writers tell over several calls.
-use Rattle.std.proofs.Common.{◌≡◌, ◌∙◌, ℕ, List, ◌++◌, length, take, drop, Some, None, codes, ◌-◌, [], ◌∷◌, Option, Result, Ok, Err, refl, subst, sym, ap, arith, append_assoc, append-nil, take-append-drop}
+use Rattle.std.proofs.Common.{◌≡◌, ◌∙◌, ℕ, List, ◌++◌, length, take, drop, Some, None, ◌-◌, [], Option, Result, Ok, Err, refl, subst, sym, ap, arith, append_assoc, append-nil, take-append-drop}
 use Rattle.std.proofs.lemmas.List.{take_all, take_rest}
 use Rattle.std.proofs.KnownBytes.{Appends-trans}
-use Rattle.std.proofs.Math.Seq.{take-append-add}
-use Rattle.std.proofs.lemmas.List.{length-append, take-append-le, take_at}
-use Rattle.std.proofs.Transfers.{starts_with_length}
+use Rattle.std.proofs.lemmas.List.{take_at}
 use Rattle.std.specs.Prelude.{true, false, is_ok, OnOk, OnErr}
-use Rattle.std.specs.Io.{StartsWith}
 use Rattle.std.specs.Io.KnownBytes.{Appends, Keeps}
 use Rattle.s3_settings.specs.Devices.{AppendsBeginning}
 
@@ -62,43 +59,3 @@ pub unflushed : {T E U F : Type 0} (written : Result T E) (r : Result U F) (befo
 unflushed (Ok x) r before after bytes failed a = absurd cc
 unflushed (Err e) (Ok y) before after bytes failed a = tt
 unflushed (Err e) (Err f) before after bytes failed a = a
-
--- a beginning of what follows some bytes is one of all
-starts_further : (front bytes taken : List ℕ) → StartsWith bytes taken → StartsWith (front ++ bytes) (front ++ taken)
-starts_further front bytes taken h =
-    ap (λ (n : ℕ). take n (front ++ bytes)) (length-append front taken) ∙ take-append-add front bytes (length taken) ∙ ap (λ (l : List ℕ). front ++ l) h
-
-starts_before : (bytes more taken : List ℕ) → StartsWith bytes taken → StartsWith (bytes ++ more) taken
-starts_before bytes more taken h = take-append-le (length taken) bytes more (starts_with_length bytes taken h) ∙ h
-
--- what a writer took of one piece after another
-pub part_of_first : (before after : Option (List ℕ)) (first more : List ℕ) → AppendsBeginning before after first → AppendsBeginning before after (first ++ more)
-part_of_first before after first more a = record { taken = a.taken; first = starts_before first more a.taken a.first; gained = a.gained }
-
-pub part_of_more : (before between after : Option (List ℕ)) (first more : List ℕ) → Appends before between first → AppendsBeginning between after more → AppendsBeginning before after (first ++ more)
-part_of_more before between after first more a b =
-    record { taken = first ++ b.taken; first = starts_further first more b.taken b.first; gained = Appends-trans before between after first b.taken a b.gained }
-
--- the same by what the call for the other piece answered
-pub told_after : {T E : Type 0} (r : Result T E) (before between after : Option (List ℕ)) (first more : List ℕ)
-    → Appends before between first → OnOk r (Appends between after more) → OnOk r (Appends before after (first ++ more))
-told_after (Ok x) before between after first more a b = Appends-trans before between after first more a b
-told_after (Err e) before between after first more a b = tt
-
-pub part_after : {T E : Type 0} (r : Result T E) (before between after : Option (List ℕ)) (first more : List ℕ)
-    → Appends before between first → OnErr r (AppendsBeginning between after more) → OnErr r (AppendsBeginning before after (first ++ more))
-part_after (Ok x) before between after first more a b = tt
-part_after (Err e) before between after first more a b = part_of_more before between after first more a b
-
--- a writer that failed or not gained a beginning
-pub either_taken : {T E : Type 0} (r : Result T E) (before after : Option (List ℕ)) (bytes : List ℕ) → OnOk r (Appends before after bytes) → OnErr r (AppendsBeginning before after bytes) → AppendsBeginning before after bytes
-either_taken (Ok x) before after bytes all part = whole_taken before after bytes all
-either_taken (Err e) before after bytes all part = part
-
--- the line of a fault from its parts
-pub line_said : (first second start end text : List ℕ) → start ≡ first → end ≡ second → first ++ second ≡ text → (codes "s3d: " ++ start) ++ (end ++ 10 ∷ []) ≡ codes "s3d: " ++ text ++ 10 ∷ []
-line_said first second start end text s t e =
-    let joined : start ++ end ≡ text = cc in
-    append_assoc (codes "s3d: ") start (end ++ 10 ∷ [])
-    ∙ ap (λ (l : List ℕ). codes "s3d: " ++ l) (sym (append_assoc start end (10 ∷ [])) ∙ ap (λ (l : List ℕ). l ++ 10 ∷ []) joined)
-    ∙ sym (append_assoc (codes "s3d: ") text (10 ∷ []))

@@ -1,6 +1,6 @@
 -- What a device gave and took in a call, over its traffic; and what a writer has taken of some bytes, over what it tells
 -- that it holds, where `None` stands for one that tells nothing.
-use Rattle.std.specs.Prelude.{◌≡◌, ℕ, suc, true, List, ◌++◌, take, Option, Some, None}
+use Rattle.std.specs.Prelude.{◌≡◌, ◌≢◌, ◌⊎◌, ℕ, suc, true, [], List, ◌++◌, take, Option, Some, None}
 use Rattle.std.specs.Io.{StartsWith}
 use Rattle.std.specs.Io.KnownBytes.{Appends}
 use Rattle.s3_devices.specs.Device.{Traffic}
@@ -46,6 +46,16 @@ pub record TakesBeginning (old new : Traffic) (bytes : List ℕ) : Type 0 where
   pub taken : List ℕ
   pub first : StartsWith bytes taken
   pub failed : new ≡ record old { sent = old.sent ++ taken; failed_writes = suc old.failed_writes; late_writes = new.late_writes }
+
+-- it was told these bytes: it took all of them, or a beginning of them, and then a write failed
+abbrev pub IsTold : Traffic → Traffic → List ℕ → Type 0
+IsTold old new bytes = Takes old new bytes ⊎ TakesBeginning old new bytes
+
+-- it was told some bytes, at least one
+pub record IsToldSome (old new : Traffic) : Type 0 where
+  pub bytes : List ℕ
+  pub some : bytes ≢ []
+  pub told : IsTold old new bytes
 
 -- it was not read
 abbrev pub IsUnread : Traffic → Traffic → Type 0

@@ -1,7 +1,7 @@
 -- What the options of a server ask for, and the settings that it is started with.
 use Rattle.std.specs.Prelude.{◌≡◌, ◌⊎◌, ℕ, Bool, true, false, ◌&&◌, nat_le, if◌then◌else◌, List, Option, Some, None, is_some, option_map}
 use Rattle.s3_config.specs.Settings.{Settings}
-use Rattle.s3_options.specs.declared.options.ServeOptions.{ServeOptions}
+use Rattle.s3_settings.specs.declared.options.ServeOptions.{ServeOptions}
 use Rattle.s3_settings.specs.declared.fault.Fault.{Fault}
 use Rattle.s3_settings.specs.declared.fault.Fault.TheVariants.{CannotRead, BadKeysLine, BadSetting, OutOfMemory}
 use Rattle.s3_settings.specs.declared.server.ServeMode.{ServeMode}

@@ -7,8 +7,8 @@ use Rattle.s3_calendar.specs.Moment.{last_moment}
 use Rattle.s3_config.specs.Settings.{Settings, Credentials, are_settings}
 use Rattle.s3_settings.specs.declared.fault.Fault.{Fault}
 use Rattle.s3_settings.specs.declared.fault.Fault.TheVariants.{CannotRead, BadKeysLine, BadSetting, OutOfMemory}
-use Rattle.s3_options.specs.declared.options.Options.{Options}
-use Rattle.s3_options.specs.declared.options.ReplayOptions.{ReplayOptions}
+use Rattle.s3_settings.specs.declared.options.Options.{Options}
+use Rattle.s3_settings.specs.declared.options.ReplayOptions.{ReplayOptions}
 use Rattle.s3_settings.specs.declared.settings.Setup.{Setup}
 use Rattle.s3_settings.specs.declared.mode.ReplayMode.{ReplayMode}
 use Rattle.s3_settings.specs.declared.mode.ReplayMode.TheVariants.{AtMoment, Events}

@@ -52,6 +52,7 @@ pub fn write_output<'a, R: Wait, D: Device>(
         let count = write_piece(device, left)?;
         left = &left[count..];
     }
+    // `forever` has no last turn.
     unreachable!()
 }
 

@@ -1,20 +1,19 @@
 //! Why the program ends with status 1, and the line that tells it.
 
-ghost use Rattle.std.specs.Prelude.{◌≡◌, ◌++◌, Some, OnOk, OnErr};
-ghost use Rattle.std.specs.Io.KnownBytes.{Appends};
-ghost use Rattle.s3_settings.specs.Devices.{AppendsBeginning};
+ghost use Rattle.std.specs.Prelude.{◌≡◌, ◌++◌, Some, OnOk, IfErr};
+ghost use Rattle.s3_settings.specs.Devices.{IsTold, Takes, TakesBeginning};
 ghost use Rattle.s3_settings.specs.Fault.{text_of, line_of};
 ghost use Rattle.s3_settings.specs.declared.fault.Fault.TheVariants.{OutOfMemory};
 
-use crate::writers::write_bytes;
+use crate::devices::write_output;
 use itoa::Buffer;
+use s3_devices::Device;
 use s3_terms::NoMemory;
 use std::alloc::{AllocError, AllocFailed};
 use std::fmt;
-use std::io::{self, Write};
+use std::sync::Wait;
 
-/// Why the program ends with status 1. Its text is what the line on the standard error says after
-/// `s3d: `.
+/// Why the program ends with status 1. Its `Display` is what the line on the standard error says after `s3d: `.
 #[derive(Clone, Copy)]
 pub enum Fault<'a> {
     /// The file at this path could not be read.
@@ -57,43 +56,58 @@ impl<'a> Fault<'a> {
         }
     }
 
-    /// Writes the line that tells the fault: `s3d: `, its text and a line end. Where the device fails,
-    /// it has taken a beginning of that.
-    pub fn tell<E: Write>(&self, errors: &mut E) -> io::Result<()>
-        ensures told { OnOk result (Appends (E.contents errors.old) (E.contents errors.new) (line_of self.now)) }
-        ensures gained { AppendsBeginning (E.contents errors.old) (E.contents errors.new) (line_of self.now) }
+    /// Writes the line that tells the fault to `errors`: `s3d: `, the text of the fault and a line feed. `errors` takes the
+    /// whole line, or a beginning of it, and then a write to it failed; nothing more is written after that. It may wait for
+    /// `errors`, and then never return.
+    pub fn tell<R: Wait, E: Device>(&self, rt: &R, errors: &mut E)
+        ensures { IsTold (E.traffic errors.old) (E.traffic errors.new) (line_of self.now) }
     {
         let mut digits = Buffer::new();
         let (first, second) = self.parts(&mut digits);
-        write_four(errors, b"s3d: ", first.as_bytes(), second.as_bytes(), b"\n")
+        let _ = write_four(
+            rt,
+            errors,
+            b"s3d: ",
+            first.as_bytes(),
+            second.as_bytes(),
+            b"\n",
+        );
     }
 }
 
 // Writes four texts, one after the other.
-fn write_four<E: Write>(
+fn write_four<'a, R: Wait, E: Device>(
+    rt: &R,
     errors: &mut E,
     first: &[u8],
     second: &[u8],
     third: &[u8],
     fourth: &[u8],
-) -> io::Result<()>
-    ensures told { OnOk result (Appends (E.contents errors.old) (E.contents errors.new) ((first.now ++ second.now) ++ (third.now ++ fourth.now))) }
-    ensures part { OnErr result (AppendsBeginning (E.contents errors.old) (E.contents errors.new) ((first.now ++ second.now) ++ (third.now ++ fourth.now))) }
+) -> Result<(), Fault<'a>>
+    ensures told { OnOk result (Takes (E.traffic errors.old) (E.traffic errors.new) ((first.now ++ second.now) ++ (third.now ++ fourth.now))) }
+    ensures refused { IfErr result (λ fault. (fault ≡ Fault.OutputFailed)
+        × TakesBeginning (E.traffic errors.old) (E.traffic errors.new) ((first.now ++ second.now) ++ (third.now ++ fourth.now))) }
 {
-    match write_both(errors, first, second) {
-        Ok(()) => write_both(errors, third, fourth),
-        Err(error) => Err(error),
+    match write_both(rt, errors, first, second) {
+        Ok(()) => write_both(rt, errors, third, fourth),
+        Err(fault) => Err(fault),
     }
 }
 
 // Writes one text and then the other.
-fn write_both<E: Write>(errors: &mut E, first: &[u8], second: &[u8]) -> io::Result<()>
-    ensures told { OnOk result (Appends (E.contents errors.old) (E.contents errors.new) (first.now ++ second.now)) }
-    ensures part { OnErr result (AppendsBeginning (E.contents errors.old) (E.contents errors.new) (first.now ++ second.now)) }
+fn write_both<'a, R: Wait, E: Device>(
+    rt: &R,
+    errors: &mut E,
+    first: &[u8],
+    second: &[u8],
+) -> Result<(), Fault<'a>>
+    ensures told { OnOk result (Takes (E.traffic errors.old) (E.traffic errors.new) (first.now ++ second.now)) }
+    ensures refused { IfErr result (λ fault. (fault ≡ Fault.OutputFailed)
+        × TakesBeginning (E.traffic errors.old) (E.traffic errors.new) (first.now ++ second.now)) }
 {
-    match write_bytes(errors, first) {
-        Ok(()) => write_bytes(errors, second),
-        Err(error) => Err(error),
+    match write_output(rt, errors, first) {
+        Ok(()) => write_output(rt, errors, second),
+        Err(fault) => Err(fault),
     }
 }
 

@@ -5,9 +5,9 @@ ghost use Rattle.s3_settings.specs.Settings.{replay_mode};
 ghost use Rattle.s3_settings.specs.declared.fault.Fault.TheVariants.{BadSetting};
 
 use crate::fault::Fault;
+use crate::options::ReplayOptions;
 use crate::settings::option_moment;
 use s3_calendar::Moment;
-use s3_options::ReplayOptions;
 
 /// How a replay reads its input, and when everything happens.
 #[derive(Clone, Copy)]

@@ -8,9 +8,9 @@ ghost use Rattle.s3_settings.specs.declared.fault.Fault.TheVariants.{BadSetting}
 
 use crate::fault::Fault;
 use crate::files::Files;
+use crate::options::ServeOptions;
 use crate::settings::{Setup, configure, option_number};
 use s3_config::Config;
-use s3_options::ServeOptions;
 use std::alloc::Global;
 
 // The most threads that serve connections.

@@ -8,10 +8,10 @@ ghost use Rattle.s3_settings.specs.Settings.{option_number, option_moment, is_bu
 use crate::fault::Fault;
 use crate::files::{Files, read_file};
 use crate::keys::read_keys;
+use crate::options::Options;
 use s3_calendar::Moment;
 use s3_config::{Config, Credential};
 use s3_names::BucketName;
-use s3_options::Options;
 use s3_terms::Code;
 use s3_text::decimal_number;
 use std::alloc::{AllocError, Global};
@@ -35,7 +35,13 @@ pub struct Setup<'a> {
 }
 
 impl<'a> Setup<'a> {
-    /// What the options ask for; `BadSetting` where one of them is out of its form.
+    /// Reads what the options ask for: the path of the keys file, the region, the least size of a part, the greatest size
+    /// of a body, and the name of a bucket.
+    ///
+    /// # Errors
+    ///
+    /// `BadSetting` where no keys file is named, or a number or the bucket's name is out of its form. `OutOfMemory` where
+    /// there is none for the bucket's name.
     #[tactic(auto, unfolding(crate::specs::Settings::are_options))]
     pub fn read(alloc: Global, options: &Options<'a>) -> Result<Setup<'a>, Fault<'a>>
         ensures value { IfOk result (IsSetupOf options.now) }
@@ -79,7 +85,12 @@ impl<'a> Setup<'a> {
     }
 }
 
-/// The settings of a setup, with the keys that its keys file says.
+/// Reads the keys file that a setup names, and makes the settings of a server from the setup and these keys.
+///
+/// # Errors
+///
+/// `CannotRead` where the file can't be read, `BadKeysLine` with the number of its first line that is no credential,
+/// `BadSetting` where no server accepts the settings, and `OutOfMemory`.
 pub fn configure<'a, F: Files>(
     alloc: Global,
     setup: Setup<'a>,

@@ -18,9 +18,9 @@ pub fn write_flushed<'a, W: Write>(output: &mut W, bytes: &[u8]) -> Result<(), F
     output.flush().map_err(|_| Fault::OutputFailed)
 }
 
-/// Writes all of the bytes, or a beginning of them where the writer fails. `write_all` of the writer
-/// itself does not say what it took before it failed.
-pub(crate) fn write_bytes<W: Write>(output: &mut W, bytes: &[u8]) -> io::Result<()>
+// Writes all of the bytes, or a beginning of them where the writer fails. `write_all` of the writer
+// itself does not say what it took before it failed.
+fn write_bytes<W: Write>(output: &mut W, bytes: &[u8]) -> io::Result<()>
     ensures written { OnOk result (Appends (W.contents output.old) (W.contents output.new) bytes.now) }
     ensures part { OnErr result (AppendsBeginning (W.contents output.old) (W.contents output.new) bytes.now) }
 {

@@ -14,10 +14,10 @@ use Rattle.s3_http_heads.specs.Message.{IsMessage}
 use Rattle.s3_http_heads.specs.Target.{begins_with_digits, has_bad_escape, is_unreadable}
 use Rattle.s3_signing.specs.Authorize.{credential_text}
 use Rattle.s3_signing.specs.Names.{cover_of}
-use Rattle.s3_signing.specs.Presigning.{PresignedIsVerified, SaysPresigned, Uses, presigned_signature}
+use Rattle.s3_signing.specs.Presigning.{PresignedIsVerified, Uses, presigned_signature}
 use Rattle.s3_signer.specs.declared.line.Line.{Line}
 use Rattle.s3_signer.specs.Line.{IsMessageOf, head_with, pairs}
-use Rattle.s3_signer.specs.Presigned.{Asked, CanBePresigned, CanBeSentPresigned, IsVerifiedMessageOf, IsVerifiedTargetOf, head_at, head_to_sign, lines_of, names_of, parameter_text, presigned_head, query_mark, request_text_of, size_line, sized, target_text, target_to_sign, told_size}
+use Rattle.s3_signer.specs.Presigned.{Asked, CanBePresigned, CanBeSentPresigned, IsReadyPresigned, IsVerifiedMessageOf, IsVerifiedTargetOf, head_at, head_to_sign, lines_of, names_of, parameter_text, presigned_head, query_mark, request_text_of, size_line, sized, target_text, target_to_sign, told_size}
 use Rattle.s3_signer.specs.Request.{HeaderLine, ReadsBack, head_of, line_cmp, lower_line}
 use Rattle.s3_signer.proofs.GrammarLemmas.{few_lines}
 
@@ -127,7 +127,7 @@ module _ (a : Asked) where
   pub signed_readable : CanBePresigned a → is_unreadable (target_to_sign a) ≡ true → ⊥
   signed_readable can bad =
       let whole : is_unreadable (target_text a) ≡ true = ap is_unreadable text_is ∙ unreadable_before (target_to_sign a) (codes "X-Amz-Signature=" ++ digits) bad in
-      false≢true (sym can.says.readable ∙ whole)
+      false≢true (sym can.ready.says.readable ∙ whole)
 
   module _ (lines : List Line) (same : pairs lines ≡ lines_of a.headers) where
     -- the names of the lines are those that are asked for
@@ -163,24 +163,24 @@ module _ (a : Asked) where
       made_is : head_with a.method target lines ≡ presigned_head a
       made_is = ap (λ t. head_with a.method t lines) is ∙ same_head a.method (target_text a) lines a.headers same
 
-      pub can_be : ReadsBack (head_to_sign a) → length (print_request (head_with a.method target lines)) ≤ 16384 → ReadsBack (head_with a.method target lines) → SaysPresigned a.id a.secret a.region (parts_of (head_with a.method target lines)) a.stamp a.expires → CanBePresigned a
-      can_be signed fits reads says = record {
+      pub can_be : ReadsBack (head_to_sign a) → length (print_request (head_with a.method target lines)) ≤ 16384 → ReadsBack (head_with a.method target lines) → IsReadyPresigned a (parts_of (head_with a.method target lines)) → CanBePresigned a
+      can_be signed fits reads ready = record {
         signed = signed;
         short = subst (λ h. length (print_request h) ≤ 16384) made_is fits;
         written = subst ReadsBack made_is reads;
-        says = subst (λ h. SaysPresigned a.id a.secret a.region (parts_of h) a.stamp a.expires) made_is says;
+        ready = subst (λ h. IsReadyPresigned a (parts_of h)) made_is ready;
       }
 
-      pub can_not : (length (print_request (head_with a.method target lines)) ≤ 16384 → ReadsBack (head_with a.method target lines) → ¬ (SaysPresigned a.id a.secret a.region (parts_of (head_with a.method target lines)) a.stamp a.expires)) → ¬ (CanBePresigned a)
+      pub can_not : (length (print_request (head_with a.method target lines)) ≤ 16384 → ReadsBack (head_with a.method target lines) → ¬ (IsReadyPresigned a (parts_of (head_with a.method target lines)))) → ¬ (CanBePresigned a)
       can_not refused can =
           refused (subst (λ h. length (print_request h) ≤ 16384) (sym made_is) can.short) (subst ReadsBack (sym made_is) can.written)
-          (subst (λ h. SaysPresigned a.id a.secret a.region (parts_of h) a.stamp a.expires) (sym made_is) can.says)
+          (subst (λ h. IsReadyPresigned a (parts_of h)) (sym made_is) can.ready)
 
   -- whoever uses what was presigned is verified
   pub target_verified : PresignedIsVerified → CanBePresigned a → (text : List ℕ) → text ≡ target_text a → IsVerifiedTargetOf a text
   target_verified law can text is =
       subst (λ t. IsVerifiedTargetOf a t) (sym is)
-      (law a.id a.secret a.region (parts_of (presigned_head a)) a.stamp a.expires can.says)
+      (law a.id a.secret a.region (parts_of (presigned_head a)) a.stamp a.expires can.ready.says)
 
   -- a request, with a body, that was presigned
   module _ (body : List ℕ) (can : CanBePresigned (sized a body)) (message : IsMessageOf (presigned_head (sized a body)) body) where
@@ -189,13 +189,13 @@ module _ (a : Asked) where
 
     -- its head uses itself
     own_use : Uses (parts_of (presigned_head (sized a body))) (parts_of (presigned_head (sized a body)))
-    own_use = record { method = refl; target = refl; lines = refl; sound = can.says.sound }
+    own_use = record { method = refl; target = refl; lines = refl; sound = can.ready.says.sound }
 
     pub message_verified : PresignedIsVerified → (text : List ℕ) → text ≡ request_text_of a body → IsVerifiedMessageOf a body text
     message_verified law text is = record {
       head = parts_of (presigned_head (sized a body));
       message = subst (λ t. IsMessage t (parts_of (presigned_head (sized a body))) body []) (sym is) message;
-      verified = law a.id a.secret a.region (parts_of (presigned_head (sized a body))) a.stamp a.expires can.says (parts_of (presigned_head (sized a body))) own_use;
+      verified = law a.id a.secret a.region (parts_of (presigned_head (sized a body))) a.stamp a.expires can.ready.says (parts_of (presigned_head (sized a body))) own_use;
     }
 
 -- no more lines are given for a request than a head may have

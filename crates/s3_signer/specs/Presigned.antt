@@ -1,13 +1,14 @@
 -- A presigned target, and the request that has it (Amazon S3 API Reference, "Authenticating requests: using query parameters
 -- (AWS Signature Version 4)"; RFC 9112, sections 2 to 5).
-use Rattle.std.specs.Prelude.{ℕ, ◌≤◌, ◌==◌, if◌then◌else◌, List, [], ◌∷◌, ◌++◌, map, length, codes, Option, Some, None}
+use Rattle.std.specs.Prelude.{◌≡◌, ℕ, ◌≤◌, ◌==◌, Bool, true, false, if◌then◌else◌, List, [], ◌∷◌, ◌++◌, map, length, codes, Option, Some, None, is_some}
 use Rattle.std.specs.Fmt.{decimal}
-use Rattle.std.specs.List.{join_with_byte, list_any}
-use Rattle.httparse.specs.Grammar.{RequestHead, print_request}
+use Rattle.std.specs.List.{join_with_byte, list_all, list_any}
+use Rattle.httparse.specs.Grammar.{RequestHead, is_value_byte, print_request}
 use Rattle.s3_text.specs.Characters.{ampersand, equals_sign, question_mark}
 use Rattle.s3_text.specs.Sorting.{sorted_by}
+use Rattle.s3_http_heads.specs.BodyLength.{length_lines}
 use Rattle.s3_http_heads.specs.Find.{head_limit}
-use Rattle.s3_http_heads.specs.Head.{HeadParts, parts_of}
+use Rattle.s3_http_heads.specs.Head.{HeadParts, parts_of, values_of}
 use Rattle.s3_http_heads.specs.Message.{IsMessage}
 use Rattle.s3_canonical.specs.Encoding.{encode_query}
 use Rattle.s3_signing.specs.Authorize.{credential_text}
@@ -47,7 +48,8 @@ abbrev pub size_line : Option ℕ → List HeaderLine
 size_line None = []
 size_line (Some size) = length_line size ∷ []
 
--- what is asked for, and by whom: a record, so that it is handed on as one
+-- what is asked for, and by whom: a record, so that it is handed on as one; `tells_size` says whether the last of its
+-- lines tells the size of a body
 pub record Asked : Type 0 where
   pub id : List ℕ
   pub secret : List ℕ
@@ -55,6 +57,7 @@ pub record Asked : Type 0 where
   pub method : List ℕ
   pub target : List ℕ
   pub headers : List HeaderLine
+  pub tells_size : Bool
   pub stamp : List ℕ
   pub expires : ℕ
 
@@ -89,13 +92,25 @@ target_text a =
 abbrev pub presigned_head : Asked → RequestHead
 presigned_head a = head_at a.method (target_text a) a.headers
 
+-- no control byte but the tab is in the id, so that it could sign in a line too
+abbrev pub is_plain : List ℕ → Bool
+is_plain id = list_all is_value_byte id
+
+-- the head says what this signer presigns: its id is plain, and one line is the host's; one tells the size of the body
+-- where that is told, and else none does
+pub record IsReadyPresigned (a : Asked) (head : HeadParts) : Type 0 where
+  pub plain : is_plain a.id ≡ true
+  pub one_host : length (values_of (codes "host") head) ≡ 1
+  pub one_size : length (length_lines head) ≡ (if a.tells_size then 1 else 0)
+  pub says : SaysPresigned a.id a.secret a.region head a.stamp a.expires
+
 -- it can be presigned: the heads that are written are read as they were meant, and the last one is no longer than a head
 -- may be, and says what this signer presigns
 pub record CanBePresigned (a : Asked) : Type 0 where
   pub signed : ReadsBack (head_to_sign a)
   pub short : length (print_request (presigned_head a)) ≤ head_limit
   pub written : ReadsBack (presigned_head a)
-  pub says : SaysPresigned a.id a.secret a.region (parts_of (presigned_head a)) a.stamp a.expires
+  pub ready : IsReadyPresigned a (parts_of (presigned_head a))
 
 -- the same with the line that tells the size of this body, where it is told: like all lines that a signer adds, it is signed
 abbrev pub sized : Asked → List ℕ → Asked
@@ -106,6 +121,7 @@ sized a body = record {
   method = a.method;
   target = a.target;
   headers = a.headers ++ size_line (told_size a.method body);
+  tells_size = is_some (told_size a.method body);
   stamp = a.stamp;
   expires = a.expires;
 }
@@ -140,6 +156,7 @@ asked id secret region method target headers stamp expires = record {
   method = method;
   target = target;
   headers = headers;
+  tells_size = false;
   stamp = stamp;
   expires = expires;
 }

@@ -29,7 +29,7 @@ pub(crate) struct Asked<'a> {
 }
 
 impl<'a> Model for Asked<'a> {
-    ghost use Rattle.std.specs.Prelude.{◌++◌};
+    ghost use Rattle.std.specs.Prelude.{◌++◌, is_some};
     ghost use Rattle.s3_signer.specs.Presigned.{Asked, size_line};
     ghost use Rattle.s3_signer.specs.Request.{given_lines};
 
@@ -42,6 +42,7 @@ impl<'a> Model for Asked<'a> {
       method = a.method.now;
       target = a.target.now;
       headers = given_lines a.headers.now ++ size_line a.size;
+      tells_size = is_some a.size;
       stamp = a.stamp;
       expires = a.expires;
     } };

@@ -40,9 +40,10 @@ use std::alloc::Global;
 ///
 /// - the method is a token, and the target is UTF-8 without spaces and control bytes that begins with `/`, has two
 ///   hexadecimal digits after each `%`, and names none of the six parameters;
-/// - each given header is a token and a value without control bytes but the tab, none is named `authorization`, one is
-///   named `host`, and `x-amz-content-sha256` is `UNSIGNED-PAYLOAD` where it is given, the case of names aside;
-/// - the key's id isn't empty and, like the region, has no slash and no comma;
+/// - each given header is a token and a value without control bytes but the tab, none is named `authorization` or
+///   `content-length`, exactly one is named `host`, and `x-amz-content-sha256` is `UNSIGNED-PAYLOAD` where it is given,
+///   the case of names aside;
+/// - the key's id isn't empty, has no control byte but the tab and, like the region, no slash and no comma;
 /// - the head has at most 64 lines and 16,384 bytes.
 #[tactic(auto, using(crate::proofs::LineLemmas::given_alone))]
 pub fn presigned_target(
@@ -126,9 +127,8 @@ fn request_of(alloc: Global, asked: &Asked, body: &[u8]) -> Result<Vec<u8>, Unsi
 ///
 /// # Errors
 ///
-/// `NotSignable` where [`presigned_target`] has it for all lines, and where what would be written is no message with this
-/// body: a given header is named `content-length` though the size is told, or says another one; the body has 10 to the 18th
-/// bytes or more.
+/// `NotSignable` where [`presigned_target`] has it for the given lines, where the head is too long with the size of the
+/// body, and where the body has 10 to the 18th bytes or more.
 pub fn presigned_request(
     alloc: Global,
     id: &[u8],

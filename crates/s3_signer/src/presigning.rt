@@ -5,9 +5,9 @@ ghost use Rattle.httparse.specs.Grammar.{print_request};
 ghost use Rattle.s3_http_heads.specs.Head.{parts_of};
 ghost use Rattle.s3_http_heads.specs.Target.{is_unreadable};
 ghost use Rattle.s3_signing.specs.Names.{cover_of};
-ghost use Rattle.s3_signing.specs.Presigning.{SaysPresigned, presigned_signature};
+ghost use Rattle.s3_signing.specs.Presigning.{presigned_signature};
 ghost use Rattle.s3_signer.specs.Line.{head_with, pairs};
-ghost use Rattle.s3_signer.specs.Presigned.{CanBePresigned, head_to_sign, lines_of, target_text, target_to_sign};
+ghost use Rattle.s3_signer.specs.Presigned.{CanBePresigned, IsReadyPresigned, head_to_sign, lines_of, target_text, target_to_sign};
 ghost use Rattle.s3_signer.specs.Request.{ReadsBack};
 
 use crate::asked::{Asked, target_to_sign};
@@ -15,7 +15,7 @@ use crate::head_text::head_text;
 use crate::line::Line;
 use crate::lines::sized_lines;
 use crate::message::{head, read_head};
-use crate::ready::is_readable;
+use crate::ready::{has_own_lines, is_plain, is_readable};
 use crate::unsigned::Unsigned;
 use s3_http_heads::{HEAD_LIMIT, Head};
 use s3_signing::{presigned_signature, says_presigned, signed_names};
@@ -93,36 +93,45 @@ fn signed_target(alloc: Global, asked: &Asked, lines: &[Line]) -> Result<Vec<u8>
     Ok(with_signature(target, &signature)?)
 }
 
-// Reads the head of these lines at a target back: it is refused where it is too long for a head, or doesn't say what the
-// signer presigns.
-fn read_back(alloc: Global, asked: &Asked, target: &[u8], lines: &[Line]) -> Result<(), Unsigned>
-    ensures fits { OnOk result (length (print_request (head_with asked.now.method target.now lines.now)) ≤ HEAD_LIMIT) }
-    ensures reads { OnOk result (ReadsBack (head_with asked.now.method target.now lines.now)) }
-    ensures says { OnOk result (SaysPresigned asked.now.id asked.now.secret asked.now.region
-        (parts_of (head_with asked.now.method target.now lines.now)) asked.now.stamp asked.now.expires) }
-    ensures refused { IsErrOf result Unsigned.NotSignable
-        → length (print_request (head_with asked.now.method target.now lines.now)) ≤ HEAD_LIMIT
-        → ReadsBack (head_with asked.now.method target.now lines.now)
-        → ¬ (SaysPresigned asked.now.id asked.now.secret asked.now.region
-        (parts_of (head_with asked.now.method target.now lines.now)) asked.now.stamp asked.now.expires) }
+// Whether a head says what the signer presigns: it is refused where it doesn't.
+fn judged(alloc: Global, asked: &Asked, head: &Head) -> Result<(), Unsigned>
+    ensures ready { OnOk result (IsReadyPresigned asked.now head.now) }
+    ensures refused { IsErrOf result Unsigned.NotSignable → ¬ (IsReadyPresigned asked.now head.now) }
 {
-    let text = head_text(alloc, asked.method, target, lines)?;
-    if text.len() > HEAD_LIMIT {
+    if !is_plain(asked.id) || !has_own_lines(head, asked.size.is_some()) {
         return Err(Unsigned::NotSignable);
     }
-    let head = read_head(alloc, &text, asked.method, target, lines)?;
     if !says_presigned(
         alloc,
         asked.id,
         asked.secret,
         asked.region,
-        &head,
+        head,
         asked.stamp,
         asked.expires,
     )? {
         return Err(Unsigned::NotSignable);
     }
     Ok(())
+}
+
+// Reads the head of these lines at a target back: it is refused where it is too long for a head, or doesn't say what the
+// signer presigns.
+fn read_back(alloc: Global, asked: &Asked, target: &[u8], lines: &[Line]) -> Result<(), Unsigned>
+    ensures fits { OnOk result (length (print_request (head_with asked.now.method target.now lines.now)) ≤ HEAD_LIMIT) }
+    ensures reads { OnOk result (ReadsBack (head_with asked.now.method target.now lines.now)) }
+    ensures ready { OnOk result (IsReadyPresigned asked.now (parts_of (head_with asked.now.method target.now lines.now))) }
+    ensures refused { IsErrOf result Unsigned.NotSignable
+        → length (print_request (head_with asked.now.method target.now lines.now)) ≤ HEAD_LIMIT
+        → ReadsBack (head_with asked.now.method target.now lines.now)
+        → ¬ (IsReadyPresigned asked.now (parts_of (head_with asked.now.method target.now lines.now))) }
+{
+    let text = head_text(alloc, asked.method, target, lines)?;
+    if text.len() > HEAD_LIMIT {
+        return Err(Unsigned::NotSignable);
+    }
+    let head = read_head(alloc, &text, asked.method, target, lines)?;
+    judged(alloc, asked, &head)
 }
 
 // The presigned target of these lines.

@@ -1,10 +1,12 @@
 //! What a head has to have before it is signed.
 
-ghost use Rattle.std.specs.Prelude.{◌≡◌, ◌↔◌, ◌∷◌, [], not, true, if◌then◌else◌};
+ghost use Rattle.std.specs.Prelude.{◌≡◌, ◌↔◌, ◌∷◌, [], codes, length, not, true, if◌then◌else◌};
 ghost use Rattle.std.specs.List.{AllByRecursion};
+ghost use Rattle.s3_http_heads.specs.BodyLength.{length_lines};
 ghost use Rattle.s3_http_heads.specs.Head.{values_of};
 ghost use Rattle.s3_http_heads.specs.Target.{is_unreadable};
 ghost use Rattle.s3_signer.specs.Line.{told_by};
+ghost use Rattle.s3_signer.specs.Presigned.{is_plain};
 ghost use Rattle.s3_signer.specs.Request.{HasOne, IsReadyFor, given_lines};
 
 use crate::telling::Telling;
@@ -38,6 +40,22 @@ pub(crate) fn is_readable(head: &Head) -> bool
     ensures { result ≡ not (is_unreadable head.now.target) }
 {
     head.decoded_target().is_ok()
+}
+
+// Whether an id has no control byte but the tab.
+pub(crate) fn is_plain(id: &[u8]) -> bool
+    ensures { result ≡ is_plain id.now }
+{
+    id.iter()
+        .all(|byte| *byte == b'\t' || (*byte >= b' ' && *byte != 127))
+}
+
+// Whether a head has one line of the host, and one of the size where that is told, and else none.
+pub(crate) fn has_own_lines(head: &Head, tells_size: bool) -> bool
+    ensures { (result ≡ true) ↔ ((length (values_of (codes "host") head.now) ≡ 1)
+        × (length (length_lines head.now) ≡ (if tells_size then 1 else 0))) }
+{
+    head.count(b"host") == 1 && head.count(b"content-length") == if tells_size { 1 } else { 0 }
 }
 
 // Whether the target can be read, and the host and the signer's own names have just the lines that they

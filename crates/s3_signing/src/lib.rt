@@ -21,7 +21,7 @@ pub use chain::ChunkChain;
 pub use kept_key::KeptKey;
 pub use key::signing_key;
 pub use presigning::{
-    presigned_heads_are_verified, presigned_signature, says_presigned, signed_names, uses_presigned,
+    presigned_heads_are_verified, presigned_signature, says_presigned, signed_names,
 };
 pub use region::{REGION_MAX, Region};
 pub use verdict::{Verified, verify_head};

@@ -1,13 +1,12 @@
-//! What a signer presigns: the names that it covers, the signature, whether a head says so, and who uses it.
+//! What a signer presigns: the names that it covers, the signature, and whether a head says so.
 
 ghost use Rattle.std.specs.Prelude.{◌≡◌, ◌↔◌, true, false, Ok, IfOk, codes};
 ghost use Rattle.s3_text.specs.Digest.{is_hex_digest};
-ghost use Rattle.s3_canonical.specs.Request.{canonical_headers};
 ghost use Rattle.s3_http_heads.specs.Target.{is_unreadable};
 ghost use Rattle.s3_signing.specs.Names.{cover_of};
 ghost use Rattle.s3_signing.specs.Presigned.{is_presigned};
 ghost use Rattle.s3_signing.specs.Presigned as rules;
-ghost use Rattle.s3_signing.specs.Presigning.{IsSound, PresignedIsVerified, SaysPresigned, Uses, presigned_signature, written_by};
+ghost use Rattle.s3_signing.specs.Presigning.{IsSound, PresignedIsVerified, SaysPresigned, presigned_signature, written_by};
 ghost use Rattle.s3_signing.specs.Signature.{signature_of};
 ghost use Rattle.s3_signing.specs.Word.{unsigned_payload};
 
@@ -20,7 +19,6 @@ use crate::signature::signature_of;
 use crate::word::Word;
 use s3_authorization::{Authorization, Expires};
 use s3_calendar::Stamp;
-use s3_canonical::headers;
 use s3_http_heads::{Head, Target};
 use s3_terms::NoMemory;
 use std::alloc::Global;
@@ -171,46 +169,6 @@ pub fn says_presigned(
     }
     let signature = unsigned_body_signature(alloc, secret, region, head, &stamp, signed)?;
     Ok(is_written(target, id, region, &stamp, expires, signed, &signature))
-}
-
-// The lines of these names in a head.
-fn lines_of(alloc: Global, head: &Head, signed: &[u8]) -> Result<Vec<u8>, NoMemory>
-    ensures { IfOk result (λ text. text.items ≡ canonical_headers head.now signed.now) }
-{
-    headers(alloc, head, signed).map_err(|_| NoMemory)
-}
-
-// Whether two heads have the same lines of these names.
-fn has_same_lines(
-    alloc: Global,
-    first: &Head,
-    second: &Head,
-    signed: &[u8],
-) -> Result<bool, NoMemory>
-    ensures { IfOk result (λ same. (same ≡ true)
-        ↔ (canonical_headers first.now signed.now ≡ canonical_headers second.now signed.now)) }
-{
-    let first = lines_of(alloc, first, signed)?;
-    let second = lines_of(alloc, second, signed)?;
-    Ok(first == second)
-}
-
-/// Whether a head uses a presigned one: it has its method and its target, and the same lines of the names that it
-/// covers; no Authorization, no other word for its body than `UNSIGNED-PAYLOAD`, and none of Amazon's headers that isn't
-/// signed. Its other lines are free.
-///
-/// Takes memory by the length of both heads, and time by that times the number of names.
-pub fn uses_presigned(alloc: Global, presigned: &Head, head: &Head) -> Result<bool, NoMemory>
-    ensures { IfOk result (λ uses. (uses ≡ true) ↔ Uses presigned.now head.now) }
-{
-    if head.method_name() != presigned.method_name() || head.target() != presigned.target() {
-        return Ok(false);
-    }
-    let signed = cover_of(alloc, presigned)?;
-    if !is_sound(head, &signed) {
-        return Ok(false);
-    }
-    has_same_lines(alloc, head, presigned, &signed)
 }
 
 /// What says that it is presigned holds: every head that uses it is verified by each server that knows the signer, from

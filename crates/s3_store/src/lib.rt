@@ -1,5 +1,5 @@
-//! The store: the state of the machine, kept by one keeper of records, with one step for each command. What a command
-//! does is the machine's `step`.
+//! The store: the state of the machine, kept by one keeper of records. `Store::apply` takes one step for each command.
+//! What a command does is `step` of `s3_machine`.
 #![tactic(auto)]
 
 mod bucket_steps;

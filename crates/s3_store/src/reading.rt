@@ -68,6 +68,7 @@ fn told(versioning: Versioning, found: Option<Version<Body>>) -> Found<Body>
             let id = version.id();
             found_under(shown(versioning, id), version)
         }
+        // The caller knows that there is a version.
         None => unreachable!(),
     }
 }
@@ -85,6 +86,7 @@ fn found_under(shown: Option<VersionId>, version: Version<Body>) -> Found<Body>
             moment,
             stored,
         },
+        // The caller knows that it is no delete marker.
         Content::DeleteMarker => unreachable!(),
     }
 }

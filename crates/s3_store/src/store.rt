@@ -1,8 +1,6 @@
 //! The store.
 ghost use Rattle.std.specs.Prelude.{◌≡◌, ◌≢◌, [], true, false, IfOk, OnOk, OnErr, IsTrue};
 ghost use Rattle.s3_records.specs.Catalogue.{opening};
-ghost use Rattle.s3_records.specs.Looks.{look_at, IsLongKey};
-ghost use Rattle.s3_records.specs.Rows.{keys_from};
 ghost use Rattle.s3_store.specs.Steps.{opened, after_step, outcome_of};
 ghost use Rattle.s3_machine.specs.Effects.{is_refused, takes_room};
 
@@ -11,13 +9,13 @@ use s3_bodies::Body;
 use s3_calendar::Moment;
 use s3_machine::{Answer, Command, steps_keep};
 use s3_names::BucketName;
-use s3_records::{Look, MapRecords, Records, Start, numbers_stay_below};
+use s3_records::{MapRecords, Records, numbers_stay_below};
 use s3_terms::NoMemory;
 use std::alloc::Global;
 use std::marker::Model;
 
-/// The buckets with their versions and the bytes of these. Contracts see a store as its state and the number of the next
-/// entry. Its type keeps that this number is above those of the entries that made the versions.
+/// Buckets, with their versions and open uploads and the bytes of these. Contracts see a store as its state and the
+/// number of the next entry. Its type keeps that this number is above those of the entries that made the versions.
 #[derive(Drop)]
 pub struct Store<R: Records> {
     records: R,
@@ -38,8 +36,12 @@ impl<R: Records> Model for Store<R> {
 }
 
 impl Store<MapRecords> {
-    /// The store with these buckets, which are unversioned and empty, made at moment 0. A name that stands twice is one
-    /// bucket. The names are copied. `NoMemory` comes only where there is a name.
+    /// The store with these buckets, which are unversioned and empty, and were made at moment 0. A name that stands
+    /// twice is one bucket. The names are copied. The next entry has the number 0.
+    ///
+    /// # Errors
+    ///
+    /// `NoMemory` where there is no memory for the buckets. It comes only where there is a name.
     pub fn open(alloc: Global, buckets: &[BucketName]) -> Result<Store<MapRecords>, NoMemory>
         ensures value { IfOk result (λ store. store ≡ opened (opening buckets.now)) }
         ensures memory { OnErr result (buckets.now ≢ []) }
@@ -58,32 +60,20 @@ impl<R: Records + Drop> Store<R> {
         self.number
     }
 
-    /// Looks at the first rows of a bucket's keys from a place on, at most so many and at most 256, as long as their keys
-    /// begin with the prefix: how many of them tell of an object, how large the largest of these is, and the key of the last
-    /// one if all that it may look at are there. It is no step, and leaves the store as it is. Costs the rows, to find the
-    /// first of them, and a copy of the key. Where records are in memory, `NoMemory` comes only where that key has more than
-    /// 38 bytes.
-    pub fn look_from(
-        &mut self,
-        bucket: &BucketName,
-        prefix: &[u8],
-        start: &Start,
-        most: usize,
-    ) -> Result<Look, NoMemory>
-        ensures value { IfOk result (λ look. look ≡ look_at prefix.now most (keys_from self.old.state bucket.now start.now)) }
-        ensures same { self.new ≡ self.old }
-        ensures memory { OnErr result (
-            R.is_in_memory ≡ true → IsLongKey (look_at prefix.now most (keys_from self.old.state bucket.now start.now)).last) }
-    {
-        self.records.look_from(bucket, prefix, start, most)
-    }
-
-    /// Takes one step: does what the command asks for at this moment, and answers it under its number. `least_part` is the
-    /// least size of a part that is not the last. No step copies the bytes of a version or of a part: they are moved or
-    /// shared.
+    /// Takes one step: does what the command asks for at this moment, and answers it under the number of its entry
+    /// (`number`).
     ///
-    /// `NoMemory` leaves the store as it was; it comes too where the numbers are used up. Where the records are in memory,
-    /// it stands in the place of no refusal, and comes only where the command takes room.
+    /// What it does and answers is `step` of `s3_machine`. `docs/PROTOCOL.md` has the rules, which are those of the
+    /// Amazon S3 API Reference, and all refusals. `least_part` is the least size, in bytes, of a part that isn't the
+    /// last. A refusal is an answer and no error.
+    ///
+    /// No step copies the bytes of a version or of a part: they are moved or shared.
+    ///
+    /// # Errors
+    ///
+    /// `NoMemory` leaves the store as it was; the command is dropped. It comes where memory runs out, and where the
+    /// numbers are used up, after 2^64 - 1 commands. If the records are in memory and numbers are left, it comes only
+    /// for a command that isn't refused and takes room.
     pub fn apply(
         &mut self,
         alloc: Global,

@@ -1,6 +1,6 @@
 -- Why a replay has no settings.
-use Rattle.std.proofs.Common.{◌≡◌, ℕ, List, Option, Some, [], true, refl, sym, ap, append-nil, inr, is_some}
-use Rattle.s3_options.specs.declared.options.ReplayOptions.{ReplayOptions}
+use Rattle.std.proofs.Common.{◌≡◌, ℕ, List, Option, Some, [], refl, sym, ap, append-nil, inr, is_some}
+use Rattle.s3_settings.specs.declared.options.ReplayOptions.{ReplayOptions}
 use Rattle.s3_devices.specs.Device.{Traffic}
 use Rattle.s3_settings.specs.Devices.{GivesSome}
 use Rattle.s3_settings.specs.Settings.{IsConfigFault, IsSetupOf, replay_mode}

@@ -1,12 +1,18 @@
 -- How a task ends.
-use Rattle.std.proofs.Common.{◌≡◌, ℕ, List, Option, Result, Ok, Err, inr, refl, subst, sym}
-use Rattle.std.specs.Prelude.{IfErr, OnOk}
+use Rattle.std.proofs.Common.{◌≡◌, ℕ, List, [], Option, Result, Ok, Err, inl, inr, refl, subst, sym}
+use Rattle.std.specs.Prelude.{◌≢◌, IfErr, OnOk}
 use Rattle.s3_devices.specs.Device.{Traffic}
 use Rattle.s3_settings.specs.declared.fault.Fault.{Fault}
 use Rattle.s3_settings.specs.declared.fault.Fault.TheVariants.{OutputFailed}
-use Rattle.s3_settings.specs.Devices.{IsUnread, Takes, TakesBeginning}
+use Rattle.s3_settings.specs.Devices.{IsToldSome, IsUnread, Takes, TakesBeginning}
 use Rattle.s3_command_line.specs.declared.task.Task.{Task}
 use Rattle.s3_tasks.specs.Run.{IsTaskDone, IsTaskFault, IsTaskText}
+
+-- what was written of a text that isn't empty was told
+pub told_some : {T : Type 0} (old new : Traffic) (text : List ℕ) (r : Result T Fault) → text ≢ [] → OnOk r (Takes old new text)
+    → IfErr r (λ fault. (fault ≡ OutputFailed) × TakesBeginning old new text) → IsToldSome old new
+told_some old new text (Ok x) some took failed = record { bytes = text; some = some; told = inl took }
+told_some old new text (Err fault) some took failed = record { bytes = text; some = some; told = inr failed.1 }
 
 -- the device took a task's text, or a beginning of it
 pub written_whole : {T E : Type 0} (known : List ℕ → Option (List ℕ)) (old between new : Traffic) (task : Task) (text : List ℕ) (r : Result T E)

@@ -8,7 +8,7 @@ use Rattle.s3_settings.specs.declared.fault.Fault.{Fault}
 use Rattle.s3_settings.specs.declared.fault.Fault.TheVariants.{CannotRead, CannotWrite, BadKeysLine, BadEventLine, BadSetting, CannotListen, InputFailed, OutputFailed, OutOfMemory}
 use Rattle.s3_settings.specs.declared.settings.Setup.{Setup}
 use Rattle.s3_tasks.specs.declared.sign.Draft.{Draft}
-use Rattle.s3_options.specs.declared.options.SignOptions.{SignOptions}
+use Rattle.s3_settings.specs.declared.options.SignOptions.{SignOptions}
 use Rattle.s3_settings.specs.Settings.{IsSetupOf, IsConfigFault}
 use Rattle.s3_tasks.specs.Sign.{texts_of, has_colon, moment_of_signing, are_first_options, IsDraftFault, IsDraftOf, IsDraftText, IsPrepared, IsReady, IsRequestFault, IsSignFault, IsTextOf}
 

@@ -1,7 +1,7 @@
 -- Where the options of a signing ask for the signature, and what they ask to write.
 use Rattle.std.specs.Prelude.{ℕ, Bool, true, false, ◌&&◌, nat_le, if◌then◌else◌, List, Option, Some, None, option_map, option_and_then}
 use Rattle.s3_authorization.specs.Expires.{as_expires}
-use Rattle.s3_options.specs.declared.options.SignOptions.{SignOptions}
+use Rattle.s3_settings.specs.declared.options.SignOptions.{SignOptions}
 use Rattle.s3_settings.specs.Settings.{option_number}
 use Rattle.s3_signer.specs.Chunked.{greatest_chunk}
 use Rattle.s3_tasks.specs.declared.mode.SignMode.{SignMode}

@@ -3,12 +3,12 @@ use Rattle.std.specs.Prelude.{◌≡◌, ◌⊎◌, IsTrue, ℕ, Bool, true, fal
 use Rattle.s3_config.specs.Settings.{Settings}
 use Rattle.s3_settings.specs.declared.fault.Fault.{Fault}
 use Rattle.s3_settings.specs.declared.fault.Fault.TheVariants.{CannotRead, CannotWrite, BadKeysLine, BadEventLine, BadSetting, CannotListen, InputFailed, OutputFailed, OutOfMemory}
-use Rattle.s3_options.specs.declared.options.ReplayOptions.{ReplayOptions}
+use Rattle.s3_settings.specs.declared.options.ReplayOptions.{ReplayOptions}
 use Rattle.s3_settings.specs.declared.mode.ReplayMode.{ReplayMode}
 use Rattle.s3_settings.specs.declared.mode.ReplayMode.TheVariants.{AtMoment, Events}
 use Rattle.s3_settings.specs.declared.settings.Setup.{Setup}
 use Rattle.s3_devices.specs.Device.{Traffic}
-use Rattle.s3_settings.specs.Devices.{AppendsBeginning, FailsToGive, GivesAll, GivesSome, Takes, TakesBeginning}
+use Rattle.s3_settings.specs.Devices.{FailsToGive, GivesAll, GivesSome, IsTold, Takes, TakesBeginning}
 use Rattle.s3_settings.specs.Fault.{line_of}
 use Rattle.s3_settings.specs.Settings.{replay_mode, are_options, IsSetupOf, IsConfigured, HasSettings, HasConfigFault}
 use Rattle.s3_session.specs.Replay.{Replays}
@@ -155,10 +155,10 @@ IsRunFault words known old new fault =
     ((fault ≡ OutOfMemory) × (new ≡ old))
     ⊎ ((task : Task) × IsReadFrom words task × IsTaskFault known old new task fault)
 
--- a run failed for some reason, and its line or a beginning of it, which may be empty, was told; the device is untouched
--- where the reason comes before the input
-pub record HasFailed (IsReason : Fault → Type 0) (errors errors_after : Option (List ℕ)) (untouched : Type 0) : Type 0 where
+-- a run failed for some reason, and its line was told: the whole of it, or a beginning until a write failed; the device is
+-- untouched where the reason comes before the input
+pub record HasFailed (IsReason : Fault → Type 0) (errors errors_after : Traffic) (untouched : Type 0) : Type 0 where
   pub fault : Fault
   pub reason : IsReason fault
-  pub told : AppendsBeginning errors errors_after (line_of fault)
+  pub told : IsTold errors errors_after (line_of fault)
   pub input : IsTrue (is_before_input fault) → untouched

@@ -16,7 +16,7 @@ use Rattle.s3_tasks.specs.declared.mode.SignMode.{SignMode}
 use Rattle.s3_tasks.specs.declared.mode.SignMode.TheVariants.{Hashed, Chunked, Presigned, Address}
 use Rattle.s3_tasks.specs.declared.sign.Draft.{Draft}
 use Rattle.s3_tasks.specs.Mode.{sign_mode}
-use Rattle.s3_options.specs.declared.options.SignOptions.{SignOptions}
+use Rattle.s3_settings.specs.declared.options.SignOptions.{SignOptions}
 use Rattle.s3_settings.specs.Fault.{IsReadFault}
 use Rattle.s3_settings.specs.Settings.{option_moment, are_options, IsSetupOf, IsConfigured, IsConfigFault, HasConfigFault}
 

@@ -65,6 +65,7 @@ fn read_all<'a, R: Wait, D: Device>(
             None => return Ok(()),
         }
     }
+    // `forever` has no last turn.
     unreachable!()
 }
 

@@ -7,8 +7,7 @@ ghost use Rattle.s3_settings.specs.declared.fault.Fault.TheVariants.{BadSetting}
 ghost use Rattle.s3_tasks.specs.Mode.{as_chunk, mode_of, sign_mode};
 
 use s3_authorization::Expires;
-use s3_options::SignOptions;
-use s3_settings::{Fault, option_number};
+use s3_settings::{Fault, SignOptions, option_number};
 use s3_signer::ChunkSize;
 
 /// Where a request carries its signature, and what of it is written.

@@ -4,13 +4,13 @@ ghost use Rattle.std.specs.Prelude.{◌≡◌, ◌≢◌, ◌≤◌, ◌⊎◌, 
 ghost use Rattle.s3_config.specs.Settings.{Settings};
 ghost use Rattle.s3_session.specs.Replay.{Replays};
 ghost use Rattle.s3_world.specs.Replaying.{HasTaken};
-ghost use Rattle.s3_settings.specs.Devices.{AppendsBeginning, GivesAll, IsUnread};
+ghost use Rattle.s3_settings.specs.Devices.{GivesAll, IsTold, IsToldSome, IsUnread};
 ghost use Rattle.s3_settings.specs.Fault.{line_of};
 ghost use Rattle.s3_tasks.specs.Run.{IsAnswered, IsReplayed, IsReplayFault, IsDone, IsTaskText, IsTextFault, IsTaskDone, IsTaskFault, is_before_input, is_signing, IsRunFault, HasFailed};
 ghost use Rattle.s3_tasks.specs.Reading.{IsAnswerFault, IsFed, IsReadingFault};
 ghost use Rattle.s3_command_line.specs.Words.{AreRightWords, AreSignWords, IsAskedBy};
 ghost use Rattle.s3_command_line.specs.declared.task.Asked.TheVariants.{Server};
-ghost use Rattle.s3_options.specs.declared.options.ServeOptions.{ServeOptions};
+ghost use Rattle.s3_settings.specs.declared.options.ServeOptions.{ServeOptions};
 ghost use Rattle.s3_tasks.specs.declared.run.Ran.TheVariants.{Ended, Serve};
 
 use crate::events::events_answered;
@@ -19,12 +19,13 @@ use s3_calendar::Moment;
 use s3_command_line::{Asked, Task, WordsError, read_words};
 use s3_config::Config;
 use s3_devices::Device;
-use s3_options::{ReplayOptions, ServeOptions};
-use s3_settings::{Fault, Files, ReplayMode, Setup, configure, read_piece, write_output};
+use s3_settings::{
+    Fault, Files, ReplayMode, ReplayOptions, ServeOptions, Setup, configure, read_piece,
+    write_output,
+};
 use s3_world::Replay;
 use std::alloc::Global;
 use std::convert::AsStr;
-use std::io::Write;
 use std::mem::drop;
 use std::sync::Wait;
 
@@ -49,14 +50,21 @@ pub enum Ran<'a> {
     Serve(ServeOptions<'a>),
 }
 
-/// Runs the program on the words of its command line, of which the first is its name, and answers
-/// its exit status: 0 at the end of the work, 2 where the words are wrong or ask for help or the version, with the
-/// text for the user on `errors`, and 1 otherwise, with one line there. That `errors` fails changes
-/// nothing. Where the words ask for a server, it only answers that: the caller has the sockets.
+/// Runs the program on the words of its command line, of which the first is the program's name, and answers its exit
+/// status, or the options of the server that the words ask for. A server isn't started here: the caller has the sockets.
 ///
-/// The input is what `device` gives, and the output what it takes. It may wait for its device, and then never return.
-/// Where a read fails, whatever the reason, the input failed: for memory that the device lacks too.
-pub fn run_words<'a, R: Wait, S: AsStr, F: Files, D: Device, E: Write>(
+/// `device` gives the input and takes the output. `files` has the keys file and the body of a request. `errors` takes what
+/// the user is told. It may wait for `device` and `errors`, and then never return.
+///
+/// The status is one of these:
+///
+/// - 0: the work is done, and `errors` takes nothing.
+/// - 1: the work failed. `errors` takes the line of the fault ([`Fault::tell`]).
+/// - 2: the words are wrong, or ask for help or the version. `errors` takes the text for that.
+///
+/// Where a write to `errors` fails, `errors` has taken a beginning of its text, and the status stays. Where a read fails,
+/// whatever the reason, the input failed: for memory that the device lacks too.
+pub fn run_words<'a, R: Wait, S: AsStr, F: Files, D: Device, E: Device>(
     rt: &R,
     alloc: Global,
     words: &'a [S],
@@ -68,21 +76,22 @@ pub fn run_words<'a, R: Wait, S: AsStr, F: Files, D: Device, E: Write>(
     ensures silent { result ≡ Ended 0 → errors.new ≡ errors.old }
     ensures done { result ≡ Ended 0 → IsDone (map S.text words.entry.now) (F.known files.now) (D.traffic device.old) (D.traffic device.new) }
     ensures usage { result ≡ Ended 2 → ¬ AreRightWords (map S.text words.entry.now) }
+    ensures shown { result ≡ Ended 2 → IsToldSome (E.traffic errors.old) (E.traffic errors.new) }
     ensures untouched { result ≡ Ended 2 → device.new ≡ device.old }
     ensures input { AreSignWords (map S.text words.entry.now) → IsUnread (D.traffic device.old) (D.traffic device.new) }
-    ensures failed { result ≡ Ended 1 → HasFailed (IsRunFault (map S.text words.entry.now) (F.known files.now) (D.traffic device.old) (D.traffic device.new)) (E.contents errors.old) (E.contents errors.new) (device.new ≡ device.old) }
+    ensures failed { result ≡ Ended 1 → HasFailed (IsRunFault (map S.text words.entry.now) (F.known files.now) (D.traffic device.old) (D.traffic device.new)) (E.traffic errors.old) (E.traffic errors.new) (device.new ≡ device.old) }
     ensures server { (options : ServeOptions) → result ≡ Serve options → IsAskedBy (map S.text words.entry.now) (Server options) }
     ensures undone { (options : ServeOptions) → result ≡ Serve options → (errors.new ≡ errors.old) × (device.new ≡ device.old) }
 {
     match read_words(alloc, words) {
         Ok(Asked::Work(task)) => Ran::Ended(run_task(rt, alloc, &task, files, device, errors)),
         Ok(Asked::Server(options)) => Ran::Serve(options),
-        Err(error) => Ran::Ended(refused(errors, error)),
+        Err(error) => Ran::Ended(refused(rt, errors, error)),
     }
 }
 
 // Runs a task and answers its status; a fault is told.
-fn run_task<'a, R: Wait, F: Files, D: Device, E: Write>(
+fn run_task<'a, R: Wait, F: Files, D: Device, E: Device>(
     rt: &R,
     alloc: Global,
     task: &Task<'a>,
@@ -93,36 +102,38 @@ fn run_task<'a, R: Wait, F: Files, D: Device, E: Write>(
     ensures status { (result ≡ DONE) ⊎ (result ≡ FAILED) }
     ensures silent { result ≡ DONE → errors.new ≡ errors.old }
     ensures done { result ≡ DONE → IsTaskDone (F.known files.now) (D.traffic device.old) (D.traffic device.new) task.now }
-    ensures failed { result ≡ FAILED → HasFailed (IsTaskFault (F.known files.now) (D.traffic device.old) (D.traffic device.new) task.now) (E.contents errors.old) (E.contents errors.new) (device.new ≡ device.old) }
+    ensures failed { result ≡ FAILED → HasFailed (IsTaskFault (F.known files.now) (D.traffic device.old) (D.traffic device.new) task.now) (E.traffic errors.old) (E.traffic errors.new) (device.new ≡ device.old) }
     ensures input { is_signing task.now ≡ true → IsUnread (D.traffic device.old) (D.traffic device.new) }
 {
     match work(rt, alloc, task, files, device) {
         Ok(()) => DONE,
-        Err(fault) => failed(errors, fault),
+        Err(fault) => failed(rt, errors, fault),
     }
 }
 
 // Tells why words ask for no task, and answers the status.
-fn refused<E: Write>(errors: &mut E, error: WordsError) -> u8
+#[tactic(auto, using(crate::proofs::RunLemmas::told_some))]
+fn refused<R: Wait, E: Device>(rt: &R, errors: &mut E, error: WordsError) -> u8
     ensures status { (result ≡ USAGE) ⊎ (result ≡ FAILED) }
     ensures usage { result ≡ USAGE → error ≢ WordsError.OutOfMemory }
-    ensures told { result ≡ FAILED → AppendsBeginning (E.contents errors.old) (E.contents errors.new) (line_of Fault.OutOfMemory) }
+    ensures shown { result ≡ USAGE → IsToldSome (E.traffic errors.old) (E.traffic errors.new) }
+    ensures told { result ≡ FAILED → IsTold (E.traffic errors.old) (E.traffic errors.new) (line_of Fault.OutOfMemory) }
 {
     match error {
-        WordsError::OutOfMemory => failed(errors, Fault::OutOfMemory),
+        WordsError::OutOfMemory => failed(rt, errors, Fault::OutOfMemory),
         WordsError::Usage(usage) => {
-            let _ = write!(errors, "{usage}");
+            let _ = write_output(rt, errors, usage.text().as_bytes());
             USAGE
         }
     }
 }
 
 // Tells a fault and answers its status; where it cannot be told, the status says enough.
-fn failed<E: Write>(errors: &mut E, fault: Fault<'_>) -> u8
+fn failed<R: Wait, E: Device>(rt: &R, errors: &mut E, fault: Fault<'_>) -> u8
     ensures status { result ≡ FAILED }
-    ensures told { AppendsBeginning (E.contents errors.old) (E.contents errors.new) (line_of fault.entry) }
+    ensures told { IsTold (E.traffic errors.old) (E.traffic errors.new) (line_of fault.entry) }
 {
-    let _ = fault.tell(errors);
+    fault.tell(rt, errors);
     FAILED
 }
 
@@ -257,5 +268,6 @@ fn feed_input<'a, R: Wait, D: Device>(
             None => return Ok(()),
         }
     }
+    // `forever` has no last turn.
     unreachable!()
 }

@@ -11,8 +11,7 @@ use crate::mode::SignMode;
 use s3_authorization::Expires;
 use s3_calendar::{Moment, Stamp};
 use s3_config::Config;
-use s3_options::SignOptions;
-use s3_settings::{Fault, Files, Setup, configure, option_moment, read_file};
+use s3_settings::{Fault, Files, Setup, SignOptions, configure, option_moment, read_file};
 use s3_signer::{Unsigned, chunked_request, presigned_request, presigned_target, signed_request};
 use std::alloc::{AllocError, Global};
 

@@ -1,6 +1,5 @@
 pub mod Codes
 pub mod ContentType
-pub mod Filling
 pub mod Laws
 pub mod Metadata
 pub mod Rules

@@ -1,6 +1,6 @@
 //! The user metadata of an object.
 ghost use Rattle.std.specs.Prelude.{◌≡◌, ◌≤◌, nat_le, length, IfOk};
-ghost use Rattle.s3_versions.specs.Metadata.{metadata, metadata_size};
+ghost use Rattle.s3_versions.specs.Metadata.{AreInOrder, metadata, metadata_size};
 
 use s3_terms::{Code, NoMemory};
 use std::alloc::Global;
@@ -58,8 +58,16 @@ impl MetadataEntry {
     }
 }
 
-/// The user metadata of an object (Amazon S3 User Guide, "Working with object metadata"), in the order in
-/// which replies tell it: 64 entries and 2,048 bytes at most. A contract sees it as the list of its entries.
+/// The user metadata of an object (Amazon S3 User Guide, "Working with object metadata"): 64 entries and 2,048
+/// bytes at most. Their names rise in the order of bytes, and each comes once. Replies tell the entries in this
+/// order. A contract sees the list of the entries.
+///
+/// ```
+/// let mut entries = Vec::new(alloc);
+/// entries.push(MetadataEntry::new(colour, red))?;   // the names are `colour` and `shape`
+/// entries.push(MetadataEntry::new(shape, round))?;
+/// let metadata = Metadata::new(entries)?;
+/// ```
 #[derive(Drop)]
 pub struct Metadata {
     entries: Vec<MetadataEntry>,
@@ -68,7 +76,7 @@ pub struct Metadata {
 impl Model for Metadata {
     ghost use Rattle.std.specs.Prelude.{List, ◌≤◌, length};
     ghost use Rattle.std.specs.Coded.{coded_list};
-    ghost use Rattle.s3_versions.specs.Metadata.{Entry, coded_entry, metadata_size};
+    ghost use Rattle.s3_versions.specs.Metadata.{Entry, coded_entry, AreInOrder, metadata_size};
 
     ghost Value = { List Entry };
 
@@ -77,14 +85,17 @@ impl Model for Metadata {
     ghost view = { λ metadata. metadata.entries.items };
 
     ghost invariant = { λ metadata. (length metadata.entries.items ≤ 64)
-        × (metadata_size metadata.entries.items ≤ 2_048) };
+        × (metadata_size metadata.entries.items ≤ 2_048)
+        × AreInOrder metadata.entries.items };
 }
 
 impl Metadata {
-    /// The metadata of these entries, which are moved and not copied: `MetadataTooLarge` above 2,048 bytes.
+    /// The metadata of these entries, which are moved and not copied: `MetadataTooLarge` above 2,048 bytes. The
+    /// caller sorts their names, and leaves each name once.
     #[tactic(auto, unfolding(crate::specs::Metadata::metadata))]
     pub fn new(entries: Vec<MetadataEntry>) -> Result<Metadata, Code>
-        requires { length entries.items ≤ 64 }
+        requires few { length entries.items ≤ 64 }
+        requires order { AreInOrder entries.items }
         ensures { result ≡ metadata entries.items }
     {
         if !fits(&entries, METADATA_MAX) {
@@ -93,9 +104,10 @@ impl Metadata {
         Ok(Metadata { entries })
     }
 
-    /// The entries.
+    /// The entries, in the order of their names.
     pub fn entries(&self) -> &[MetadataEntry]
         ensures value { result.now ≡ self.now }
+        ensures order { AreInOrder self.now }
         ensures count { length self.now ≤ 64 }
         ensures size { metadata_size self.now ≤ 2_048 }
     {

@@ -1,17 +1,23 @@
 //! The list of a key's versions, as puts and deletes change it.
-ghost use Rattle.std.specs.Prelude.{◌≡◌, ◌<◌, ◌≢◌, ◌↔◌, ◌∷◌, [], Some, None, IfSome, IfNone, IfOk, OnOk, OnErr, IsTrue, find, length, remove, position, slice_get, vec_len, vec_capacity, false};
-ghost use Rattle.s3_versions.specs.Rules.{id_of, is_under, made, after_adding, VersionPut, KeyDeleted, after_change, replaced, without, are_versions, is_new_number};
+ghost use Rattle.std.specs.Prelude.{◌≡◌, ◌<◌, ◌↔◌, ◌∷◌, [], Some, None, IfSome, IfNone, IfOk, OnOk, OnErr, IsTrue, find, length, remove, position, slice_get, vec_len, vec_capacity, false};
+ghost use Rattle.s3_versions.specs.Rules.{id_of, is_under, made, after_adding, replaced, without, are_versions, is_new_number};
 
-use crate::{Content, Data, Version, Versioning};
-use s3_bodies::Body;
+use crate::{Content, Version, Versioning};
 use s3_calendar::Moment;
 use s3_names::VersionId;
 use s3_terms::NoMemory;
 use std::alloc::Global;
 use std::marker::Model;
 
-/// The versions of one key, newest first. A contract sees them as a list. The entries that made them have
-/// falling numbers, and at most one version has the id `null`, so no two have one id.
+/// The versions of one key, newest first. A contract sees them as a list. The numbers of the entries that made them
+/// fall. At most one version has the id `null`, so no two have one id.
+///
+/// ```
+/// let mut versions = Versions::new(alloc);
+/// versions.add(Versioning::Enabled, 7, moment, Content::Stored(data))?;
+/// versions.add(Versioning::Enabled, 9, moment, Content::DeleteMarker)?;   // the marker is current
+/// let marker = versions.delete_version(VersionId::of(9));   // what entry 7 put is current again
+/// ```
 #[derive(Drop)]
 pub struct Versions<B> {
     list: Vec<Version<B>>,
@@ -80,50 +86,6 @@ impl<B: Drop> Versions<B> {
         self.put_first(version_made(versioning, number, moment, content))
     }
 
-    /// Puts `stored`, by the rules of `add`.
-    pub fn put(
-        &mut self,
-        versioning: Versioning,
-        number: u64,
-        moment: Moment,
-        stored: Data<B>,
-    ) -> Result<(), NoMemory>
-        requires { IsTrue (is_new_number number self.old) }
-        ensures ok { OnOk result (self.new ≡ after_change versioning (VersionPut number moment stored) self.old) }
-        ensures err { OnErr result (self.new ≡ self.old) }
-        ensures memory { OnErr result (replaced versioning number self.old ≡ None) }
-    {
-        self.add(versioning, number, moment, Content::Stored(stored))
-    }
-
-    /// Deletes without naming a version: adds a delete marker, by the rules of `add`; where versioning never
-    /// was enabled, drops the version `null` and adds nothing.
-    ///
-    /// `NoMemory` leaves the versions as they were; it comes only where no version goes and a delete marker
-    /// has to be held.
-    pub fn delete(
-        &mut self,
-        versioning: Versioning,
-        number: u64,
-        moment: Moment,
-    ) -> Result<(), NoMemory>
-        requires { IsTrue (is_new_number number self.old) }
-        ensures ok { OnOk result (self.new ≡ after_change versioning (KeyDeleted number moment) self.old) }
-        ensures err { OnErr result (self.new ≡ self.old) }
-        ensures memory { OnErr result (replaced versioning number self.old ≡ None) }
-        ensures held { OnErr result (versioning ≢ Versioning.Unversioned) }
-    {
-        match versioning {
-            Versioning::Unversioned => {
-                let _ = self.delete_version(VersionId::Null);
-                Ok(())
-            }
-            Versioning::Enabled | Versioning::Suspended => {
-                self.add(versioning, number, moment, Content::DeleteMarker)
-            }
-        }
-    }
-
     /// Takes out the version under this id, and answers it. Takes no memory, and costs the list's length.
     pub fn delete_version(&mut self, id: VersionId) -> Option<Version<B>>
         ensures value { self.new ≡ without id self.old }
@@ -163,21 +125,6 @@ impl<B: Drop> Versions<B> {
                 Ok(())
             }
         }
-    }
-}
-
-impl Versions<Body> {
-    /// Copies of the versions, newest first, each at the cost of what it stores. `NoMemory` comes only where
-    /// there is a version.
-    pub fn to_vec(&self, alloc: Global) -> Result<Vec<Version<Body>>, NoMemory>
-        ensures value { IfOk result (λ copies. copies.items ≡ self.now) }
-        ensures memory { OnErr result (self.now ≢ []) }
-    {
-        let mut copies = Vec::new(alloc);
-        for version in &self.list {
-            copies.push(version.copy(alloc)?)?;
-        }
-        Ok(copies)
     }
 }
 
@@ -239,6 +186,7 @@ fn replace_at<B: Drop>(versions: &mut Vec<Version<B>>, place: usize, version: Ve
     let _ = take_at(versions, place);
     match versions.insert(0, version) {
         Ok(()) => {}
+        // The place of the version that went is free, so nothing is allocated.
         Err(_) => unreachable!(),
     }
 }

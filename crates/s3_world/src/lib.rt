@@ -1,7 +1,8 @@
-//! Connections that share one store: their bytes come in pieces, and their commands have their turns, in any order
-//! of events (`World`). What a run of them is stands in `specs/Run.antt`; the laws say what holds of all runs. And one connection
-//! over a store of its own, whose commands have their turns at once (`Replay`, `replay_one`). And events without what is
-//! refused (`trim`), which leave the same entries.
+//! Connections that share one store (`World`). Their bytes come in pieces, and their commands have their turns, in any
+//! order of events. `specs/Run.antt` says what a run of events is, and the laws say what holds of all runs.
+//!
+//! Beside these it has one connection over a store of its own, whose commands have their turns at once (`Replay`,
+//! `replay_one`). And it takes out of events what is refused (`trim`), which leaves the same entries.
 #![tactic(auto)]
 
 mod alike;

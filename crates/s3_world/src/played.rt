@@ -33,6 +33,7 @@ pub(crate) fn next(moments: &[Moment]) -> Moment
         return *moment;
     }
     let Some(none) = Moment::new(0) else {
+        // The moment 0 is one.
         unreachable!()
     };
     none
@@ -164,7 +165,7 @@ impl<'a> Played<'a> {
         true
     }
 
-    // Goes on behind an answer.
+    // Goes on after an answer.
     fn go_on(&mut self, alloc: Global, config: &Config)
         ensures carries { (moments : List ℕ) (input : Input) (entries : List Entry) → Carries self.old config.now moments input entries
             → Carries self.new config.now moments input entries }

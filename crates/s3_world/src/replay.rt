@@ -24,11 +24,12 @@ const PIECE: usize = 65_536;
 // The number that the entries of the only connection have.
 const SEAT: u64 = 0;
 
-/// A connection over a store of its own, which begins with the opening buckets: all its messages have one moment, and
+/// One connection over a store of its own, which begins with the opening buckets. All its messages have one moment, and
 /// each of its commands has its turn at once.
 ///
-/// It takes its bytes in any pieces and keeps of them what the connection keeps. Where no more is read, because a reply closed
-/// the connection, a message was refused or memory ran out, it takes what follows and drops it.
+/// It takes its bytes in pieces of any size (`feed`), and hands out at the end what the connection wrote (`written`).
+/// Of the bytes it keeps what the connection keeps. No more is read after a reply that closes, after a refusal, and
+/// where memory ran out. It takes what follows then, and drops it.
 #[derive(Drop)]
 pub struct Replay<'a> {
     alloc: Global,
@@ -50,7 +51,7 @@ impl<'a> Model for Replay<'a> {
 }
 
 impl<'a> Replay<'a> {
-    /// A connection of which nothing has come, all of whose messages have this moment.
+    /// A connection of which nothing has come. All its messages will have this moment.
     ///
     /// # Errors
     ///
@@ -72,13 +73,14 @@ impl<'a> Replay<'a> {
         })
     }
 
-    /// Takes more of the connection's bytes, and gives the commands in them their turns. The cost is that of
-    /// `Connection::piece` of `s3_connection` and of the commands.
+    /// Takes more of the connection's bytes, and gives the commands in them their turns. It costs what
+    /// `Connection::piece` of `s3_connection` and the commands do.
     ///
     /// # Errors
     ///
-    /// `NoMemory` where there is no memory for bytes that may have to be kept, and where more turns would be needed than
-    /// there are numbers for commands. The replay may only be dropped then: some of the bytes may have been taken.
+    /// `NoMemory` where there is no memory for bytes that may have to be kept. It comes too where more turns would be
+    /// needed than there are numbers for commands. Some of the bytes may have been taken then, and the replay may only
+    /// be dropped.
     pub fn feed(&mut self, bytes: &[u8]) -> Result<(), NoMemory>
         ensures taken { (settings : Settings) (moment : ℕ) (before : List ℕ) → HasTaken self.old settings moment before
             → OnOk result (HasTaken self.new settings moment (before ++ bytes.now)) }
@@ -125,7 +127,7 @@ impl<'a> Replay<'a> {
             .take_turn(self.alloc, self.config, &mut self.book, SEAT)
     }
 
-    /// All that the connection writes, whose bytes end here: from now on it takes none.
+    /// All that the connection writes, whose bytes end here. From now on it takes none.
     ///
     /// # Errors
     ///

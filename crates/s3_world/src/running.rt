@@ -17,12 +17,16 @@ use s3_store::Store;
 use s3_terms::NoMemory;
 use std::alloc::Global;
 
-/// The world after these events, one after another, of connections over a store that holds the opening buckets: its history
-/// and what the connections wrote are a run of the events.
+/// The world after these events, one after another. Its history and what its connections wrote are a run of the events
+/// (`specs/Run.antt`).
+///
+/// There is a connection for each list of moments, as in `World::new`. The store has to hold the opening buckets of the
+/// settings, and nothing else. It costs what `World::step` does for each event.
 ///
 /// # Errors
 ///
-/// `NoMemory` where there is no memory for the connections, or for bytes that come while a command waits.
+/// `NoMemory` where there is no memory for the connections, or for bytes that come while a command waits. The world is
+/// dropped then.
 pub fn run<'a, R: Records + Drop>(
     alloc: Global,
     config: &'a Config,

@@ -28,11 +28,11 @@ use s3_terms::NoMemory;
 use std::alloc::Global;
 use std::marker::Model;
 
-/// Connections that share one store. Their bytes come in pieces and their commands have their turns at the store in any
-/// order of events; no memory holds the events, nor the history of the store.
+/// Connections that share one store. Their bytes come in pieces, and their commands have their turns at the store, in
+/// any order of events. No memory holds the events, nor the history of the store.
 ///
-/// It makes no call of the system: the caller moves the bytes. Contracts see the settings, the connections and the book of
-/// the store; `StandsAfter` says how they stand after some events.
+/// It makes no call of the system: the caller moves the bytes. Contracts see the settings, the connections and the book
+/// of the store. `StandsAfter` says how they stand after some events.
 #[derive(Drop)]
 pub struct World<'a, R: Records + Drop> {
     alloc: Global,
@@ -55,9 +55,11 @@ impl<'a, R: Records + Drop> Model for World<'a, R> {
 }
 
 impl<'a, R: Records + Drop> World<'a, R> {
-    /// Connections of which nothing came, one for each list of moments, over a store that holds the opening buckets. The
-    /// messages of a connection have the moments of its list, in their order, and the last one again where they have run
-    /// out.
+    /// Connections of which nothing came, one for each list of moments. Their numbers are the places of the lists, from
+    /// 0. The store has to hold the opening buckets, and nothing else.
+    ///
+    /// The messages of a connection have the moments of its list, in their order. Where the list has run out, its last
+    /// moment comes again.
     ///
     /// # Errors
     ///
@@ -82,17 +84,30 @@ impl<'a, R: Records + Drop> World<'a, R> {
         })
     }
 
-    /// Does what an event says. A piece is kept while a command of its connection waits, and dropped behind the connection's end; a
-    /// second end does nothing; a turn is given to the command that waits, if one does: it is answered, and what came meanwhile goes
-    /// through the connection. A connection that isn't there has no events.
+    /// Does what an event says to the connection that it names. It does nothing where there is no such connection.
     ///
-    /// A piece costs what `Connection::piece` of `s3_connection` does, an end no memory, and a turn what the command does. Where the
-    /// store finds no memory for a command, the connection says so and ends; that can't be where the rows of the store are in memory
-    /// and the command is refused or takes no room, unless its numbers are used up.
+    /// - `Piece`: more of its bytes come. They are kept while a command waits, and dropped after its end.
+    /// - `End`: no more of its bytes come. A second end does nothing.
+    /// - `Turn`: the store answers the command that waits, if one does. What came meanwhile then goes through the
+    ///   connection.
+    ///
+    /// Where the store finds no memory for a command, the connection says so and ends. If the rows of the store are in
+    /// memory and numbers are left, that is only so for a command that isn't refused and takes room.
+    ///
+    /// A piece costs what `Connection::piece` of `s3_connection` does. An end takes no memory. A turn costs what its
+    /// command does, and what `Connection::go_on` does.
     ///
     /// # Errors
     ///
-    /// `NoMemory` for a piece that isn't empty, where there is no memory for it while a command waits; nothing has changed then.
+    /// `NoMemory` for a piece that isn't empty, where there is no memory for it while a command waits. The world is as
+    /// it was then.
+    ///
+    /// ```text
+    /// let mut world = World::new(alloc, &config, store, &moments)?;
+    /// world.step(&Event::Piece { connection: 0, bytes })?;
+    /// world.step(&Event::Turn { connection: 0 })?;
+    /// let written = world.out(0)?;
+    /// ```
     pub fn step(&mut self, event: &Event) -> Result<(), NoMemory>
         ensures stands { (moments : List (List ℕ)) (happened : List Happening) → StandsAfter self.old moments happened
             → OnOk result (StandsAfter self.new moments (happened ++ event.now ∷ [])) }

@@ -56,11 +56,16 @@ fn exit_code(status: u8) -> ExitCode
 fn main(rt: HostRuntime) -> ExitCode {
     let (alloc, files) = (rt.alloc(), SystemFiles(&rt));
     let words = arguments(&rt).unwrap_or(Vec::new(alloc));
-    let mut errors = rt.stderr();
-    let Some(mut device) = Recorded::new(Streams {
-        input: rt.stdin(),
-        output: rt.stdout(),
-    }) else {
+    let (Some(mut device), Some(mut errors)) = (
+        Recorded::new(Streams {
+            input: rt.stdin(),
+            output: rt.stdout(),
+        }),
+        Recorded::new(Streams {
+            input: io::empty(),
+            output: rt.stderr(),
+        }),
+    ) else {
         return ExitCode::FAILURE;
     };
     let ran = run_words(

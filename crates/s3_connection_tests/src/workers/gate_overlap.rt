@@ -2,12 +2,12 @@
 use crate::workers::served::{HEAD, Sent, outcome_over};
 use crate::workers::stream::{Manner, PLAIN, Stream};
 use s3_config::Config;
-use s3_connections::DeskHandle;
 use s3_devices::{Recorded, WriteParts};
 use s3_history::AsItself;
 use s3_journal::{Desk, Ground};
 use s3_pump::Outcome;
 use s3_records::MapRecords;
+use s3_sockets::DeskHandle;
 use std::alloc::Global;
 use std::io::{Read, Write};
 use std::sync::Wait;

@@ -1,5 +1,5 @@
 //! What a store answers to commands, step by step.
-use crate::checks::{check, check_none};
+use crate::checks::check_none;
 use crate::requests::asked::is_told;
 use crate::requests::commands::{command_of, cut};
 use crate::requests::entries::{
@@ -8,8 +8,8 @@ use crate::requests::entries::{
 use crate::requests::operations::outcome_text;
 use s3_calendar::Moment;
 use s3_machine::Answer;
-use s3_names::{BucketName, Key};
-use s3_records::{Look, MapRecords, Start};
+use s3_names::BucketName;
+use s3_records::MapRecords;
 use s3_store::Store;
 use s3_terms::Code;
 use std::alloc::Global;
@@ -88,54 +88,5 @@ fn entries_are_answered(rt: HostRuntime) {
     ] {
         let other = first_other(rt.alloc(), rows);
         check_none(&rt, other);
-    }
-}
-
-// What a look at so many keys of `pail` behind its first one finds, as long as they begin with the prefix, where four were
-// put and the second one was deleted where versioning is enabled.
-fn looked_at(alloc: Global, prefix: &str, most: usize) -> Result<Look, Code> {
-    let mut store = opened(alloc)?;
-    for asked in [
-        "PUT /pail?versioning<{\"Status\":\"Enabled\"}",
-        "PUT /pail/a<one",
-        "PUT /pail/b<two",
-        "PUT /pail/c<three",
-        "PUT /pail/d<four",
-        "DELETE /pail/b",
-    ] {
-        answer_to(alloc, &mut store, asked, 1)?;
-    }
-    let (pail, first) = (BucketName::read(alloc, b"pail")?, Key::read(alloc, b"a")?);
-    Ok(store.look_from(&pail, prefix.as_bytes(), &Start::Behind(first), most)?)
-}
-
-// Whether a look finds so many objects, of which the largest has so many bytes, and this last key.
-fn finds(alloc: Global, prefix: &str, most: usize, told: usize, largest: u64, last: &str) -> bool {
-    let Ok(look) = looked_at(alloc, prefix, most) else {
-        return false;
-    };
-    let is_last = match &look.last {
-        Some(key) => key.as_bytes() == last.as_bytes(),
-        None => last.is_empty(),
-    };
-    look.told == told && look.largest == largest && is_last
-}
-
-#[test]
-fn keys_are_looked_at(rt: HostRuntime) {
-    for (prefix, most, told, largest, last) in [
-        ("", 0, 0, 0, ""),
-        ("", 1, 0, 0, "b"),
-        ("", 2, 1, 5, "c"),
-        ("", 3, 2, 5, "d"),
-        ("", 9, 2, 5, ""),
-        ("b", 1, 0, 0, "b"),
-        ("c", 9, 0, 0, ""),
-    ] {
-        check(
-            &rt,
-            finds(rt.alloc(), prefix, most, told, largest, last),
-            "a look",
-        );
     }
 }

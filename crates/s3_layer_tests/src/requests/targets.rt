@@ -13,16 +13,15 @@ pub(crate) fn push_line(text: &mut Vec<u8>, name: &[u8], value: &[u8]) -> Result
     Ok(())
 }
 
-// The path, the bucket, the key, and whether there is a query.
+// The path, the bucket and the key.
 fn front_text(alloc: Global, target: &Target) -> Told {
-    let query: &[u8] = if target.has_query() { b"\n?" } else { b"\n" };
     let front = [
         target.path(),
         b"\n",
         target.bucket(),
         b"\n",
         target.key(),
-        query,
+        b"\n",
     ];
     Ok(front.concat(alloc)?)
 }
@@ -62,9 +61,9 @@ const TARGETS: Table = Table {
         /pail/a/../b//?|/pail/a/../b//\npail\na/../b//\n^\
         /pa%2fil/k|/pa/il/k\npa/il\nk\n^\
         /pail%2fk|/pail/k\npail/k\n\n^\
-        /pail/k?&|/pail/k\npail\nk\n?^\
-        /pail?b=%2B+&a=%253d?&&c|/pail\npail\n\n?\nb:++\na:%3d?\nc:^\
-        /?=v&a=1=2&%3d%26=&a|/\n\n\n?\n:v\na:1=2\n=&:\na:",
+        /pail/k?&|/pail/k\npail\nk\n^\
+        /pail?b=%2B+&a=%253d?&&c|/pail\npail\n\n\nb:++\na:%3d?\nc:^\
+        /?=v&a=1=2&%3d%26=&a|/\n\n\n\n:v\na:1=2\n=&:\na:",
     end: " HTTP/1.1\r\n\r\n",
 };
 

@@ -490,7 +490,7 @@ fn is_kept(alloc: Global, verified: &Verified, row: &(usize, usize)) -> Result<b
     let bytes = written(alloc, &data, row.1).ok_or(Code::InternalError)?;
     let body = data_of(alloc, verified, &bytes, row.0)?;
     let first = if body.size() > 0 {
-        body.piece(0).len()
+        body.piece(0).bytes().len()
     } else {
         0
     };

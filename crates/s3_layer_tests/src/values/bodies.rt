@@ -40,13 +40,25 @@ fn counts(body: &Body, from: usize, size: usize) -> bool {
         if at >= body.size() {
             return at == size as u64;
         }
-        let piece = body.piece(at);
+        let piece = body.piece(at).bytes();
         if piece.len() > BLOCK_SIZE || !count_on(piece, from.wrapping_add(at as usize)) {
             return false;
         }
         at += piece.len() as u64;
     }
     false
+}
+
+// How many pieces a body has, up to `PIECES`.
+fn pieces_of(body: &Body) -> u32 {
+    let mut at = 0;
+    for pieces in 0..PIECES {
+        if at >= body.size() {
+            return pieces;
+        }
+        at += body.piece(at).bytes().len() as u64;
+    }
+    PIECES
 }
 
 // A body's size and its pieces' as it came, and a range of it.
@@ -65,13 +77,17 @@ static CASES: [Case; 9] = [
     (200_000, 200_000, 65_537, 131_000),
 ];
 
-// Whether a body of a case has its bytes, whether or not their count was expected, and so has its range, cut out of a copy.
+// Whether a body of a case has its bytes in full blocks, whether or not their count was expected, and its range, cut out of a
+// copy, has its bytes.
 fn is_kept(alloc: Global, case: &Case) -> Result<bool, NoMemory> {
     let (size, piece, from, count) = *case;
     let body = counted(alloc, size, piece, size as u64)?;
     let unexpected = counted(alloc, size, piece, 0)?;
+    let blocks = size.div_ceil(BLOCK_SIZE);
+    let are_full = pieces_of(&body) as usize == blocks && pieces_of(&unexpected) as usize == blocks;
     let range = cut(body.copy()?, from, count);
-    Ok(counts(&body, 0, size) && counts(&unexpected, 0, size) && counts(&range, from, count))
+    let are_kept = counts(&body, 0, size) && counts(&unexpected, 0, size);
+    Ok(are_full && are_kept && counts(&range, from, count))
 }
 
 // A range of a body; the body where it hasn't one.

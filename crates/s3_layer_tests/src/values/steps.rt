@@ -1,11 +1,13 @@
 //! Steps that puts and deletes of one key take, for tests.
-ghost use Rattle.std.specs.Prelude.{◌≡◌};
+ghost use Rattle.std.specs.Prelude.{◌≡◌, IsTrue};
 ghost use Rattle.s3_versions.specs.Rules.{is_new_number};
 
 use s3_calendar::Moment;
 use s3_names::{Tag, VersionId};
 use s3_terms::Code;
-use s3_versions::{ContentType, Data, Metadata, MetadataEntry, Version, Versioning, Versions};
+use s3_versions::{
+    Content, ContentType, Data, Metadata, MetadataEntry, Version, Versioning, Versions,
+};
 use std::alloc::Global;
 use std::mem::drop;
 
@@ -69,6 +71,23 @@ fn number_of(gone: Option<Version<u64>>) -> Option<u64> {
     }
 }
 
+// Deletes without naming a version: the version `null` goes where versioning never was enabled, and elsewhere a delete
+// marker is added. Answers whether that was done.
+fn deletes(versions: &mut Versions<u64>, number: u64, versioning: Versioning) -> bool
+    requires { IsTrue (is_new_number number versions.old) }
+{
+    match versioning {
+        Versioning::Unversioned => {
+            drop(versions.delete_version(VersionId::Null));
+            true
+        }
+        Versioning::Enabled | Versioning::Suspended => {
+            let marker = Content::DeleteMarker;
+            versions.add(versioning, number, moment(), marker).is_ok()
+        }
+    }
+}
+
 /// Takes a step with a new number, and answers whether it was made. What a put stores has the number for its bytes.
 pub(crate) fn takes(alloc: Global, versions: &mut Versions<u64>, entry: &Entry) -> bool {
     let (number, versioning, act) = *entry;
@@ -77,10 +96,13 @@ pub(crate) fn takes(alloc: Global, versions: &mut Versions<u64>, entry: &Entry) 
     }
     match act {
         Act::Put => match stored_with(alloc, number) {
-            Ok(stored) => versions.put(versioning, number, moment(), stored).is_ok(),
+            Ok(stored) => {
+                let content = Content::Stored(stored);
+                versions.add(versioning, number, moment(), content).is_ok()
+            }
             Err(_) => false,
         },
-        Act::Delete => versions.delete(versioning, number, moment()).is_ok(),
+        Act::Delete => deletes(versions, number, versioning),
         Act::DropVersion(id, gone) => number_of(versions.delete_version(id)) == gone,
     }
 }

@@ -110,7 +110,7 @@ impl Write for Stream<'_> {
     }
 }
 
-static FILES: [(&str, &[u8]); 12] = [
+static FILES: [(&str, &[u8]); 13] = [
     ("keys", b"id secret\nother a b \r"),
     ("no-space", b"id secret\nid-secret\n"),
     ("no-id", b"id secret\n secret\n"),
@@ -123,6 +123,7 @@ static FILES: [(&str, &[u8]); 12] = [
     ("two-spaces", b"id secret\nother  secret\nid other"),
     ("empty-line", b"id secret\n\nother secret\n"),
     ("comma", b"id secret\nother secret\ni,d secret\n"),
+    ("control", b"i\x01d secret\n"),
     ("none", b""),
     ("hello", b"hello"),
     (
@@ -150,5 +151,9 @@ pub fn run<'a, R: Wait>(
     errors: &mut Stream,
 ) -> Option<Ran<'a>> {
     let mut device = Recorded::new(Streams { input, output })?;
-    Some(run_words(rt, alloc, words, files, &mut device, errors))
+    let mut errors = Recorded::new(Streams {
+        input: io::empty(),
+        output: errors,
+    })?;
+    Some(run_words(rt, alloc, words, files, &mut device, &mut errors))
 }

@@ -39,7 +39,7 @@ const USAGES: &str = "\
     s3d serve --keys keys|not provided:\n  --listen <ADDR>\n;\
     s3d serve --keys keys --listen localhost:0 --events|error: unexpected argument '--events' found\n;\
     s3d serve --keys keys --listen localhost:0 --log|error: a value is required for '--log <FILE>' but none was supplied\n;\
-    s3d --version|s3d 0.1.0\n;\
+    s3d --version|s3d 0.2.0\n;\
     s3d remove|error: unrecognized subcommand 'remove'\n";
 
 // Where two things are wrong the first in order is told.
@@ -116,6 +116,13 @@ const FAULTS: &str = "\
     s3d sign --keys keys --id id --moment 0 --method GET --target k --host h --presign 60|bad setting;\
     s3d sign --keys keys --id id --moment 0 --method GET --target k --host h --presign 60 --url|bad setting;\
     s3d sign --keys keys --id id --moment 0 --method GET --target / --host h --presign 60 Authorization:a|bad setting;\
+    s3d sign --keys keys --id id --moment 0 --method GET --target / --host h --presign 60 Host:other|bad setting;\
+    s3d sign --keys keys --id id --moment 0 --method GET --target / --host h --presign 60 --url host:h|bad setting;\
+    s3d sign --keys keys --id id --moment 0 --method GET --target / --host h --presign 60 Content-Length:0|bad setting;\
+    s3d sign --keys keys --id id --moment 0 --method PUT --target / --host h --presign 60 --url content-length:5|bad setting;\
+    s3d sign --keys control --id i\x01d --moment 0 --method GET --target / --host h|bad setting;\
+    s3d sign --keys control --id i\x01d --moment 0 --method GET --target / --host h --presign 60|bad setting;\
+    s3d sign --keys control --id i\x01d --moment 0 --method GET --target / --host h --presign 60 --url|bad setting;\
     s3d sign --keys keys --id id --moment 0 --method GET --target /?X-Amz-Expires=60 --host h --presign 60|bad setting;\
     s3d sign --keys keys --id id --moment 0 --method G/T --target / --host h --presign 60 --body body|cannot read body;\
     s3d sign --keys keys --id id --moment 0 --method GET --target / --host h --presign 60 --url --body body|cannot read body;\

@@ -1,6 +1,6 @@
 //! How long a connection may wait for what.
 use crate::checks::check;
-use s3_connections::Awaited;
+use s3_sockets::Awaited;
 use std::test::*;
 use std::time::Duration;
 

@@ -2,9 +2,9 @@
 use crate::checks::check;
 use crate::server::client::is_answered;
 use crate::server::screen::Screen;
-use s3_options::{Options, ServeOptions};
+use s3_devices::{Recorded, Streams};
 use s3_server::serve_words;
-use s3_settings::Files;
+use s3_settings::{Files, Options, ServeOptions};
 use std::alloc::Global;
 use std::net::Net;
 use std::sync::Wait;
@@ -68,12 +68,18 @@ fn server<R: Wait + Threads + Net + Clock + Sync>(
         lines: Vec::new(alloc),
         port,
     };
-    let mut errors = Vec::new(alloc);
+    let Some(mut errors) = Recorded::new(Streams {
+        input: io::empty(),
+        output: Vec::new(alloc),
+    }) else {
+        return (1, false);
+    };
     let files = Keys {
         lines: AtomicU64::new(0),
     };
     let status = serve_words(rt, alloc, &options(), &files, &mut output, &mut errors);
-    let is_told = output.lines.ends_with(b"\nentries 4\n") && errors.is_empty();
+    let is_told = output.lines.ends_with(b"\nentries 4\n")
+        && errors.into_stream().output.is_empty();
     (status, is_told && files.lines.load(Ordering::SeqCst) == 4)
 }
 

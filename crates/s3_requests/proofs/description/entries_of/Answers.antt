@@ -1,14 +1,22 @@
 use Rattle.std.proofs.Common.{map, length, ap, ◌∙◌, arith}
+use Rattle.std.specs.List.{dedup}
+use Rattle.std.specs.Str.{bytes_eq}
 use Rattle.std.proofs.lemmas.List.{length-map}
+use Rattle.s3_text.specs.Order.{byte_order}
+use Rattle.s3_text.specs.Sorting.{sorted_by}
 use Rattle.s3_requests.specs.Description.{entry_of}
 use Rattle.s3_requests.specs.Name.{texts, text_of}
-use Rattle.s3_requests.proofs.DescriptionLemmas.{names_few, names_listed}
+use Rattle.s3_requests.proofs.DescriptionLemmas.{entries_rise, names_few}
 use Rattle.s3_requests.proofs.description.entries_of.Goals as goal
 
 pub returns-clause-value : goal.returns-clause-value
 returns-clause-value c =
-    let listed = names_listed c.in_ok-sort.ensures.permutation c.in_ok-sort.ensures.sorted c.dedup.ensures.filtered c.in_ok-names.ensures in
-    c.in_ok-entries.ensures ∙ ap (map (entry_of c.args.head.now)) (ap texts c.deref.ensures.value ∙ listed)
+    let sent = ap (λ names. dedup bytes_eq (sorted_by byte_order names)) c.in_ok-names.ensures in
+    c.in_ok-entries.ensures ∙ ap (map (entry_of c.args.head.now)) (ap texts c.deref.ensures.value ∙ c.in_ok-put_in_order.ensures.value ∙ sent)
+
+pub returns-clause-order : goal.returns-clause-order
+returns-clause-order c =
+    entries_rise c.args.head.now _ _ (c.in_ok-entries.ensures ∙ ap (map (entry_of c.args.head.now)) (ap texts c.deref.ensures.value)) c.in_ok-put_in_order.ensures.order
 
 pub returns-clause-count : goal.returns-clause-count
 returns-clause-count c =
@@ -18,8 +26,7 @@ returns-clause-count c =
       arith,
       few,
       c.has_few_lines.ensures,
-      c.in_ok-sort.ensures.len,
-      c.dedup.ensures.bound,
+      c.in_ok-put_in_order.ensures.count,
       c.deref.ensures.len,
       entries,
       length-map (texts c.deref.result.now) (entry_of c.args.head.now),

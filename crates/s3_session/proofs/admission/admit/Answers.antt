@@ -17,4 +17,6 @@ returns-in_err-plan-clause-admits c =
     c.in_ok-reader.reader c.in_err-plan.field-0.0 c.in_ok-reader.ensures c.in_err-plan.ensures)
 
 pub returns-clause-verified : goal.returns-clause-verified
-returns-clause-verified c = λ _. inr (given_ok _ c.in_ok-verified.verified c.in_ok-verified.ensures.verdict)
+returns-clause-verified c =
+    let framed = ap (framing_of c.args.head.now) (sym c.body_limit.ensures.value) ∙ sym c.framing.ensures.value ∙ c.in_ok-length.was in
+    λ _. inr (given_ok _ c.in_ok-length.length framed, given_ok _ c.in_ok-verified.verified c.in_ok-verified.ensures.verdict)

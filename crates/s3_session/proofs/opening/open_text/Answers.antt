@@ -1,4 +1,4 @@
-use Rattle.std.proofs.Common.{◌≡◌, ℕ, List, Option, sym, subst}
+use Rattle.std.proofs.Common.{ℕ, List, Option, sym, subst}
 use Rattle.std.specs.Borrow.{Bor}
 use Rattle.std.specs.Option.{option_copied}
 use Rattle.s3_session.specs.Verified.{VerifiesIn}

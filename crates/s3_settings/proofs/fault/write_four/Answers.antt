@@ -1,14 +1,14 @@
 use Rattle.std.proofs.Common.{◌++◌}
-use Rattle.s3_settings.proofs.WriterLemmas.{told_after, part_after, part_of_first}
+use Rattle.s3_settings.proofs.DeviceLemmas.{cut_after, cut_in_first, told_after}
 use Rattle.s3_settings.proofs.fault.write_four.Goals as goal
 
 pub returns-in-Ok-clause-told : goal.returns-in-Ok-clause-told
 returns-in-Ok-clause-told g c =
-    told_after c.write_both-in-Ok.result _ _ _ (c.args.first.now ++ c.args.second.now) (c.args.third.now ++ c.args.fourth.now) c.in-Ok.ensures.told c.write_both-in-Ok.ensures.told
+    told_after c.write_both-in-Ok.result (g.E.Device.traffic c.args.errors.now) (g.E.Device.traffic c.write_both.new.errors) (g.E.Device.traffic c.write_both-in-Ok.new.errors) (c.args.first.now ++ c.args.second.now) (c.args.third.now ++ c.args.fourth.now) c.in-Ok.ensures.told c.write_both-in-Ok.ensures.told
 
-pub returns-in-Ok-clause-part : goal.returns-in-Ok-clause-part
-returns-in-Ok-clause-part g c =
-    part_after c.write_both-in-Ok.result _ _ _ (c.args.first.now ++ c.args.second.now) (c.args.third.now ++ c.args.fourth.now) c.in-Ok.ensures.told c.write_both-in-Ok.ensures.part
+pub returns-in-Ok-clause-refused : goal.returns-in-Ok-clause-refused
+returns-in-Ok-clause-refused g c =
+    cut_after c.write_both-in-Ok.result (g.E.Device.traffic c.args.errors.now) (g.E.Device.traffic c.write_both.new.errors) (g.E.Device.traffic c.write_both-in-Ok.new.errors) (c.args.first.now ++ c.args.second.now) (c.args.third.now ++ c.args.fourth.now) c.in-Ok.ensures.told c.write_both-in-Ok.ensures.refused
 
-pub returns-in-Err-clause-part : goal.returns-in-Err-clause-part
-returns-in-Err-clause-part g c = part_of_first _ _ (c.args.first.now ++ c.args.second.now) (c.args.third.now ++ c.args.fourth.now) c.in-Err.ensures.part
+pub returns-in-Err-clause-refused : goal.returns-in-Err-clause-refused
+returns-in-Err-clause-refused g c = cut_in_first _ (g.E.Device.traffic c.args.errors.now) (g.E.Device.traffic c.write_both.new.errors) (c.args.first.now ++ c.args.second.now) (c.args.third.now ++ c.args.fourth.now) c.in-Err.ensures.refused

@@ -1,4 +1,4 @@
-use Rattle.std.proofs.Common.{ℕ, ◌+◌, ◌<◌, ◌≤◌, List, ap, length, arith}
+use Rattle.std.proofs.Common.{ℕ, List, ap, length, arith}
 use Rattle.std.specs.Borrow.{Bor}
 use Rattle.std.proofs.lemmas.List.Folds.{length-flat_map-take}
 use Rattle.s3_bodies.proofs.PartLemmas.{on_err}

@@ -1,5 +1,4 @@
-use Rattle.std.proofs.Common.{arith}
-use Rattle.s3_bodies.proofs.PartLemmas.{part_of_part, within_part, place_fits}
+use Rattle.s3_bodies.proofs.PartLemmas.{part_of_part}
 use Rattle.s3_bodies.proofs.own.Own.slice.Goals as goal
 
 pub returns : goal.returns

@@ -1,5 +1,5 @@
-use Rattle.std.proofs.Common.{◌≡◌, true, ap, subst, sym}
-use Rattle.s3_session.specs.Output.{is_waiting}
+use Rattle.std.proofs.Common.{◌≡◌, true, false, ap, subst, sym}
+use Rattle.s3_session.specs.Output.{is_dead, is_waiting}
 use Rattle.s3_session.specs.Session.{Connection, standing_of}
 use Rattle.s3_session.specs.Stands.{Stands}
 use Rattle.s3_session.specs.Verified.{HoldsVerified}
@@ -13,6 +13,14 @@ returns-clause-verified c settings input moments entries sent h is =
     let same = ap (λ (k : Connected). k.session) c.self.view_is in
     let stands = subst (λ (s : Connection). Stands s settings past sent) (sym same) h.stands in
     subst (λ (s : Connection). HoldsVerified settings s) same (c.is_verified.ensures.verified settings past sent stands is)
+
+pub returns-clause-told : goal.returns-clause-told
+returns-clause-told c settings input moments entries sent h lives holds =
+    let past = past_of h.taken h.told moments entries h.waiting in
+    let same = ap (λ (k : Connected). k.session) c.self.view_is in
+    let stands = subst (λ (s : Connection). Stands s settings past sent) (sym same) h.stands in
+    c.is_verified.ensures.told settings past sent stands (subst (λ (s : Connection). is_dead (standing_of s) ≡ false) (sym same) lives)
+    (subst (λ (s : Connection). HoldsVerified settings s) (sym same) holds)
 
 pub returns-clause-waits : goal.returns-clause-waits
 returns-clause-waits c settings input moments entries sent h waits =

@@ -3,6 +3,6 @@ use Rattle.s3_listings.specs.Drafts.{drafted}
 use Rattle.s3_listings.proofs.DraftLemmas.{item_taken}
 use Rattle.s3_listings.proofs.draft.Draft.take_prefix.Goals as goal
 
-pub returns-then-takes : goal.returns-then-takes
-returns-then-takes c =
-    item_taken c.push_prefix.result (drafted c.args.self.now) (drafted c.takes.new.self) (drafted c.push_prefix.new.self) (CommonPrefix c.args.prefix.now) c.if-takes.ensures c.push_prefix.ensures
+pub returns-then-make_way : goal.returns-then-make_way
+returns-then-make_way c =
+    item_taken c.push_prefix.result (drafted c.args.self.now) (drafted c.make_way.new.self) (drafted c.push_prefix.new.self) (CommonPrefix c.args.prefix.now) c.if-make_way.ensures c.push_prefix.ensures

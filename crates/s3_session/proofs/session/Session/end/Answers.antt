@@ -1,7 +1,8 @@
 use Rattle.std.proofs.Common.{◌≡◌, ◌∙◌, true, false, ap, refl, subst, sym}
 use Rattle.s3_session.specs.Session.{Connection, IsLonger, unsent_of}
 use Rattle.s3_session.specs.Stands.{is_in_body}
-use Rattle.s3_session.proofs.StandsLemmas.{body_in, cut_from, stands_cut, stands_end}
+use Rattle.s3_session.proofs.ReceivingLemmas.{cut_from}
+use Rattle.s3_session.proofs.StandsLemmas.{body_in, stands_cut, stands_end}
 use Rattle.s3_session.proofs.session.Session.end.Goals as goal
 
 pub returns-then-is_in_body-clause-stands : goal.returns-then-is_in_body-clause-stands

@@ -13,7 +13,7 @@ returns-in-Reading-clause-stands c past sent h =
     subst (λ (ms : List ℕ). Stands f.new.self c.args.config.now (fed past (take f.result.len c.args.piece.now) ms (turns_of f.result.need)) sent)
     (gave_reading c.args.self.now f.new.self f.result.has_moment c.args.now at f.ensures.moment)
     (fed_reading c.verdicts_stay.ensures c.invitations_are_final.ensures.stay c.args.config.now c.args.self.now f.new.self past sent c.args.piece.now f.result.len f.result.need
-    h at c.requires.goes_on f.ensures.longer f.ensures.end f.ensures.count f.ensures.fed f.ensures.noted)
+    h at c.requires.goes_on f.ensures.longer f.ensures.end f.ensures.count f.ensures.fed f.ensures.noted f.ensures.held)
 
 pub returns-in-Body-replace-clause-stands : goal.returns-in-Body-replace-clause-stands
 returns-in-Body-replace-clause-stands c past sent h =

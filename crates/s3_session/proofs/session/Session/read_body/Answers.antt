@@ -1,4 +1,4 @@
-use Rattle.std.proofs.Common.{subst, sym}
+use Rattle.std.proofs.Common.{subst}
 use Rattle.s3_replies.specs.declared.context.Context.{Context}
 use Rattle.s3_session.specs.Stands.{GoesOn}
 use Rattle.s3_session.proofs.ReceivingLemmas.{body_fed, more_taken}

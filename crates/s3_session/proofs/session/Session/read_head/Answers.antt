@@ -1,12 +1,14 @@
 use Rattle.std.proofs.Common.{◌++◌, ◌∙◌, false, ap, refl, subst, sym, take}
-use Rattle.s3_http_heads.specs.Search.{IsSearched, Stands}
+use Rattle.s3_http_heads.specs.Search.{Holds, IsSearched, Stands}
+use Rattle.s3_http_heads.specs.declared.search.HeadSearch.{HeadSearch}
 use Rattle.s3_http_heads.specs.declared.find.Found.{Found}
 use Rattle.s3_replies.specs.Replies.{PrintsRefusal}
 use Rattle.s3_terms.specs.declared.code.Code.TheVariants.{HeadTooLarge}
-use Rattle.s3_session.specs.Session.{Connection, added, unsent_of}
+use Rattle.s3_session.specs.Session.{Connection, added, moment_at, unsent_of}
 use Rattle.s3_session.specs.Verified.{is_admitted}
-use Rattle.s3_session.proofs.NotedLemmas.{none_noted, reads_unnoted}
-use Rattle.s3_session.proofs.ReceivingLemmas.{reads_found, reads_large, reads_none}
+use Rattle.s3_session.proofs.HeldLemmas.{held_large}
+use Rattle.s3_session.proofs.NotedLemmas.{none_noted, reads_unnoted, without_head, without_moment}
+use Rattle.s3_session.proofs.ReceivingLemmas.{held_found, reads_found, reads_large, reads_none}
 use Rattle.s3_session.proofs.session.Session.read_head.Goals as goal
 
 pub returns-in-TooLarge-clause-fed : goal.returns-in-TooLarge-clause-fed
@@ -32,14 +34,36 @@ pub returns-in-NeedMore-clause-noted : goal.returns-in-NeedMore-clause-noted
 returns-in-NeedMore-clause-noted c rest h noted =
     none_noted c.args.config.now _ (ap (λ (s : Connection). s.is_verified) c.self.view_is ∙ reads_unnoted c.args.config.now c.args.self.now c.requires.stage noted)
     (ap (λ (s : Connection). is_admitted s.stage) c.self.view_is ∙ ap is_admitted c.requires.stage)
+    (without_moment c.args.config.now _ (ap (λ (s : Connection). moment_at s.stage) c.self.view_is ∙ ap moment_at c.requires.stage))
 
 pub returns-in-TooLarge-clause-noted : goal.returns-in-TooLarge-clause-noted
 returns-in-TooLarge-clause-noted c rest h noted =
+    let searched = c.feed-len.ensures.fed rest (subst (λ (s : Connection). Stands s.search rest) (sym c.self.view_is) h) in
     none_noted c.args.config.now _
     (c.refuse.ensures.head.1 ∙ ap (λ (s : Connection). s.is_verified) c.self.view_is ∙ reads_unnoted c.args.config.now c.args.self.now c.requires.stage noted)
     (ap is_admitted c.refuse.ensures.stage)
+    (without_head c.args.config.now _ (rest ++ take c.feed-len.result.0 c.args.piece.now)
+    (subst (λ (s : HeadSearch). Holds s (rest ++ take c.feed-len.result.0 c.args.piece.now)) (sym c.refuse.ensures.head.0) searched.held)
+    (sym searched.found ∙ c.in-TooLarge.is))
 
 pub returns-in-Head-clause-noted : goal.returns-in-Head-clause-noted
 returns-in-Head-clause-noted c rest h noted =
     let searched = c.feed-len.ensures.fed rest (subst (λ (s : Connection). Stands s.search rest) (sym c.self.view_is) h) in
     c.begin-behind.ensures.noted (rest ++ take c.feed-len.result.0 c.args.piece.now) searched.held (record { size = c.in-Head.len; found = sym searched.found ∙ c.in-Head.is })
+
+pub returns-in-NeedMore-clause-held : goal.returns-in-NeedMore-clause-held
+returns-in-NeedMore-clause-held c rest h given =
+    absurd (given (ap (λ (s : Connection). moment_at s.stage) c.self.view_is ∙ ap moment_at c.requires.stage))
+
+pub returns-in-TooLarge-clause-held : goal.returns-in-TooLarge-clause-held
+returns-in-TooLarge-clause-held c rest h given =
+    let searched = c.feed-len.ensures.fed rest (subst (λ (s : Connection). Stands s.search rest) (sym c.self.view_is) h) in
+    held_large _ (rest ++ take c.feed-len.result.0 c.args.piece.now)
+    (subst (λ (s : HeadSearch). Holds s (rest ++ take c.feed-len.result.0 c.args.piece.now)) (sym c.refuse.ensures.head.0) searched.held)
+    (sym searched.found ∙ c.in-TooLarge.is)
+
+pub returns-in-Head-clause-held : goal.returns-in-Head-clause-held
+returns-in-Head-clause-held c rest h given =
+    let searched = c.feed-len.ensures.fed rest (subst (λ (s : Connection). Stands s.search rest) (sym c.self.view_is) h) in
+    held_found _ rest c.args.piece.now c.feed-len.result.0 c.begin-behind.result.0
+    (c.begin-behind.ensures.held (rest ++ take c.feed-len.result.0 c.args.piece.now) searched.held (record { size = c.in-Head.len; found = sym searched.found ∙ c.in-Head.is }))

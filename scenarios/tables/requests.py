@@ -1,0 +1,237 @@
+"""What the connection reads of a request, and which it refuses: the tables "Which operation a request asks for",
+"Documents" and "By the connection" of docs/PROTOCOL.md. Requests are signed and whole."""
+
+import base64
+import hashlib
+import json
+import math
+import re
+from urllib.parse import unquote_to_bytes
+
+from .bodies import Body
+
+SUB_RESOURCES = set(
+    b"""accelerate acl analytics attributes cors delete encryption intelligent-tiering inventory legal-hold lifecycle
+    location logging metrics notification object-lock ownershipControls policy policyStatus publicAccessBlock
+    replication requestPayment restore retention select tagging torrent website""".split()
+)
+VERSION_ID, UPLOAD_ID = re.compile(rb"null|v[0-9a-f]{16}"), re.compile(rb"u[0-9a-f]{16}")
+BUCKET_NAME, FOUR_NUMBERS = re.compile(rb"[a-z0-9][a-z0-9.-]{1,61}[a-z0-9]"), re.compile(rb"[0-9]+(\.[0-9]+){3}")
+
+
+class Refused(Exception):
+    """The connection refuses the message, and ends."""
+
+
+def refuse(is_so, code="InvalidArgument"):
+    if is_so:
+        raise Refused(code)
+
+
+def text_of(value, code="InvalidArgument"):
+    """A value as a text."""
+    try:
+        return value.decode()
+    except UnicodeDecodeError:
+        raise Refused(code) from None
+
+
+def token_of(value):
+    """The text behind which a list goes on."""
+    refuse(not re.fullmatch(rb"([0-9a-f]{2})*", value))
+    return text_of(bytes.fromhex(value.decode()))
+
+
+def number_of(digits):
+    """A number of a JSON text without a point: a whole one where it is of 64 bits, and else another."""
+    is_whole = digits != "-0" and -(2**63) <= int(digits) < 2**64
+    return int(digits) if is_whole else finite(digits)
+
+
+def finite(digits):
+    if math.isinf(float(digits)):
+        raise ValueError(digits)
+    return float(digits)
+
+
+def no_number(word):
+    raise ValueError(word)
+
+
+def json_of(body):
+    """What a JSON text says, as `serde_json` reads it."""
+    try:
+        said = json.loads(body.decode(), parse_int=number_of, parse_float=finite, parse_constant=no_number)
+        # Half of a pair of surrogates is no text.
+        json.dumps(said, ensure_ascii=False).encode()
+        return said
+    except ValueError:
+        raise Refused("MalformedBody") from None
+
+
+class Request:
+    """A request: its method, what its target names, the pairs of its query and of these its parameters, its header
+    lines and its body."""
+
+    def __init__(self, method, target, lines=(), body=Body()):
+        self.path, _, query = target.partition("?")
+        self.method, self.target, self.lines, self.body, self.asked = method, target, lines, body, {}
+        pieces = [piece.partition("=") for piece in query.split("&") if piece]
+        self.pairs = [(unquote_to_bytes(name), unquote_to_bytes(value)) for name, _, value in pieces]
+        for name, value in self.pairs:
+            self.asked.setdefault(name, value)
+        bucket, _, key = self.path[1:].partition("/")
+        self.bucket, self.key = unquote_to_bytes(bucket), unquote_to_bytes(key)
+
+    # Header lines.
+
+    def values(self, name):
+        """The values of a header, by their names behind this beginning."""
+        pairs = [line.partition(":") for line in self.lines]
+        pairs = [(key.lower(), value.strip(" \t")) for key, _, value in pairs]
+        return [(key.removeprefix(name), value) for key, value in pairs if key.startswith(name)]
+
+    def line(self, name):
+        """The value of the first header line of a name."""
+        return next((value for behind, value in self.values(name) if behind == ""), None)
+
+    def description(self):
+        """The media type and the metadata of what is made."""
+        content_type, metadata = self.line("content-type"), {}
+        for name, value in self.values("x-amz-meta-"):
+            metadata[name] = f"{metadata[name]},{value}" if name in metadata else value
+        refuse(content_type is not None and len(content_type.encode()) > 255)
+        refuse(sum(len(f"{name}{value}".encode()) for name, value in metadata.items()) > 2048, "MetadataTooLarge")
+        return "binary/octet-stream" if content_type is None else content_type, metadata
+
+    def wants_none(self):
+        """Whether a write is to be refused where its key has an object."""
+        found = self.line("if-none-match")
+        refuse(found not in (None, "*"), "NotImplemented")
+        return found is not None
+
+    def source(self):
+        """The bucket and the key that a copy is of, by their names alone."""
+        bucket, _, key = self.line("x-amz-copy-source").removeprefix("/").partition("/")
+        return unquote_to_bytes(bucket), unquote_to_bytes(key)
+
+    # Parameters.
+
+    def has(self, *names):
+        return any(name.encode() in self.asked for name in names)
+
+    def value(self, name, read=text_of, otherwise=None):
+        """A parameter, or what stands for one that isn't there."""
+        return read(self.asked[name.encode()]) if self.has(name) else otherwise
+
+    def count(self, name):
+        """How many items a page has at most."""
+        return min(self.digits(name, b"1000"), 1000)
+
+    def digits(self, name, otherwise):
+        """A number of 1 to 9 digits."""
+        found = self.value(name, bytes, otherwise)
+        refuse(not re.fullmatch(rb"[0-9]{1,9}", found))
+        return int(found)
+
+    def version_id(self, name="versionId"):
+        found = self.value(name, bytes)
+        refuse(found is not None and not VERSION_ID.fullmatch(found))
+        return found and found.decode()
+
+    def upload_id(self):
+        found = self.value("uploadId", bytes)
+        refuse(not UPLOAD_ID.fullmatch(found), "NoSuchUpload")
+        return found.decode()
+
+    def part_number(self):
+        refuse(not self.has("partNumber") or not self.has("uploadId"))
+        found = self.value("partNumber", bytes)
+        refuse(not re.fullmatch(rb"[0-9]{1,5}", found) or not 1 <= int(found) <= 10_000)
+        return int(found)
+
+    # Bodies.
+
+    def received(self):
+        """The body, which has to be the one that Content-MD5 tells, where that is there."""
+        told = self.line("content-md5")
+        refuse(told is not None and base64.b64decode(told) != hashlib.md5(self.body.bytes()).digest(), "BadDigest")
+        return self.body
+
+    def versioning(self):
+        """The versioning that a bucket gets."""
+        said = json_of(self.received().bytes())
+        refuse(not isinstance(said, dict) or said.get("Status") not in ("Enabled", "Suspended"), "MalformedBody")
+        return said["Status"]
+
+    def listed_parts(self):
+        """The numbers and the tags of the parts that a completion lists."""
+        said = json_of(self.received().bytes())
+        parts = said.get("Parts") if isinstance(said, dict) else None
+        refuse(not isinstance(parts, list) or not 1 <= len(parts) <= 10_000, "MalformedBody")
+        for part in parts:
+            refuse(not isinstance(part, dict), "MalformedBody")
+            refuse(not isinstance(part.get("ETag"), str) or type(part.get("PartNumber")) is not int, "MalformedBody")
+        refuse(not all(1 <= part["PartNumber"] <= 10_000 for part in parts))
+        return [(part["PartNumber"], part["ETag"].strip('"')) for part in parts]
+
+
+def always(_request):
+    return True
+
+
+def has(*names):
+    return lambda request: request.has(*names)
+
+
+def is_copy(request):
+    return request.line("x-amz-copy-source") is not None
+
+
+def is_part(request):
+    return request.has("partNumber", "uploadId")
+
+
+# The method, whether a key is named, where, and the operation, which is none where S3 has one that isn't here.
+OPERATIONS = [
+    ("PUT", False, has("versioning"), "put_bucket_versioning"),
+    ("GET", False, has("versioning"), "get_bucket_versioning"),
+    ("GET", False, has("uploads"), "list_multipart_uploads"),
+    ("GET", False, has("versions"), "list_object_versions"),
+    ("GET", False, lambda request: request.value("list-type", bytes) == b"2", "list_objects_v2"),
+    ("GET", False, always, None),
+    ("POST", False, always, None),
+    ("PUT", False, always, "create_bucket"),
+    ("HEAD", False, always, "head_bucket"),
+    ("DELETE", False, always, "delete_bucket"),
+    ("PUT", True, lambda request: is_part(request) and is_copy(request), None),
+    ("PUT", True, is_part, "upload_part"),
+    ("PUT", True, is_copy, "copy_object"),
+    ("PUT", True, always, "put_object"),
+    ("GET", True, has("uploadId"), "list_parts"),
+    ("GET", True, has("partNumber"), None),
+    ("HEAD", True, has("partNumber"), None),
+    ("GET", True, always, "get_object"),
+    ("HEAD", True, always, "get_object"),
+    ("DELETE", True, has("uploadId"), "abort_multipart_upload"),
+    ("DELETE", True, always, "delete_object"),
+    ("POST", True, has("uploads"), "create_multipart_upload"),
+    ("POST", True, has("uploadId"), "complete_multipart_upload"),
+]
+
+
+def operation(request):
+    """The operation that a request asks for: the first row that applies."""
+    refuse(SUB_RESOURCES & set(request.asked), "NotImplemented")
+    if request.path == "/":
+        refuse(request.method != "GET", "MethodNotAllowed")
+        return "list_buckets"
+    name = request.bucket
+    refuse(not BUCKET_NAME.fullmatch(name) or b".." in name or FOUR_NUMBERS.fullmatch(name), "InvalidBucketName")
+    text_of(request.key, "InvalidURI")
+    refuse(len(request.key) > 1024, "KeyTooLongError")
+    for method, is_key, is_so, found in OPERATIONS:
+        if method == request.method and is_key == (request.key != b"") and is_so(request):
+            refuse(found is None, "NotImplemented")
+            return found
+    raise Refused("MethodNotAllowed")

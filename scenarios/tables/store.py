@@ -1,0 +1,335 @@
+"""What the store does with a command, and how it is answered: the tables "Versions", "Uploads", "Lists", "Replies" and
+"By the store" of docs/PROTOCOL.md."""
+
+import hashlib
+import json
+import re
+import time
+
+from .bodies import Body
+from .requests import Refused, operation
+
+REASONS = {
+    200: "OK",
+    204: "No Content",
+    206: "Partial Content",
+    304: "Not Modified",
+    400: "Bad Request",
+    403: "Forbidden",
+    404: "Not Found",
+    405: "Method Not Allowed",
+    409: "Conflict",
+    412: "Precondition Failed",
+    416: "Range Not Satisfiable",
+    501: "Not Implemented",
+}
+CODES = {
+    "NotImplemented": (501, "This is not implemented."),
+    "AccessDenied": (403, "Access is denied."),
+    "InvalidAccessKeyId": (403, "The access key id is unknown."),
+    "SignatureDoesNotMatch": (403, "The signature does not match."),
+    "InvalidDigest": (400, "The Content-MD5 is not valid."),
+    "BadDigest": (400, "The body MD5 does not match."),
+    "AuthorizationQueryParametersError": (400, "The signing query is malformed."),
+    "InvalidURI": (400, "The target cannot be read."),
+    "InvalidArgument": (400, "An argument is invalid."),
+    "InvalidBucketName": (400, "The bucket name is not valid."),
+    "KeyTooLongError": (400, "The key is too long."),
+    "MethodNotAllowed": (405, "The method is not allowed here."),
+    "MetadataTooLarge": (400, "The metadata is too large."),
+    "NoSuchUpload": (404, "The upload does not exist."),
+    "MalformedBody": (400, "The body is not the expected JSON."),
+    "NoSuchBucket": (404, "The bucket does not exist."),
+    "BucketAlreadyOwnedByYou": (409, "The bucket is already there."),
+    "BucketNotEmpty": (409, "The bucket is not empty."),
+    "NoSuchKey": (404, "The key does not exist."),
+    "NoSuchVersion": (404, "The version does not exist."),
+    "PreconditionFailed": (412, "A precondition failed."),
+    "InvalidRange": (416, "The range is not satisfiable."),
+    "InvalidPartOrder": (400, "The parts are not in order."),
+    "InvalidPart": (400, "A listed part is not there."),
+    "EntityTooSmall": (400, "A part is too small."),
+}
+# The least size of a part, but for the last one, in the servers of scenarios.
+MIN_PART = 5
+
+
+class Denied(Exception):
+    """The store refuses the command."""
+
+    def __init__(self, code, lines=()):
+        super().__init__(code)
+        self.lines = lines
+
+
+def deny(is_so, code, lines=()):
+    if is_so:
+        raise Denied(code, lines)
+
+
+MARKER = ["x-amz-delete-marker: true"]
+
+
+def shown(name):
+    """The line that tells a version's id, where there is one to tell."""
+    return [] if name is None else [f"x-amz-version-id: {name}"]
+
+
+def quoted(tag):
+    return f'"{tag}"'
+
+
+def stamp(moment):
+    """A moment as documents tell it."""
+    return time.strftime("%Y-%m-%dT%H:%M:%S.000Z", time.gmtime(moment))
+
+
+def date(moment):
+    """A moment as header lines tell it."""
+    return time.strftime("%a, %d %b %Y %H:%M:%S GMT", time.gmtime(moment))
+
+
+def page_of(entries, most):
+    """The first so many, and whether the page is truncated."""
+    return entries[:most], len(entries) > most > 0
+
+
+def matches(value, tag):
+    """Whether an item of a condition is this tag."""
+    items = [item.strip(" \t").removeprefix("W/").strip('"') for item in value.split(",")]
+    return "*" in items or tag in items
+
+
+def range_of(value, size):
+    """The first byte and the last one that are asked for, where a range is."""
+    found = re.fullmatch("bytes=(?:([0-9]{1,18})-([0-9]{1,18})?|-([0-9]{1,18}))", value or "")
+    if not found or (found[2] and int(found[1]) > int(found[2])):
+        return None
+    if found[3]:
+        deny(int(found[3]) == 0 or size == 0, "InvalidRange")
+        return max(size - int(found[3]), 0), size - 1
+    deny(int(found[1]) >= size, "InvalidRange")
+    return int(found[1]), min(int(found[2] or size), size - 1)
+
+
+class Data:
+    """What a version stores that is no delete marker."""
+
+    def __init__(self, tag, description, body):
+        self.tag, (self.content_type, self.metadata), self.body = tag, description, body
+
+
+class Version:
+    """An object, or a delete marker, which has no data."""
+
+    def __init__(self, name, moment, data):
+        self.name, self.moment, self.data = name, moment, data
+
+
+class Part:
+    """A part of an upload."""
+
+    def __init__(self, body, moment):
+        self.body, self.moment, self.digest = body, moment, hashlib.md5(body.bytes()).digest()
+
+
+class Upload:
+    """An upload that was begun."""
+
+    def __init__(self, description, moment):
+        self.description, self.moment, self.parts = description, moment, {}
+
+    def joined(self, listed):
+        """What the listed parts make."""
+        numbers = [number for number, _ in listed]
+        deny(any(number >= behind for number, behind in zip(numbers, numbers[1:])), "InvalidPartOrder")
+        for number, tag in listed:
+            deny(number not in self.parts or self.parts[number].digest.hex() != tag, "InvalidPart")
+        parts = [self.parts[number] for number in numbers]
+        deny(any(part.body.size < MIN_PART for part in parts[:-1]), "EntityTooSmall")
+        tag = hashlib.md5(b"".join(part.digest for part in parts)).hexdigest()
+        return Data(f"{tag}-{len(parts)}", self.description, sum((part.body for part in parts), Body()))
+
+
+class Bucket:
+    """A bucket: the versions under its keys, newest first, and its uploads by their keys and ids."""
+
+    def __init__(self, moment=0):
+        self.moment, self.mode, self.keys, self.uploads = moment, None, {}, {}
+
+    def current(self):
+        """The objects that a get without an id finds, by their keys, in the order of bytes."""
+        heads = {key: versions[0] for key, versions in self.keys.items() if versions}
+        return {key: heads[key] for key in sorted(heads) if heads[key].data is not None}
+
+    def put(self, key, number, moment, data):
+        """Puts an object, or a delete marker, in front, and gives the id that is told."""
+        versions = self.keys.setdefault(key, [])
+        if self.mode != "Enabled":
+            versions[:] = [version for version in versions if version.name != "null"]
+        if data is not None or self.mode is not None:
+            versions.insert(0, Version(f"v{number:016x}" if self.mode == "Enabled" else "null", moment, data))
+        return versions[0].name if self.mode is not None else None
+
+    def picked(self, key, name):
+        """The version that a get finds."""
+        versions = self.keys.get(key, [])
+        if name is None:
+            deny(not versions, "NoSuchKey")
+            deny(versions[0].data is None, "NoSuchKey", MARKER)
+            return versions[0]
+        found = [version for version in versions if version.name == name]
+        deny(not found, "NoSuchVersion")
+        deny(found[0].data is None, "MethodNotAllowed", MARKER)
+        return found[0]
+
+
+class Store:
+    """The bucket `pail` and others, and how many commands were answered. Each operation gives the lines of its
+    reply."""
+
+    def __init__(self, moment=1369353600):
+        self.buckets, self.number, self.moment = {b"pail": Bucket()}, 0, moment
+
+    def answer(self, request, judge=lambda: None):
+        """The lines of what a request is answered, and whether the connection ends with it. Its head may be refused
+        before that, by `judge`."""
+        try:
+            judge()
+            lines, is_over = getattr(self, operation(request))(request), False
+        except Refused as refused:
+            lines, is_over = self.refusal(str(refused), ["Connection: close"]), True
+        except Denied as denied:
+            lines, is_over = self.refusal(str(denied), denied.lines), False
+        self.number += 0 if is_over else 1
+        return lines[: lines.index("") + 1] if request.method == "HEAD" else lines, is_over
+
+    # Replies.
+
+    def reply(self, status, lines=(), body=Body()):
+        """The lines of a reply. One that ends the connection is to no command, and has no number."""
+        is_over = "Connection: close" in lines
+        told = [f"HTTP/1.1 {status} {REASONS[status]}", f"Date: {date(self.moment)}", *lines[:is_over]]
+        told += [f"x-amz-request-id: {0 if is_over else self.number:016x}", *lines[is_over:]]
+        told += [] if status in (204, 304) else [f"Content-Length: {body.size}"]
+        return [*told, "", *(f"{line}|" for line in body.lines())]
+
+    def told(self, document, lines=(), status=200):
+        text = json.dumps(document, ensure_ascii=False, sort_keys=True, separators=(",", ":"))
+        return self.reply(status, [*lines, "Content-Type: application/json"], Body.of(text))
+
+    def refusal(self, code, lines):
+        status, message = CODES[code]
+        return self.told({"Code": code, "Message": message}, lines, status)
+
+    # Buckets.
+
+    def list_buckets(self, _request):
+        buckets = sorted(self.buckets.items())
+        rows = [{"CreationDate": stamp(bucket.moment), "Name": name.decode()} for name, bucket in buckets]
+        return self.told({"Buckets": rows})
+
+    def bucket(self, request):
+        deny(request.bucket not in self.buckets, "NoSuchBucket")
+        return self.buckets[request.bucket]
+
+    def create_bucket(self, request):
+        deny(request.bucket in self.buckets, "BucketAlreadyOwnedByYou")
+        self.buckets[request.bucket] = Bucket(self.moment)
+        return self.reply(200, [f"Location: /{request.bucket.decode()}"])
+
+    def head_bucket(self, request):
+        self.bucket(request)
+        return self.reply(200)
+
+    def delete_bucket(self, request):
+        bucket = self.bucket(request)
+        deny(any(bucket.keys.values()) or bucket.uploads, "BucketNotEmpty")
+        del self.buckets[request.bucket]
+        return self.reply(204)
+
+    def put_bucket_versioning(self, request):
+        mode = request.versioning()
+        self.bucket(request).mode = mode
+        return self.reply(200)
+
+    def get_bucket_versioning(self, request):
+        mode = self.bucket(request).mode
+        return self.told({} if mode is None else {"Status": mode})
+
+    # Objects.
+
+    def put_object(self, request):
+        description, wants_none, body = request.description(), request.wants_none(), request.received()
+        data, bucket = Data(hashlib.md5(body.bytes()).hexdigest(), description, body), self.bucket(request)
+        deny(wants_none and request.key in bucket.current(), "PreconditionFailed")
+        name = bucket.put(request.key, self.number, self.moment, data)
+        return self.reply(200, [*shown(name), f"ETag: {quoted(data.tag)}"])
+
+    def copy_object(self, request):
+        (source, key), bucket = request.source(), self.bucket(request)
+        deny(source not in self.buckets, "NoSuchBucket")
+        deny(key not in self.buckets[source].current(), "NoSuchKey")
+        data = self.buckets[source].current()[key].data
+        name = bucket.put(request.key, self.number, self.moment, data)
+        return self.told({"ETag": quoted(data.tag), "LastModified": stamp(self.moment)}, shown(name))
+
+    def get_object(self, request):
+        name = request.version_id()
+        bucket = self.bucket(request)
+        version = bucket.picked(request.key, name)
+        data, told = version.data, shown(bucket.mode and version.name)
+        told += [f"ETag: {quoted(data.tag)}", f"Last-Modified: {date(version.moment)}"]
+        deny(not matches(request.line("if-match") or "*", data.tag), "PreconditionFailed")
+        if matches(request.line("if-none-match") or "", data.tag):
+            return self.reply(304, told)
+        part, told = range_of(request.line("range"), data.body.size), [*told, "Accept-Ranges: bytes"]
+        if part is not None:
+            told.append(f"Content-Range: bytes {part[0]}-{part[1]}/{data.body.size}")
+        told += [f"Content-Type: {data.content_type}"]
+        told += [f"x-amz-meta-{name}: {value}" for name, value in sorted(data.metadata.items())]
+        return self.reply(200, told, data.body) if part is None else self.reply(206, told, data.body.cut(*part))
+
+    def delete_object(self, request):
+        name = request.version_id()
+        bucket = self.bucket(request)
+        if name is None:
+            name = bucket.put(request.key, self.number, self.moment, None)
+            return self.reply(204, [*shown(name), *(MARKER if name else [])])
+        versions = bucket.keys.setdefault(request.key, [])
+        gone = [version for version in versions if version.name == name]
+        versions[:] = [version for version in versions if version.name != name]
+        return self.reply(204, [*shown(bucket.mode and name), *(MARKER if gone and gone[0].data is None else [])])
+
+    # Uploads.
+
+    def upload(self, request, name):
+        deny((request.key, name) not in self.bucket(request).uploads, "NoSuchUpload")
+        return self.buckets[request.bucket].uploads[request.key, name]
+
+    def create_multipart_upload(self, request):
+        upload, name = Upload(request.description(), self.moment), f"u{self.number:016x}"
+        self.bucket(request).uploads[request.key, name] = upload
+        return self.told({"Bucket": request.bucket.decode(), "Key": request.key.decode(), "UploadId": name})
+
+    def upload_part(self, request):
+        number, name = request.part_number(), request.upload_id()
+        part = Part(request.received(), self.moment)
+        self.upload(request, name).parts[number] = part
+        return self.reply(200, [f"ETag: {quoted(part.digest.hex())}"])
+
+    def complete_multipart_upload(self, request):
+        name, wants_none, listed = request.upload_id(), request.wants_none(), request.listed_parts()
+        upload, bucket = self.upload(request, name), self.bucket(request)
+        deny(wants_none and request.key in bucket.current(), "PreconditionFailed")
+        data = upload.joined(listed)
+        del bucket.uploads[request.key, name]
+        version = bucket.put(request.key, self.number, self.moment, data)
+        told = {"Bucket": request.bucket.decode(), "ETag": quoted(data.tag), "Key": request.key.decode()}
+        return self.told(told, shown(version))
+
+    def abort_multipart_upload(self, request):
+        name = request.upload_id()
+        self.upload(request, name)
+        del self.bucket(request).uploads[request.key, name]
+        return self.reply(204)
