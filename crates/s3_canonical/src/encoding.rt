@@ -1,6 +1,7 @@
 //! UriEncode: what a signature keeps of a byte as it is, and what it escapes.
 
-ghost use Rattle.std.specs.Prelude.{◌≡◌, IfOk};
+ghost use Rattle.std.specs.Prelude.{◌≡◌, ◌++◌, IfOk, OnOk};
+ghost use Rattle.std.specs.String.{string_bytes};
 ghost use Rattle.percent_encoding.specs.Percent.{percent_encode};
 ghost use Rattle.s3_canonical.specs.Encoding.{encode_path, encode_query};
 
@@ -33,6 +34,13 @@ pub(crate) fn encode_path(alloc: Global, path: &[u8]) -> Result<Vec<u8>, AllocEr
     ensures { IfOk result (λ text. text.items ≡ encode_path path.now) }
 {
     encode(alloc, path, PATH_ESCAPES)
+}
+
+/// Appends a path, encoded: as `encode_query` does, but with its slashes as they are. Takes time and memory by its length.
+pub fn append_path(text: &mut String, path: &[u8]) -> Result<(), AllocError>
+    ensures { OnOk result (string_bytes text.new ≡ string_bytes text.old ++ encode_path path.now) }
+{
+    percent_encode(path, PATH_ESCAPES).append_to(text)
 }
 
 /// A name or a value of the query, encoded: letters, digits, `-`, `.`, `_` and `~` as they are, and each other byte as `%`

@@ -10,5 +10,5 @@ mod request;
 mod text;
 
 pub use canonical_target::{query, uri};
-pub use encoding::encode_query;
+pub use encoding::{append_path, encode_query};
 pub use request::{headers, request_hash};

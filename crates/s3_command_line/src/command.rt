@@ -18,6 +18,9 @@ pub(crate) const MIN_PART: &str = "5242880";
 /// The greatest size of a body, in bytes, where no option says another: 64 MiB.
 pub(crate) const BODY_LIMIT: &str = "67108864";
 
+/// How documents are spelled where no option says another dialect: as JSON.
+pub(crate) const DIALECT: &str = "json";
+
 /// How many threads serve connections where no option says another number.
 pub(crate) const WORKERS: &str = "8";
 
@@ -86,8 +89,17 @@ static SETTINGS: [Argument; 5] = [
     },
 ];
 
+// The option of what answers requests, and so writes and reads documents.
+const SPELLING: Argument = Argument {
+    name: "dialect",
+    value: "D",
+    help: "How documents are spelled: json, or s3 for XML as S3 has it",
+    kind: Kind::Defaulted(DIALECT),
+};
+
 // The further options of `s3d replay`.
-static REPLAYING: [Argument; 3] = [
+static REPLAYING: [Argument; 4] = [
+    SPELLING,
     Argument {
         name: "moment",
         value: "T",
@@ -173,7 +185,8 @@ static SIGNING: [Argument; 10] = [
 ];
 
 // The further options of `s3d serve`.
-static SERVING: [Argument; 5] = [
+static SERVING: [Argument; 6] = [
+    SPELLING,
     Argument {
         name: "listen",
         value: "ADDR",

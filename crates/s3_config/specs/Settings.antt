@@ -2,6 +2,7 @@
 use Rattle.std.specs.Prelude.{ℕ, Bool, true, not, ◌&&◌, ◌||◌, ◌==◌, nat_le, if◌then◌else◌, List, [], ◌∷◌, map, length, Option, Some, None}
 use Rattle.std.specs.List.{list_all, list_any}
 use Rattle.s3_names.specs.Names.{is_bucket_name}
+use Rattle.s3_terms.specs.declared.dialect.Dialect.{Dialect}
 use Rattle.s3_text.specs.Characters.{space, comma, slash, hyphen, is_letter_or_digit}
 use Rattle.std.specs.Str.{bytes_eq}
 
@@ -17,6 +18,7 @@ pub record Settings : Type 0 where
   pub min_part : ℕ
   pub body_limit : ℕ
   pub buckets : List (List ℕ)
+  pub dialect : Dialect
 
 -- the greatest body that any server takes, in bytes
 abbrev pub greatest_body : ℕ

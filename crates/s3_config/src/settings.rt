@@ -6,6 +6,7 @@ ghost use Rattle.s3_names.specs.Names.{is_bucket_name};
 ghost use Rattle.s3_config.specs.Settings.{is_id_byte, is_access_key_id, is_secret, are_credentials, is_region_byte, is_region, all_different, are_access_keys, are_opening_buckets, are_settings, secret_of};
 
 use s3_names::BucketName;
+use s3_terms::Dialect;
 use s3_text::is_letter_or_digit;
 use std::marker::Model;
 
@@ -78,6 +79,7 @@ pub struct Config {
     min_part: u64,
     body_limit: u64,
     buckets: Vec<BucketName>,
+    dialect: Dialect,
 }
 
 impl Model for Config {
@@ -92,6 +94,7 @@ impl Model for Config {
       min_part = config.min_part;
       body_limit = config.body_limit;
       buckets = config.buckets.items;
+      dialect = config.dialect;
     } };
 
     ghost invariant = { λ config. IsTrue (are_settings (record {
@@ -100,15 +103,16 @@ impl Model for Config {
       min_part = config.min_part;
       body_limit = config.body_limit;
       buckets = config.buckets.items;
+      dialect = config.dialect;
     })) };
 }
 
 impl Config {
     /// The settings of these parts: a region of 1 to 64 of `a-z 0-9 -`; 1 to 64 access keys with
     /// distinct ids; the least size of a part that is not the last, in bytes; the greatest size of a
-    /// body, in bytes, at most 67,108,864; and the buckets that are there from the start, with
-    /// distinct names. `None` where they are out of these limits, and they are dropped. Compares
-    /// each bucket with each other.
+    /// body, in bytes, at most 67,108,864; the buckets that are there from the start, with
+    /// distinct names; and how documents are spelled. `None` where they are out of these limits,
+    /// and they are dropped. Compares each bucket with each other.
     #[tactic(auto, unfolding(crate::specs::Settings::are_settings))]
     pub fn new(
         region: Vec<u8>,
@@ -116,9 +120,10 @@ impl Config {
         min_part: u64,
         body_limit: u64,
         buckets: Vec<BucketName>,
+        dialect: Dialect,
     ) -> Option<Config>
-        ensures value { IfSome result (λ config. config ≡ record { region = region.items; keys = keys.items; min_part = min_part; body_limit = body_limit; buckets = buckets.items }) }
-        ensures variant { is_some result ≡ are_settings (record { region = region.items; keys = keys.items; min_part = min_part; body_limit = body_limit; buckets = buckets.items }) }
+        ensures value { IfSome result (λ config. config ≡ record { region = region.items; keys = keys.items; min_part = min_part; body_limit = body_limit; buckets = buckets.items; dialect = dialect }) }
+        ensures variant { is_some result ≡ are_settings (record { region = region.items; keys = keys.items; min_part = min_part; body_limit = body_limit; buckets = buckets.items; dialect = dialect }) }
     {
         if !is_valid_region(region.as_slice()) || !are_valid_keys(keys.as_slice()) {
             return None;
@@ -132,6 +137,7 @@ impl Config {
             min_part,
             body_limit,
             buckets,
+            dialect,
         })
     }
 
@@ -175,6 +181,14 @@ impl Config {
         ensures valid { IsTrue (are_settings self.now) }
     {
         self.buckets.as_slice()
+    }
+
+    /// How documents are spelled.
+    pub fn dialect(&self) -> Dialect
+        ensures value { result ≡ self.now.dialect }
+        ensures valid { IsTrue (are_settings self.now) }
+    {
+        self.dialect
     }
 }
 

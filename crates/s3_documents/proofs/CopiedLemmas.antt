@@ -1,5 +1,5 @@
 -- The document of a copy, as it is printed.
-use Rattle.std.proofs.Common.{◌≡◌, ap, ◌∙◌, ◌<◌, true, ℕ, zero, suc, List, [], ◌∷◌, ◌++◌, append_assoc, codes, IsAscii, arith, lit<}
+use Rattle.std.proofs.Common.{◌≡◌, ap, ap₂, ◌∙◌, ◌<◌, true, ℕ, zero, suc, List, [], ◌∷◌, ◌++◌, append_assoc, append-nil, codes, IsAscii, arith, lit<}
 use Rattle.std.specs.List.{list_all}
 use Rattle.std.specs.Str.{IsUtf8}
 use Rattle.std.proofs.lemmas.Bool.{and_parts}
@@ -10,7 +10,17 @@ use Rattle.json.specs.Print.{escape, escape_byte}
 use Rattle.s3_names.specs.Tags.{is_tag_character}
 use Rattle.s3_documents.specs.Timestamp.{timestamp}
 use Rattle.s3_documents.specs.Tree.{tree_text}
-use Rattle.s3_documents.specs.Copied.{tag_told, copied_text}
+use Rattle.s3_xml.specs.Events.{begin, end, leaf}
+use Rattle.s3_xml.specs.Printed.{event_text, escaped, markup, declaration, namespace_text, document_text as xml_text}
+use Rattle.s3_documents.specs.Xml.{is_plain}
+use Rattle.s3_documents.specs.declared.copied.TheConstants.{XML_FRONT}
+use Rattle.s3_documents.specs.Xml.{namespace, fields_events}
+use Rattle.s3_documents.specs.Copied.{tag_told, copied_fields}
+use Rattle.s3_documents.proofs.XmlLemmas.{markup_append}
+use Rattle.s3_documents.proofs.XmlPlainLemmas.{tag_is_plain, quoted_escaped, plain_alone}
+use Rattle.s3_documents.specs.Document.{copied}
+use Rattle.s3_documents.specs.Spelling.{document_text}
+use Rattle.s3_terms.specs.declared.dialect.Dialect.TheVariants.{Json, S3}
 use Rattle.s3_documents.proofs.PlainLemmas.{tag_plain}
 
 -- of a tag and the quote behind it the quote alone is escaped
@@ -25,11 +35,49 @@ from_tag : (tag stamp x y : List ℕ) → x ≡ tag ++ 92 ∷ 34 ∷ [] → y �
 from_tag tag stamp x y a b = rw (a, b) (simp append_assoc)
 
 pub copied_spelled : (tag : List ℕ) (made : ℕ) → list_all is_tag_character tag ≡ true → escape (timestamp made) ≡ timestamp made
-    → copied_text tag made ≡ (((([] ++ codes "{\"ETag\":\"\\\"") ++ tag) ++ codes "\\\"\",\"LastModified\":\"") ++ timestamp made) ++ codes "\"}"
+    → document_text Json (copied tag made) ≡ (((([] ++ codes "{\"ETag\":\"\\\"") ++ tag) ++ codes "\\\"\",\"LastModified\":\"") ++ timestamp made) ++ codes "\"}"
 unfolding tree_text escape_byte
 copied_spelled tag made digits plain =
     ap (λ t. codes "{\"ETag\":\"\\\"" ++ t)
     (from_tag tag (timestamp made) (escape (tag ++ 34 ∷ [])) (escape (timestamp made)) (quote_escaped tag (tag_plain tag digits)) plain)
+
+-- ---- the same in XML
+
+-- an element in which a text stands alone
+leaf_text : (name s : List ℕ) → markup (leaf name s) ≡ event_text (begin name) ++ (escaped s ++ event_text (end name))
+unfolding escaped
+leaf_text name [] = ap (λ e. event_text (begin name) ++ e) (append-nil (event_text (end name)))
+leaf_text name (b ∷ bs) = ap (λ e. event_text (begin name) ++ (escaped (b ∷ bs) ++ e)) (append-nil (event_text (end name)))
+
+abbrev within_leaf : (name text : List ℕ) → List ℕ
+within_leaf name text = event_text (begin name) ++ (text ++ event_text (end name))
+
+elements_text : (tag : List ℕ) (made : ℕ) → list_all is_tag_character tag ≡ true → list_all is_plain (timestamp made) ≡ true
+    → markup (fields_events (copied_fields tag made))
+    ≡ within_leaf (codes "ETag") (codes "&quot;" ++ (tag ++ codes "&quot;")) ++ within_leaf (codes "LastModified") (timestamp made)
+elements_text tag made characters plain =
+    markup_append (leaf (codes "ETag") (tag_told tag)) (leaf (codes "LastModified") (timestamp made) ++ [])
+    ∙ ap₂ (λ (a b : List ℕ). a ++ b)
+    (leaf_text (codes "ETag") (tag_told tag) ∙ ap (within_leaf (codes "ETag")) (quoted_escaped tag (tag_is_plain tag characters)))
+    (ap markup (append-nil (leaf (codes "LastModified") (timestamp made)))
+    ∙ leaf_text (codes "LastModified") (timestamp made)
+    ∙ ap (within_leaf (codes "LastModified")) (plain_alone (timestamp made) plain))
+
+regroup_written : (x y : List ℕ)
+    → (((x ++ codes "&quot;") ++ codes "</ETag>") ++ (codes "<LastModified>" ++ (y ++ codes "</LastModified>"))) ++ codes "</CopyObjectResult>"
+    ≡ ((x ++ codes "&quot;</ETag><LastModified>") ++ y) ++ codes "</LastModified></CopyObjectResult>"
+regroup_written x y = simp append_assoc
+
+abbrev framed : List ℕ → List ℕ
+framed inner =
+    declaration ++ codes "<" ++ codes "CopyObjectResult" ++ namespace_text namespace ++ codes ">" ++ inner ++ event_text (end (codes "CopyObjectResult"))
+
+pub copied_written : (tag : List ℕ) (made : ℕ) → list_all is_tag_character tag ≡ true → list_all is_plain (timestamp made) ≡ true
+    → document_text S3 (copied tag made)
+    ≡ (((([] ++ XML_FRONT.now) ++ tag) ++ codes "&quot;</ETag><LastModified>") ++ timestamp made) ++ codes "</LastModified></CopyObjectResult>"
+unfolding xml_text
+copied_written tag made characters plain =
+    ap framed (elements_text tag made characters plain) ∙ ap (λ t. XML_FRONT.now ++ t) (regroup_written tag (timestamp made))
 
 -- ---- a tag is a text
 

@@ -12,3 +12,7 @@ pub mod RoomLemmas
 pub mod RowLemmas
 pub mod TextLemmas
 pub mod TokenLemmas
+pub mod XmlFrameLemmas
+pub mod XmlLemmas
+pub mod XmlPlainLemmas
+pub mod XmlRoomLemmas

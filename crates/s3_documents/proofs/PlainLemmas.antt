@@ -87,13 +87,6 @@ part_all test (suc a) (suc k) (suc n) [] within h = refl
 part_all test (suc a) k (suc n) (b ∷ bs) within h =
     part_all test a k n bs (omega arith) (and_parts (test b) (list_all test (take n bs)) h).1
 
-part_plain : (bs : List ℕ) (n a k : ℕ) → a + k ≤ n → list_all is_ascii_digit (take n bs) ≡ true → escape (take k (drop a bs)) ≡ take k (drop a bs)
-part_plain bs n a k within h = digits_plain (take k (drop a bs)) (part_all is_ascii_digit a k n bs within h)
-
--- a part of the time of day, which begins at the ninth byte
-time_plain : (t : List ℕ) (a k : ℕ) → a + k ≤ 6 → list_all is_ascii_digit (take 6 (drop 9 t)) ≡ true → escape (take k (drop (9 + a) t)) ≡ take k (drop (9 + a) t)
-time_plain t a k within h = subst (λ xs. escape (take k xs) ≡ take k xs) (drop-drop a 9 t) (part_plain (drop 9 t) 6 a k within h)
-
 -- ---- moments
 
 hyphen_plain : escape (codes "-") ≡ codes "-"
@@ -112,17 +105,26 @@ ending_plain : escape (codes ".000Z") ≡ codes ".000Z"
 unfolding escape_byte
 ending_plain = refl
 
-pub spelled_plain : (t : List ℕ) → IsTrue (is_stamp t) → escape (spelled_out t) ≡ spelled_out t
+-- a moment's text has what its digits and its signs have, where texts that are joined have it
+pub spelled_has : (P : List ℕ → Type 0) → ((xs ys : List ℕ) → P xs → P ys → P (xs ++ ys)) → ((bs : List ℕ) → list_all is_ascii_digit bs ≡ true → P bs)
+    → P (codes "-") → P (codes "T") → P (codes ":") → P (codes ".000Z") → (t : List ℕ) → IsTrue (is_stamp t) → P (spelled_out t)
 unfolding is_stamp
-spelled_plain t valid =
+spelled_has P joined digits hyphen letter colon ending t valid =
     let form = (and_parts _ _ (and_parts _ _ valid).0).0 in
     let upto_time = (and_parts _ _ form).0 in
     let time = (and_parts _ _ upto_time).1 in
     let date = (and_parts _ _ (and_parts _ _ (and_parts _ _ upto_time).0).0).1 in
-    let year = part_plain t 8 0 4 (omega arith) date in
-    let to_month = plain_joined _ _ (plain_joined _ _ year hyphen_plain) (part_plain t 8 4 2 (omega arith) date) in
-    let to_day = plain_joined _ _ (plain_joined _ _ to_month hyphen_plain) (part_plain t 8 6 2 (omega arith) date) in
-    let to_hour = plain_joined _ _ (plain_joined _ _ to_day letter_plain) (part_plain (drop 9 t) 6 0 2 (omega arith) time) in
-    let to_minute = plain_joined _ _ (plain_joined _ _ to_hour colon_plain) (time_plain t 2 2 (omega arith) time) in
-    let to_second = plain_joined _ _ (plain_joined _ _ to_minute colon_plain) (time_plain t 4 2 (omega arith) time) in
-    plain_joined _ _ to_second ending_plain
+    let part : (bs : List ℕ) (n a k : ℕ) → a + k ≤ n → list_all is_ascii_digit (take n bs) ≡ true → P (take k (drop a bs)) =
+    λ bs n a k within h. digits (take k (drop a bs)) (part_all is_ascii_digit a k n bs within h) in
+    let of_time : (a k : ℕ) → a + k ≤ 6 → P (take k (drop (9 + a) t)) =
+    λ a k within. subst (λ xs. P (take k xs)) (drop-drop a 9 t) (part (drop 9 t) 6 a k within time) in
+    let to_month = joined _ _ (joined _ _ (part t 8 0 4 (omega arith) date) hyphen) (part t 8 4 2 (omega arith) date) in
+    let to_day = joined _ _ (joined _ _ to_month hyphen) (part t 8 6 2 (omega arith) date) in
+    let to_hour = joined _ _ (joined _ _ to_day letter) (part (drop 9 t) 6 0 2 (omega arith) time) in
+    let to_minute = joined _ _ (joined _ _ to_hour colon) (of_time 2 2 (omega arith)) in
+    let to_second = joined _ _ (joined _ _ to_minute colon) (of_time 4 2 (omega arith)) in
+    joined _ _ to_second ending
+
+pub spelled_plain : (t : List ℕ) → IsTrue (is_stamp t) → escape (spelled_out t) ≡ spelled_out t
+spelled_plain t valid =
+    spelled_has (λ s. escape s ≡ s) plain_joined digits_plain hyphen_plain letter_plain colon_plain ending_plain t valid

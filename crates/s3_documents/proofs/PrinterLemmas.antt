@@ -4,7 +4,7 @@ use Rattle.std.proofs.lemmas.List.Concat.{flat_map-append}
 use Rattle.std.proofs.lemmas.Str.{IsUtf8-from_ascii}
 use Rattle.json.specs.Token.{Token, begin_object, end_object, begin_array, end_array, key}
 use Rattle.s3_documents.specs.Tree.{Fields, Tree, rows, leaves, tree_text}
-use Rattle.s3_documents.specs.Listed.{rows_between}
+use Rattle.s3_documents.specs.Tree.{rows_between}
 use Rattle.s3_documents.specs.Printed.{members_tokens, value_tokens, branch_tokens, fields_tokens, row_tokens, all_tokens, begun}
 
 pub leaves_tokens : (fields : Fields) → members_tokens branch_tokens (leaves fields) ≡ fields_tokens fields

@@ -12,13 +12,15 @@ use Rattle.s3_names.specs.Ids.{numbered_id, upload_id_text, version_id_text}
 use Rattle.s3_names.specs.declared.ids.VersionId.{VersionId}
 use Rattle.s3_names.specs.declared.ids.VersionId.TheVariants.{Null, Numbered}
 use Rattle.s3_versions.specs.declared.picking.Facts.{Facts}
+use Rattle.s3_records.specs.declared.records.ListedBucket.{ListedBucket}
 use Rattle.s3_records.specs.declared.rows.UploadRow.{UploadRow}
 use Rattle.s3_records.specs.declared.rows.VersionRow.{VersionRow}
 use Rattle.s3_uploads.specs.declared.part.PartRow.{PartRow}
 use Rattle.s3_listings.specs.declared.object_page.ListedObject.{ListedObject}
 use Rattle.s3_documents.specs.Tree.{Fields, Tree, rows, leaves}
+use Rattle.s3_documents.specs.Buckets.{bucket_row}
 use Rattle.s3_documents.specs.Copied.{tag_told}
-use Rattle.s3_documents.specs.Listed.{rows_between}
+use Rattle.s3_documents.specs.Tree.{rows_between}
 use Rattle.s3_documents.specs.ObjectList.{object_row, prefix_row, page_tree}
 use Rattle.s3_documents.specs.PartList.{part_fields}
 use Rattle.s3_documents.specs.UploadList.{upload_fields}
@@ -74,6 +76,12 @@ page_room prefixes contents fields =
     let second : Tree = (codes "Contents", rows (map object_row contents)) ∷ [] in
     branches_room first (second ++ leaves fields)
     ∙ ap (λ n. room_of (branches_tokens first) + n) (branches_room second (leaves fields))
+
+-- ---- rows of the list of buckets
+
+pub bucket_row_room : (bucket : ListedBucket) → room_of (row_tokens (bucket_row bucket)) ≤ 6 * length bucket.name + 178
+unfolding escape_byte
+bucket_row_room bucket = omega (arith, row_room (bucket_row bucket), string_room bucket.name, moment_room bucket.made)
 
 -- ---- rows of lists of versions
 

@@ -1,7 +1,7 @@
 -- The list of buckets (Amazon S3 API Reference, ListBuckets, whose document is XML there).
-use Rattle.std.specs.Prelude.{ℕ, List, [], ◌∷◌, map, codes}
+use Rattle.std.specs.Prelude.{List, [], ◌∷◌, map, codes}
 use Rattle.s3_records.specs.declared.records.ListedBucket.{ListedBucket}
-use Rattle.s3_documents.specs.Tree.{text, moment, Fields, rows, Tree, tree_text}
+use Rattle.s3_documents.specs.Tree.{text, moment, Fields, rows, Tree}
 
 -- a bucket's row: when it was made, and its name
 abbrev pub bucket_row : ListedBucket → Fields
@@ -10,7 +10,3 @@ bucket_row bucket = (codes "CreationDate", moment bucket.made) ∷ (codes "Name"
 -- the rows of the buckets, in their order
 abbrev pub buckets_tree : List ListedBucket → Tree
 buckets_tree buckets = (codes "Buckets", rows (map bucket_row buckets)) ∷ []
-
--- the document of these buckets
-abbrev pub buckets_text : List ListedBucket → List ℕ
-buckets_text buckets = tree_text (buckets_tree buckets)

@@ -6,7 +6,7 @@ use Rattle.s3_listings.specs.declared.object_page.ListedObject.{ListedObject}
 use Rattle.s3_listings.specs.Objects.{ObjectsTold}
 use Rattle.s3_documents.specs.Copied.{tag_told}
 use Rattle.s3_documents.specs.Printed.{told}
-use Rattle.s3_documents.specs.Tree.{Value, text, number, truth, moment, Fields, leaves, rows, Tree, tree_text}
+use Rattle.s3_documents.specs.Tree.{Value, text, number, truth, moment, Fields, leaves, rows, Tree}
 
 -- an object's row
 abbrev pub object_row : ListedObject → Fields
@@ -57,6 +57,3 @@ page_tree prefixes contents fields =
 -- the document of a page of the objects of the bucket of this name
 abbrev pub objects_tree : List ℕ → ObjectsAsked → ObjectsTold → Tree
 objects_tree name asked page = page_tree page.prefixes page.contents (objects_fields name asked page)
-
-abbrev pub objects_text : List ℕ → ObjectsAsked → ObjectsTold → List ℕ
-objects_text name asked page = tree_text (objects_tree name asked page)

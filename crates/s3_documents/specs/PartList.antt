@@ -5,9 +5,8 @@ use Rattle.s3_uploads.specs.declared.part.PartRow.{PartRow}
 use Rattle.s3_listings.specs.declared.asked.PartsAsked.{PartsAsked}
 use Rattle.s3_listings.specs.Pages.{Page, next_of}
 use Rattle.s3_documents.specs.Copied.{tag_told}
-use Rattle.s3_documents.specs.Listed.{rows_between}
 use Rattle.s3_documents.specs.Printed.{told}
-use Rattle.s3_documents.specs.Tree.{Value, text, number, truth, moment, Fields, Tree, tree_text}
+use Rattle.s3_documents.specs.Tree.{Value, text, number, truth, moment, Fields, Tree, rows_between}
 
 -- a part's row
 abbrev pub part_fields : PartRow → Fields
@@ -40,6 +39,3 @@ upload_named id = (codes "UploadId", text (upload_id_text id)) ∷ []
 -- the document of a page of the parts of the upload of this id
 abbrev pub parts_tree : (name key : List ℕ) → ℕ → PartsAsked → Page PartRow → Tree
 parts_tree name key id asked page = rows_between (parts_fields name key asked page) (codes "Parts") (map part_fields page.given) (upload_named id)
-
-abbrev pub parts_text : (name key : List ℕ) → ℕ → PartsAsked → Page PartRow → List ℕ
-parts_text name key id asked page = tree_text (parts_tree name key id asked page)

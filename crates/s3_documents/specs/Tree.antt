@@ -1,6 +1,6 @@
 -- What a document tells, as a tree, and the one text of a tree: JSON (RFC 8259) without a space, with the members
 -- of each object in the order in which the tree has them.
-use Rattle.std.specs.Prelude.{⊤, ℕ, Bool, if◌then◌else◌, List, ◌++◌, map, codes, decimal}
+use Rattle.std.specs.Prelude.{⊤, ℕ, Bool, if◌then◌else◌, List, ◌∷◌, ◌++◌, map, codes, decimal}
 use Rattle.std.specs.List.{join_with_byte}
 use Rattle.json.specs.Print.{quoted, escape_byte}
 use Rattle.s3_documents.specs.Timestamp.{timestamp}
@@ -28,6 +28,10 @@ Tree = List (List ℕ × Branch)
 -- fields, each as a branch
 abbrev pub leaves : Fields → Tree
 leaves fields = map (λ f. (f.0, leaf f.1)) fields
+
+-- rows under a name, with fields in front of them and behind them
+abbrev pub rows_between : Fields → List ℕ → List Fields → Fields → Tree
+rows_between before name list behind = leaves before ++ (name, rows list) ∷ leaves behind
 
 -- texts with a comma between each two
 abbrev pub with_commas : List (List ℕ) → List ℕ

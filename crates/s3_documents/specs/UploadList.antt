@@ -5,9 +5,8 @@ use Rattle.s3_names.specs.Ids.{upload_id_text}
 use Rattle.s3_records.specs.declared.rows.UploadRow.{UploadRow}
 use Rattle.s3_listings.specs.declared.asked.UploadsAsked.{UploadsAsked}
 use Rattle.s3_listings.specs.Pages.{Page, next_of}
-use Rattle.s3_documents.specs.Listed.{rows_between}
 use Rattle.s3_documents.specs.Printed.{told}
-use Rattle.s3_documents.specs.Tree.{Value, text, number, truth, moment, Fields, Tree, tree_text}
+use Rattle.s3_documents.specs.Tree.{Value, text, number, truth, moment, Fields, Tree, rows_between}
 
 -- an upload's row
 abbrev pub upload_fields : UploadRow → Fields
@@ -44,6 +43,3 @@ uploads_fields name asked page =
 -- the document of a page of the uploads in the bucket of this name
 abbrev pub uploads_tree : List ℕ → UploadsAsked → Page UploadRow → Tree
 uploads_tree name asked page = rows_between (uploads_fields name asked page) (codes "Uploads") (map upload_fields page.given) []
-
-abbrev pub uploads_text : List ℕ → UploadsAsked → Page UploadRow → List ℕ
-uploads_text name asked page = tree_text (uploads_tree name asked page)

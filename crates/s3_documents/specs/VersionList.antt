@@ -8,9 +8,8 @@ use Rattle.s3_records.specs.declared.rows.VersionRow.{VersionRow}
 use Rattle.s3_listings.specs.declared.asked.VersionsAsked.{VersionsAsked}
 use Rattle.s3_listings.specs.Pages.{Page, next_of}
 use Rattle.s3_documents.specs.Copied.{tag_told}
-use Rattle.s3_documents.specs.Listed.{rows_between}
 use Rattle.s3_documents.specs.Printed.{told}
-use Rattle.s3_documents.specs.Tree.{Value, text, number, truth, moment, Fields, Tree, tree_text}
+use Rattle.s3_documents.specs.Tree.{Value, text, number, truth, moment, Fields, Tree, rows_between}
 
 -- a version's row; a delete marker has neither a tag nor a size
 abbrev pub tag_of_facts : Facts → Value
@@ -57,6 +56,3 @@ versions_fields name asked page =
 -- the document of a page of the versions of the bucket of this name
 abbrev pub versions_tree : List ℕ → VersionsAsked → Page VersionRow → Tree
 versions_tree name asked page = rows_between (versions_fields name asked page) (codes "Versions") (map version_fields page.given) []
-
-abbrev pub versions_text : List ℕ → VersionsAsked → Page VersionRow → List ℕ
-versions_text name asked page = tree_text (versions_tree name asked page)

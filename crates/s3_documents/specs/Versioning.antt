@@ -12,7 +12,7 @@ use Rattle.s3_versions.specs.declared.version.Versioning.{Versioning}
 use Rattle.s3_versions.specs.declared.version.Versioning.TheVariants.{Unversioned, Enabled, Suspended}
 use Rattle.s3_versions.specs.declared.version.VersioningStatus.{VersioningStatus}
 use Rattle.s3_versions.specs.declared.version.VersioningStatus.TheVariants as status
-use Rattle.s3_documents.specs.Tree.{text, leaf, Tree, tree_text}
+use Rattle.s3_documents.specs.Tree.{text, Fields}
 
 -- the JSON that a body is, if it is UTF-8 and JSON
 abbrev pub json_of : List ℕ → Option Data
@@ -36,10 +36,7 @@ versioning_read body = do
   ok_or (status_in value) MalformedBody
 
 -- what the document of a GetBucketVersioning tells: no status where none was ever set
-abbrev pub versioning_tree : Versioning → Tree
-versioning_tree Unversioned = []
-versioning_tree Enabled = (codes "Status", leaf (text (codes "Enabled"))) ∷ []
-versioning_tree Suspended = (codes "Status", leaf (text (codes "Suspended"))) ∷ []
-
-abbrev pub versioning_text : Versioning → List ℕ
-versioning_text versioning = tree_text (versioning_tree versioning)
+abbrev pub versioning_fields : Versioning → Fields
+versioning_fields Unversioned = []
+versioning_fields Enabled = (codes "Status", text (codes "Enabled")) ∷ []
+versioning_fields Suspended = (codes "Status", text (codes "Suspended")) ∷ []

@@ -1,28 +1,48 @@
 //! The list of buckets, as a document.
-ghost use Rattle.std.specs.Prelude.{◌≡◌, IfOk};
-ghost use Rattle.s3_documents.specs.Buckets.{bucket_row, buckets_text};
-ghost use Rattle.s3_documents.specs.Printed.{fields_of};
+ghost use Rattle.std.specs.Prelude.{◌≡◌, ◌+◌, ◌*◌, length};
+ghost use Rattle.s3_documents.specs.Buckets.{bucket_row};
+ghost use Rattle.s3_documents.specs.Document.{buckets};
+ghost use Rattle.s3_documents.specs.Printed.{fields_of, IsRoomFor};
+ghost use Rattle.s3_documents.specs.Xml.{bucket_events};
 
 use crate::printer::{Field, Leaf, Printer, Row};
+use crate::reserved::Told;
+use crate::room::{Bounded, room_of_rows, room_of_text};
 use crate::texts::name_told;
+use crate::xml::{Entry, put_element, put_owner, put_within, room_within};
 use s3_records::ListedBucket;
-use s3_terms::NoMemory;
-use std::alloc::{AllocError, Global};
+use s3_xml::Writer;
+use std::alloc::AllocError;
 
-/// No row is longer, with its comma: a name has at most 63 bytes.
-const ROW_MAX: usize = 128;
+/// No row takes more room, beside that for its name.
+const ROW_MAX: usize = 199;
 
-/// What stands round the rows is no longer.
-const FRAME_MAX: usize = 16;
+/// The document of a ListBuckets, for later: the rows in their order.
+#[derive(Drop)]
+pub(crate) struct BucketsList {
+    pub rows: Vec<ListedBucket>,
+}
 
-/// The document of a ListBuckets, as a text: the rows in their order.
-pub fn buckets_document(alloc: Global, rows: &[ListedBucket]) -> Result<Vec<u8>, NoMemory>
-    ensures { IfOk result (λ text. text.items ≡ buckets_text rows.now) }
-{
-    let room = rows.len().saturating_mul(ROW_MAX).saturating_add(FRAME_MAX);
-    let mut printer = Printer::new(alloc, room)?;
-    printer.rows("Buckets", rows)?;
-    Ok(printer.finish()?)
+impl Told for BucketsList {
+    ghost document = { λ list. buckets list.rows.items };
+
+    fn print(&self, printer: &mut Printer) -> Result<(), AllocError> {
+        printer.rows("Buckets", self.rows.as_slice())
+    }
+
+    fn root(&self) -> &'static str {
+        "ListAllMyBucketsResult"
+    }
+
+    fn write(&self, writer: &mut Writer) -> Result<(), AllocError> {
+        put_within(writer, "Buckets", self.rows.as_slice())?;
+        put_owner(writer)
+    }
+
+    fn room(&self) -> usize {
+        let rows = self.rows.as_slice();
+        room_of_rows("Buckets", rows).max(room_within("Buckets", rows))
+    }
 }
 
 impl Row for ListedBucket {
@@ -32,6 +52,28 @@ impl Row for ListedBucket {
         printer.row(&row_of(self))?;
         Ok(())
     }
+}
+
+impl Entry for ListedBucket {
+    ghost events = { bucket_events };
+
+    fn write(&self, writer: &mut Writer) -> Result<(), AllocError> {
+        put_element(writer, "Bucket", &row_of(self))
+    }
+}
+
+impl Bounded for ListedBucket {
+    #[tactic(auto, using(crate::proofs::RowLemmas::bucket_row_room, crate::proofs::XmlRoomLemmas::bucket_events_room))]
+    fn room(&self) -> usize {
+        room_of_bucket(self.name.as_bytes().len())
+    }
+}
+
+// The room for the row of a bucket with a name of so many bytes.
+fn room_of_bucket(name_len: usize) -> usize
+    ensures { IsRoomFor result (6 * name_len + 203) }
+{
+    room_of_text(name_len).saturating_add(ROW_MAX)
 }
 
 fn row_of(bucket: &ListedBucket) -> [Field<'_>; 2]

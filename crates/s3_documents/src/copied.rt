@@ -1,20 +1,32 @@
 //! What is told of a copy, as a document.
 ghost use Rattle.std.specs.Prelude.{◌≡◌};
-ghost use Rattle.s3_documents.specs.Copied.{copied_text};
+ghost use Rattle.s3_documents.specs.Document.{copied};
+ghost use Rattle.s3_documents.specs.Spelling.{document_text};
+ghost use Rattle.s3_terms.specs.declared.dialect.Dialect.TheVariants.{Json, S3};
 
 use crate::texts::put;
 use crate::timestamp::timestamp;
 use arrayvec::ArrayVec;
 use s3_calendar::Moment;
 use s3_names::Tag;
+use s3_terms::Dialect;
 
 /// No such document is longer: a tag, a moment, and what stands round them.
-const DOCUMENT_MAX: usize = 128;
+const DOCUMENT_MAX: usize = 256;
 
 /// The document of a CopyObject, which made a version with this tag at this moment. It takes no memory: nothing of it
 /// is to be escaped but the double quotes round the tag.
-pub fn copied_document(tag: &Tag, moment: Moment) -> ArrayVec<u8, DOCUMENT_MAX>
-    ensures { result.items ≡ copied_text tag.now moment }
+pub fn copied_document(tag: &Tag, moment: Moment, dialect: Dialect) -> ArrayVec<u8, DOCUMENT_MAX>
+    ensures { result.items ≡ document_text dialect (copied tag.now moment) }
+{
+    match dialect {
+        Dialect::Json => in_json(tag, moment),
+        Dialect::S3 => in_xml(tag, moment),
+    }
+}
+
+fn in_json(tag: &Tag, moment: Moment) -> ArrayVec<u8, DOCUMENT_MAX>
+    ensures { result.items ≡ document_text Json (copied tag.now moment) }
 {
     let mut document = ArrayVec::new();
     put(&mut document, b"{\"ETag\":\"\\\"");
@@ -24,3 +36,19 @@ pub fn copied_document(tag: &Tag, moment: Moment) -> ArrayVec<u8, DOCUMENT_MAX>
     put(&mut document, b"\"}");
     document
 }
+
+fn in_xml(tag: &Tag, moment: Moment) -> ArrayVec<u8, DOCUMENT_MAX>
+    ensures { result.items ≡ document_text S3 (copied tag.now moment) }
+{
+    let mut document = ArrayVec::new();
+    put(&mut document, XML_FRONT);
+    put(&mut document, tag.text().as_bytes());
+    put(&mut document, b"&quot;</ETag><LastModified>");
+    put(&mut document, &timestamp(moment));
+    put(&mut document, b"</LastModified></CopyObjectResult>");
+    document
+}
+
+/// What stands in front of the tag in XML.
+const XML_FRONT: &[u8] = b"<?xml version=\"1.0\" encoding=\"UTF-8\"?>\n\
+    <CopyObjectResult xmlns=\"http://s3.amazonaws.com/doc/2006-03-01/\"><ETag>&quot;";

@@ -22,11 +22,11 @@ mod upload;
 mod upload_list;
 mod version_list;
 mod versioning;
+mod xml;
 
-pub use buckets::buckets_document;
 pub use completion::read_completion;
 pub use copied::copied_document;
 pub use laws::documents_are_one;
 pub use listed::Document;
 pub use printer::{Field, Leaf, Printer, Row, text_of};
-pub use versioning::{read_versioning, versioning_document};
+pub use versioning::read_versioning;

@@ -1,6 +1,6 @@
 //! Lists whose rows stand under one name, with fields in front of them and behind them.
 ghost use Rattle.std.specs.Prelude.{◌≡◌, [], map, OnOk};
-ghost use Rattle.s3_documents.specs.Listed.{rows_between};
+ghost use Rattle.s3_documents.specs.Tree.{rows_between};
 ghost use Rattle.s3_documents.specs.Printed.{branches_tokens, begun, fields_of, room_of, TakesRoom, IsRoomFor};
 
 use crate::printer::{Field, Printer, Row};

@@ -1,16 +1,14 @@
-//! The documents of replies. The text of a list is printed when it is wanted.
+//! The documents of replies. The text of one is printed when it is wanted.
 ghost use Rattle.std.specs.Prelude.{◌≡◌, IfOk};
-ghost use Rattle.s3_documents.specs.Listed.{reserved_text};
-ghost use Rattle.s3_documents.specs.ObjectList.{objects_text};
-ghost use Rattle.s3_documents.specs.PartList.{parts_text};
-ghost use Rattle.s3_documents.specs.Upload.{upload_text, completed_text};
-ghost use Rattle.s3_documents.specs.UploadList.{uploads_text};
-ghost use Rattle.s3_documents.specs.VersionList.{versions_text};
+ghost use Rattle.s3_documents.specs.Document.{buckets, objects, versions, uploads, parts, begun, completed};
+ghost use Rattle.s3_documents.specs.Listed.{reserved_document};
+ghost use Rattle.s3_documents.specs.Spelling.{document_text};
 
+use crate::buckets::BucketsList;
 use crate::object_list::ObjectsList;
 use crate::part_list::PartsList;
 use crate::reserved::Reserved;
-use crate::upload::{completed_document, upload_document};
+use crate::upload::{UploadBegun, UploadCompleted};
 use crate::upload_list::UploadsList;
 use crate::version_list::VersionsList;
 use s3_bodies::Body;
@@ -19,49 +17,46 @@ use s3_listings::{
 };
 use s3_names::{BucketName, Key, Tag, UploadId};
 use s3_prefixes::ObjectsAsked;
-use s3_terms::NoMemory;
+use s3_records::ListedBucket;
+use s3_terms::{Dialect, NoMemory};
 use std::alloc::Global;
 use std::marker::Model;
 
-/// A document, which contracts see as its text. The text of a list is printed when it is asked for, into room that was
-/// taken when the document was made.
+/// A document, which contracts see as what it tells. Its text is printed when it is asked for, into room that was taken
+/// when the document was made.
 #[derive(Drop)]
 pub struct Document {
-    content: Content,
-}
-
-#[derive(Drop)]
-enum Content {
-    Printed(Body),
-    Pending(Box<Reservation>),
+    reservation: Box<Reservation>,
 }
 
 // What is printed later, with the room for it.
 #[derive(Drop)]
 enum Reservation {
+    Buckets(Reserved<BucketsList>),
     Objects(Reserved<ObjectsList>),
     Versions(Reserved<VersionsList>),
     Uploads(Reserved<UploadsList>),
     Parts(Reserved<PartsList>),
+    Begun(Reserved<UploadBegun>),
+    Completed(Reserved<UploadCompleted>),
 }
 
 impl Model for Document {
-    ghost use Rattle.std.specs.Prelude.{ℕ, List};
-    ghost use Rattle.s3_documents.specs.Listed.{content_text};
+    ghost use Rattle.s3_documents.specs.Document.{Document};
+    ghost use Rattle.s3_documents.specs.Listed.{reserved_document};
 
-    ghost Value = { List ℕ };
+    ghost Value = { Document };
 
-    ghost view = { λ document. content_text document.content };
+    ghost view = { λ document. reserved_document document.reservation.value };
 }
 
 impl Document {
-    /// The document of this text.
-    pub fn of(text: Body) -> Document
-        ensures { result ≡ text }
+    /// The document of a ListBuckets: the rows in their order.
+    pub fn of_buckets(alloc: Global, rows: Vec<ListedBucket>) -> Result<Document, NoMemory>
+        ensures { IfOk result (λ document. document ≡ buckets rows.items) }
     {
-        Document {
-            content: Content::Printed(text),
-        }
+        let reserved = Reserved::of(alloc, BucketsList { rows })?;
+        pending(alloc, Reservation::Buckets(reserved))
     }
 
     /// The document of a ListObjectsV2: what was asked, and the page that is told, of the bucket of this name.
@@ -71,7 +66,7 @@ impl Document {
         asked: ObjectsAsked,
         page: ObjectPage,
     ) -> Result<Document, NoMemory>
-        ensures { IfOk result (λ document. document ≡ objects_text name asked page) }
+        ensures { IfOk result (λ document. document ≡ objects name asked page) }
     {
         let list = ObjectsList::of(alloc, name, asked, page)?;
         let reserved = Reserved::of(alloc, list)?;
@@ -85,36 +80,37 @@ impl Document {
         asked: VersionsAsked,
         page: VersionPage,
     ) -> Result<Document, NoMemory>
-        ensures { IfOk result (λ document. document ≡ versions_text name asked page) }
+        ensures { IfOk result (λ document. document ≡ versions name asked page) }
     {
         let reserved = Reserved::of(alloc, VersionsList { name, asked, page })?;
         pending(alloc, Reservation::Versions(reserved))
     }
 
     /// The document of a CreateMultipartUpload, which began the upload of this id.
-    pub fn of_upload(
+    pub fn of_begun(
         alloc: Global,
-        bucket: &BucketName,
-        key: &Key,
+        bucket: BucketName,
+        key: Key,
         id: UploadId,
     ) -> Result<Document, NoMemory>
-        ensures { IfOk result (λ document. document ≡ upload_text bucket.now key.now id) }
+        ensures { IfOk result (λ document. document ≡ begun bucket key id) }
     {
-        let text = upload_document(alloc, bucket, key, id)?;
-        Ok(Document::of(Body::alone(text)))
+        let reserved = Reserved::of(alloc, UploadBegun { bucket, key, id })?;
+        pending(alloc, Reservation::Begun(reserved))
     }
 
     /// The document of a CompleteMultipartUpload, which made a version with this tag.
     pub fn of_completed(
         alloc: Global,
-        bucket: &BucketName,
-        key: &Key,
-        tag: &Tag,
+        bucket: BucketName,
+        key: Key,
+        tag: Tag,
     ) -> Result<Document, NoMemory>
-        ensures { IfOk result (λ document. document ≡ completed_text bucket.now key.now tag.now) }
+        ensures { IfOk result (λ document. document ≡ completed bucket key tag) }
     {
-        let text = completed_document(alloc, bucket, key, tag)?;
-        Ok(Document::of(Body::alone(text)))
+        let told = UploadCompleted::of(alloc, bucket, key, tag)?;
+        let reserved = Reserved::of(alloc, told)?;
+        pending(alloc, Reservation::Completed(reserved))
     }
 
     /// The document of a ListMultipartUploads.
@@ -124,7 +120,7 @@ impl Document {
         asked: UploadsAsked,
         page: UploadPage,
     ) -> Result<Document, NoMemory>
-        ensures { IfOk result (λ document. document ≡ uploads_text name asked page) }
+        ensures { IfOk result (λ document. document ≡ uploads name asked page) }
     {
         let reserved = Reserved::of(alloc, UploadsList { name, asked, page })?;
         pending(alloc, Reservation::Uploads(reserved))
@@ -139,7 +135,7 @@ impl Document {
         asked: PartsAsked,
         page: PartPage,
     ) -> Result<Document, NoMemory>
-        ensures { IfOk result (λ document. document ≡ parts_text name key id asked page) }
+        ensures { IfOk result (λ document. document ≡ parts name key id asked page) }
     {
         let list = PartsList {
             name,
@@ -152,35 +148,32 @@ impl Document {
         pending(alloc, Reservation::Parts(reserved))
     }
 
-    /// The text, as a body. It takes no memory.
-    pub fn into_body(self) -> Body
-        ensures { result ≡ self }
+    /// The text, as a body, so spelled. It takes no memory.
+    pub fn into_body(self, dialect: Dialect) -> Body
+        ensures { result ≡ document_text dialect self }
     {
-        match self.content {
-            Content::Printed(body) => body,
-            Content::Pending(reservation) => printed(Box::into_inner(reservation)),
-        }
+        Body::alone(printed(Box::into_inner(self.reservation), dialect))
     }
 }
 
 // The document that is printed later.
 fn pending(alloc: Global, reservation: Reservation) -> Result<Document, NoMemory>
-    ensures { IfOk result (λ document. document ≡ reserved_text reservation) }
+    ensures { IfOk result (λ document. document ≡ reserved_document reservation) }
 {
     let reservation = Box::new(alloc, reservation)?;
-    Ok(Document {
-        content: Content::Pending(reservation),
-    })
+    Ok(Document { reservation })
 }
 
-fn printed(reservation: Reservation) -> Body
-    ensures { result ≡ reserved_text reservation }
+fn printed(reservation: Reservation, dialect: Dialect) -> Vec<u8>
+    ensures { result.items ≡ document_text dialect (reserved_document reservation) }
 {
-    let text = match reservation {
-        Reservation::Objects(reserved) => reserved.text(),
-        Reservation::Versions(reserved) => reserved.text(),
-        Reservation::Uploads(reserved) => reserved.text(),
-        Reservation::Parts(reserved) => reserved.text(),
-    };
-    Body::alone(text)
+    match reservation {
+        Reservation::Buckets(reserved) => reserved.text(dialect),
+        Reservation::Objects(reserved) => reserved.text(dialect),
+        Reservation::Versions(reserved) => reserved.text(dialect),
+        Reservation::Uploads(reserved) => reserved.text(dialect),
+        Reservation::Parts(reserved) => reserved.text(dialect),
+        Reservation::Begun(reserved) => reserved.text(dialect),
+        Reservation::Completed(reserved) => reserved.text(dialect),
+    }
 }

@@ -1,8 +1,10 @@
 //! The list of a bucket's objects, as a document.
-ghost use Rattle.std.specs.Prelude.{◌≡◌, ◌+◌, ◌*◌, [], IfOk, OnOk, option_map};
+ghost use Rattle.std.specs.Prelude.{◌≡◌, ◌+◌, ◌*◌, [], length, IfOk, OnOk, option_map};
 ghost use Rattle.std.specs.Option.{option_copied};
 ghost use Rattle.s3_documents.specs.Copied.{tag_told};
-ghost use Rattle.s3_documents.specs.ObjectList.{object_row, prefix_row, key_count, token_told, delimiter_told, objects_fields, page_tree, objects_tree};
+ghost use Rattle.s3_documents.specs.ObjectList.{object_row, prefix_row, key_count, token_told, delimiter_told, objects_fields, page_tree};
+ghost use Rattle.s3_documents.specs.Xml.{object_events, object_fields, prefix_events, objects_before, objects_between, objects_behind};
+ghost use Rattle.s3_documents.specs.Document.{objects};
 ghost use Rattle.s3_documents.specs.Printed.{branches_tokens, begun, fields_of, text_kept, value_of, room_of, TakesRoom, IsRoomFor};
 ghost use Rattle.s3_documents.specs.Tree.{text as text_value};
 
@@ -10,17 +12,19 @@ use crate::printer::{Field, Leaf, Printer, Row, text_of};
 use crate::reserved::Told;
 use crate::room::{Bounded, known_of, room_of_fields, room_of_rows, room_of_text};
 use crate::texts::{key_told, name_told, quoted, text_told};
+use crate::xml::{Entry, put_element, put_lists, room_of_lists};
 use s3_listings::{ListedObject, ObjectPage};
 use s3_names::BucketName;
 use s3_prefixes::{ObjectsAsked, Text};
 use s3_terms::NoMemory;
+use s3_xml::Writer;
 use std::alloc::{AllocError, Global};
 
 /// No row of an object takes more room, beside that for its key.
-const ROW_MAX: usize = 255;
+const ROW_MAX: usize = 664;
 
 /// Nor does one of a common prefix, beside that.
-const PREFIX_ROW_MAX: usize = 13;
+const PREFIX_ROW_MAX: usize = 46;
 
 /// The document of a ListObjectsV2, for later: what was asked, and the page that is told, of the bucket of this name. A
 /// token stands in it in hexadecimal digits.
@@ -43,7 +47,7 @@ impl ObjectsList {
         asked: ObjectsAsked,
         page: ObjectPage,
     ) -> Result<ObjectsList, NoMemory>
-        ensures { IfOk result (λ list. objects_tree list.name list.asked list.page ≡ objects_tree name asked page) }
+        ensures { IfOk result (λ list. objects list.name list.asked list.page ≡ objects name asked page) }
     {
         let (token, next) = digits_of(alloc, &asked, &page)?;
         Ok(ObjectsList {
@@ -57,16 +61,33 @@ impl ObjectsList {
 }
 
 impl Told for ObjectsList {
-    ghost tree = { λ list. objects_tree list.name list.asked list.page };
+    ghost document = { λ list. objects list.name list.asked list.page };
 
     fn print(&self, printer: &mut Printer) -> Result<(), AllocError> {
         let fields = fields_told(&self.name, &self.asked, &self.page, &self.token, &self.next);
         printed(printer, self.page.prefixes(), self.page.contents(), &fields)
     }
 
+    fn root(&self) -> &'static str {
+        "ListBucketResult"
+    }
+
+    fn write(&self, writer: &mut Writer) -> Result<(), AllocError> {
+        let before = before(&self.page);
+        let between = between(&self.name, &self.asked);
+        let behind = behind(&self.asked, &self.page, &self.token, &self.next);
+        let (contents, prefixes) = (self.page.contents(), self.page.prefixes());
+        put_lists(writer, &before, contents, &between, prefixes, &behind)
+    }
+
     fn room(&self) -> usize {
         let fields = fields_told(&self.name, &self.asked, &self.page, &self.token, &self.next);
-        room_for(self.page.prefixes(), self.page.contents(), &fields)
+        let json = room_for(self.page.prefixes(), self.page.contents(), &fields);
+        let before = before(&self.page);
+        let between = between(&self.name, &self.asked);
+        let behind = behind(&self.asked, &self.page, &self.token, &self.next);
+        let (contents, prefixes) = (self.page.contents(), self.page.prefixes());
+        json.max(room_of_lists(&before, contents, &between, prefixes, &behind))
     }
 }
 
@@ -152,6 +173,71 @@ fn fields_told<'a>(
     ]
 }
 
+// What stands in front of the objects in XML.
+fn before(page: &ObjectPage) -> [Field<'_>; 1]
+    ensures { fields_of result ≡ objects_before page.now }
+{
+    [Field {
+        name: "IsTruncated",
+        value: Leaf::Truth(page.next().is_some()),
+    }]
+}
+
+// What stands between them and the common prefixes.
+fn between<'a>(name: &'a BucketName, asked: &'a ObjectsAsked) -> [Field<'a>; 4]
+    ensures { fields_of result ≡ objects_between name.now asked.now }
+{
+    [
+        Field {
+            name: "Name",
+            value: Leaf::Text(name_told(name)),
+        },
+        Field {
+            name: "Prefix",
+            value: Leaf::Text(text_told(&asked.prefix)),
+        },
+        Field {
+            name: "Delimiter",
+            value: delimiter_leaf(&asked.delimiter),
+        },
+        Field {
+            name: "MaxKeys",
+            value: Leaf::Number(asked.max_keys as u64),
+        },
+    ]
+}
+
+// What stands behind these.
+fn behind<'a>(
+    asked: &'a ObjectsAsked,
+    page: &'a ObjectPage,
+    token: &'a Option<String>,
+    next: &'a Option<String>,
+) -> [Field<'a>; 4]
+    requires token { option_map text_kept token.now ≡ option_map token_told asked.now.token }
+    requires next { option_map text_kept next.now ≡ option_map token_told page.now.next }
+    ensures { fields_of result ≡ objects_behind asked.now page.now }
+{
+    [
+        Field {
+            name: "KeyCount",
+            value: Leaf::Number(count_of(page)),
+        },
+        Field {
+            name: "ContinuationToken",
+            value: digits_told(token),
+        },
+        Field {
+            name: "NextContinuationToken",
+            value: digits_told(next),
+        },
+        Field {
+            name: "StartAfter",
+            value: start_leaf(&asked.start_after),
+        },
+    ]
+}
+
 impl Row for ListedObject {
     ghost told = { object_row };
 
@@ -162,8 +248,21 @@ impl Row for ListedObject {
     }
 }
 
+impl Entry for ListedObject {
+    ghost events = { object_events };
+
+    fn write(&self, writer: &mut Writer) -> Result<(), AllocError> {
+        let tag = quoted(&self.facts.tag);
+        put_element(
+            writer,
+            "Contents",
+            &object_elements(self, text_of(tag.as_slice())),
+        )
+    }
+}
+
 impl Bounded for ListedObject {
-    #[tactic(auto, using(crate::proofs::RowLemmas::object_row_room))]
+    #[tactic(auto, using(crate::proofs::RowLemmas::object_row_room, crate::proofs::XmlRoomLemmas::object_events_room))]
     fn room(&self) -> usize {
         known_of(&self.facts.tag, self.facts.size);
         room_of_object(self.key.as_bytes().len())
@@ -179,8 +278,16 @@ impl Row for Text {
     }
 }
 
+impl Entry for Text {
+    ghost events = { prefix_events };
+
+    fn write(&self, writer: &mut Writer) -> Result<(), AllocError> {
+        put_element(writer, "CommonPrefixes", &prefix_fields(self))
+    }
+}
+
 impl Bounded for Text {
-    #[tactic(auto, using(crate::proofs::RowLemmas::prefix_row_room))]
+    #[tactic(auto, using(crate::proofs::RowLemmas::prefix_row_room, crate::proofs::XmlRoomLemmas::prefix_events_room))]
     fn room(&self) -> usize {
         room_of_prefix(self.as_bytes().len())
     }
@@ -188,14 +295,14 @@ impl Bounded for Text {
 
 // The room for the row of an object with a key of so many bytes.
 fn room_of_object(key_len: usize) -> usize
-    ensures { IsRoomFor result (6 * key_len + 259) }
+    ensures { IsRoomFor result (6 * key_len + 668) }
 {
     room_of_text(key_len).saturating_add(ROW_MAX)
 }
 
 // The same of a common prefix.
 fn room_of_prefix(len: usize) -> usize
-    ensures { IsRoomFor result (6 * len + 17) }
+    ensures { IsRoomFor result (6 * len + 50) }
 {
     room_of_text(len).saturating_add(PREFIX_ROW_MAX)
 }
@@ -220,6 +327,34 @@ fn object_fields<'a>(object: &'a ListedObject, tag: &'a str) -> [Field<'a>; 4]
         Field {
             name: "Size",
             value: Leaf::Number(object.facts.size),
+        },
+    ]
+}
+
+fn object_elements<'a>(object: &'a ListedObject, tag: &'a str) -> [Field<'a>; 5]
+    requires { tag.now ≡ tag_told object.now.facts.tag }
+    ensures { fields_of result ≡ object_fields object.now }
+{
+    [
+        Field {
+            name: "ETag",
+            value: Leaf::Text(tag),
+        },
+        Field {
+            name: "Key",
+            value: Leaf::Text(key_told(&object.key)),
+        },
+        Field {
+            name: "LastModified",
+            value: Leaf::Moment(object.facts.moment),
+        },
+        Field {
+            name: "Size",
+            value: Leaf::Number(object.facts.size),
+        },
+        Field {
+            name: "StorageClass",
+            value: Leaf::Text("STANDARD"),
         },
     ]
 }

@@ -1,11 +1,14 @@
-//! How much room a print takes at most, found without a look at the bytes.
+//! How much room a print takes at most, as JSON and in XML, found without a look at the bytes.
 ghost use Rattle.std.specs.Prelude.{◌≡◌, ◌<◌, ◌≤◌, ◌+◌, ◌*◌, ◌^◌, true, [], ◌∷◌, map, length};
-ghost use Rattle.std.specs.List.{list_all};
+ghost use Rattle.std.specs.List.{flat_map, list_all};
 ghost use Rattle.s3_names.specs.Tags.{is_tag_character};
 ghost use Rattle.s3_documents.specs.Printed.{fields_tokens, row_tokens, all_tokens, branches_tokens, field_of, fields_of, room_of, IsRoomFor};
 ghost use Rattle.s3_documents.specs.Tree.{rows as rows_under};
+ghost use Rattle.s3_documents.specs.Xml.{fields_events};
+ghost use Rattle.s3_xml.specs.Printed.{markup};
 
 use crate::printer::{Field, Leaf, Row};
+use crate::xml::Entry;
 use s3_names::Tag;
 
 /// A byte of a text is escaped by at most six.
@@ -14,26 +17,27 @@ const ESCAPED_MAX: usize = 6;
 /// Two quotes, a colon and a comma stand round a text.
 const QUOTES: usize = 4;
 
-/// No number has more digits, with its comma.
-const NUMBER_MAX: usize = 21;
+/// No number takes more, with what stands round it, if each digit of it were escaped.
+const NUMBER_MAX: usize = 121;
 
-/// Neither truth is longer, with its comma.
-const TRUTH_MAX: usize = 6;
+/// Neither truth takes more, in the same way.
+const TRUTH_MAX: usize = 31;
 
 /// No moment is longer, with its quotes and its comma, if each byte of it were escaped.
 const MOMENT_MAX: usize = 147;
 
 /// Two brackets or two braces, with their commas.
-pub(crate) const BRACKETS: usize = 4;
+const BRACKETS: usize = 4;
 
 /// A row of which is known how much room it takes.
-pub(crate) trait Bounded: Row {
+pub(crate) trait Bounded: Row + Entry {
     /// No less than the row takes.
     fn room(&self) -> usize
-        ensures { IsRoomFor result (room_of (row_tokens (Self.told self.now))) };
+        ensures json { IsRoomFor result (room_of (row_tokens (Self.told self.now))) }
+        ensures xml { IsRoomFor result (length (markup (Self.events self.now))) };
 }
 
-/// The room for rows under a name.
+/// The room for rows under a name, as JSON.
 #[tactic(auto, using(crate::proofs::RoomLemmas::rows_room, crate::proofs::RoomLemmas::key_room))]
 pub(crate) fn room_of_rows<R: Bounded>(name: &str, list: &[R]) -> usize
     ensures { IsRoomFor result (room_of (branches_tokens ((name.now, rows_under (map R.told list.now)) ∷ []))) }
@@ -44,9 +48,10 @@ pub(crate) fn room_of_rows<R: Bounded>(name: &str, list: &[R]) -> usize
 }
 
 /// The room for fields.
-#[tactic(auto, using(crate::proofs::RoomLemmas::fields_from))]
+#[tactic(auto, using(crate::proofs::RoomLemmas::fields_from, crate::proofs::XmlRoomLemmas::some_fields_room))]
 pub(crate) fn room_of_fields(fields: &[Field<'_>]) -> usize
-    ensures { IsRoomFor result (room_of (fields_tokens (fields_of fields.now))) }
+    ensures json { IsRoomFor result (room_of (fields_tokens (fields_of fields.now))) }
+    ensures xml { IsRoomFor result (length (markup (fields_events (fields_of fields.now)))) }
 {
     let mut room = 0usize;
     for field in fields {
@@ -71,9 +76,11 @@ pub(crate) fn known_of(tag: &Tag, size: u64)
     tag.check();
 }
 
-#[tactic(auto, using(crate::proofs::RoomLemmas::rows_from))]
-fn room_of_all<R: Bounded>(list: &[R]) -> usize
-    ensures { IsRoomFor result (room_of (all_tokens (map R.told list.now))) }
+/// The room for rows, without what stands round them.
+#[tactic(auto, using(crate::proofs::RoomLemmas::rows_from, crate::proofs::XmlRoomLemmas::entries_room))]
+pub(crate) fn room_of_all<R: Bounded>(list: &[R]) -> usize
+    ensures json { IsRoomFor result (room_of (all_tokens (map R.told list.now))) }
+    ensures xml { IsRoomFor result (length (markup (flat_map R.events list.now))) }
 {
     let mut room = 0usize;
     for row in list {
@@ -82,9 +89,10 @@ fn room_of_all<R: Bounded>(list: &[R]) -> usize
     room
 }
 
-#[tactic(auto, using(crate::proofs::RoomLemmas::token_rooms))]
+#[tactic(auto, using(crate::proofs::RoomLemmas::token_rooms, crate::proofs::XmlRoomLemmas::field_rooms))]
 fn room_of_field(field: &Field<'_>) -> usize
-    ensures { IsRoomFor result (room_of (fields_tokens (field_of field.now))) }
+    ensures json { IsRoomFor result (room_of (fields_tokens (field_of field.now))) }
+    ensures xml { IsRoomFor result (length (markup (fields_events (field_of field.now)))) }
 {
     let name = room_of_text(field.name.len());
     match field.value {

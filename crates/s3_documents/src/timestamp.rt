@@ -1,5 +1,7 @@
 //! Moments, as documents write them.
-ghost use Rattle.std.specs.Prelude.{◌≡◌, IsUtf8, length};
+ghost use Rattle.std.specs.Prelude.{◌≡◌, true, IsUtf8, length};
+ghost use Rattle.std.specs.List.{list_all};
+ghost use Rattle.s3_documents.specs.Xml.{is_plain};
 ghost use Rattle.json.specs.Print.{escape};
 ghost use Rattle.s3_documents.specs.Timestamp.{timestamp, spelled_out};
 
@@ -10,6 +12,7 @@ pub(crate) fn timestamp(moment: Moment) -> [u8; 24]
     ensures value { result ≡ timestamp moment }
     ensures utf8 { IsUtf8 result }
     ensures plain { escape (timestamp moment) ≡ timestamp moment }
+    ensures characters { list_all is_plain (timestamp moment) ≡ true }
 {
     let _bound = moment.seconds();
     stamps_of_a_moment();

@@ -3,22 +3,27 @@ ghost use Rattle.std.specs.Prelude.{◌≡◌, ◌+◌, ◌*◌, IfSome, IsUtf8,
 ghost use Rattle.std.specs.Option.{option_copied};
 ghost use Rattle.s3_listings.specs.Pages.{next_of};
 ghost use Rattle.s3_names.specs.Ids.{upload_id_text};
+ghost use Rattle.s3_records.specs.declared.rows.UploadRow.{UploadRow as UploadAs};
+ghost use Rattle.s3_documents.specs.Document.{uploads};
 ghost use Rattle.s3_documents.specs.Printed.{fields_of, value_of, IsRoomFor};
-ghost use Rattle.s3_documents.specs.UploadList.{upload_fields, upload_marker_told, key_of_upload, id_of_upload, uploads_fields, uploads_tree};
+ghost use Rattle.s3_documents.specs.UploadList.{upload_fields, upload_marker_told, key_of_upload, id_of_upload, uploads_fields};
+ghost use Rattle.s3_documents.specs.Xml.{upload_events, begun_before, begun_behind, uploads_before};
 
 use crate::list::{print_list, room_of_list};
 use crate::printer::{Field, Leaf, Printer, Row, text_of};
 use crate::reserved::Told;
 use crate::room::{Bounded, room_of_text};
 use crate::texts::{ID_MAX, key_told, name_told, text_told, upload_id_told};
+use crate::xml::{Entry, put_list, put_owned, room_of_listed};
 use arrayvec::ArrayVec;
 use s3_listings::{UploadPage, UploadsAsked};
 use s3_names::BucketName;
 use s3_records::UploadRow;
+use s3_xml::Writer;
 use std::alloc::AllocError;
 
 /// No row takes more room, beside that for its key.
-const ROW_MAX: usize = 287;
+const ROW_MAX: usize = 433;
 
 /// The document of a ListMultipartUploads, for later: what was asked, and the page that is told, of the bucket of this name.
 #[derive(Drop)]
@@ -29,7 +34,7 @@ pub(crate) struct UploadsList {
 }
 
 impl Told for UploadsList {
-    ghost tree = { λ list. uploads_tree list.name list.asked list.page };
+    ghost document = { λ list. uploads list.name list.asked list.page };
 
     fn print(&self, printer: &mut Printer) -> Result<(), AllocError> {
         let next = self.page.next();
@@ -39,12 +44,26 @@ impl Told for UploadsList {
         print_list(printer, &fields, "Uploads", self.page.rows(), &[])
     }
 
+    fn root(&self) -> &'static str {
+        "ListMultipartUploadsResult"
+    }
+
+    fn write(&self, writer: &mut Writer) -> Result<(), AllocError> {
+        let next = self.page.next();
+        let behind = upload_id_told(self.asked.id_marker);
+        let next_behind = row_id(next);
+        let before = fields_before(self, next, text_of(&behind), text_of(&next_behind));
+        put_list(writer, &before, self.page.rows(), &[])
+    }
+
     fn room(&self) -> usize {
         let next = self.page.next();
         let behind = upload_id_told(self.asked.id_marker);
         let next_behind = row_id(next);
         let fields = fields_told(self, next, text_of(&behind), text_of(&next_behind));
-        room_of_list(&fields, "Uploads", self.page.rows(), &[])
+        let before = fields_before(self, next, text_of(&behind), text_of(&next_behind));
+        let json = room_of_list(&fields, "Uploads", self.page.rows(), &[]);
+        json.max(room_of_listed(&before, self.page.rows(), &[]))
     }
 }
 
@@ -97,6 +116,54 @@ fn fields_told<'a>(
     ]
 }
 
+// What stands in front of the rows in XML, of the same.
+fn fields_before<'a>(
+    list: &'a UploadsList,
+    next: Option<&'a UploadRow>,
+    behind: &'a str,
+    next_behind: &'a str,
+) -> [Field<'a>; 8]
+    requires next { option_copied next ≡ next_of list.now.page }
+    requires behind { behind.now ≡ upload_marker_told list.now.asked.id_marker }
+    requires next_behind { IfSome (option_copied next) (λ row. next_behind.now ≡ upload_id_text row.id) }
+    ensures { fields_of result ≡ uploads_before list.now.name list.now.asked list.now.page }
+{
+    [
+        Field {
+            name: "Bucket",
+            value: Leaf::Text(name_told(&list.name)),
+        },
+        Field {
+            name: "KeyMarker",
+            value: Leaf::Text(text_told(&list.asked.key_marker)),
+        },
+        Field {
+            name: "UploadIdMarker",
+            value: Leaf::Text(behind),
+        },
+        Field {
+            name: "NextKeyMarker",
+            value: key_leaf(next),
+        },
+        Field {
+            name: "Prefix",
+            value: Leaf::Text(text_told(&list.asked.prefix)),
+        },
+        Field {
+            name: "NextUploadIdMarker",
+            value: id_leaf(next, next_behind),
+        },
+        Field {
+            name: "MaxUploads",
+            value: Leaf::Number(list.asked.max_uploads as u64),
+        },
+        Field {
+            name: "IsTruncated",
+            value: Leaf::Truth(list.page.is_truncated()),
+        },
+    ]
+}
+
 impl Row for UploadRow {
     ghost told = { upload_fields };
 
@@ -106,8 +173,52 @@ impl Row for UploadRow {
     }
 }
 
+impl Entry for UploadRow {
+    ghost events = { upload_events };
+
+    fn write(&self, writer: &mut Writer) -> Result<(), AllocError> {
+        let id = upload_id_told(Some(self.id));
+        put_owned(
+            writer,
+            "Upload",
+            &elements_before(self),
+            &elements_behind(text_of(&id)),
+        )
+    }
+}
+
+fn elements_before(row: &UploadRow) -> [Field<'_>; 2]
+    ensures { fields_of result ≡ begun_before row.now }
+{
+    [
+        Field {
+            name: "Initiated",
+            value: Leaf::Moment(row.moment),
+        },
+        Field {
+            name: "Key",
+            value: Leaf::Text(key_told(&row.key)),
+        },
+    ]
+}
+
+fn elements_behind(id: &str) -> [Field<'_>; 2]
+    ensures { (row : UploadAs) → id.now ≡ upload_id_text row.id → fields_of result ≡ begun_behind row }
+{
+    [
+        Field {
+            name: "StorageClass",
+            value: Leaf::Text("STANDARD"),
+        },
+        Field {
+            name: "UploadId",
+            value: Leaf::Text(id),
+        },
+    ]
+}
+
 impl Bounded for UploadRow {
-    #[tactic(auto, using(crate::proofs::RowLemmas::upload_row_room))]
+    #[tactic(auto, using(crate::proofs::RowLemmas::upload_row_room, crate::proofs::XmlRoomLemmas::upload_events_room))]
     fn room(&self) -> usize {
         room_of_upload(self.key.as_bytes().len())
     }
@@ -115,7 +226,7 @@ impl Bounded for UploadRow {
 
 // The room for the row of an upload whose key has so many bytes.
 fn room_of_upload(key_len: usize) -> usize
-    ensures { IsRoomFor result (6 * key_len + 291) }
+    ensures { IsRoomFor result (6 * key_len + 437) }
 {
     room_of_text(key_len).saturating_add(ROW_MAX)
 }

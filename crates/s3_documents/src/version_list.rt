@@ -4,23 +4,27 @@ ghost use Rattle.std.specs.Option.{option_copied};
 ghost use Rattle.s3_listings.specs.Pages.{next_of};
 ghost use Rattle.s3_names.specs.Ids.{version_id_text};
 ghost use Rattle.s3_documents.specs.Copied.{tag_told};
+ghost use Rattle.s3_documents.specs.Document.{versions};
 ghost use Rattle.s3_documents.specs.Printed.{fields_of, value_of, IsRoomFor};
-ghost use Rattle.s3_documents.specs.VersionList.{tag_of_facts, size_of_facts, version_fields, key_of_row, id_of_row, marker_told, versions_fields, versions_tree};
+ghost use Rattle.s3_documents.specs.VersionList.{tag_of_facts, size_of_facts, version_fields, key_of_row, id_of_row, marker_told, versions_fields};
+ghost use Rattle.s3_documents.specs.Xml.{version_name, version_before, version_behind, version_events, versions_before, versions_behind, standard};
 
 use crate::list::{print_list, room_of_list};
 use crate::printer::{Field, Leaf, Printer, Row, text_of};
 use crate::reserved::Told;
 use crate::room::{Bounded, known_of, room_of_text};
 use crate::texts::{ID_MAX, id_told, key_told, name_told, quoted, text_told};
+use crate::xml::{Entry, put_list, put_owned, room_of_listed};
 use arrayvec::ArrayVec;
 use s3_listings::{VersionPage, VersionsAsked};
 use s3_names::BucketName;
 use s3_records::VersionRow;
 use s3_versions::Facts;
+use s3_xml::Writer;
 use std::alloc::AllocError;
 
 /// No row takes more room, beside that for its key.
-const ROW_MAX: usize = 413;
+const ROW_MAX: usize = 890;
 
 /// The document of a ListObjectVersions, for later: what was asked, and the page that is told, of the bucket of this
 /// name.
@@ -32,7 +36,7 @@ pub(crate) struct VersionsList {
 }
 
 impl Told for VersionsList {
-    ghost tree = { λ list. versions_tree list.name list.asked list.page };
+    ghost document = { λ list. versions list.name list.asked list.page };
 
     fn print(&self, printer: &mut Printer) -> Result<(), AllocError> {
         let next = self.page.next();
@@ -42,12 +46,26 @@ impl Told for VersionsList {
         print_list(printer, &fields, "Versions", self.page.rows(), &[])
     }
 
+    fn root(&self) -> &'static str {
+        "ListVersionsResult"
+    }
+
+    fn write(&self, writer: &mut Writer) -> Result<(), AllocError> {
+        let next = self.page.next();
+        let behind = id_told(self.asked.id_marker);
+        let next_behind = row_id(next);
+        let before = fields_before(self, next, text_of(&behind), text_of(&next_behind));
+        put_list(writer, &before, self.page.rows(), &fields_behind(self))
+    }
+
     fn room(&self) -> usize {
         let next = self.page.next();
         let behind = id_told(self.asked.id_marker);
         let next_behind = row_id(next);
         let fields = fields_told(self, next, text_of(&behind), text_of(&next_behind));
-        room_of_list(&fields, "Versions", self.page.rows(), &[])
+        let before = fields_before(self, next, text_of(&behind), text_of(&next_behind));
+        let json = room_of_list(&fields, "Versions", self.page.rows(), &[]);
+        json.max(room_of_listed(&before, self.page.rows(), &fields_behind(self)))
     }
 }
 
@@ -100,6 +118,62 @@ fn fields_told<'a>(
     ]
 }
 
+// What stands in front of the rows in XML, of the same.
+fn fields_before<'a>(
+    list: &'a VersionsList,
+    next: Option<&'a VersionRow>,
+    behind: &'a str,
+    next_behind: &'a str,
+) -> [Field<'a>; 5]
+    requires next { option_copied next ≡ next_of list.now.page }
+    requires behind { behind.now ≡ marker_told list.now.asked.id_marker }
+    requires next_behind { IfSome (option_copied next) (λ row. next_behind.now ≡ version_id_text row.id) }
+    ensures { fields_of result ≡ versions_before list.now.asked list.now.page }
+{
+    [
+        Field {
+            name: "IsTruncated",
+            value: Leaf::Truth(list.page.is_truncated()),
+        },
+        Field {
+            name: "KeyMarker",
+            value: Leaf::Text(text_told(&list.asked.key_marker)),
+        },
+        Field {
+            name: "VersionIdMarker",
+            value: Leaf::Text(behind),
+        },
+        Field {
+            name: "NextKeyMarker",
+            value: key_leaf(next),
+        },
+        Field {
+            name: "NextVersionIdMarker",
+            value: id_leaf(next, next_behind),
+        },
+    ]
+}
+
+// And behind them.
+fn fields_behind(list: &VersionsList) -> [Field<'_>; 3]
+    ensures { fields_of result ≡ versions_behind list.now.name list.now.asked }
+{
+    [
+        Field {
+            name: "Name",
+            value: Leaf::Text(name_told(&list.name)),
+        },
+        Field {
+            name: "Prefix",
+            value: Leaf::Text(text_told(&list.asked.prefix)),
+        },
+        Field {
+            name: "MaxKeys",
+            value: Leaf::Number(list.asked.max_keys as u64),
+        },
+    ]
+}
+
 impl Row for VersionRow {
     ghost told = { version_fields };
 
@@ -115,8 +189,83 @@ impl Row for VersionRow {
     }
 }
 
+impl Entry for VersionRow {
+    ghost events = { version_events };
+
+    fn write(&self, writer: &mut Writer) -> Result<(), AllocError> {
+        let id = id_told(Some(self.id));
+        let behind = elements_behind(self, text_of(&id));
+        match &self.facts {
+            Some(facts) => {
+                let tag = quoted(&facts.tag);
+                put_owned(
+                    writer,
+                    "Version",
+                    &elements_before(self, text_of(tag.as_slice())),
+                    &behind,
+                )
+            }
+            None => put_owned(writer, "DeleteMarker", &elements_before(self, ""), &behind),
+        }
+    }
+}
+
+fn elements_before<'a>(row: &'a VersionRow, tag: &'a str) -> [Field<'a>; 4]
+    requires { IfSome row.now.facts (λ facts. tag.now ≡ tag_told facts.tag) }
+    ensures { fields_of result ≡ version_before row.now }
+{
+    [
+        Field {
+            name: "ETag",
+            value: tag_leaf(&row.facts, tag),
+        },
+        Field {
+            name: "IsLatest",
+            value: Leaf::Truth(row.is_latest),
+        },
+        Field {
+            name: "Key",
+            value: Leaf::Text(key_told(&row.key)),
+        },
+        Field {
+            name: "LastModified",
+            value: Leaf::Moment(row.moment),
+        },
+    ]
+}
+
+fn elements_behind<'a>(row: &'a VersionRow, id: &'a str) -> [Field<'a>; 3]
+    requires { id.now ≡ version_id_text row.now.id }
+    ensures { fields_of result ≡ version_behind row.now }
+{
+    [
+        Field {
+            name: "Size",
+            value: size_leaf(&row.facts),
+        },
+        Field {
+            name: "StorageClass",
+            value: class_leaf(&row.facts),
+        },
+        Field {
+            name: "VersionId",
+            value: Leaf::Text(id),
+        },
+    ]
+}
+
+// The storage class of a version, if it stores something.
+fn class_leaf(facts: &Option<Facts>) -> Leaf<'_>
+    ensures { value_of result ≡ option_map (λ facts. standard) facts.now }
+{
+    match facts {
+        Some(_) => Leaf::Text("STANDARD"),
+        None => Leaf::Absent,
+    }
+}
+
 impl Bounded for VersionRow {
-    #[tactic(auto, using(crate::proofs::RowLemmas::version_row_room, crate::proofs::RowLemmas::marker_row_room))]
+    #[tactic(auto, using(crate::proofs::RowLemmas::version_row_room, crate::proofs::RowLemmas::marker_row_room, crate::proofs::XmlRoomLemmas::version_events_room, crate::proofs::XmlRoomLemmas::marker_events_room))]
     fn room(&self) -> usize {
         if let Some(facts) = &self.facts {
             known_of(&facts.tag, facts.size);
@@ -127,7 +276,7 @@ impl Bounded for VersionRow {
 
 // The room for the row of a version whose key has so many bytes.
 fn room_of_version(key_len: usize) -> usize
-    ensures { IsRoomFor result (6 * key_len + 417) }
+    ensures { IsRoomFor result (6 * key_len + 894) }
 {
     room_of_text(key_len).saturating_add(ROW_MAX)
 }

@@ -1,6 +1,7 @@
 -- A desk: one store that many share, whose one history is that of its book.
 use Rattle.std.specs.Prelude.{◌≡◌, ℕ, List, [], ◌∷◌, ◌⊎◌, length}
 use Rattle.s3_config.specs.Settings.{Settings}
+use Rattle.s3_terms.specs.declared.dialect.Dialect.TheVariants.{Json}
 use Rattle.s3_history.specs.Log.{Origin}
 use Rattle.s3_machine.specs.History.{Entry, Legal}
 use Rattle.s3_records.specs.Catalogue.{opening}
@@ -18,7 +19,7 @@ pub record Base : Type 0 where
 abbrev pub no_base : Base
 no_base = record {
   origin = record { number = 0; log_name = 0; cells_name = 0 };
-  settings = record { region = []; keys = []; min_part = 0; body_limit = 0; buckets = [] };
+  settings = record { region = []; keys = []; min_part = 0; body_limit = 0; buckets = []; dialect = Json };
   store = opened (opening []);
 }
 

@@ -26,7 +26,7 @@ use Rattle.s3_records.specs.Changes.{Change, BucketAdded, BucketDropped, Version
 use Rattle.s3_records.specs.Laws.{ChangesFollowRules, CompletionsFollowRules}
 use Rattle.s3_records.specs.OpenUploads.{upload_at}
 use Rattle.s3_records.specs.Places.{SameVersions, OnePlaceChanges, ChangesAreByPlace, number_in, AreBelow, NumbersStayBelow, LaterIsBelow}
-use Rattle.s3_documents.specs.Upload.{completed_text}
+use Rattle.s3_documents.specs.Document as documents
 use Rattle.s3_machine.specs.declared.command.BucketCommand.{BucketCommand}
 use Rattle.s3_machine.specs.declared.command.BucketCommand.TheVariants as bucket_commands
 use Rattle.s3_machine.specs.declared.command.Command.{Command}
@@ -182,7 +182,7 @@ completing s n t name key id what =
     Ok (
       changed s name (UploadCompleted key id (VersionPut n t what)),
       outcomes.Completed
-          (completed_text name key what.tag) what.tag (shown_in (versioning_of s name) (new_id (versioning_of s name) n)),
+          (documents.completed name key what.tag) what.tag (shown_in (versioning_of s name) (new_id (versioning_of s name) n)),
     )
 
 -- the versions of a key that changes are those that the rules of its bucket give, where a completion changes it, too

@@ -23,8 +23,7 @@ use Rattle.s3_listings.specs.Laws.{ListedAreRead}
 use Rattle.s3_prefixes.specs.Items.{Object as Item}
 use Rattle.s3_listings.specs.Objects.{objects_asked, objects_told}
 use Rattle.s3_listings.specs.Versions.{versions_page}
-use Rattle.s3_documents.specs.ObjectList.{objects_text}
-use Rattle.s3_documents.specs.VersionList.{versions_text}
+use Rattle.s3_documents.specs.Document as documents
 use Rattle.s3_machine.specs.declared.command.BucketCommand.TheVariants as bucket_commands
 use Rattle.s3_machine.specs.declared.command.Command.{Command}
 use Rattle.s3_machine.specs.declared.command.Command.TheVariants as commands
@@ -150,14 +149,14 @@ page_told s false outcome success = refl
 objects_step : (least : ℕ) (s : State) (n t : ℕ) (name : List ℕ) (asked : ObjectsAsked)
     → succeeds (step least s n t (commands.Bucket name (bucket_commands.ListObjects asked))).1 ≡ true
     → (step least s n t (commands.Bucket name (bucket_commands.ListObjects asked))).1
-    ≡ outcomes.Told (objects_text name asked (objects_told asked (key_rows s name)))
+    ≡ outcomes.Told (documents.objects name asked (objects_told asked (key_rows s name)))
 unfolding done bucket_done
 objects_step least s n t name asked success = page_told s (not (has_bucket s name)) _ success
 
 versions_step : (least : ℕ) (s : State) (n t : ℕ) (name : List ℕ) (asked : VersionsAsked)
     → succeeds (step least s n t (commands.Bucket name (bucket_commands.ListVersions asked))).1 ≡ true
     → (step least s n t (commands.Bucket name (bucket_commands.ListVersions asked))).1
-    ≡ outcomes.Told (versions_text name asked (versions_page asked s name))
+    ≡ outcomes.Told (documents.versions name asked (versions_page asked s name))
 unfolding done bucket_done
 versions_step least s n t name asked success = page_told s (not (has_bucket s name)) _ success
 

@@ -27,9 +27,7 @@ use Rattle.s3_listings.specs.declared.asked.PartsAsked.{PartsAsked}
 use Rattle.s3_listings.specs.declared.asked.UploadsAsked.{UploadsAsked}
 use Rattle.s3_listings.specs.Parts.{parts_page}
 use Rattle.s3_listings.specs.Uploads.{is_asked, uploads_asked, uploads_page}
-use Rattle.s3_documents.specs.PartList.{parts_text}
-use Rattle.s3_documents.specs.Upload.{upload_text, completed_text}
-use Rattle.s3_documents.specs.UploadList.{uploads_text}
+use Rattle.s3_documents.specs.Document as documents
 use Rattle.s3_machine.specs.declared.command.BucketCommand.TheVariants as bucket_commands
 use Rattle.s3_machine.specs.declared.command.Command.{Command}
 use Rattle.s3_machine.specs.declared.command.Command.TheVariants as commands
@@ -72,13 +70,13 @@ told_open P s None next tells success = absurd (false≢true success)
 told_open P s (Some u) next tells success = tells u refl success
 
 begin_told : (least : ℕ) (s : State) (n t : ℕ) (command : Command) (a : Address) (asked : UploadBegin) → begins command ≡ Some (a, asked)
-    → TellsWhere (λ o. o ≡ outcomes.Told (upload_text a.bucket a.key n)) (step least s n t command)
+    → TellsWhere (λ o. o ≡ outcomes.Told (documents.begun a.bucket a.key n)) (step least s n t command)
 unfolding done key_done
 begin_told least s n t (commands.Key bucket key (key_commands.Begin begin)) a asked is =
     let both = same_Some ((record { bucket = bucket; key = key }), begin) (a, asked) is in
-    told_line (λ o. o ≡ outcomes.Told (upload_text a.bucket a.key n)) s (not (has_bucket s bucket)) NoSuchBucket
+    told_line (λ o. o ≡ outcomes.Told (documents.begun a.bucket a.key n)) s (not (has_bucket s bucket)) NoSuchBucket
     (key_done s n t bucket key (key_commands.Begin begin))
-    (λ success. ap (λ (p : Address × UploadBegin). outcomes.Told (upload_text p.0.bucket p.0.key n)) both)
+    (λ success. ap (λ (p : Address × UploadBegin). outcomes.Told (documents.begun p.0.bucket p.0.key n)) both)
 begin_told least s n t _ a asked is = absurd (cc)
 
 pub begun_is_told : EveryHistory BegunIsTold
@@ -87,7 +85,7 @@ begun_is_told least s n entries legal before later begin upload asked parts begi
     outcome
     ∙ begin_told least (after least s before) begin.answer.number begin.moment begin.command upload.address asked begins.at
     (sym (ap succeeds outcome) ∙ begins.accepted)
-    ∙ ap (λ (id : ℕ). outcomes.Told (upload_text upload.address.bucket upload.address.key id)) (sym begins.numbered)
+    ∙ ap (λ (id : ℕ). outcomes.Told (documents.begun upload.address.bucket upload.address.key id)) (sym begins.numbered)
 
 send_told : (least : ℕ) (s : State) (n t : ℕ) (command : Command) (part : PartPlace) (bytes : List ℕ) → sends command ≡ Some part
     → sent command ≡ Some bytes → TellsWhere (λ o. o ≡ outcomes.PartPut (tag_of bytes)) (step least s n t command)
@@ -108,7 +106,7 @@ sent_is_told least s n entries legal before later send part bytes parts sends =
 
 -- a tag is told of a completion
 abbrev TellsTag : Address → Outcome → Type 0
-TellsTag a outcome = (tag : List ℕ) × (shown : Option VersionId) × (outcome ≡ outcomes.Completed (completed_text a.bucket a.key tag) tag shown)
+TellsTag a outcome = (tag : List ℕ) × (shown : Option VersionId) × (outcome ≡ outcomes.Completed (documents.completed a.bucket a.key tag) tag shown)
 
 rule_told : (s : State) (n t : ℕ) (name key : List ℕ) (id : ℕ) (rule : Result (Data (List ℕ)) Code)
     → TellsWhere (TellsTag (record { bucket = name; key = key })) (stepped s (as_refusal rule >>= completing s n t name key id))
@@ -191,7 +189,7 @@ upload_lists_are_told least s n t name asked there = ap (λ (st : Stepped). st.1
 parts_done : (least : ℕ) (s : State) (n t : ℕ) (name key : List ℕ) (id : ℕ) (asked : PartsAsked) (found : Upload (List ℕ))
     → upload_at s name key id ≡ Some found
     → (stepped s (upload_done least s n t name key id (upload_commands.ListParts asked))).1
-    ≡ outcomes.Told (parts_text name key id asked (parts_page asked found.parts))
+    ≡ outcomes.Told (documents.parts name key id asked (parts_page asked found.parts))
 unfolding upload_done
 parts_done least s n t name key id asked found is = rw is refl
 
@@ -205,7 +203,7 @@ part_lists_are_told least s n t upload asked found there is =
 uploads_step : (least : ℕ) (s : State) (n t : ℕ) (name : List ℕ) (asked : UploadsAsked)
     → succeeds (step least s n t (commands.Bucket name (bucket_commands.ListUploads asked))).1 ≡ true
     → (step least s n t (commands.Bucket name (bucket_commands.ListUploads asked))).1
-    ≡ outcomes.Told (uploads_text name asked (uploads_page asked s name))
+    ≡ outcomes.Told (documents.uploads name asked (uploads_page asked s name))
 unfolding done bucket_done
 uploads_step least s n t name asked success = page_told s (not (has_bucket s name)) _ success
 
@@ -216,14 +214,14 @@ upload_lists_tell_what_is_there least s n entries legal before later list name a
     ∙ uploads_step least (after least s before) list.answer.number list.moment name asked (sym (ap succeeds outcome) ∙ success)
 
 parts_step : (least : ℕ) (s : State) (n t : ℕ) (name key : List ℕ) (id : ℕ) (asked : PartsAsked)
-    → TellsWhere (λ o. o ≡ outcomes.Told (parts_text name key id asked (parts_page asked (parts_at s name key id))))
+    → TellsWhere (λ o. o ≡ outcomes.Told (documents.parts name key id asked (parts_page asked (parts_at s name key id))))
     (step least s n t (commands.Upload name key id (upload_commands.ListParts asked)))
 unfolding done upload_done
 parts_step least s n t name key id asked =
-    let P : Outcome → Type 0 = λ o. o ≡ outcomes.Told (parts_text name key id asked (parts_page asked (parts_at s name key id))) in
+    let P : Outcome → Type 0 = λ o. o ≡ outcomes.Told (documents.parts name key id asked (parts_page asked (parts_at s name key id))) in
     told_line P s (not (has_bucket s name)) NoSuchBucket (upload_done least s n t name key id (upload_commands.ListParts asked))
     (told_open P s (upload_at s name key id) _
-    (λ u is success. ap (λ (found : Option (Upload (List ℕ))). outcomes.Told (parts_text name key id asked (parts_page asked (parts_sent found)))) (sym is)))
+    (λ u is success. ap (λ (found : Option (Upload (List ℕ))). outcomes.Told (documents.parts name key id asked (parts_page asked (parts_sent found)))) (sym is)))
 
 pub part_lists_tell_what_is_there : EveryHistory PartListsTellWhatIsThere
 part_lists_tell_what_is_there least s n entries legal before later list name key id asked parts is success =

@@ -22,8 +22,7 @@ use Rattle.s3_prefixes.specs.declared.asked.ObjectsAsked.{ObjectsAsked}
 use Rattle.s3_listings.specs.declared.asked.VersionsAsked.{VersionsAsked}
 use Rattle.s3_listings.specs.Objects.{objects_told}
 use Rattle.s3_listings.specs.Versions.{versions_page}
-use Rattle.s3_documents.specs.ObjectList.{objects_text}
-use Rattle.s3_documents.specs.VersionList.{versions_text}
+use Rattle.s3_documents.specs.Document as documents
 use Rattle.s3_machine.specs.declared.command.BucketCommand.TheVariants as bucket_commands
 use Rattle.s3_machine.specs.declared.command.Command.{Command}
 use Rattle.s3_machine.specs.declared.command.Command.TheVariants as commands
@@ -248,7 +247,7 @@ module _ (least : ℕ) (s : State) (entries : List Entry) where
       → entries ≡ before ++ list ∷ later
       → list.command ≡ commands.Bucket name (bucket_commands.ListObjects asked)
       → succeeds list.answer.outcome ≡ true
-      → list.answer.outcome ≡ outcomes.Told (objects_text name asked (objects_told asked (key_rows (after least s before) name)))
+      → list.answer.outcome ≡ outcomes.Told (documents.objects name asked (objects_told asked (key_rows (after least s before) name)))
 
   -- and one of its versions the page of these.
   abbrev pub VersionListsTellWhatIsThere : Type 0
@@ -257,7 +256,7 @@ module _ (least : ℕ) (s : State) (entries : List Entry) where
       → entries ≡ before ++ list ∷ later
       → list.command ≡ commands.Bucket name (bucket_commands.ListVersions asked)
       → succeeds list.answer.outcome ≡ true
-      → list.answer.outcome ≡ outcomes.Told (versions_text name asked (versions_page asked (after least s before) name))
+      → list.answer.outcome ≡ outcomes.Told (documents.versions name asked (versions_page asked (after least s before) name))
 
   -- However often data were copied since, a put brought them once, or a completion joined them once.
   abbrev pub StoredWasBrought : Type 0

@@ -24,10 +24,7 @@ use Rattle.s3_listings.specs.Objects.{objects_asked, objects_told}
 use Rattle.s3_listings.specs.Parts.{parts_page}
 use Rattle.s3_listings.specs.Uploads.{uploads_page}
 use Rattle.s3_listings.specs.Versions.{versions_page}
-use Rattle.s3_documents.specs.ObjectList.{objects_text}
-use Rattle.s3_documents.specs.PartList.{parts_text}
-use Rattle.s3_documents.specs.UploadList.{uploads_text}
-use Rattle.s3_documents.specs.VersionList.{versions_text}
+use Rattle.s3_documents.specs.Document as documents
 use Rattle.s3_machine.specs.declared.command.BucketCommand.TheVariants as bucket_commands
 use Rattle.s3_machine.specs.declared.command.Command.{Command}
 use Rattle.s3_machine.specs.declared.command.Command.TheVariants as commands
@@ -82,7 +79,7 @@ ListsAreTold =
     (least : ℕ) (s : State) (n t : ℕ) (name : List ℕ) (asked : ObjectsAsked)
     → IsTrue (has_bucket s name)
     → (step least s n t (commands.Bucket name (bucket_commands.ListObjects asked))).1
-    ≡ outcomes.Told (objects_text name asked (objects_told asked (key_rows s name)))
+    ≡ outcomes.Told (documents.objects name asked (objects_told asked (key_rows s name)))
 
 -- and one of its versions as that of theirs.
 abbrev pub VersionListsAreTold : Type 0
@@ -90,7 +87,7 @@ VersionListsAreTold =
     (least : ℕ) (s : State) (n t : ℕ) (name : List ℕ) (asked : VersionsAsked)
     → IsTrue (has_bucket s name)
     → (step least s n t (commands.Bucket name (bucket_commands.ListVersions asked))).1
-    ≡ outcomes.Told (versions_text name asked (versions_page asked s name))
+    ≡ outcomes.Told (documents.versions name asked (versions_page asked s name))
 
 -- so is one of its uploads,
 abbrev pub UploadListsAreTold : Type 0
@@ -98,7 +95,7 @@ UploadListsAreTold =
     (least : ℕ) (s : State) (n t : ℕ) (name : List ℕ) (asked : UploadsAsked)
     → IsTrue (has_bucket s name)
     → (step least s n t (commands.Bucket name (bucket_commands.ListUploads asked))).1
-    ≡ outcomes.Told (uploads_text name asked (uploads_page asked s name))
+    ≡ outcomes.Told (documents.uploads name asked (uploads_page asked s name))
 
 -- a command on an upload
 abbrev pub asking : UploadPlace → UploadCommand → Command
@@ -111,7 +108,7 @@ PartListsAreTold =
     → IsTrue (has_bucket s upload.address.bucket)
     → open_at s upload ≡ Some found
     → (step least s n t (asking upload (upload_commands.ListParts asked))).1
-    ≡ outcomes.Told (parts_text upload.address.bucket upload.address.key upload.id asked (parts_page asked found.parts))
+    ≡ outcomes.Told (documents.parts upload.address.bucket upload.address.key upload.id asked (parts_page asked found.parts))
 
 -- Whatever is asked of an upload that isn't open is refused with NoSuchUpload.
 abbrev pub ClosedUploadsAreRefused : Type 0

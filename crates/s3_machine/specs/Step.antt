@@ -27,12 +27,7 @@ use Rattle.s3_listings.specs.Objects.{objects_told}
 use Rattle.s3_listings.specs.Parts.{parts_page}
 use Rattle.s3_listings.specs.Uploads.{uploads_page}
 use Rattle.s3_listings.specs.Versions.{versions_page}
-use Rattle.s3_documents.specs.Buckets.{buckets_text}
-use Rattle.s3_documents.specs.ObjectList.{objects_text}
-use Rattle.s3_documents.specs.PartList.{parts_text}
-use Rattle.s3_documents.specs.Upload.{upload_text, completed_text}
-use Rattle.s3_documents.specs.UploadList.{uploads_text}
-use Rattle.s3_documents.specs.VersionList.{versions_text}
+use Rattle.s3_documents.specs.Document as documents
 use Rattle.s3_machine.specs.declared.command.BucketCommand.{BucketCommand}
 use Rattle.s3_machine.specs.declared.command.BucketCommand.TheVariants as bucket_commands
 use Rattle.s3_machine.specs.declared.command.Command.{Command}
@@ -134,13 +129,13 @@ bucket_done s t name bucket_commands.GetVersioning = do
   Ok (s, outcomes.BucketVersioning (versioning_of s name))
 bucket_done s t name (bucket_commands.ListObjects asked) = do
   refuse (not (has_bucket s name)) NoSuchBucket
-  Ok (s, outcomes.Told (objects_text name asked (objects_told asked (key_rows s name))))
+  Ok (s, outcomes.Told (documents.objects name asked (objects_told asked (key_rows s name))))
 bucket_done s t name (bucket_commands.ListVersions asked) = do
   refuse (not (has_bucket s name)) NoSuchBucket
-  Ok (s, outcomes.Told (versions_text name asked (versions_page asked s name)))
+  Ok (s, outcomes.Told (documents.versions name asked (versions_page asked s name)))
 bucket_done s t name (bucket_commands.ListUploads asked) = do
   refuse (not (has_bucket s name)) NoSuchBucket
-  Ok (s, outcomes.Told (uploads_text name asked (uploads_page asked s name)))
+  Ok (s, outcomes.Told (documents.uploads name asked (uploads_page asked s name)))
 
 -- the upload that begins at moment t
 abbrev pub upload_begun : ℕ → UploadBegin → Upload (List ℕ)
@@ -176,7 +171,7 @@ key_done s n t name key (key_commands.Delete (Some id)) =
       outcomes.Deleted (shown_in (versioning_of s name) id) (is_marker_under id (versions_of s name key)),
     )
 key_done s n t name key (key_commands.Begin begin) =
-    Ok (changed s name (UploadAdded key n (upload_begun t begin)), outcomes.Told (upload_text name key n))
+    Ok (changed s name (UploadAdded key n (upload_begun t begin)), outcomes.Told (documents.begun name key n))
 
 -- the upload of an id to a key, where it is open
 abbrev pub open_upload : State → List ℕ → List ℕ → ℕ → Result (Upload (List ℕ)) Refusal
@@ -194,19 +189,19 @@ upload_done least s n t name key id (upload_commands.Complete listed if_absent) 
   Ok (
     changed s name (UploadCompleted key id (VersionPut n t stored)),
     outcomes.Completed
-        (completed_text name key stored.tag) stored.tag (shown_in (versioning_of s name) (new_id (versioning_of s name) n)),
+        (documents.completed name key stored.tag) stored.tag (shown_in (versioning_of s name) (new_id (versioning_of s name) n)),
   )
 upload_done least s n t name key id upload_commands.Abort = do
   _ ← open_upload s name key id
   Ok (changed s name (UploadDropped key id), outcomes.UploadDropped)
 upload_done least s n t name key id (upload_commands.ListParts asked) = do
   upload ← open_upload s name key id
-  Ok (s, outcomes.Told (parts_text name key id asked (parts_page asked upload.parts)))
+  Ok (s, outcomes.Told (documents.parts name key id asked (parts_page asked upload.parts)))
 
 -- what a command does, as entry n at moment t: the first refusal, or the change and what came of it; least is the
 -- least size of a part that is not the last
 unfoldable pub done : ℕ → State → ℕ → ℕ → Command → Result Stepped Refusal
-done least s n t commands.ListBuckets = Ok (s, outcomes.Told (buckets_text (listed_buckets s)))
+done least s n t commands.ListBuckets = Ok (s, outcomes.Told (documents.buckets (listed_buckets s)))
 done least s n t (commands.Bucket name asked) = bucket_done s t name asked
 done least s n t (commands.Key name key asked) = do
   refuse (not (has_bucket s name)) NoSuchBucket

@@ -15,9 +15,7 @@ use Rattle.s3_listings.specs.declared.asked.PartsAsked.{PartsAsked}
 use Rattle.s3_listings.specs.declared.asked.UploadsAsked.{UploadsAsked}
 use Rattle.s3_listings.specs.Parts.{parts_asked, parts_page}
 use Rattle.s3_listings.specs.Uploads.{uploads_asked, uploads_page}
-use Rattle.s3_documents.specs.PartList.{parts_text}
-use Rattle.s3_documents.specs.Upload.{upload_text, completed_text}
-use Rattle.s3_documents.specs.UploadList.{uploads_text}
+use Rattle.s3_documents.specs.Document as documents
 use Rattle.s3_machine.specs.declared.command.BucketCommand.TheVariants as bucket_commands
 use Rattle.s3_machine.specs.declared.command.Command.TheVariants as commands
 use Rattle.s3_machine.specs.declared.command.Outcome.TheVariants as outcomes
@@ -87,7 +85,7 @@ module _ (least : ℕ) (s : State) (entries : List Entry) where
       (before later : List Entry) (begin : Entry) (upload : UploadPlace) (asked : UploadBegin)
       → entries ≡ before ++ begin ∷ later
       → Begins upload asked begin
-      → begin.answer.outcome ≡ outcomes.Told (upload_text upload.address.bucket upload.address.key upload.id)
+      → begin.answer.outcome ≡ outcomes.Told (documents.begun upload.address.bucket upload.address.key upload.id)
 
   -- who sends a part the tag of its bytes,
   abbrev pub SentIsTold : Type 0
@@ -105,7 +103,7 @@ module _ (least : ℕ) (s : State) (entries : List Entry) where
       → Completes upload listed complete
       → (tag : List ℕ) × (shown : Option VersionId)
       × (complete.answer.outcome
-      ≡ outcomes.Completed (completed_text upload.address.bucket upload.address.key tag) tag shown)
+      ≡ outcomes.Completed (documents.completed upload.address.bucket upload.address.key tag) tag shown)
 
   -- A completion that succeeds stores, as an object under its key, the bytes that were sent last under each listed number since
   -- the upload was begun, joined in the order in which they are listed, with the type and the metadata of the beginning.
@@ -151,7 +149,7 @@ module _ (least : ℕ) (s : State) (entries : List Entry) where
       → entries ≡ before ++ list ∷ later
       → list.command ≡ commands.Bucket name (bucket_commands.ListUploads asked)
       → succeeds list.answer.outcome ≡ true
-      → list.answer.outcome ≡ outcomes.Told (uploads_text name asked (uploads_page asked (after least s before) name))
+      → list.answer.outcome ≡ outcomes.Told (documents.uploads name asked (uploads_page asked (after least s before) name))
 
   -- and one of the parts of an upload the page of these.
   abbrev pub PartListsTellWhatIsThere : Type 0
@@ -161,7 +159,7 @@ module _ (least : ℕ) (s : State) (entries : List Entry) where
       → list.command ≡ commands.Upload name key id (upload_commands.ListParts asked)
       → succeeds list.answer.outcome ≡ true
       → list.answer.outcome
-      ≡ outcomes.Told (parts_text name key id asked (parts_page asked (parts_at (after least s before) name key id)))
+      ≡ outcomes.Told (documents.parts name key id asked (parts_page asked (parts_at (after least s before) name key id)))
 
   -- Where nothing was open at the beginning, an upload is listed exactly while it is open: with the moment at which it was begun
   -- (no key is empty).

@@ -141,8 +141,8 @@ pub struct Answer {
 /// What came of a command. A version's id is shown where the bucket's versioning was ever set.
 #[derive(Drop)]
 pub enum Outcome {
-    /// What was asked for, as the text of a document: a list of buckets, of objects, of versions, of uploads or of parts, or the
-    /// id of the upload that was begun. Its room is taken in the step, so that printing it takes no memory.
+    /// What was asked for, as a document: a list of buckets, of objects, of versions, of uploads or of parts, or the id of
+    /// the upload that was begun. The room for its text is taken in the step, so that printing it takes no memory.
     Told {
         document: Document,
     },

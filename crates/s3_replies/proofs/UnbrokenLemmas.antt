@@ -25,7 +25,7 @@ joined xs ys x y = list_all-append (λ b. not (b == 13)) xs ys ∙ rw (x, y) ref
 pub lines_joined : (xs ys : List Line) → list_all is_whole_line xs ≡ true → list_all is_whole_line ys ≡ true → list_all is_whole_line (xs ++ ys) ≡ true
 lines_joined xs ys x y = list_all-append is_whole_line xs ys ∙ rw (x, y) refl
 
-both_true : (a b : Bool) → (a && b) ≡ true → (a ≡ true) × (b ≡ true)
+pub both_true : (a b : Bool) → (a && b) ≡ true → (a ≡ true) × (b ≡ true)
 both_true true b both = (refl, both)
 both_true false b both = absurd (cc)
 

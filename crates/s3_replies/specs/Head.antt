@@ -8,7 +8,7 @@ use Rattle.s3_replies.specs.declared.head.Head.{Head}
 use Rattle.s3_replies.specs.declared.head.Opening.{Opening}
 use Rattle.s3_terms.specs.declared.status.Status.{Status}
 use Rattle.s3_terms.specs.Status.{tells_size}
-use Rattle.s3_replies.specs.Lines.{Line, status_line, print_lines, flag, optional, metadata_line, quoted, value_of, value_length}
+use Rattle.s3_replies.specs.Lines.{Line, status_line, print_lines, flag, optional, metadata_line, quoted, value_of, value_length, room_with}
 use Rattle.s3_versions.specs.Metadata.{Entry, metadata_size}
 
 -- what a head says, in the order of its lines
@@ -121,17 +121,16 @@ pub record HasRoomFor (head : Fields) : Type 0 where
   pub metadata_count : length head.metadata ≤ 64
 
 -- how many bytes the lines that tell of a bucket, an object or its version take at most: 20, 12, 10 and 17 beside the values of
--- `x-amz-version-id`, `Location`, `ETag` and `Last-Modified`, 27 for `x-amz-delete-marker`
+-- `x-amz-version-id`, `Location`, `ETag` and `Last-Modified`, where these are there, and 27 for `x-amz-delete-marker`
 abbrev pub version_room : Fields → ℕ
 version_room head =
-    (20 + value_length head.version_id) + 27 + (12 + value_length head.location) + (10 + value_length head.tag)
-    + (17 + value_length head.modified)
+    room_with 20 head.version_id + 27 + room_with 12 head.location + room_with 10 head.tag + room_with 17 head.modified
 
 -- how many bytes the lines that tell of a body take at most: 22 for `Accept-Ranges`, 17 and 16 beside the values of
--- `Content-Range` and `Content-Type`, 15 beside the name and the value of an entry of metadata, 38 for `Content-Length`
+-- `Content-Range` and `Content-Type`, where these are there, 15 beside the name and the value of an entry of metadata, 38 for `Content-Length`
 abbrev pub body_room : Fields → ℕ
 body_room head =
-    22 + (17 + value_length head.content_range) + (16 + value_length head.content_type)
+    22 + room_with 17 head.content_range + room_with 16 head.content_type
     + (metadata_size head.metadata + 15 * length head.metadata) + 38
 
 -- how many bytes the head takes at most: 45 for the status line, 92 for the lines that say who answers, and 2 for the empty

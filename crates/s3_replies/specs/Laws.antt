@@ -6,6 +6,7 @@ use Rattle.std.specs.List.{Contains, list_all}
 use Rattle.std.specs.Str.{bytes_eq}
 use Rattle.s3_text.specs.Characters.{crlf, carriage_return}
 use Rattle.s3_terms.specs.declared.code.Code.{Code}
+use Rattle.s3_terms.specs.declared.dialect.Dialect.{Dialect}
 use Rattle.s3_names.specs.Tags.{tag_text}
 use Rattle.s3_conditions.specs.declared.conditions.Selection.TheVariants.{Whole, Part}
 use Rattle.s3_versions.specs.declared.version.Data.{Data}
@@ -23,11 +24,11 @@ RepliesAreUnique =
     (answer : Answer) (context : Context) (t u : List ℕ) → Prints answer context t
     → Prints answer context u → t ≡ u
 
--- a code has one printed refusal of a message
+-- a code has one printed refusal of a message, in a dialect
 abbrev pub RefusalsAreUnique : Type 0
 RefusalsAreUnique =
-    (code : Code) (moment : ℕ) (head_only : Bool) (t u : List ℕ) → PrintsRefusal code moment head_only t
-    → PrintsRefusal code moment head_only u → t ≡ u
+    (dialect : Dialect) (code : Code) (moment : ℕ) (head_only : Bool) (t u : List ℕ) → PrintsRefusal dialect code moment head_only t
+    → PrintsRefusal dialect code moment head_only u → t ≡ u
 
 -- the bytes begin with these
 abbrev pub begins : List ℕ → List ℕ → Bool

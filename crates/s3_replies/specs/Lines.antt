@@ -1,5 +1,5 @@
 -- The status line and the header lines of a reply's head (RFC 9112, sections 4 and 5).
-use Rattle.std.specs.Prelude.{ℕ, Bool, if◌then◌else◌, List, [], ◌∷◌, ◌++◌, length, codes, Option, Some, None, option_map}
+use Rattle.std.specs.Prelude.{ℕ, ◌+◌, Bool, if◌then◌else◌, List, [], ◌∷◌, ◌++◌, length, codes, Option, Some, None, option_map}
 use Rattle.std.specs.Borrow.{Bor}
 use Rattle.std.specs.List.{flat_map}
 use Rattle.std.specs.Fmt.{decimal}
@@ -45,6 +45,11 @@ value_of value = option_map (λ text. text.now) value
 abbrev pub value_length : Option (List ℕ) → ℕ
 value_length None = 0
 value_length (Some value) = length value
+
+-- how long its line is, with so many bytes beside the value
+abbrev pub room_with : ℕ → Option (List ℕ) → ℕ
+room_with beside None = 0
+room_with beside (Some value) = beside + length value
 
 -- an entry of metadata as a header line
 abbrev pub metadata_line : Entry → Line

@@ -3,14 +3,15 @@
 use Rattle.std.specs.Prelude.{◌≡◌, ℕ, ◌+◌, Bool, true, false, if◌then◌else◌, List, [], ◌∷◌, ◌++◌, length, take, drop, codes, decimal, Option, Some, None, option_map}
 use Rattle.s3_terms.specs.Code.{status_of}
 use Rattle.s3_terms.specs.declared.code.Code.{Code}
+use Rattle.s3_terms.specs.declared.dialect.Dialect.{Dialect}
 use Rattle.s3_text.specs.Characters.{crlf}
 use Rattle.s3_text.specs.Digits.{number_digits}
 use Rattle.s3_names.specs.Ids.{version_id_text}
 use Rattle.s3_names.specs.declared.ids.VersionId.{VersionId}
 use Rattle.s3_conditions.specs.declared.conditions.Selection.{Selection}
 use Rattle.s3_conditions.specs.declared.conditions.Selection.TheVariants.{Whole, Part, Unchanged}
-use Rattle.s3_documents.specs.Copied.{copied_text}
-use Rattle.s3_documents.specs.Versioning.{versioning_text}
+use Rattle.s3_documents.specs.Document as documents
+use Rattle.s3_documents.specs.Spelling.{document_text}
 use Rattle.s3_machine.specs.declared.command.Answer.{Answer}
 use Rattle.s3_machine.specs.declared.command.Found.{Found}
 use Rattle.s3_machine.specs.declared.command.Outcome.{Outcome}
@@ -19,7 +20,7 @@ use Rattle.s3_replies.specs.declared.context.Context.{Context}
 use Rattle.s3_replies.specs.declared.head.Opening.{Opening}
 use Rattle.s3_terms.specs.declared.status.Status.TheVariants as statuses
 use Rattle.s3_replies.specs.Date.{IsHttpDate, IsDateShown}
-use Rattle.s3_replies.specs.Document.{error_document}
+use Rattle.s3_replies.specs.Document.{content_type_in, error_document}
 use Rattle.s3_replies.specs.Head.{Fields, bare, print_head, print_with_lines}
 
 -- what is sent of a body: a reply to HEAD has none (RFC 9110, section 9.3.2)
@@ -58,7 +59,7 @@ made_fields opening name = let base = bare statuses.Ok opening in record base { 
 
 -- the lists, GetBucketVersioning and CreateMultipartUpload: a document
 abbrev pub document_fields : Opening → Fields
-document_fields opening = let base = bare statuses.Ok opening in record base { content_type = Some (codes "application/json") }
+document_fields opening = let base = bare statuses.Ok opening in record base { content_type = Some (content_type_in opening.dialect) }
 
 -- PutObject and UploadPart: the tag of what is stored, and the id of its version; a part has none
 abbrev pub put_fields : Opening → List ℕ → Option VersionId → Fields
@@ -112,7 +113,7 @@ deleted_fields opening shown is_delete_marker =
 abbrev pub error_fields : Opening → Code → Bool → Fields
 error_fields opening code is_delete_marker =
     let base = bare (status_of code) opening in
-    record base { is_delete_marker = is_delete_marker; content_type = Some (codes "application/json") }
+    record base { is_delete_marker = is_delete_marker; content_type = Some (content_type_in opening.dialect) }
 
 -- the moment of the version that is shown, if one is
 abbrev pub shown_at : Outcome → Option ℕ
@@ -134,24 +135,24 @@ reply_with opening modified found Unchanged = alone (unchanged_fields opening fo
 
 -- the reply to what came of a command; that moment is written as this date
 abbrev pub reply_to : Opening → Option (List ℕ) → Outcome → Reply
-reply_to opening modified (outcomes.Told document) = behind (document_fields opening) document
+reply_to opening modified (outcomes.Told document) = behind (document_fields opening) (document_text opening.dialect document)
 reply_to opening modified (outcomes.BucketMade name) = alone (made_fields opening name)
 reply_to opening modified outcomes.BucketFound = alone (bare statuses.Ok opening)
 reply_to opening modified outcomes.BucketDropped = alone (bare statuses.NoContent opening)
 reply_to opening modified outcomes.VersioningSet = alone (bare statuses.Ok opening)
-reply_to opening modified (outcomes.BucketVersioning versioning) = beside (document_fields opening) (versioning_text versioning)
+reply_to opening modified (outcomes.BucketVersioning versioning) = beside (document_fields opening) (document_text opening.dialect (documents.versioning versioning))
 reply_to opening modified (outcomes.Put tag shown) = alone (put_fields opening tag shown)
 reply_to opening modified (outcomes.Got found selection) = reply_with opening modified found selection
-reply_to opening modified (outcomes.Copied tag moment shown) = beside (stored_fields opening shown) (copied_text tag moment)
+reply_to opening modified (outcomes.Copied tag moment shown) = beside (stored_fields opening shown) (document_text opening.dialect (documents.copied tag moment))
 reply_to opening modified (outcomes.PartPut tag) = alone (put_fields opening tag None)
-reply_to opening modified (outcomes.Completed document tag shown) = behind (stored_fields opening shown) document
+reply_to opening modified (outcomes.Completed document tag shown) = behind (stored_fields opening shown) (document_text opening.dialect document)
 reply_to opening modified outcomes.UploadDropped = alone (bare statuses.NoContent opening)
 reply_to opening modified (outcomes.Deleted shown is_delete_marker) = alone (deleted_fields opening shown is_delete_marker)
-reply_to opening modified (outcomes.Refused code is_delete_marker) = beside (error_fields opening code is_delete_marker) (error_document code)
+reply_to opening modified (outcomes.Refused code is_delete_marker) = beside (error_fields opening code is_delete_marker) (error_document opening.dialect code opening.number)
 
--- who answers a message, and when
+-- who answers a message, when, and in which dialect
 abbrev pub opening_of : ℕ → Context → List ℕ → Opening
-opening_of number context date = record { number = number; closes = context.closes; date = date }
+opening_of number context date = record { number = number; closes = context.closes; date = date; dialect = context.dialect }
 
 -- the text is the printed reply to a message: what the machine answered, dated by the moment of the message
 pub record Prints (answer : Answer) (context : Context) (text : List ℕ) : Type 0 where
@@ -163,17 +164,18 @@ pub record Prints (answer : Answer) (context : Context) (text : List ℕ) : Type
       ≡ front context.head_only (reply_to (opening_of answer.number context date) modified answer.outcome)
       ++ back context.head_only (reply_to (opening_of answer.number context date) modified answer.outcome)
 
--- what a refusal takes from its message: its moment, and whether it is a HEAD. It ends the connection
-abbrev pub closing : ℕ → Bool → Context
-closing moment head_only = record { moment = moment; head_only = head_only; closes = true }
+-- what a refusal takes from its connection and its message: the dialect, the moment, and whether it is a HEAD. It ends the
+-- connection
+abbrev pub closing : Dialect → ℕ → Bool → Context
+closing dialect moment head_only = record { moment = moment; head_only = head_only; closes = true; dialect = dialect }
 
 -- the refusal of a message that did not come to the machine: 0 stands for no number
 abbrev pub unnumbered : Code → Answer
 unnumbered code = record { number = 0; outcome = outcomes.Refused code false }
 
 -- the text is the printed refusal of such a message
-abbrev pub PrintsRefusal : Code → ℕ → Bool → List ℕ → Type 0
-PrintsRefusal code moment head_only text = Prints (unnumbered code) (closing moment head_only) text
+abbrev pub PrintsRefusal : Dialect → Code → ℕ → Bool → List ℕ → Type 0
+PrintsRefusal dialect code moment head_only text = Prints (unnumbered code) (closing dialect moment head_only) text
 
 -- what is written where memory runs out: it names no moment and no entry
 abbrev pub internal_error : List ℕ

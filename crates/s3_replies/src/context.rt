@@ -1,6 +1,7 @@
 //! What a reply takes from the message that it answers.
 
 use s3_calendar::Moment;
+use s3_terms::Dialect;
 
 /// What a reply takes from the message that it answers.
 #[derive(Clone, Copy)]
@@ -12,4 +13,6 @@ pub struct Context {
     pub head_only: bool,
     /// The connection ends with this reply.
     pub closes: bool,
+    /// How the document of the reply is spelled.
+    pub dialect: Dialect,
 }

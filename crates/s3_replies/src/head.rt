@@ -10,14 +10,14 @@ use crate::lines::{
     write_status,
 };
 use crate::room::Room;
-use s3_terms::Status;
+use s3_terms::{Dialect, Status};
 use s3_text::number_digits;
 use s3_versions::MetadataEntry;
 
 /// No head is longer.
 pub(crate) const HEAD_MAX: usize = 3840;
 
-/// Who answers a message, and when: what each head has to say.
+/// Who answers a message, and when: what each head has to say; and how a document behind it is spelled.
 #[derive(Clone, Copy)]
 pub(crate) struct Opening {
     /// The number of the entry, 0 where there is none.
@@ -26,6 +26,8 @@ pub(crate) struct Opening {
     pub closes: bool,
     /// The date of HTTP at which the reply is made.
     pub date: DateText,
+    /// How the document of the reply is spelled.
+    pub dialect: Dialect,
 }
 
 /// What a head says, in the order of its lines. Contracts see it as `fields_of` it.

@@ -7,7 +7,7 @@ pub fn replies_are_unique()
     ensures { RepliesAreUnique }
 {}
 
-/// A law: a code has one printed refusal of a message.
+/// A law: a code has one printed refusal of a message, in a dialect.
 pub fn refusals_are_unique()
     ensures { RefusalsAreUnique }
 {}

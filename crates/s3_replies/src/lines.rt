@@ -1,7 +1,7 @@
 //! The lines of a reply's head, written one after another.
 
 ghost use Rattle.std.specs.Prelude.{◌≡◌, ◌+◌, ◌*◌, ◌≤◌, ◌++◌, [], ◌∷◌, length, map, option_map, decimal};
-ghost use Rattle.s3_replies.specs.Lines.{status_line, print_lines, flag, optional, quoted, value_of, value_length, metadata_line};
+ghost use Rattle.s3_replies.specs.Lines.{status_line, print_lines, flag, optional, quoted, value_of, value_length, room_with, metadata_line};
 ghost use Rattle.s3_versions.specs.Metadata.{metadata_size};
 
 use crate::room::Room;
@@ -54,7 +54,7 @@ pub(crate) fn write_flag<R: Room>(out: &mut R, name: &str, value: &str, test: bo
     }
 }
 
-/// Appends the line where there is a value.
+/// Appends the line where there is a value; else nothing.
 #[tactic(auto, unfolding(crate::specs::Lines::print_lines))]
 pub(crate) fn write_optional<R: Room>(out: &mut R, name: &str, value: Option<&[u8]>)
     requires { R.size out.old + length name.now + value_length (value_of value) + 4 ≤ R.capacity out.old }
@@ -62,6 +62,7 @@ pub(crate) fn write_optional<R: Room>(out: &mut R, name: &str, value: Option<&[u
         ≡ R.written out.old ++ print_lines (optional name.now (value_of value.entry)) }
     ensures bound { R.size out.new
         ≤ R.size out.old + length name.now + value_length (value_of value.entry) + 4 }
+    ensures short { R.size out.new ≤ R.size out.old + room_with (length name.now + 4) (value_of value.entry) }
     ensures capacity { R.capacity out.old ≤ R.capacity out.new }
 {
     if let Some(value) = value {
@@ -77,6 +78,7 @@ pub(crate) fn write_quoted<R: Room>(out: &mut R, name: &str, text: Option<&[u8]>
         ++ print_lines (optional name.now (option_map quoted (value_of text.entry))) }
     ensures bound { R.size out.new
         ≤ R.size out.old + length name.now + value_length (value_of text.entry) + 6 }
+    ensures short { R.size out.new ≤ R.size out.old + room_with (length name.now + 6) (value_of text.entry) }
     ensures capacity { R.capacity out.old ≤ R.capacity out.new }
 {
     if let Some(text) = text {

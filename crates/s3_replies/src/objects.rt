@@ -1,7 +1,8 @@
 //! The replies that tell of an object or a part of one: to a put, a copy, a read and a delete.
 
 ghost use Rattle.std.specs.Prelude.{◌≡◌, ◌+◌, ◌≤◌, [], ◌++◌, List, ℕ, Option, unwrap_or};
-ghost use Rattle.s3_documents.specs.Copied.{copied_text};
+ghost use Rattle.s3_documents.specs.Document.{copied};
+ghost use Rattle.s3_documents.specs.Spelling.{document_text};
 ghost use Rattle.s3_machine.specs.declared.command.Found.{Found as FoundAs};
 ghost use Rattle.s3_replies.specs.declared.head.Opening.{Opening as Opens};
 ghost use Rattle.s3_replies.specs.Head.{print_head};
@@ -139,10 +140,10 @@ pub(crate) fn copied_reply<R: Room>(
 )
     requires { R.size out.old + 4096 ≤ R.capacity out.old }
     ensures written { R.written out.new ≡ R.written out.old
-        ++ front head_only (beside (stored_fields opening shown) (copied_text tag.now moment)) }
+        ++ front head_only (beside (stored_fields opening shown) (document_text opening.dialect (copied tag.now moment))) }
     ensures capacity { R.capacity out.old ≤ R.capacity out.new }
 {
-    let document = copied_document(tag, moment);
+    let document = copied_document(tag, moment, opening.dialect);
     document_head(out, opening, shown, document.len() as u64);
     write_body(out, head_only, document.as_slice());
 }

@@ -9,7 +9,7 @@ ghost use Rattle.s3_replies.specs.Replies.{Prints, PrintsRefusal, back, beside, 
 use crate::Context;
 use crate::body::write_body;
 use crate::date::DateText;
-use crate::document::document_of;
+use crate::document::{content_type_of, document_of};
 use crate::head::{Head, Opening};
 use crate::objects::{copied_reply, deleted_reply, got_reply, put_reply, shown_body};
 use crate::room::Room;
@@ -20,7 +20,7 @@ use s3_bodies::Body;
 use s3_calendar::Moment;
 use s3_machine::{Answer, Outcome};
 use s3_names::BucketName;
-use s3_terms::{Code, Status};
+use s3_terms::{Code, Dialect, Status};
 
 /// Appends the whole reply that tells of nothing but its status.
 fn bare_reply<R: Room>(out: &mut R, opening: Opening, status: Status)
@@ -57,14 +57,14 @@ fn error_reply<R: Room>(
 )
     requires { R.size out.old + 4096 ≤ R.capacity out.old }
     ensures written { R.written out.new ≡ R.written out.old
-        ++ front head_only (beside (error_fields opening code is_delete_marker) (error_document code)) }
+        ++ front head_only (beside (error_fields opening code is_delete_marker) (error_document opening.dialect code opening.number)) }
     ensures short { R.size out.new ≤ R.size out.old + 512 }
     ensures capacity { R.capacity out.old ≤ R.capacity out.new }
 {
-    let document = document_of(code);
+    let document = document_of(code, opening.number, opening.dialect);
     let head = Head {
         is_delete_marker,
-        content_type: Some(b"application/json"),
+        content_type: Some(content_type_of(opening.dialect)),
         size: document.len() as u64,
         ..Head::bare(code.status(), &opening)
     };
@@ -192,21 +192,24 @@ pub fn print_reply<R: Room>(answer: Answer, context: &Context, out: &mut R) -> O
         number: answer.number,
         closes: context.closes,
         date: DateText::of(context.moment),
+        dialect: context.dialect,
     };
     let modified = modified_in(&answer.outcome);
     outcome_reply(out, opening, answer.outcome, modified, context.head_only)
 }
 
 /// The reply to a message of this moment that is refused before it comes to the machine; `head_only` says
-/// that the message is a HEAD. The reply ends the connection, its id is zero, and it is 512 bytes long at most.
-pub fn refusal(code: Code, moment: Moment, head_only: bool) -> ArrayVec<u8, 4096>
-    ensures printed { PrintsRefusal code moment head_only result.items }
+/// that the message is a HEAD, and `dialect` how the document is spelled. The reply ends the connection, its id
+/// is zero, and it is 512 bytes long at most.
+pub fn refusal(code: Code, moment: Moment, head_only: bool, dialect: Dialect) -> ArrayVec<u8, 4096>
+    ensures printed { PrintsRefusal dialect code moment head_only result.items }
     ensures short { length result.items ≤ 512 }
 {
     let opening = Opening {
         number: 0,
         closes: true,
         date: DateText::of(moment),
+        dialect,
     };
     let mut reply: ArrayVec<u8, 4096> = ArrayVec::new();
     error_reply(&mut reply, opening, code, false, head_only);

@@ -1,12 +1,13 @@
 //! The replies whose body is a document.
 
 ghost use Rattle.std.specs.Prelude.{◌≡◌, ◌+◌, ◌≤◌, [], ◌++◌, unwrap_or};
-ghost use Rattle.s3_documents.specs.Versioning.{versioning_text};
+ghost use Rattle.s3_documents.specs.Document as documents;
+ghost use Rattle.s3_documents.specs.Spelling.{document_text};
 ghost use Rattle.s3_replies.specs.Head.{print_head};
 ghost use Rattle.s3_replies.specs.Replies.{back, behind, beside, front, document_fields, stored_fields};
 
 use crate::body::{sent, write_body};
-use crate::document::versioning_document;
+use crate::document::{content_type_of, versioning_document};
 use crate::head::{Head, Opening};
 use crate::room::Room;
 use crate::values::{id_bytes, id_text};
@@ -33,7 +34,7 @@ pub(crate) fn document_head<R: Room>(
     let id = id_text(shown);
     let head = Head {
         version_id: id_bytes(&id),
-        content_type: Some(b"application/json"),
+        content_type: Some(content_type_of(opening.dialect)),
         size,
         ..Head::bare(Status::Ok, &opening)
     };
@@ -50,11 +51,11 @@ pub(crate) fn told_reply<R: Room>(
 ) -> Option<Body>
     requires { R.size out.old + 4096 ≤ R.capacity out.old }
     ensures written { R.written out.new
-        ≡ R.written out.old ++ front head_only (behind (stored_fields opening shown) document) }
-    ensures body { unwrap_or result [] ≡ back head_only (behind (stored_fields opening shown) document) }
+        ≡ R.written out.old ++ front head_only (behind (stored_fields opening shown) (document_text opening.dialect document)) }
+    ensures body { unwrap_or result [] ≡ back head_only (behind (stored_fields opening shown) (document_text opening.dialect document)) }
     ensures capacity { R.capacity out.old ≤ R.capacity out.new }
 {
-    let body = document.into_body();
+    let body = document.into_body(opening.dialect);
     document_head(out, opening, shown, body.size());
     sent(head_only, body)
 }
@@ -68,10 +69,10 @@ pub(crate) fn versioning_reply<R: Room>(
 )
     requires { R.size out.old + 4096 ≤ R.capacity out.old }
     ensures written { R.written out.new ≡ R.written out.old
-        ++ front head_only (beside (document_fields opening) (versioning_text versioning)) }
+        ++ front head_only (beside (document_fields opening) (document_text opening.dialect (documents.versioning versioning))) }
     ensures capacity { R.capacity out.old ≤ R.capacity out.new }
 {
-    let document = versioning_document(versioning);
+    let document = versioning_document(versioning, opening.dialect);
     document_head(out, opening, None, document.len() as u64);
     write_body(out, head_only, document);
 }

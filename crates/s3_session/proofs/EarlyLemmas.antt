@@ -2,6 +2,7 @@
 use Rattle.std.proofs.Common.{◌≡◌, ◌≢◌, ℕ, Bool, true, List, Result, Ok, Err, drop, refl, ap, inl, inr}
 use Rattle.s3_config.specs.Settings.{Settings}
 use Rattle.s3_terms.specs.declared.code.Code.{Code}
+use Rattle.s3_terms.specs.declared.dialect.Dialect.{Dialect}
 use Rattle.s3_http_heads.specs.Find.{found_in}
 use Rattle.s3_http_heads.specs.declared.find.Found.{Found}
 use Rattle.s3_http_heads.specs.declared.find.Found.TheVariants as found
@@ -18,16 +19,16 @@ use Rattle.s3_session.specs.Output.{HasText}
 use Rattle.s3_session.specs.Laws.{HeadsAreDecided}
 
 -- where a head text stands and no more bytes come, something is decided
-commanded_decided : (head : HeadParts) (moment : ℕ) (behind : List ℕ) (rule : Result Command Code) → ¬ (open_yet ≡ commanded head moment behind rule)
-commanded_decided head moment behind (Ok command) is = let same = ap (λ (d : Decision). d.0) is in absurd (cc)
-commanded_decided head moment behind (Err code) is = let same = ap (λ (d : Decision). d.0) is in absurd (cc)
+commanded_decided : (dialect : Dialect) (head : HeadParts) (moment : ℕ) (behind : List ℕ) (rule : Result Command Code) → ¬ (open_yet ≡ commanded dialect head moment behind rule)
+commanded_decided dialect head moment behind (Ok command) is = let same = ap (λ (d : Decision). d.0) is in absurd (cc)
+commanded_decided dialect head moment behind (Err code) is = let same = ap (λ (d : Decision). d.0) is in absurd (cc)
 
 module _ (decide : EndsDecide) (settings : Settings) (moment : ℕ) (bytes : List ℕ) where
-  asked_decided : (head : HeadParts) (behind : List ℕ) (rule : Result Asked Code) → ¬ (AskedJudged head moment true behind rule open_yet)
+  asked_decided : (head : HeadParts) (behind : List ℕ) (rule : Result Asked Code) → ¬ (AskedJudged settings.dialect head moment true behind rule open_yet)
   asked_decided head behind (Err code) is = let same = ap (λ (d : Decision). d.0) is in absurd (cc)
   asked_decided head behind (Ok asked) (bodies.Open held, judged, is) = decide asked.announced behind (bodies.Open held) judged
   asked_decided head behind (Ok asked) (bodies.Accepted payload, judged, is) =
-      commanded_decided head moment (drop asked.announced.length behind) (command_of asked.plan payload) is
+      commanded_decided settings.dialect head moment (drop asked.announced.length behind) (command_of asked.plan payload) is
   asked_decided head behind (Ok asked) (bodies.Refused place code, judged, is) = let same = ap (λ (d : Decision). d.0) is in absurd (cc)
 
   text_decided : (text behind : List ℕ) → ¬ (TextJudged settings moment true text behind open_yet)

@@ -55,10 +55,10 @@ module _ (settings : Settings) (moment : ℕ) (ended : Bool) (rest text behind :
   -- where the head is admitted, that is what is known of its body
   pub body_judged : IsFront rest text behind → Says text head → (asked : Asked) → admission_of settings head moment ≡ Ok asked
       → (verdict : bodies.Verdict) → payloads.Judges asked.announced behind ended verdict
-      → Judges settings moment ended rest (concluded head moment asked behind verdict)
+      → Judges settings moment ended rest (concluded settings.dialect head moment asked behind verdict)
   body_judged f says asked admitted verdict judged =
-      said_judged f says (concluded head moment asked behind verdict)
-      (subst (λ (rule : Result Asked Code). AskedJudged head moment ended behind rule (concluded head moment asked behind verdict)) (sym admitted)
+      said_judged f says (concluded settings.dialect head moment asked behind verdict)
+      (subst (λ (rule : Result Asked Code). AskedJudged settings.dialect head moment ended behind rule (concluded settings.dialect head moment asked behind verdict)) (sym admitted)
       (verdict, judged, refl))
 
   -- and this is written before the body is read
@@ -78,7 +78,7 @@ module _ (judge : PayloadsJudge) (incomplete : OpenBodiesEndIncomplete) (setting
       let cut = incomplete b.asked.announced b.behind h.held undecided in
       let known = body_judged settings incoming.context.moment true rest b.text b.behind b.head (record { found = b.found; joined = b.joined }) b.says b.asked b.admitted
       (bodies.Refused (length b.behind) IncompleteBody) cut in
-      let is_so : concluded b.head incoming.context.moment b.asked b.behind (bodies.Refused (length b.behind) IncompleteBody) ≡ (verdicts.Refused IncompleteBody incoming.context.head_only, []) = rw b.context refl in
+      let is_so : concluded settings.dialect b.head incoming.context.moment b.asked b.behind (bodies.Refused (length b.behind) IncompleteBody) ≡ (verdicts.Refused IncompleteBody incoming.context.head_only, []) = rw b.context refl in
       subst (λ (d : Decision). Judges settings incoming.context.moment true rest d) is_so known
 
   pub cut_short : (result : Result ⊤ Code) → result ≡ said_at_end (verdict_of incoming.admission.reader) → IsCut settings incoming.context rest result

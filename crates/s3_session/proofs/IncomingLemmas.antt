@@ -47,7 +47,7 @@ module _ (heads : HeadsStay) (pairs : PairsStay) (settings : Settings) (old new 
         joined = front.joined;
         says = h.says;
         admitted = rw kept h.admitted;
-        context = kept ∙ h.context ∙ ap (λ (c : Context). context_of h.head c.moment) (sym kept);
+        context = kept ∙ h.context ∙ ap (λ (c : Context). context_of settings.dialect h.head c.moment) (sym kept);
         plan = planned ∙ h.plan;
         stands = stands;
         taken = taken;
@@ -56,25 +56,25 @@ module _ (heads : HeadsStay) (pairs : PairsStay) (settings : Settings) (old new 
 
   -- what is known of the body is known of the message
   body_known : (n : ℕ) (verdict : bodies.Verdict) → payloads.Judges h.asked.announced (h.behind ++ take n piece) false verdict
-      → Judges settings old.context.moment false (rest ++ take n piece) (concluded h.head old.context.moment h.asked (h.behind ++ take n piece) verdict)
+      → Judges settings old.context.moment false (rest ++ take n piece) (concluded settings.dialect h.head old.context.moment h.asked (h.behind ++ take n piece) verdict)
   body_known n verdict judged =
       body_judged settings old.context.moment false (rest ++ take n piece) h.text (h.behind ++ take n piece) h.head (front_with n) h.says h.asked h.admitted verdict judged
 
   -- what its command comes to is what becomes of the message
   commanded_known : (n : ℕ) (rule : Result Command Code)
-      → Judges settings old.context.moment false (rest ++ take n piece) (commanded h.head old.context.moment [] rule)
+      → Judges settings old.context.moment false (rest ++ take n piece) (commanded settings.dialect h.head old.context.moment [] rule)
       → (p : Progress) → p ≡ settled_as rule → Progresses settings old.context (rest ++ take n piece) p
   commanded_known n (Ok command) judged p is =
-      let is_so : commanded h.head old.context.moment [] (Ok command) ≡ (verdicts.Sound old.context command, []) = rw (← h.context) refl in
+      let is_so : commanded settings.dialect h.head old.context.moment [] (Ok command) ≡ (verdicts.Sound old.context command, []) = rw (← h.context) refl in
       rw is (subst (λ (d : Decision). Judges settings old.context.moment false (rest ++ take n piece) d) is_so judged)
   commanded_known n (Err code) judged p is =
-      let is_so : commanded h.head old.context.moment [] (Err code) ≡ (verdicts.Refused code old.context.head_only, []) = rw h.context refl in
+      let is_so : commanded settings.dialect h.head old.context.moment [] (Err code) ≡ (verdicts.Refused code old.context.head_only, []) = rw h.context refl in
       rw is (subst (λ (d : Decision). Judges settings old.context.moment false (rest ++ take n piece) d) is_so judged)
 
   -- the body is whole and right with the bytes that were taken
   whole_known : AcceptedAreWhole → (n : ℕ) (payload : List ℕ) → n ≡ part_of h.asked.announced.length h.behind piece
       → payloads.Judges h.asked.announced (h.behind ++ piece) false (bodies.Accepted payload)
-      → Judges settings old.context.moment false (rest ++ take n piece) (commanded h.head old.context.moment [] (command_of new.admission.plan payload))
+      → Judges settings old.context.moment false (rest ++ take n piece) (commanded settings.dialect h.head old.context.moment [] (command_of new.admission.plan payload))
   whole_known whole n payload is judged =
       let size = h.asked.announced.length in
       let front = whole h.asked.announced (h.behind ++ piece) false payload judged in
@@ -82,8 +82,8 @@ module _ (heads : HeadsStay) (pairs : PairsStay) (settings : Settings) (old new 
       let accepted = subst (λ (b : List ℕ). payloads.Judges h.asked.announced b false (bodies.Accepted payload)) taken front.1 in
       let shorter : length (h.behind ++ take n piece) ≤ size = rw (← taken) (omega (arith, length-take size (h.behind ++ piece))) in
       let none : drop size (h.behind ++ take n piece) ≡ [] = drop_all size (h.behind ++ take n piece) shorter in
-      let is_so : concluded h.head old.context.moment h.asked (h.behind ++ take n piece) (bodies.Accepted payload)
-      ≡ commanded h.head old.context.moment [] (command_of new.admission.plan payload) = rw (none, planned, h.plan) refl in
+      let is_so : concluded settings.dialect h.head old.context.moment h.asked (h.behind ++ take n piece) (bodies.Accepted payload)
+      ≡ commanded settings.dialect h.head old.context.moment [] (command_of new.admission.plan payload) = rw (none, planned, h.plan) refl in
       subst (λ (d : Decision). Judges settings old.context.moment false (rest ++ take n piece) d) is_so (body_known n (bodies.Accepted payload) accepted)
 
   module _ (judge : PayloadsJudge) (undecided : PayloadsStayOpen) (short : OpenBodiesAreShort) (whole : AcceptedAreWhole) (n : ℕ)
@@ -127,7 +127,7 @@ module _ (heads : HeadsStay) (pairs : PairsStay) (settings : Settings) (old new 
       let there = stand h.asked.announced bytes place code judged in
       let front : take place bytes ≡ h.behind ++ take n piece = take_beyond h.behind piece place (omega (arith, counts, h.taken)) ∙ ap (λ k. h.behind ++ take k piece) (omega (arith, is, h.taken)) in
       let known = body_known n (bodies.Refused place code) (subst (λ (b : List ℕ). payloads.Judges h.asked.announced b false (bodies.Refused place code)) front there.1) in
-      let is_so : concluded h.head old.context.moment h.asked (h.behind ++ take n piece) (bodies.Refused place code) ≡ (verdicts.Refused code old.context.head_only, []) = rw (h.context) refl in
+      let is_so : concluded settings.dialect h.head old.context.moment h.asked (h.behind ++ take n piece) (bodies.Refused place code) ≡ (verdicts.Refused code old.context.head_only, []) = rw (h.context) refl in
       subst (λ (q : Progress). Progresses settings old.context (rest ++ take n piece) q) (sym refused.1)
       (subst (λ (d : Decision). Judges settings old.context.moment false (rest ++ take n piece) d) is_so known)
 

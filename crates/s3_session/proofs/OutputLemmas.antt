@@ -3,6 +3,7 @@ use Rattle.std.proofs.Common.{◌≡◌, ℕ, suc, Bool, true, false, List, [], 
 use mathlib.Core.List.{IsPrefix}
 use Rattle.std.specs.List.{AllByRecursion, flat_map}
 use Rattle.std.proofs.lemmas.Bool.{cases_Bool, MatchBool-at_true, MatchBool-at_false}
+use Rattle.s3_terms.specs.declared.dialect.Dialect.{Dialect}
 use Rattle.s3_config.specs.Settings.{Settings}
 use Rattle.s3_http_heads.specs.Find.{found_in}
 use Rattle.s3_http_heads.specs.declared.find.Found.{Found}
@@ -40,10 +41,10 @@ waiting_at (verdicts.Refused code head_only) = []
 waiting_at (verdicts.Sound context command) = record { command = command; moment = context.moment } ∷ []
 
 -- what is written last: only a refusal has a text
-abbrev pub Concludes : ℕ → Verdict → List ℕ → Type 0
-Concludes moment verdicts.Open text = text ≡ []
-Concludes moment (verdicts.Refused code head_only) text = PrintsRefusal code moment head_only text
-Concludes moment (verdicts.Sound context command) text = text ≡ []
+abbrev pub Concludes : Dialect → ℕ → Verdict → List ℕ → Type 0
+Concludes dialect moment verdicts.Open text = text ≡ []
+Concludes dialect moment (verdicts.Refused code head_only) text = PrintsRefusal dialect code moment head_only text
+Concludes dialect moment (verdicts.Sound context command) text = text ≡ []
 
 -- at this moment a verdict tells how the connection stands, which turn waits, and what is written
 pub record Told (standing : Standing) (settings : Settings) (ended : Bool) (rest : List ℕ) (moment : ℕ) (waiting : List Turn) (last : List ℕ) : Type 0 where
@@ -54,7 +55,7 @@ pub record Told (standing : Standing) (settings : Settings) (ended : Bool) (rest
   pub invites : Invites settings moment rest before
   pub stands : standing ≡ standing_told decision.0
   pub waits : waiting ≡ waiting_at decision.0
-  pub concludes : Concludes moment decision.0 text
+  pub concludes : Concludes settings.dialect moment decision.0 text
   pub joined : last ≡ before ++ text
 
 -- the moment of the message, if it has one, was this one
@@ -137,7 +138,7 @@ module _ (settings : Settings) (ended : Bool) (rest late : List ℕ) (moment : �
         invites = subst (λ m. Invites settings m rest x.before) same x.invites;
         stands = refl;
         waits = x.none;
-        concludes = subst (λ m. PrintsRefusal x.code m x.head_only x.text) same x.printed;
+        concludes = subst (λ m. PrintsRefusal settings.dialect x.code m x.head_only x.text) same x.printed;
         joined = x.joined;
       }
 
@@ -182,9 +183,9 @@ abbrev answers_of : List Exchange → List Answer
 answers_of xs = map (λ (x : Exchange). x.answer) xs
 
 module _ (one : OneVerdict) (invited : OneInvitation) (replies : RepliesAreUnique) (refusals : RefusalsAreUnique) (settings : Settings) (ended : Bool) where
-  concludes_once : (moment : ℕ) (verdict : Verdict) (a b : List ℕ) → Concludes moment verdict a → Concludes moment verdict b → a ≡ b
+  concludes_once : (moment : ℕ) (verdict : Verdict) (a b : List ℕ) → Concludes settings.dialect moment verdict a → Concludes settings.dialect moment verdict b → a ≡ b
   concludes_once moment verdicts.Open a b x y = x ∙ sym y
-  concludes_once moment (verdicts.Refused code head_only) a b x y = refusals code moment head_only a b x y
+  concludes_once moment (verdicts.Refused code head_only) a b x y = refusals settings.dialect code moment head_only a b x y
   concludes_once moment (verdicts.Sound context command) a b x y = x ∙ sym y
 
   told_once : (p q : Standing) (rest : List ℕ) (moment : ℕ) (waiting other : List Turn) (last end : List ℕ)
@@ -194,7 +195,7 @@ module _ (one : OneVerdict) (invited : OneInvitation) (replies : RepliesAreUniqu
       let same = one settings moment ended rest x.decision y.decision x.judged y.judged in
       let befores : x.before ≡ y.before = invited settings moment rest x.before y.before x.invites y.invites in
       let texts : x.text ≡ y.text = concludes_once moment y.decision.0 x.text y.text
-      (subst (λ (d : Decision). Concludes moment d.0 x.text) same x.concludes) y.concludes in (
+      (subst (λ (d : Decision). Concludes settings.dialect moment d.0 x.text) same x.concludes) y.concludes in (
         x.joined ∙ ap (λ t. x.before ++ t) texts ∙ ap (λ b. b ++ y.text) befores ∙ sym y.joined,
         x.waits ∙ ap (λ (d : Decision). waiting_at d.0) same ∙ sym y.waits,
         x.stands ∙ ap (λ (d : Decision). standing_told d.0) same ∙ sym y.stands,

@@ -5,6 +5,7 @@ use Rattle.std.specs.Option.{option_copied}
 use Rattle.std.proofs.lemmas.List.{take_all, drop_all, drop_at, length-drop}
 use Rattle.s3_config.specs.Settings.{Settings}
 use Rattle.s3_terms.specs.declared.code.Code.{Code}
+use Rattle.s3_terms.specs.declared.dialect.Dialect.{Dialect}
 use Rattle.s3_terms.specs.declared.code.Code.TheVariants.{HeadTooLarge, MalformedHead}
 use Rattle.s3_http_heads.specs.Find.{found_in, skip_pairs}
 use Rattle.s3_http_heads.specs.declared.find.Found.{Found}
@@ -102,9 +103,9 @@ module _ (settings : Settings) (context : Context) (rest last : List ℕ) (old n
       })
   asked_here command need judged whole invites (inr dying) = dead_here settings new rest context.moment old need last whole (inr invites) dying
 
-  pub goes_on_here : (p : Progress) (need : Need) → Progresses settings context rest p → HasText rest → Invites settings context.moment rest last
+  pub goes_on_here : context.dialect ≡ settings.dialect → (p : Progress) (need : Need) → Progresses settings context rest p → HasText rest → Invites settings context.moment rest last
       → GoesOn context p old new need → Here settings new false rest (turns_of need) (last ++ added (unsent_of old) (unsent_of new))
-  goes_on_here (progress.Open incoming) need (same, body) whole invites (more, stage, kept) =
+  goes_on_here spoken (progress.Open incoming) need (same, body) whole invites (more, stage, kept) =
       let nothing : last ++ added (unsent_of old) (unsent_of new) ≡ last = ap (λ t. last ++ t) (added_none (unsent_of old) (unsent_of new) (rw kept refl)) ∙ append-nil last in
       at_stage settings new rest context.moment (stages.Body incoming) (turns_of need) _ stage (record {
         goes_on = refl;
@@ -112,8 +113,8 @@ module _ (settings : Settings) (context : Context) (rest last : List ℕ) (old n
         invites = rw (nothing, same) invites;
         none = ap turns_of more;
       })
-  goes_on_here (progress.Whole command) need judged whole invites asks = asked_here command need judged whole invites asks
-  goes_on_here (progress.Refused code) need judged whole invites (closes, stage, printed) =
+  goes_on_here spoken (progress.Whole command) need judged whole invites asks = asked_here command need judged whole invites asks
+  goes_on_here spoken (progress.Refused code) need judged whole invites (closes, stage, printed) =
       at_stage settings new rest context.moment (stages.Closed (closings.Refused context.moment code)) (turns_of need) _ stage ((
         record {
           moment = context.moment;
@@ -125,12 +126,12 @@ module _ (settings : Settings) (context : Context) (rest last : List ℕ) (old n
           none = ap turns_of closes;
           judged = judged;
           invites = invites;
-          printed = printed;
+          printed = subst (λ (d : Dialect). PrintsRefusal d code context.moment context.head_only (added (unsent_of old) (unsent_of new))) spoken printed;
           joined = refl;
         },
         refl,
       ))
-  goes_on_here progress.Died need tt whole invites dying = dead_here settings new rest context.moment old need last whole (inr invites) dying
+  goes_on_here spoken progress.Died need tt whole invites dying = dead_here settings new rest context.moment old need last whole (inr invites) dying
 
 -- a piece of a body
 pub body_fed : HeadsStay → InvitationsStay → (settings : Settings) (incoming : Incoming) (rest last piece : List ℕ) (old new : Connection) (n : ℕ) (p : Progress) (need : Need)
@@ -141,7 +142,7 @@ pub body_fed : HeadsStay → InvitationsStay → (settings : Settings) (incoming
 body_fed heads stay settings incoming rest last piece old new n p need h invites progresses goes_on =
     let found : found_in rest ≢ found.NeedMore = λ none. (let same = sym h.found ∙ none in absurd (cc)) in
     let whole : HasText (rest ++ take n piece) = record { size = length h.text; found = heads rest (take n piece) (length h.text) h.found } in
-    goes_on_here settings incoming.context (rest ++ take n piece) last old new p need progresses whole
+    goes_on_here settings incoming.context (rest ++ take n piece) last old new (ap (λ (c : Context). c.dialect) h.context) p need progresses whole
     (stay settings incoming.context.moment rest (take n piece) last found invites) goes_on
 
 -- more is needed where bytes of the body are still to come, and then all of the piece was taken
@@ -179,7 +180,7 @@ module _ (settings : Settings) (moment : ℕ) (rest : List ℕ) where
   -- an admitted head leads to its body
   admitted_incoming : PayloadsStayWithin → found_in rest ≡ found.Head (length (skip_pairs rest)) → (head : HeadParts) → Says (skip_pairs rest) head
       → (incoming : Incoming) (rule : Result Asked Code) → admission_of settings head moment ≡ rule
-      → IsRuled rule incoming.admission → incoming.context ≡ context_of head moment → IsIncoming settings incoming rest
+      → IsRuled rule incoming.admission → incoming.context ≡ context_of settings.dialect head moment → IsIncoming settings incoming rest
   admitted_incoming within found head says incoming (Err code) is ruled context = absurd ruled
   admitted_incoming within found head says incoming (Ok asked) is (stands, planned, sized) context =
       let front = whole_front found in
@@ -193,7 +194,7 @@ module _ (settings : Settings) (moment : ℕ) (rest : List ℕ) where
         joined = front.joined;
         says = says;
         admitted = rw same is;
-        context = context ∙ ap (λ (m : ℕ). context_of head m) (sym same);
+        context = context ∙ ap (λ (m : ℕ). context_of settings.dialect head m) (sym same);
         plan = planned;
         stands = stands;
         taken = omega (arith, within incoming.admission.reader asked.announced [] false stands);
@@ -229,7 +230,7 @@ module _ (settings : Settings) (moment : ℕ) (rest : List ℕ) where
       → Judges settings moment false rest (refused_message code (asks_head_only head)) × Invites settings moment rest []
   refused_head found head says code rule =
       let front = whole_front found in
-      let judged = subst (λ (r : Result Asked Code). AskedJudged head moment false [] r (refused_message code (asks_head_only head))) (sym rule) refl in
+      let judged = subst (λ (r : Result Asked Code). AskedJudged settings.dialect head moment false [] r (refused_message code (asks_head_only head))) (sym rule) refl in
       let told = said_invites settings moment false rest (skip_pairs rest) [] head front says in
       let nothing : invitation head (admission_of settings head moment) ≡ [] = rw rule refl in (
         said_judged settings moment false rest (skip_pairs rest) [] head front says (refused_message code (asks_head_only head)) judged,
@@ -257,7 +258,7 @@ module _ (settings : Settings) (moment : ℕ) (rest piece : List ℕ) (old new :
   pub begins_refused : (text : Option (Bor (List ℕ))) → IfSome text (λ (t : Bor (List ℕ)). t.now ≡ skip_pairs rest)
       → (code : Code) (head_only : Bool) → Opens settings moment (option_copied text) (opening.Refused code head_only)
       → new.stage ≡ stages.Closed (closings.Refused moment code)
-      → PrintsRefusal code moment head_only (added (unsent_of old) (unsent_of new))
+      → PrintsRefusal settings.dialect code moment head_only (added (unsent_of old) (unsent_of new))
       → (need : Need) → need ≡ needs.Close → IsFed settings old new rest [] piece 0 need
   begins_refused text is code head_only opens stage printed need closes =
       let told = text_refused settings moment rest found_whole code head_only (opened_text settings moment rest code head_only (opens_said settings moment rest text (opening.Refused code head_only) is opens)) in
@@ -345,7 +346,7 @@ module _ (settings : Settings) (rest piece : List ℕ) (old new : Connection) (n
   )
 
   pub reads_large : (moment : ℕ) → found.TooLarge ≡ found_in (rest ++ take n piece) → new.stage ≡ stages.Closed (closings.Refused moment HeadTooLarge)
-      → PrintsRefusal HeadTooLarge moment false (added (unsent_of old) (unsent_of new))
+      → PrintsRefusal settings.dialect HeadTooLarge moment false (added (unsent_of old) (unsent_of new))
       → need ≡ needs.Close → ((m : ℕ) → m < n → found_in (rest ++ take m piece) ≡ found.NeedMore) → IsFed settings old new rest [] piece n need
   reads_large moment is stage printed closes before =
       let told = too_large moment (sym is) in
@@ -400,7 +401,7 @@ cut_from settings context rest mid old new same cut = record {
   code = cut.code;
   judged = cut.judged;
   stage = cut.stage;
-  printed = subst (λ u. PrintsRefusal cut.code context.moment context.head_only (added u (unsent_of new))) same cut.printed;
+  printed = subst (λ u. PrintsRefusal settings.dialect cut.code context.moment context.head_only (added u (unsent_of new))) same cut.printed;
 }
 
 -- the head that came whole with a piece, of which its body takes more, is held

@@ -92,20 +92,20 @@ record IsSoundHead (settings : Settings) (moment : ℕ) (head : HeadParts) (ende
   payload : List ℕ
   admitted : admission_of settings head moment ≡ Ok asks
   accepted : payloads.Judges asks.announced bytes ended (bodies.Accepted payload)
-  replied : context ≡ context_of head moment
+  replied : context ≡ context_of settings.dialect head moment
   asked : command_of asks.plan payload ≡ Ok command
   left : rest ≡ drop asks.announced.length bytes
 
 module _ (settings : Settings) (moment : ℕ) (ended : Bool) (head : HeadParts) (bytes : List ℕ) (context : Context) (command : Command) (rest : List ℕ) where
   -- a command that is sound is the one that the message makes
-  commanded_sound : (behind : List ℕ) (rule : Result Command Code) → sound context command rest ≡ commanded head moment behind rule
-      → (context ≡ context_of head moment) × (rule ≡ Ok command) × (rest ≡ behind)
+  commanded_sound : (behind : List ℕ) (rule : Result Command Code) → sound context command rest ≡ commanded settings.dialect head moment behind rule
+      → (context ≡ context_of settings.dialect head moment) × (rule ≡ Ok command) × (rest ≡ behind)
   commanded_sound behind (Ok made) is =
       let same = ap (λ (d : Decision). d.0) is in (cc, cc, ap (λ (d : Decision). d.1) is)
   commanded_sound behind (Err code) is = let same = ap (λ (d : Decision). d.0) is in absurd (cc)
 
   rule_sound : (rule : Result Asked Code) → admission_of settings head moment ≡ rule
-      → AskedJudged head moment ended bytes rule (sound context command rest) → IsSoundHead settings moment head ended bytes context command rest
+      → AskedJudged settings.dialect head moment ended bytes rule (sound context command rest) → IsSoundHead settings moment head ended bytes context command rest
   rule_sound (Err code) at is = let same = ap (λ (d : Decision). d.0) is in absurd (cc)
   rule_sound (Ok asks) at (bodies.Open held, judged, is) = let same = ap (λ (d : Decision). d.0) is in absurd (cc)
   rule_sound (Ok asks) at (bodies.Refused place code, judged, is) = let same = ap (λ (d : Decision). d.0) is in absurd (cc)
@@ -176,12 +176,12 @@ sound_is_message exact whole settings moment ended bytes rest context command is
 head_judged : BodiesStay → (settings : Settings) (moment : ℕ) (ended : Bool) (head : HeadParts) (body rest payload : List ℕ) (asks : Asked) (command : Command)
     → admission_of settings head moment ≡ Ok asks → length body ≡ asks.announced.length → payloads.Judges asks.announced body false (bodies.Accepted payload)
     → command_of asks.plan payload ≡ Ok command
-    → HeadJudged settings moment ended head (body ++ rest) (sound (context_of head moment) command rest)
+    → HeadJudged settings moment ended head (body ++ rest) (sound (context_of settings.dialect head moment) command rest)
 head_judged stay settings moment ended head body rest payload asks command admitted size accepted asked =
     let judged = stay asks.announced body rest ended (bodies.Accepted payload) accepted tt in
     let behind : rest ≡ drop asks.announced.length (body ++ rest) = sym (drop_at body rest asks.announced.length size) in
-    let end : sound (context_of head moment) command rest ≡ commanded head moment (drop asks.announced.length (body ++ rest)) (command_of asks.plan payload) =
-    rw asked (ap (sound (context_of head moment) command) behind) in
+    let end : sound (context_of settings.dialect head moment) command rest ≡ commanded settings.dialect head moment (drop asks.announced.length (body ++ rest)) (command_of asks.plan payload) =
+    rw asked (ap (sound (context_of settings.dialect head moment) command) behind) in
     rw admitted (bodies.Accepted payload, judged, end)
 
 text_judged : BodiesStay → (settings : Settings) (moment : ℕ) (ended : Bool) (bytes rest : List ℕ) (context : Context) (command : Command)
@@ -190,7 +190,7 @@ text_judged : BodiesStay → (settings : Settings) (moment : ℕ) (ended : Bool)
 text_judged stay settings moment ended bytes rest context command s =
     let frames = admitted_length settings s.head moment s.asks s.admitted in
     let one = head_judged stay settings moment ended s.head s.body rest s.payload s.asks command s.admitted (one_count _ _ (sym s.message.whole ∙ frames)) s.accepted s.asked in
-    let asks : sound context command rest ≡ sound (context_of s.head moment) command rest = rw s.replied refl in
+    let asks : sound context command rest ≡ sound (context_of settings.dialect s.head moment) command rest = rw s.replied refl in
     inr (s.head, s.message.says, subst (HeadJudged settings moment ended s.head (s.body ++ rest)) (sym asks) one)
 
 pub message_is_sound : BodiesStay → SoundIsJudged

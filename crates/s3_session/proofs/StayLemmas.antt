@@ -3,6 +3,7 @@ use Rattle.std.proofs.Common.{◌≡◌, ◌≢◌, ℕ, Bool, false, List, ◌+
 use Rattle.std.proofs.lemmas.List.{take-append-le, drop-append-le}
 use Rattle.s3_config.specs.Settings.{Settings}
 use Rattle.s3_terms.specs.declared.code.Code.{Code}
+use Rattle.s3_terms.specs.declared.dialect.Dialect.{Dialect}
 use Rattle.s3_terms.specs.declared.code.Code.TheVariants.{HeadTooLarge, MalformedHead}
 use Rattle.s3_http_heads.specs.Find.{found_in, skip_pairs, IsHeadText}
 use Rattle.s3_http_heads.specs.declared.find.Found.{Found}
@@ -34,30 +35,30 @@ not_open : (d : Decision) (P : Type 0) → d ≡ open_yet → d.0 ≢ verdicts.O
 not_open d P is decided = absurd (decided (ap (λ (e : Decision). e.0) is))
 
 -- what stands behind a sound message stands in front of what follows
-commanded_stays : (head : HeadParts) (moment : ℕ) (behind more : List ℕ) (rule : Result Command Code)
-    → with_more more (commanded head moment behind rule) ≡ commanded head moment (behind ++ more) rule
-commanded_stays head moment behind more (Ok command) = refl
-commanded_stays head moment behind more (Err code) = refl
+commanded_stays : (dialect : Dialect) (head : HeadParts) (moment : ℕ) (behind more : List ℕ) (rule : Result Command Code)
+    → with_more more (commanded dialect head moment behind rule) ≡ commanded dialect head moment (behind ++ more) rule
+commanded_stays dialect head moment behind more (Ok command) = refl
+commanded_stays dialect head moment behind more (Err code) = refl
 
 -- what a body was accepted with stands in front of what follows
-concluded_stays : AcceptedAreWhole → (head : HeadParts) (moment : ℕ) (bytes more : List ℕ) (asked : Asked) (verdict : bodies.Verdict)
-    → payloads.Judges asked.announced bytes false verdict → (concluded head moment asked bytes verdict).0 ≢ verdicts.Open
-    → IsDecided verdict × (with_more more (concluded head moment asked bytes verdict) ≡ concluded head moment asked (bytes ++ more) verdict)
-concluded_stays whole head moment bytes more asked (bodies.Open held) judged decided = absurd (decided refl)
-concluded_stays whole head moment bytes more asked (bodies.Refused place code) judged decided = (tt, refl)
-concluded_stays whole head moment bytes more asked (bodies.Accepted payload) judged decided =
+concluded_stays : AcceptedAreWhole → (dialect : Dialect) (head : HeadParts) (moment : ℕ) (bytes more : List ℕ) (asked : Asked) (verdict : bodies.Verdict)
+    → payloads.Judges asked.announced bytes false verdict → (concluded dialect head moment asked bytes verdict).0 ≢ verdicts.Open
+    → IsDecided verdict × (with_more more (concluded dialect head moment asked bytes verdict) ≡ concluded dialect head moment asked (bytes ++ more) verdict)
+concluded_stays whole dialect head moment bytes more asked (bodies.Open held) judged decided = absurd (decided refl)
+concluded_stays whole dialect head moment bytes more asked (bodies.Refused place code) judged decided = (tt, refl)
+concluded_stays whole dialect head moment bytes more asked (bodies.Accepted payload) judged decided =
     let size = asked.announced.length in
     let back : drop size (bytes ++ more) ≡ drop size bytes ++ more = drop-append-le size bytes more (whole asked.announced bytes false payload judged).0 in
     let rule = command_of asked.plan payload in
-    (tt, commanded_stays head moment (drop size bytes) more rule ∙ ap (λ (behind : List ℕ). commanded head moment behind rule) (sym back))
+    (tt, commanded_stays dialect head moment (drop size bytes) more rule ∙ ap (λ (behind : List ℕ). commanded dialect head moment behind rule) (sym back))
 
-asked_stays : BodiesStay → AcceptedAreWhole → (head : HeadParts) (moment : ℕ) (ended : Bool) (bytes more : List ℕ) (rule : Result Asked Code) (d : Decision)
-    → AskedJudged head moment false bytes rule d → d.0 ≢ verdicts.Open
-    → AskedJudged head moment ended (bytes ++ more) rule (with_more more d)
-asked_stays stay whole head moment ended bytes more (Err code) d is decided = refusal_stays more code (asks_head_only head) d is
-asked_stays stay whole head moment ended bytes more (Ok asked) d (verdict, judged, is) decided =
-    let known : (concluded head moment asked bytes verdict).0 ≢ verdicts.Open = λ open_still. decided (ap (λ (e : Decision). e.0) is ∙ open_still) in
-    let stays = concluded_stays whole head moment bytes more asked verdict judged known in
+asked_stays : BodiesStay → AcceptedAreWhole → (dialect : Dialect) (head : HeadParts) (moment : ℕ) (ended : Bool) (bytes more : List ℕ) (rule : Result Asked Code) (d : Decision)
+    → AskedJudged dialect head moment false bytes rule d → d.0 ≢ verdicts.Open
+    → AskedJudged dialect head moment ended (bytes ++ more) rule (with_more more d)
+asked_stays stay whole dialect head moment ended bytes more (Err code) d is decided = refusal_stays more code (asks_head_only head) d is
+asked_stays stay whole dialect head moment ended bytes more (Ok asked) d (verdict, judged, is) decided =
+    let known : (concluded dialect head moment asked bytes verdict).0 ≢ verdicts.Open = λ open_still. decided (ap (λ (e : Decision). e.0) is ∙ open_still) in
+    let stays = concluded_stays whole dialect head moment bytes more asked verdict judged known in
     (verdict, stay asked.announced bytes more ended verdict judged stays.0, ap (with_more more) is ∙ stays.1)
 
 text_stays : BodiesStay → AcceptedAreWhole → (settings : Settings) (moment : ℕ) (ended : Bool) (text bytes more : List ℕ) (d : Decision)
@@ -66,7 +67,7 @@ text_stays : BodiesStay → AcceptedAreWhole → (settings : Settings) (moment :
 text_stays stay whole settings moment ended text bytes more d (inl unreadable) decided =
     inl (unreadable.0, refusal_stays more MalformedHead false d unreadable.1)
 text_stays stay whole settings moment ended text bytes more d (inr said) decided =
-    inr (said.0, said.1, asked_stays stay whole said.0 moment ended bytes more (admission_of settings said.0 moment) d said.2 decided)
+    inr (said.0, said.1, asked_stays stay whole settings.dialect said.0 moment ended bytes more (admission_of settings said.0 moment) d said.2 decided)
 
 -- what the layer of heads says of head texts that were found
 abbrev pub HeadsStay : Type 0

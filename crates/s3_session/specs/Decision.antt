@@ -3,6 +3,7 @@
 use Rattle.std.specs.Prelude.{◌≡◌, ℕ, ◌⊎◌, Bool, false, List, [], take, drop, Result, Ok, Err}
 use Rattle.s3_config.specs.Settings.{Settings}
 use Rattle.s3_terms.specs.declared.code.Code.{Code}
+use Rattle.s3_terms.specs.declared.dialect.Dialect.{Dialect}
 use Rattle.s3_terms.specs.declared.code.Code.TheVariants.{HeadTooLarge, MalformedHead}
 use Rattle.s3_http_heads.specs.Find.{found_in, skip_pairs}
 use Rattle.s3_http_heads.specs.declared.find.Found.{Found}
@@ -17,9 +18,9 @@ use Rattle.s3_session.specs.Verdict.{Verdict}
 use Rattle.s3_session.specs.Verdict as verdicts
 use Rattle.s3_session.specs.Admission.{Asked, admission_of}
 
--- what a reply takes from its message
-abbrev pub context_of : HeadParts → ℕ → Context
-context_of head moment = record { moment = moment; head_only = asks_head_only head; closes = closes head }
+-- what a reply takes from its message, in the dialect of its connection
+abbrev pub context_of : Dialect → HeadParts → ℕ → Context
+context_of dialect head moment = record { moment = moment; head_only = asks_head_only head; closes = closes head; dialect = dialect }
 
 -- the verdict on a message, and the bytes that come after it where it is sound
 abbrev pub Decision : Type 0
@@ -34,27 +35,27 @@ abbrev pub refused_message : Code → Bool → Decision
 refused_message code head_only = (verdicts.Refused code head_only, [])
 
 -- what comes of a message whose body is whole and right, by its command or by what that refuses, and what stands behind it
-abbrev pub commanded : HeadParts → ℕ → List ℕ → Result Command Code → Decision
-commanded head moment behind (Ok command) = (verdicts.Sound (context_of head moment) command, behind)
-commanded head moment behind (Err code) = refused_message code (asks_head_only head)
+abbrev pub commanded : Dialect → HeadParts → ℕ → List ℕ → Result Command Code → Decision
+commanded dialect head moment behind (Ok command) = (verdicts.Sound (context_of dialect head moment) command, behind)
+commanded dialect head moment behind (Err code) = refused_message code (asks_head_only head)
 
 -- what comes of a message whose head asks for this, by what is known of its body
-abbrev pub concluded : HeadParts → ℕ → Asked → List ℕ → bodies.Verdict → Decision
-concluded head moment asked bytes (bodies.Open held) = open_yet
-concluded head moment asked bytes (bodies.Accepted payload) =
-    commanded head moment (drop asked.announced.length bytes) (command_of asked.plan payload)
-concluded head moment asked bytes (bodies.Refused place code) = refused_message code (asks_head_only head)
+abbrev pub concluded : Dialect → HeadParts → ℕ → Asked → List ℕ → bodies.Verdict → Decision
+concluded dialect head moment asked bytes (bodies.Open held) = open_yet
+concluded dialect head moment asked bytes (bodies.Accepted payload) =
+    commanded dialect head moment (drop asked.announced.length bytes) (command_of asked.plan payload)
+concluded dialect head moment asked bytes (bodies.Refused place code) = refused_message code (asks_head_only head)
 
 -- the verdict by what the head asks for and the bytes behind it, or by the first fault of the head
-abbrev pub AskedJudged : HeadParts → ℕ → Bool → List ℕ → Result Asked Code → Decision → Type 0
-AskedJudged head moment ended bytes (Err code) decision = decision ≡ refused_message code (asks_head_only head)
-AskedJudged head moment ended bytes (Ok asked) decision =
-    (verdict : bodies.Verdict) × payloads.Judges asked.announced bytes ended verdict × (decision ≡ concluded head moment asked bytes verdict)
+abbrev pub AskedJudged : Dialect → HeadParts → ℕ → Bool → List ℕ → Result Asked Code → Decision → Type 0
+AskedJudged dialect head moment ended bytes (Err code) decision = decision ≡ refused_message code (asks_head_only head)
+AskedJudged dialect head moment ended bytes (Ok asked) decision =
+    (verdict : bodies.Verdict) × payloads.Judges asked.announced bytes ended verdict × (decision ≡ concluded dialect head moment asked bytes verdict)
 
 -- the verdict on a message whose head has been read, by the bytes that follow the head
 abbrev pub HeadJudged : Settings → ℕ → Bool → HeadParts → List ℕ → Decision → Type 0
 HeadJudged settings moment ended head bytes decision =
-    AskedJudged head moment ended bytes (admission_of settings head moment) decision
+    AskedJudged settings.dialect head moment ended bytes (admission_of settings head moment) decision
 
 -- the text at the front of the bytes, after the pairs that are skipped, and what follows it
 abbrev pub text_at : ℕ → List ℕ → List ℕ

@@ -3,6 +3,7 @@
 use Rattle.std.specs.Prelude.{◌≡◌, ◌≢◌, ◌⊎◌, ℕ, ◌≤◌, Bool, true, false, List, [], ◌++◌, length, Option, Some, None, Result, Ok, Err, ⊤}
 use Rattle.s3_config.specs.Settings.{Settings}
 use Rattle.s3_terms.specs.declared.code.Code.{Code}
+use Rattle.s3_terms.specs.declared.dialect.Dialect.{Dialect}
 use Rattle.s3_terms.specs.declared.code.Code.TheVariants.{MalformedHead, InternalError}
 use Rattle.s3_http_heads.specs.Find.{found_in, skip_pairs}
 use Rattle.s3_http_heads.specs.declared.find.Found.TheVariants as found
@@ -23,21 +24,22 @@ use Rattle.s3_session.specs.declared.incoming.Progress.TheVariants as progress
 use Rattle.s3_session.specs.declared.opening.Opening.{Opening}
 use Rattle.s3_session.specs.declared.opening.Opening.TheVariants as opening
 
--- what came of a head: it is admitted, and its client may be told to go on; it is refused; or memory ran out
-abbrev pub HeadOpens : HeadParts → ℕ → Result Asked Code → Opening → Type 0
-HeadOpens head moment rule (opening.Admitted incoming invited) =
+-- what came of a head, in the dialect of its connection: it is admitted, and its client may be told to go on; it is refused; or memory
+-- ran out
+abbrev pub HeadOpens : Dialect → HeadParts → ℕ → Result Asked Code → Opening → Type 0
+HeadOpens dialect head moment rule (opening.Admitted incoming invited) =
     IsRuled rule incoming.admission
-    × (incoming.context ≡ context_of head moment)
+    × (incoming.context ≡ context_of dialect head moment)
     × (invited ≡ may_be_invited head incoming.admission.length)
-HeadOpens head moment rule (opening.Refused code head_only) = (rule ≡ Err code) × (head_only ≡ asks_head_only head)
-HeadOpens head moment rule opening.Died = Unit {0}
+HeadOpens dialect head moment rule (opening.Refused code head_only) = (rule ≡ Err code) × (head_only ≡ asks_head_only head)
+HeadOpens dialect head moment rule opening.Died = Unit {0}
 
 -- what came of a head text
 abbrev pub TextOpens : Settings → ℕ → List ℕ → Opening → Type 0
 TextOpens settings moment text opened =
     (opened ≡ opening.Died)
     ⊎ (HasNoHead text × (opened ≡ opening.Refused MalformedHead false))
-    ⊎ ((head : HeadParts) × Says text head × HeadOpens head moment (admission_of settings head moment) opened)
+    ⊎ ((head : HeadParts) × Says text head × HeadOpens settings.dialect head moment (admission_of settings head moment) opened)
 
 -- the same, where the text may have been lost
 abbrev pub Opens : Settings → ℕ → Option (List ℕ) → Opening → Type 0
@@ -54,7 +56,7 @@ pub record IsIncoming (settings : Settings) (incoming : Incoming) (rest : List �
   pub joined : skip_pairs rest ≡ text ++ behind
   pub says : Says text head
   pub admitted : admission_of settings head incoming.context.moment ≡ Ok asked
-  pub context : incoming.context ≡ context_of head incoming.context.moment
+  pub context : incoming.context ≡ context_of settings.dialect head incoming.context.moment
   pub plan : incoming.admission.plan ≡ asked.plan
   pub stands : payloads.Stands incoming.admission.reader asked.announced behind false
   pub taken : payloads.taken_of incoming.admission.reader ≡ length behind

@@ -72,7 +72,7 @@ pub record IsSound (settings : Settings) (moment : ℕ) (bytes : List ℕ) (cont
   pub message : IsMessage bytes head body rest
   pub admitted : admission_of settings head moment ≡ Ok asks
   pub accepted : payloads.Judges asks.announced body false (Accepted payload)
-  pub replied : context ≡ context_of head moment
+  pub replied : context ≡ context_of settings.dialect head moment
   pub asked : command_of asks.plan payload ≡ Ok command
 
 -- a sound verdict is about a sound message at the front of the bytes

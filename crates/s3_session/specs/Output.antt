@@ -129,7 +129,7 @@ pub record IsRefused (settings : Settings) (ended : Bool) (rest late : List ℕ)
   pub none : waiting ≡ []
   pub judged : Judges settings moment ended rest (refused_message code head_only)
   pub invites : Invites settings moment rest before
-  pub printed : PrintsRefusal code moment head_only text
+  pub printed : PrintsRefusal settings.dialect code moment head_only text
   pub joined : last ≡ before ++ text
 
 -- a whole head text stands at the front of the bytes

@@ -136,7 +136,7 @@ GoesOn context (progress.Whole command) old new need = Asks context command old 
 GoesOn context (progress.Refused code) old new need =
     (need ≡ needs.Close)
     × (new.stage ≡ stages.Closed (closings.Refused context.moment code))
-    × PrintsRefusal code context.moment context.head_only (added (unsent_of old) (unsent_of new))
+    × PrintsRefusal context.dialect code context.moment context.head_only (added (unsent_of old) (unsent_of new))
 GoesOn context progress.Died old new need = IsDying context.moment old new need
 
 -- after a reply: ready for the next message, or closed
@@ -149,7 +149,7 @@ pub record IsCutTo (settings : Settings) (context : Context) (rest : List ℕ) (
   pub code : Code
   pub judged : Judges settings context.moment true rest (verdicts.Refused code context.head_only, [])
   pub stage : new.stage ≡ stages.Closed (closings.Refused context.moment code)
-  pub printed : PrintsRefusal code context.moment context.head_only (added (unsent_of old) (unsent_of new))
+  pub printed : PrintsRefusal settings.dialect code context.moment context.head_only (added (unsent_of old) (unsent_of new))
 
 -- a session that stands after all this has written the output of the connection, sent or not
 abbrev pub SessionsWrite : Type 0

@@ -64,7 +64,7 @@ fn open_head(
     moment: Moment,
     signer: &mut HeadSigner,
 ) -> Opening
-    ensures opens { rules.HeadOpens head.now moment (admission_of config.now head.now moment) result }
+    ensures opens { rules.HeadOpens config.now.dialect head.now moment (admission_of config.now head.now moment) result }
     ensures noted { signer.new.is_verified ≡ true → (signer.old.is_verified ≡ true) ⊎ IsSigned config.now head.now moment }
     ensures told { result ≢ Opening.Died → IsSigned config.now head.now moment → signer.new.is_verified ≡ true }
     ensures admitted { opens_body result ≡ true → signer.new.is_verified ≡ true }
@@ -72,7 +72,7 @@ fn open_head(
     match admit(alloc, config, head, moment, signer) {
         Ok(admission) => {
             let invited = may_be_invited(head, admission.length);
-            let context = context_of(head, moment);
+            let context = context_of(config, head, moment);
             admitted(alloc, Incoming { admission, context }, invited)
         }
         Err(Code::InternalError) => Opening::Died,
@@ -101,12 +101,13 @@ fn may_be_invited(head: &Head, length: u64) -> bool
 }
 
 // What a reply takes from a message with this head.
-fn context_of(head: &Head, moment: Moment) -> Context
-    ensures { result ≡ context_of head.now moment }
+fn context_of(config: &Config, head: &Head, moment: Moment) -> Context
+    ensures { result ≡ context_of config.now.dialect head.now moment }
 {
     Context {
         moment,
         head_only: head.asks_head_only(),
         closes: head.closes(),
+        dialect: config.dialect(),
     }
 }

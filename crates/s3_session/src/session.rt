@@ -30,7 +30,7 @@ use s3_machine::{Answer, Command, Turn};
 use s3_outbox::Outbox;
 use s3_payloads::payloads_are_judged;
 use s3_replies::{Context, continue_reply, internal_error_reply, refusal};
-use s3_terms::{Code, NoMemory};
+use s3_terms::{Code, Dialect, NoMemory};
 use std::alloc::Global;
 use std::marker::Model;
 use std::mem;
@@ -257,7 +257,7 @@ impl Session {
                 has_moment: false,
             },
             Found::TooLarge => {
-                self.refuse(Code::HeadTooLarge, now, false);
+                self.refuse(Code::HeadTooLarge, now, false, config.dialect());
                 Fed {
                     len,
                     need: Need::Close,
@@ -308,7 +308,7 @@ impl Session {
                 }
             },
             Opening::Refused { code, head_only } => {
-                self.refuse(code, moment, head_only);
+                self.refuse(code, moment, head_only, config.dialect());
                 (0, Need::Close)
             }
             Opening::Died => {
@@ -373,7 +373,7 @@ impl Session {
             }
             Progress::Whole(command) => self.ask(context, command),
             Progress::Refused(code) => {
-                self.refuse(code, context.moment, context.head_only);
+                self.refuse(code, context.moment, context.head_only, context.dialect);
                 Need::Close
             }
             Progress::Died => {
@@ -408,16 +408,16 @@ impl Session {
     }
 
     // Writes the refusal of a message of this moment, and ends.
-    fn refuse(&mut self, code: Code, moment: Moment, head_only: bool)
+    fn refuse(&mut self, code: Code, moment: Moment, head_only: bool, dialect: Dialect)
         requires { self.old.outbox.is_ended ≡ false }
         ensures stage { self.new.stage ≡ Stage.Closed (Closing.Refused moment code) }
         ensures head { rules.KeepsHead self.old self.new }
         ensures longer { rules.IsLonger (rules.unsent_of self.old) (rules.unsent_of self.new) }
-        ensures printed { PrintsRefusal code moment head_only (rules.added (rules.unsent_of self.old) (rules.unsent_of self.new)) }
+        ensures printed { PrintsRefusal dialect code moment head_only (rules.added (rules.unsent_of self.old) (rules.unsent_of self.new)) }
         ensures end { self.new.is_ended ≡ self.old.is_ended }
         ensures count { self.new.answered ≡ self.old.answered }
     {
-        let text = refusal(code, moment, head_only);
+        let text = refusal(code, moment, head_only, dialect);
         self.outbox.end_with(text.as_slice());
         go_to(
             &mut self.stage,
@@ -548,7 +548,7 @@ impl Session {
         };
         let context = incoming.context();
         if let Err(code) = incoming.end() {
-            self.refuse(code, context.moment, context.head_only);
+            self.refuse(code, context.moment, context.head_only, context.dialect);
         }
     }
 

@@ -1,5 +1,8 @@
 -- What the options on the settings say, and the settings that they and the keys file make.
-use Rattle.std.specs.Prelude.{◌≡◌, ⊤, ℕ, Bool, true, false, IsTrue, ◌&&◌, nat_le, if◌then◌else◌, List, Option, Some, None, is_some, IfSome, option_map, option_to_list}
+use Rattle.std.specs.Prelude.{◌≡◌, ⊤, ℕ, Bool, true, false, IsTrue, ◌&&◌, nat_le, if◌then◌else◌, List, codes, Option, Some, None, is_some, IfSome, option_map, option_to_list}
+use Rattle.std.specs.Str.{bytes_eq}
+use Rattle.s3_terms.specs.declared.dialect.Dialect.{Dialect}
+use Rattle.s3_terms.specs.declared.dialect.Dialect.TheVariants.{Json, S3}
 use Rattle.s3_text.specs.Digits.{decimal_number}
 use Rattle.s3_text.specs.Lines.{lines_of, IsFirstBadLine}
 use Rattle.s3_names.specs.Names.{is_bucket_name}
@@ -28,6 +31,13 @@ abbrev pub option_moment : Option (List ℕ) → Option ℕ
 option_moment None = None
 option_moment (Some text) = moment_of (option_number text)
 
+-- the dialect that a text names, if it is the name of one
+abbrev pub dialect_named : List ℕ → Option Dialect
+dialect_named text =
+    if bytes_eq text (codes "json") then Some Json
+    else if bytes_eq text (codes "s3") then Some S3
+    else None
+
 -- no bucket, or one whose name is a bucket's
 abbrev pub is_bucket_option : Option (List ℕ) → Bool
 is_bucket_option None = true
@@ -37,7 +47,7 @@ is_bucket_option (Some name) = is_bucket_name name
 unfoldable pub are_options : Options → Bool
 are_options o =
     is_some o.keys && is_some (option_number o.min_part.now) && is_some (option_number o.body_limit.now)
-    && is_bucket_option (option_map (λ name. name.now) o.bucket)
+    && is_bucket_option (option_map (λ name. name.now) o.bucket) && is_some (dialect_named o.dialect.now)
 
 -- the options are of their forms, and a setup has what they say
 pub record IsSetupOf (o : Options) (s : Setup) : Type 0 where
@@ -47,6 +57,7 @@ pub record IsSetupOf (o : Options) (s : Setup) : Type 0 where
   pub min_part : option_number o.min_part.now ≡ Some s.min_part
   pub body_limit : option_number o.body_limit.now ≡ Some s.body_limit
   pub bucket : option_map (λ name. name.now) o.bucket ≡ s.bucket
+  pub dialect : dialect_named o.dialect.now ≡ Some s.dialect
 
 -- what a replay's own options ask for: one moment for everything, or events, with faults or without; both or neither asks for
 -- nothing, and so do faults without events
@@ -67,6 +78,7 @@ settings_of s keys = record {
   min_part = s.min_part;
   body_limit = s.body_limit;
   buckets = option_to_list s.bucket;
+  dialect = s.dialect;
 }
 
 -- the keys file says these keys, where it is known

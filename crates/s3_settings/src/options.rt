@@ -14,6 +14,8 @@ pub struct Options<'a> {
     pub body_limit: &'a str,
     /// The name of the bucket that is there from the start.
     pub bucket: Option<&'a str>,
+    /// How documents are spelled: `json` or `s3`.
+    pub dialect: &'a str,
 }
 
 /// The options of `s3d replay`.

@@ -3,7 +3,7 @@
 ghost use Rattle.std.specs.Prelude.{◌≡◌, true, false, Some, None, IfSome, IfOk, IfErr, OnOk, IsErrOf, IsTrue, is_some, option_map, option_to_list};
 ghost use Rattle.s3_config.specs.Settings.{are_settings, is_region, is_region_byte};
 ghost use Rattle.s3_settings.specs.Fault.{MemoryOr};
-ghost use Rattle.s3_settings.specs.Settings.{option_number, option_moment, is_bucket_option, are_options, IsSetupOf, HasKeys, settings_of, IsConfigured, IsConfigFault};
+ghost use Rattle.s3_settings.specs.Settings.{option_number, option_moment, dialect_named, is_bucket_option, are_options, IsSetupOf, HasKeys, settings_of, IsConfigured, IsConfigFault};
 
 use crate::fault::Fault;
 use crate::files::{Files, read_file};
@@ -12,7 +12,7 @@ use crate::options::Options;
 use s3_calendar::Moment;
 use s3_config::{Config, Credential};
 use s3_names::BucketName;
-use s3_terms::Code;
+use s3_terms::{Code, Dialect};
 use s3_text::decimal_number;
 use std::alloc::{AllocError, Global};
 
@@ -32,16 +32,18 @@ pub struct Setup<'a> {
     pub body_limit: u64,
     /// The bucket that is there from the start.
     pub bucket: Option<BucketName>,
+    /// How documents are spelled.
+    pub dialect: Dialect,
 }
 
 impl<'a> Setup<'a> {
     /// Reads what the options ask for: the path of the keys file, the region, the least size of a part, the greatest size
-    /// of a body, and the name of a bucket.
+    /// of a body, the name of a bucket, and how documents are spelled.
     ///
     /// # Errors
     ///
-    /// `BadSetting` where no keys file is named, or a number or the bucket's name is out of its form. `OutOfMemory` where
-    /// there is none for the bucket's name.
+    /// `BadSetting` where no keys file is named, or a number, the bucket's name or the dialect is out of its form.
+    /// `OutOfMemory` where there is none for the bucket's name.
     #[tactic(auto, unfolding(crate::specs::Settings::are_options))]
     pub fn read(alloc: Global, options: &Options<'a>) -> Result<Setup<'a>, Fault<'a>>
         ensures value { IfOk result (IsSetupOf options.now) }
@@ -61,6 +63,7 @@ impl<'a> Setup<'a> {
             min_part: parts.min_part,
             body_limit: parts.body_limit,
             bucket,
+            dialect: parts.dialect,
         })
     }
 
@@ -81,7 +84,15 @@ impl<'a> Setup<'a> {
     {
         let region = Vec::from_slice(alloc, self.region.as_bytes())?;
         let buckets = in_list(alloc, self.bucket)?;
-        Config::new(region, keys, self.min_part, self.body_limit, buckets).ok_or(Fault::BadSetting)
+        Config::new(
+            region,
+            keys,
+            self.min_part,
+            self.body_limit,
+            buckets,
+            self.dialect,
+        )
+        .ok_or(Fault::BadSetting)
     }
 }
 
@@ -109,6 +120,7 @@ struct FixedParts<'a> {
     keys: &'a str,
     min_part: u64,
     body_limit: u64,
+    dialect: Dialect,
 }
 
 // The parts that options say and that take no memory, if each of these options is there and of its form.
@@ -116,13 +128,15 @@ struct FixedParts<'a> {
 fn fixed_parts<'a>(options: &Options<'a>) -> Option<FixedParts<'a>>
     ensures value { IfSome result (λ parts. (option_map (λ path. path.now) options.now.keys ≡ Some parts.keys.now)
         × (option_number options.now.min_part.now ≡ Some parts.min_part)
-        × (option_number options.now.body_limit.now ≡ Some parts.body_limit)) }
+        × (option_number options.now.body_limit.now ≡ Some parts.body_limit)
+        × (dialect_named options.now.dialect.now ≡ Some parts.dialect)) }
     ensures refused { result ≡ None → are_options options.now ≡ false }
 {
     Some(FixedParts {
         keys: options.keys?,
         min_part: option_number(options.min_part)?,
         body_limit: option_number(options.body_limit)?,
+        dialect: dialect_named(options.dialect)?,
     })
 }
 
@@ -152,6 +166,17 @@ pub fn option_moment(option: Option<&str>) -> Option<Moment>
     ensures { result ≡ option_moment (option_map (λ text. text.now) option.entry) }
 {
     Moment::new(option_number(option?)?)
+}
+
+// The dialect that an option names: `json` or `s3`; `None` where it names none.
+fn dialect_named(text: &str) -> Option<Dialect>
+    ensures { result ≡ dialect_named text.now }
+{
+    match text {
+        "json" => Some(Dialect::Json),
+        "s3" => Some(Dialect::S3),
+        _ => None,
+    }
 }
 
 // The bucket that an option names, if it does.

@@ -16,7 +16,7 @@ use Rattle.s3_versions.specs.declared.version.Versioning.TheVariants.{Unversione
 use Rattle.s3_versions.specs.Rules.{stored, stored_in, current, asked_for, judged, pick, facts_of as version_facts, facts_read, read_as}
 use Rattle.s3_records.specs.declared.records.BucketFacts.{BucketFacts}
 use Rattle.s3_records.specs.Catalogue.{Bucket, facts_of, facts_in, has_bucket, listed_buckets, versions_of, versioning_in, versioning_of}
-use Rattle.s3_documents.specs.Buckets.{buckets_text}
+use Rattle.s3_documents.specs.Document as documents
 use Rattle.s3_machine.specs.Effects.{is_refused}
 use Rattle.s3_machine.specs.declared.command.BucketCommand.{BucketCommand}
 use Rattle.s3_machine.specs.declared.command.Command.TheVariants as commands
@@ -45,7 +45,7 @@ pub versioning_told : (s : State) (name : List ℕ) (facts : BucketFacts) → So
 versioning_told s name facts is = ap told_versioning is ∙ told_in (map.get s name)
 
 module _ (least : ℕ) (s : State) (n t : ℕ) where
-  pub lists : step least s n t commands.ListBuckets ≡ (s, outcomes.Told (buckets_text (listed_buckets s)))
+  pub lists : step least s n t commands.ListBuckets ≡ (s, outcomes.Told (documents.buckets (listed_buckets s)))
   unfolding done
   lists = refl
 

@@ -15,7 +15,7 @@ use Rattle.s3_records.specs.Changes.{PartPut, UploadDropped, changed}
 use Rattle.s3_records.specs.OpenUploads.{upload_at, parts_at, parts_sent, completed_at}
 use Rattle.s3_listings.specs.declared.asked.PartsAsked.{PartsAsked}
 use Rattle.s3_listings.specs.Parts.{parts_page}
-use Rattle.s3_documents.specs.PartList.{parts_text}
+use Rattle.s3_documents.specs.Document as documents
 use Rattle.s3_machine.specs.Effects.{is_refused}
 use Rattle.s3_machine.specs.Fault.{refuse, as_refusal}
 use Rattle.s3_machine.specs.declared.command.Outcome.TheVariants as outcomes
@@ -41,8 +41,8 @@ missed s None rule is = refl
 missed s (Some u) rule is = absurd (cc)
 
 told_parts : (s : State) (name key : List ℕ) (id : ℕ) (asked : PartsAsked) (found : Option (Upload (List ℕ))) → is_some found ≡ true
-    → stepped s (opened found >>= (λ u. Ok (s, outcomes.Told (parts_text name key id asked (parts_page asked u.parts)))))
-    ≡ (s, outcomes.Told (parts_text name key id asked (parts_page asked (parts_sent found))))
+    → stepped s (opened found >>= (λ u. Ok (s, outcomes.Told (documents.parts name key id asked (parts_page asked u.parts)))))
+    ≡ (s, outcomes.Told (documents.parts name key id asked (parts_page asked (parts_sent found))))
 told_parts s name key id asked None is = absurd (cc)
 told_parts s name key id asked (Some u) is = refl
 
@@ -68,7 +68,7 @@ module _ (least : ℕ) (s : State) (n t : ℕ) (name key : List ℕ) (id : ℕ) 
 
   pub parts_told : (asked : PartsAsked) → is_some (upload_at s name key id) ≡ true
       → upload_step least s n t name key id (upload_commands.ListParts asked)
-      ≡ (s, outcomes.Told (parts_text name key id asked (parts_page asked (parts_at s name key id))))
+      ≡ (s, outcomes.Told (documents.parts name key id asked (parts_page asked (parts_at s name key id))))
   unfolding upload_done
   parts_told asked = told_parts s name key id asked (upload_at s name key id)
 

@@ -17,7 +17,7 @@ use Rattle.s3_records.specs.Catalogue.{has_bucket, versioning_of}
 use Rattle.s3_records.specs.Changes.{KeyChanged, UploadCompleted, changed}
 use Rattle.s3_records.specs.Codes.{coded_catalogue}
 use Rattle.s3_records.specs.Places.{AreBelow}
-use Rattle.s3_documents.specs.Upload.{completed_text}
+use Rattle.s3_documents.specs.Document as documents
 use Rattle.s3_machine.specs.declared.command.BucketCommand.{BucketCommand}
 use Rattle.s3_machine.specs.declared.command.Command.{Command}
 use Rattle.s3_machine.specs.declared.command.Found.{Found}
@@ -103,7 +103,7 @@ abbrev pub completion_step : State → ℕ → ℕ → List ℕ → List ℕ →
 completion_step s n t name key id stored = (
   changed s name (UploadCompleted key id (VersionPut n t stored)),
   outcomes.Completed
-      (completed_text name key stored.tag) stored.tag (shown_in (versioning_of s name) (new_id (versioning_of s name) n)),
+      (documents.completed name key stored.tag) stored.tag (shown_in (versioning_of s name) (new_id (versioning_of s name) n)),
 )
 
 abbrev pub completed_as : State → ℕ → ℕ → List ℕ → List ℕ → ℕ → Result (Data (List ℕ)) Code → Stepped

@@ -1,6 +1,7 @@
 //! What the completion of an upload does.
 ghost use Rattle.std.specs.Prelude.{◌≡◌, true, false, IfOk, OnErr};
 ghost use Rattle.s3_records.specs.OpenUploads.{completed_at, upload_at};
+ghost use Rattle.s3_documents.specs.Document as documents;
 ghost use Rattle.s3_machine.specs.Effects.{is_refused};
 ghost use Rattle.s3_store.specs.Steps.{upload_step, completion_step, completed_as, barred_code, MayEnter};
 
@@ -11,7 +12,7 @@ use s3_bodies::Body;
 use s3_calendar::Moment;
 use s3_documents::Document;
 use s3_machine::{Outcome, UploadCommand};
-use s3_names::{BucketName, Key, UploadId};
+use s3_names::{BucketName, Key, Tag, UploadId};
 use s3_records::Records;
 use s3_terms::{Code, NoMemory};
 use s3_uploads::ListedParts;
@@ -107,6 +108,20 @@ fn join<R: Records>(
     }
 }
 
+// What is told of the version with this tag, by names of its own.
+fn completed_document(
+    alloc: Global,
+    bucket: &BucketName,
+    key: &Key,
+    tag: &Tag,
+) -> Result<Document, NoMemory>
+    ensures { IfOk result (λ document. document ≡ documents.completed bucket.now key.now tag.now) }
+{
+    let bucket = bucket.copy()?;
+    let key = key.copy()?;
+    Document::of_completed(alloc, bucket, key, tag.copy())
+}
+
 // Puts what the listed parts make, and drops the upload with all its parts.
 fn put_joined<R: Records>(
     records: &mut R,
@@ -125,7 +140,7 @@ fn put_joined<R: Records>(
     ensures err { OnErr result (R.catalogue records.new ≡ R.catalogue records.old) }
 {
     let tag = stored.tag.copy();
-    let Ok(document) = Document::of_completed(alloc, bucket, &key, &tag) else {
+    let Ok(document) = completed_document(alloc, bucket, &key, &tag) else {
         drop(stored);
         return Err(NoMemory);
     };

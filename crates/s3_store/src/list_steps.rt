@@ -4,16 +4,13 @@ ghost use Rattle.s3_records.specs.Rows.{key_rows};
 ghost use Rattle.s3_listings.specs.Objects.{objects_told};
 ghost use Rattle.s3_listings.specs.Uploads.{uploads_page};
 ghost use Rattle.s3_listings.specs.Versions.{versions_page};
-ghost use Rattle.s3_documents.specs.ObjectList.{objects_text};
-ghost use Rattle.s3_documents.specs.UploadList.{uploads_text};
-ghost use Rattle.s3_documents.specs.VersionList.{versions_text};
+ghost use Rattle.s3_documents.specs.Document as documents;
 ghost use Rattle.s3_machine.specs.Effects.{is_refused};
 ghost use Rattle.s3_machine.specs.Step.{step};
 ghost use Rattle.s3_store.specs.Steps.{bucket_step};
 
 use crate::bucket_steps::refused;
-use s3_bodies::Body;
-use s3_documents::{Document, buckets_document};
+use s3_documents::Document;
 use s3_listings::{UploadsAsked, VersionsAsked, list_objects, list_uploads, list_versions};
 use s3_machine::{BucketCommand, Command, Outcome};
 use s3_names::BucketName;
@@ -30,8 +27,7 @@ pub(crate) fn tell_buckets<R: Records>(records: &mut R, alloc: Global) -> Result
     ensures same { R.catalogue records.new ≡ R.catalogue records.old }
 {
     let rows = records.buckets(alloc)?;
-    let text = buckets_document(alloc, rows.as_slice())?;
-    let document = Document::of(Body::alone(text));
+    let document = Document::of_buckets(alloc, rows)?;
     Ok(Outcome::Told { document })
 }
 
@@ -71,7 +67,7 @@ fn tell_objects_of<R: Records>(
     asked: ObjectsAsked,
 ) -> Result<Outcome, NoMemory>
     ensures value { IfOk result (λ outcome. outcome
-        ≡ Outcome.Told (objects_text name.now asked (objects_told asked (key_rows (R.catalogue records.old) name.now)))) }
+        ≡ Outcome.Told (documents.objects name.now asked (objects_told asked (key_rows (R.catalogue records.old) name.now)))) }
     ensures same { R.catalogue records.new ≡ R.catalogue records.old }
 {
     let Ok(kept) = name.copy() else {
@@ -119,7 +115,7 @@ fn tell_versions_of<R: Records>(
     asked: VersionsAsked,
 ) -> Result<Outcome, NoMemory>
     ensures value { IfOk result (λ outcome. outcome
-        ≡ Outcome.Told (versions_text name.now asked (versions_page asked (R.catalogue records.old) name.now))) }
+        ≡ Outcome.Told (documents.versions name.now asked (versions_page asked (R.catalogue records.old) name.now))) }
     ensures same { R.catalogue records.new ≡ R.catalogue records.old }
 {
     let kept = name.copy()?;
@@ -164,7 +160,7 @@ fn tell_uploads_of<R: Records>(
     asked: UploadsAsked,
 ) -> Result<Outcome, NoMemory>
     ensures value { IfOk result (λ outcome. outcome
-        ≡ Outcome.Told (uploads_text name.now asked (uploads_page asked (R.catalogue records.old) name.now))) }
+        ≡ Outcome.Told (documents.uploads name.now asked (uploads_page asked (R.catalogue records.old) name.now))) }
     ensures same { R.catalogue records.new ≡ R.catalogue records.old }
 {
     let kept = name.copy()?;

@@ -7,7 +7,7 @@ ghost use Rattle.s3_records.specs.Changes.{changed, PartPut};
 ghost use Rattle.s3_records.specs.OpenUploads.{parts_at, upload_at};
 ghost use Rattle.s3_records.specs.Places.{AreBelow};
 ghost use Rattle.s3_listings.specs.Parts.{parts_page};
-ghost use Rattle.s3_documents.specs.PartList.{parts_text};
+ghost use Rattle.s3_documents.specs.Document as documents;
 ghost use Rattle.s3_machine.specs.Effects.{is_refused, takes_room, takes_room_in_upload};
 ghost use Rattle.s3_machine.specs.Step.{step};
 ghost use Rattle.s3_store.specs.Steps.{key_step, upload_step, MayEnter};
@@ -46,7 +46,7 @@ pub(crate) fn begin<R: Records>(
         → is_refused (key_step (R.catalogue records.old) number moment bucket.now key (KeyCommand.Begin asked)).1 ≡ false) }
 {
     let id = UploadId::of(number);
-    let document = Document::of_upload(alloc, bucket, &key, id)?;
+    let document = begun_document(alloc, bucket, &key, id)?;
     let upload = Upload::new(alloc, moment, asked.content_type, asked.metadata);
     match records.add_upload(alloc, bucket, key, id, upload) {
         Ok(()) => Ok(Outcome::Told { document }),
@@ -55,6 +55,20 @@ pub(crate) fn begin<R: Records>(
             Err(no_memory)
         }
     }
+}
+
+// What is told of the upload of this id, by names of its own.
+fn begun_document(
+    alloc: Global,
+    bucket: &BucketName,
+    key: &Key,
+    id: UploadId,
+) -> Result<Document, NoMemory>
+    ensures { IfOk result (λ document. document ≡ documents.begun bucket.now key.now id) }
+{
+    let bucket = bucket.copy()?;
+    let key = key.copy()?;
+    Document::of_begun(alloc, bucket, key, id)
 }
 
 /// Takes the step of a command on an upload, as the entry of this number. `NoMemory` leaves the records as they were.
@@ -257,7 +271,7 @@ fn parts_told_of<R: Records>(
     asked: PartsAsked,
 ) -> Result<Document, NoMemory>
     ensures value { IfOk result (λ document. document
-        ≡ parts_text bucket.now key id asked (parts_page asked (parts_at (R.catalogue records.old) bucket.now key id))) }
+        ≡ documents.parts bucket.now key id asked (parts_page asked (parts_at (R.catalogue records.old) bucket.now key id))) }
     ensures same { R.catalogue records.new ≡ R.catalogue records.old }
 {
     let name = bucket.copy()?;

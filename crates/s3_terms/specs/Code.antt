@@ -5,7 +5,7 @@ use Rattle.std.specs.Prelude.{ℕ, List, codes}
 use Rattle.s3_terms.specs.declared.code.Code.{Code}
 use Rattle.s3_terms.specs.declared.status.Status.{Status}
 use Rattle.s3_terms.specs.declared.status.Status.TheVariants as statuses
-use Rattle.s3_terms.specs.declared.code.Code.TheVariants.{MalformedHead, HeadTooLarge, NotImplemented, InvalidRequest, MissingContentLength, EntityTooLarge, InvalidURI, AccessDenied, AuthorizationHeaderMalformed, RequestTimeTooSkewed, InvalidArgument, InvalidAccessKeyId, SignatureDoesNotMatch, InvalidDigest, InvalidBucketName, KeyTooLongError, MethodNotAllowed, MetadataTooLarge, NoSuchUpload, IncompleteBody, XAmzContentSHA256Mismatch, BadDigest, MalformedBody, NoSuchBucket, BucketAlreadyOwnedByYou, BucketNotEmpty, NoSuchKey, NoSuchVersion, PreconditionFailed, InvalidRange, InvalidPartOrder, InvalidPart, EntityTooSmall, InternalError, AuthorizationQueryParametersError}
+use Rattle.s3_terms.specs.declared.code.Code.TheVariants.{MalformedHead, HeadTooLarge, NotImplemented, InvalidRequest, MissingContentLength, EntityTooLarge, InvalidURI, AccessDenied, AuthorizationHeaderMalformed, RequestTimeTooSkewed, InvalidArgument, InvalidAccessKeyId, SignatureDoesNotMatch, InvalidDigest, InvalidBucketName, KeyTooLongError, MethodNotAllowed, MetadataTooLarge, NoSuchUpload, IncompleteBody, XAmzContentSHA256Mismatch, BadDigest, MalformedBody, NoSuchBucket, BucketAlreadyOwnedByYou, BucketNotEmpty, NoSuchKey, NoSuchVersion, PreconditionFailed, InvalidRange, InvalidPartOrder, InvalidPart, EntityTooSmall, InternalError, AuthorizationQueryParametersError, MalformedXML, InvalidLocationConstraint}
 
 -- a row of the table: a code's number, its HTTP status, its name and its message
 abbrev pub Row : Type 0
@@ -48,6 +48,8 @@ row_of InvalidPart = (32, statuses.BadRequest, codes "InvalidPart", codes "A lis
 row_of EntityTooSmall = (33, statuses.BadRequest, codes "EntityTooSmall", codes "A part is too small.")
 row_of InternalError = (34, statuses.InternalServerError, codes "InternalError", codes "")
 row_of AuthorizationQueryParametersError = (35, statuses.BadRequest, codes "AuthorizationQueryParametersError", codes "The signing query is malformed.")
+row_of MalformedXML = (36, statuses.BadRequest, codes "MalformedXML", codes "The body is not the expected XML.")
+row_of InvalidLocationConstraint = (37, statuses.BadRequest, codes "InvalidLocationConstraint", codes "The location constraint is not this region.")
 
 -- the code's number in the table
 abbrev pub number_of : Code → ℕ

@@ -44,6 +44,8 @@ pub enum Code {
     EntityTooSmall = 33,
     InternalError = 34,
     AuthorizationQueryParametersError = 35,
+    MalformedXML = 36,
+    InvalidLocationConstraint = 37,
 }
 
 impl Code {
@@ -93,7 +95,9 @@ impl Code {
             | Code::InvalidPartOrder
             | Code::InvalidPart
             | Code::EntityTooSmall
-            | Code::AuthorizationQueryParametersError => Status::BadRequest,
+            | Code::AuthorizationQueryParametersError
+            | Code::MalformedXML
+            | Code::InvalidLocationConstraint => Status::BadRequest,
         }
     }
 
@@ -137,6 +141,8 @@ impl Code {
             Code::EntityTooSmall => "EntityTooSmall",
             Code::InternalError => "InternalError",
             Code::AuthorizationQueryParametersError => "AuthorizationQueryParametersError",
+            Code::MalformedXML => "MalformedXML",
+            Code::InvalidLocationConstraint => "InvalidLocationConstraint",
         }
     }
 
@@ -181,6 +187,8 @@ impl Code {
             Code::EntityTooSmall => "A part is too small.",
             Code::InternalError => "",
             Code::AuthorizationQueryParametersError => "The signing query is malformed.",
+            Code::MalformedXML => "The body is not the expected XML.",
+            Code::InvalidLocationConstraint => "The location constraint is not this region.",
         }
     }
 }

@@ -3,9 +3,11 @@
 #![tactic(auto)]
 
 mod code;
+mod dialect;
 mod memory;
 mod status;
 
 pub use code::Code;
+pub use dialect::Dialect;
 pub use memory::NoMemory;
 pub use status::Status;

@@ -1,6 +1,7 @@
 //! The settings, part by part.
 use s3_config::{Config, Credential};
 use s3_names::BucketName;
+use s3_terms::Dialect;
 use std::alloc::Global;
 
 /// The id of the access key.
@@ -40,8 +41,8 @@ fn names(alloc: Global, buckets: &[&[u8]]) -> Option<Vec<BucketName>> {
 }
 
 /// The settings of a server with that key in this region: the least size of a part that is not the last and the
-/// greatest size of a body, both in bytes, and the buckets that are there from the start. `None` where there is no such
-/// server, or no memory.
+/// greatest size of a body, both in bytes, and the buckets that are there from the start. Documents are JSON. `None`
+/// where there is no such server, or no memory.
 pub fn config(
     alloc: Global,
     region: &[u8],
@@ -52,5 +53,5 @@ pub fn config(
     let region = Vec::from_slice(alloc, region).ok()?;
     let keys = keys(alloc)?;
     let names = names(alloc, buckets)?;
-    Config::new(region, keys, min_part, body_limit, names)
+    Config::new(region, keys, min_part, body_limit, names, Dialect::Json)
 }

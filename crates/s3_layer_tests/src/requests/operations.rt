@@ -10,7 +10,7 @@ use s3_names::{Tag, UploadId, VersionId};
 use s3_requests::{
     BucketCommand, BucketPlan, Command, KeyCommand, Plan, UploadCommand, UploadPlan,
 };
-use s3_terms::Code;
+use s3_terms::{Code, Dialect};
 use s3_versions::{Data, Versioning, VersioningStatus};
 use std::alloc::Global;
 
@@ -335,7 +335,7 @@ fn copied_text(alloc: Global, tag: &Tag, moment: Moment, shown: Option<VersionId
 }
 
 fn document_text(alloc: Global, document: Document) -> Told {
-    Ok(document.into_body().to_vec(alloc)?)
+    Ok(document.into_body(Dialect::Json).to_vec(alloc)?)
 }
 
 // The tag and the text of a document.

@@ -9,7 +9,7 @@ use s3_replies::{
     Context, INTERNAL_ERROR, internal_error_reply, print_reply, refusal, refusals_are_unique,
     replies_are_unique, replies_show_what_came,
 };
-use s3_terms::Code;
+use s3_terms::{Code, Dialect};
 use std::alloc::Global;
 
 /// 2013-05-24T00:00:00Z.
@@ -149,6 +149,17 @@ const MISSING_MARKER_REPLY: &str = "HTTP/1.1 404 Not Found\r\n\
     \r\n\
     {\"Code\":\"NoSuchKey\",\"Message\":\"The key does not exist.\"}";
 
+// The first in XML.
+const MISSING_IN_XML_REPLY: &str = "HTTP/1.1 404 Not Found\r\n\
+    Date: Fri, 24 May 2013 00:00:00 GMT\r\n\
+    x-amz-request-id: 00000000000000ff\r\n\
+    Content-Type: application/xml\r\n\
+    Content-Length: 157\r\n\
+    \r\n\
+    <?xml version=\"1.0\" encoding=\"UTF-8\"?>\n\
+    <Error><Code>NoSuchKey</Code><Message>The key does not exist.</Message>\
+    <RequestId>00000000000000ff</RequestId></Error>";
+
 // To a HEAD that ends its connection.
 const LAST_REPLY: &str = "HTTP/1.1 404 Not Found\r\n\
     Date: Thu, 01 Jan 1970 00:00:00 GMT\r\n\
@@ -168,6 +179,7 @@ struct Row {
     is_head: bool,
     // Whether its connection ends.
     closes: bool,
+    dialect: Dialect,
     reply: &'static str,
 }
 
@@ -177,6 +189,7 @@ const ROW: Row = Row {
     seconds: MOMENT,
     is_head: false,
     closes: false,
+    dialect: Dialect::Json,
     reply: DONE_REPLY,
 };
 
@@ -241,7 +254,7 @@ static VERSIONED: [Row; 11] = [
 ];
 
 // Requests to buckets without versions.
-static UNVERSIONED: [Row; 11] = [
+static UNVERSIONED: [Row; 13] = [
     Row {
         request: "HEAD /vat",
         ..ROW
@@ -258,15 +271,29 @@ static UNVERSIONED: [Row; 11] = [
         ..ROW
     },
     Row {
+        request: "GET /vat/k",
+        number: 255,
+        dialect: Dialect::S3,
+        reply: MISSING_IN_XML_REPLY,
+        ..ROW
+    },
+    Row {
         request: "HEAD /vat/k",
         number: 255,
         seconds: 0,
         is_head: true,
         closes: true,
         reply: LAST_REPLY,
+        ..ROW
     },
     Row {
         request: "PUT /vat/k<hello",
+        reply: PUT_REPLY,
+        ..ROW
+    },
+    Row {
+        request: "PUT /vat/k<hello",
+        dialect: Dialect::S3,
         reply: PUT_REPLY,
         ..ROW
     },
@@ -333,6 +360,7 @@ fn context_of(row: &Row) -> Option<Context> {
         moment,
         head_only: row.is_head,
         closes: row.closes,
+        dialect: row.dialect,
     })
 }
 
@@ -447,9 +475,23 @@ const MALFORMED: &[u8] = b"HTTP/1.1 400 Bad Request\r\n\
     \r\n\
     {\"Code\":\"MalformedHead\",\"Message\":\"The head is malformed.\"}";
 
+const MALFORMED_IN_XML: &[u8] = b"HTTP/1.1 400 Bad Request\r\n\
+    Date: Fri, 24 May 2013 00:00:00 GMT\r\n\
+    Connection: close\r\n\
+    x-amz-request-id: 0000000000000000\r\n\
+    Content-Type: application/xml\r\n\
+    Content-Length: 160\r\n\
+    \r\n\
+    <?xml version=\"1.0\" encoding=\"UTF-8\"?>\n\
+    <Error><Code>MalformedHead</Code><Message>The head is malformed.</Message>\
+    <RequestId>0000000000000000</RequestId></Error>";
+
 // Whether the refusal with the code starts with the version and then this status.
 fn has_status(code: Code, status: &str, moment: Moment) -> bool {
-    match refusal(code, moment, true).as_slice().get(9..) {
+    match refusal(code, moment, true, Dialect::Json)
+        .as_slice()
+        .get(9..)
+    {
         Some(shown) => shown.starts_with(status.as_bytes()),
         None => false,
     }
@@ -467,9 +509,15 @@ fn have_statuses(moment: Moment) -> bool {
     true
 }
 
+// Whether a head that is malformed is refused so in the dialect.
+fn is_refused(moment: Moment, dialect: Dialect, bytes: &[u8]) -> bool {
+    refusal(Code::MalformedHead, moment, false, dialect).as_slice() == bytes
+}
+
 fn are_refused(seconds: u64) -> bool {
     match Moment::new(seconds) {
-        Some(moment) => refusal(Code::MalformedHead, moment, false).as_slice() == MALFORMED
+        Some(moment) => is_refused(moment, Dialect::Json, MALFORMED)
+            && is_refused(moment, Dialect::S3, MALFORMED_IN_XML)
             && have_statuses(moment),
         None => false,
     }

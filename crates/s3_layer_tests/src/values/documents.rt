@@ -2,10 +2,10 @@
 
 use crate::checks::check;
 use s3_calendar::Moment;
-use s3_documents::{Field, Leaf, Printer, buckets_document, copied_document};
+use s3_documents::{Document, Field, Leaf, Printer, copied_document};
 use s3_names::{BucketName, Tag};
 use s3_records::ListedBucket;
-use s3_terms::NoMemory;
+use s3_terms::{Dialect, NoMemory};
 use std::alloc::Global;
 
 /// The seconds of a bucket's moment, and its name.
@@ -72,8 +72,8 @@ fn buckets_of(alloc: Global, rows: &[Row]) -> Result<Vec<ListedBucket>, NoMemory
 }
 
 fn printed(alloc: Global, rows: &[Row]) -> Result<Vec<u8>, NoMemory> {
-    let buckets = buckets_of(alloc, rows)?;
-    buckets_document(alloc, buckets.as_slice())
+    let document = Document::of_buckets(alloc, buckets_of(alloc, rows)?)?;
+    Ok(document.into_body(Dialect::Json).to_vec(alloc)?)
 }
 
 fn is_printed(alloc: Global, case: &Case) -> bool {
@@ -149,7 +149,7 @@ static COPIES: [(u64, &str); 2] = [
 fn is_told(seconds: u64, text: &str) -> bool {
     let tag = Tag::of_digest(*b"\x5d\x41\x40\x2a\xbc\x4b\x2a\x76\xb9\x71\x9d\x91\x10\x17\xc5\x92");
     match Moment::new(seconds) {
-        Some(moment) => copied_document(&tag, moment).as_slice() == text.as_bytes(),
+        Some(moment) => copied_document(&tag, moment, Dialect::Json).as_slice() == text.as_bytes(),
         None => false,
     }
 }

@@ -3,7 +3,7 @@
 use crate::checks::check;
 use s3_config::{Config, Credential};
 use s3_names::BucketName;
-use s3_terms::Code;
+use s3_terms::{Code, Dialect};
 use std::alloc::Global;
 use std::mem::drop;
 
@@ -74,7 +74,7 @@ fn config(alloc: Global, parts: &Parts) -> Result<Option<Config>, Code> {
     if keys.len() != parts.1.len() || buckets.len() != parts.3.len() {
         return Err(Code::InternalError);
     }
-    Ok(Config::new(region, keys, 5, parts.2, buckets))
+    Ok(Config::new(region, keys, 5, parts.2, buckets, Dialect::Json))
 }
 
 const ONE: &[&[u8]] = &[b"one"];

@@ -1,9 +1,8 @@
-//! The versioning of a bucket, printed and read.
+//! The versioning that a body asks for.
 
 use crate::checks::check;
-use s3_documents::{read_versioning, versioning_document};
+use s3_documents::read_versioning;
 use s3_terms::Code;
-use s3_versions::Versioning;
 use s3_versions::VersioningStatus::{self, Enabled, Suspended};
 use std::alloc::Global;
 
@@ -40,29 +39,9 @@ fn is_read(alloc: Global, case: &Case) -> bool {
     }
 }
 
-static DOCUMENTS: [(Versioning, &[u8]); 3] = [
-    (Versioning::Unversioned, b"{}"),
-    (Versioning::Enabled, b"{\"Status\":\"Enabled\"}"),
-    (Versioning::Suspended, b"{\"Status\":\"Suspended\"}"),
-];
-
-fn is_printed(alloc: Global, versioning: Versioning, text: &[u8]) -> bool {
-    match versioning_document(alloc, versioning) {
-        Ok(document) => document.as_slice() == text,
-        Err(_) => false,
-    }
-}
-
 #[test]
-fn bodies_and_documents(rt: HostRuntime) {
+fn bodies(rt: HostRuntime) {
     for case in &BODIES {
         check(&rt, is_read(rt.alloc(), case), "documents that are read");
-    }
-    for (versioning, text) in &DOCUMENTS {
-        check(
-            &rt,
-            is_printed(rt.alloc(), *versioning, *text),
-            "documents that are printed",
-        );
     }
 }

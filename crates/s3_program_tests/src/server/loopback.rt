@@ -49,6 +49,7 @@ fn options() -> ServeOptions<'static> {
             min_part: "5242880",
             body_limit: "67108864",
             bucket: Some("pail"),
+            dialect: "json",
         },
         listen: Some("127.0.0.1:0"),
         workers: "2",

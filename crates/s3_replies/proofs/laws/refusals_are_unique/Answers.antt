@@ -3,4 +3,4 @@ use Rattle.s3_replies.proofs.ReplyLemmas.{Prints_unique}
 use Rattle.s3_replies.proofs.laws.refusals_are_unique.Goals as goal
 
 pub returns : goal.returns
-returns c = λ code moment head_only. Prints_unique (unnumbered code) (closing moment head_only)
+returns c = λ dialect code moment head_only. Prints_unique (unnumbered code) (closing dialect moment head_only)

@@ -2,6 +2,7 @@ use Rattle.std.proofs.Common.{◌≡◌, ℕ, [], ◌∷◌, ◌++◌, ap, refl,
 use Rattle.std.specs.Prelude.{if◌then◌else◌}
 use Rattle.s3_http_heads.specs.Search.{Holds, is_lost}
 use Rattle.s3_replies.specs.Replies.{PrintsRefusal, continue_line, internal_error}
+use Rattle.s3_terms.specs.declared.dialect.Dialect.{Dialect}
 use Rattle.s3_session.specs.declared.session.Need.TheVariants as needs
 use Rattle.s3_session.specs.Session.{Connection, Needs, added, moment_at, standing_at, unsent_of}
 use Rattle.s3_session.proofs.HeldLemmas.{held_begun, text_kept}
@@ -19,7 +20,8 @@ returns-in-Ok-clause-fed c rest held whole =
 
 pub returns-in-Refused-clause-fed : goal.returns-in-Refused-clause-fed
 returns-in-Refused-clause-fed c rest held whole =
-    let printed = subst (λ (s : Connection). PrintsRefusal c.in-Refused.code c.args.moment c.in-Refused.head_only (added (unsent_of s) (unsent_of c.refuse.new.self))) c.self.view_is c.refuse.ensures.printed in
+    let seen = subst (λ (s : Connection). PrintsRefusal c.dialect.result c.in-Refused.code c.args.moment c.in-Refused.head_only (added (unsent_of s) (unsent_of c.refuse.new.self))) c.self.view_is c.refuse.ensures.printed in
+    let printed = subst (λ (d : Dialect). PrintsRefusal d c.in-Refused.code c.args.moment c.in-Refused.head_only (added (unsent_of c.args.self.now) (unsent_of c.refuse.new.self))) c.dialect.ensures.value seen in
     begins_refused c.args.config.now c.args.moment rest c.args.piece.now c.args.self.now _ held whole c.searches_find.ensures.head
     c.text.result (c.text.ensures.text rest (subst (λ (s : Connection). Holds s.search rest) (sym c.self.view_is) held)) c.in-Refused.code c.in-Refused.head_only c.in-Refused.ensures.opens
     c.refuse.ensures.stage printed _ refl

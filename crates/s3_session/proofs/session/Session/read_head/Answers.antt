@@ -4,6 +4,7 @@ use Rattle.s3_http_heads.specs.declared.search.HeadSearch.{HeadSearch}
 use Rattle.s3_http_heads.specs.declared.find.Found.{Found}
 use Rattle.s3_replies.specs.Replies.{PrintsRefusal}
 use Rattle.s3_terms.specs.declared.code.Code.TheVariants.{HeadTooLarge}
+use Rattle.s3_terms.specs.declared.dialect.Dialect.{Dialect}
 use Rattle.s3_session.specs.Session.{Connection, added, moment_at, unsent_of}
 use Rattle.s3_session.specs.Verified.{is_admitted}
 use Rattle.s3_session.proofs.HeldLemmas.{held_large}
@@ -14,8 +15,9 @@ use Rattle.s3_session.proofs.session.Session.read_head.Goals as goal
 pub returns-in-TooLarge-clause-fed : goal.returns-in-TooLarge-clause-fed
 returns-in-TooLarge-clause-fed c rest h =
     let searched = c.feed-len.ensures.fed rest (subst (λ (s : Connection). Stands s.search rest) (sym c.self.view_is) h) in
+    let seen = subst (λ (s : Connection). PrintsRefusal c.dialect.result HeadTooLarge c.args.now false (added (unsent_of s) (unsent_of c.refuse.new.self))) c.self.view_is c.refuse.ensures.printed in
     reads_large c.args.config.now rest c.args.piece.now c.args.self.now _ c.feed-len.result.0 _ c.args.now (sym c.in-TooLarge.is ∙ searched.found) c.refuse.ensures.stage
-    (subst (λ (s : Connection). PrintsRefusal HeadTooLarge c.args.now false (added (unsent_of s) (unsent_of c.refuse.new.self))) c.self.view_is c.refuse.ensures.printed) refl searched.at_once
+    (subst (λ (d : Dialect). PrintsRefusal d HeadTooLarge c.args.now false (added (unsent_of c.args.self.now) (unsent_of c.refuse.new.self))) c.dialect.ensures.value seen) refl searched.at_once
 
 pub returns-in-Head-clause-fed : goal.returns-in-Head-clause-fed
 returns-in-Head-clause-fed c rest h =

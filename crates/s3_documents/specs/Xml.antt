@@ -1,0 +1,238 @@
+-- What documents tell in XML, element by element in the order of the Amazon S3 API Reference; what it names beside that is left
+-- out. One owner has all: whoever runs the server.
+use Rattle.std.specs.Prelude.{ℕ, Bool, not, ◌||◌, ◌==◌, if◌then◌else◌, List, [], ◌∷◌, ◌++◌, codes, decimal, option_map, is_some, is_none}
+use Rattle.std.specs.List.{flat_map}
+use Rattle.s3_canonical.specs.Encoding.{encode_path}
+use Rattle.s3_names.specs.Ids.{upload_id_text, version_id_text}
+use Rattle.s3_prefixes.specs.declared.asked.ObjectsAsked.{ObjectsAsked}
+use Rattle.s3_uploads.specs.declared.part.PartRow.{PartRow}
+use Rattle.s3_records.specs.declared.records.ListedBucket.{ListedBucket}
+use Rattle.s3_records.specs.declared.rows.UploadRow.{UploadRow}
+use Rattle.s3_records.specs.declared.rows.VersionRow.{VersionRow}
+use Rattle.s3_listings.specs.declared.asked.PartsAsked.{PartsAsked}
+use Rattle.s3_listings.specs.declared.asked.UploadsAsked.{UploadsAsked}
+use Rattle.s3_listings.specs.declared.asked.VersionsAsked.{VersionsAsked}
+use Rattle.s3_listings.specs.declared.object_page.ListedObject.{ListedObject}
+use Rattle.s3_listings.specs.Objects.{ObjectsTold}
+use Rattle.s3_listings.specs.Pages.{Page, next_of}
+use Rattle.s3_documents.specs.Buckets.{bucket_row}
+use Rattle.s3_documents.specs.Copied.{tag_told, copied_fields}
+use Rattle.s3_documents.specs.Document.{Document, buckets, objects, versions, uploads, parts, begun, completed, copied, versioning}
+use Rattle.s3_documents.specs.ObjectList.{prefix_row, key_count, token_told, delimiter_told}
+use Rattle.s3_documents.specs.PartList.{part_fields, number_of_part}
+use Rattle.s3_documents.specs.Printed.{told}
+use Rattle.s3_documents.specs.Timestamp.{timestamp}
+use Rattle.s3_documents.specs.Tree.{Value, text, number, truth, moment, Fields}
+use Rattle.s3_documents.specs.Upload.{begun_fields}
+use Rattle.s3_documents.specs.UploadList.{upload_marker_told, key_of_upload, id_of_upload}
+use Rattle.s3_documents.specs.VersionList.{marker_told, key_of_row, id_of_row, tag_of_facts, size_of_facts}
+use Rattle.s3_documents.specs.Versioning.{versioning_fields}
+use Rattle.s3_xml.specs.Characters.{is_control}
+use Rattle.s3_xml.specs.Events.{Event, element}
+use Rattle.s3_xml.specs.Events as xml
+
+-- a byte that stands in a text as it is, whatever stands behind it
+abbrev pub is_plain : ℕ → Bool
+is_plain b = not (b == 38 || b == 60 || b == 62 || b == 34 || b == 13 || b == 239 || is_control b)
+
+-- ---- fields and rows
+
+-- the text of a value
+abbrev pub content_of : Value → List ℕ
+content_of (text s) = s
+content_of (number n) = decimal n
+content_of (truth b) = if b then codes "true" else codes "false"
+content_of (moment m) = timestamp m
+
+-- fields, each as an element
+abbrev pub fields_events : Fields → List Event
+fields_events fields = flat_map (λ f. xml.leaf f.0 (content_of f.1)) fields
+
+-- an element of fields
+abbrev pub element_of : List ℕ → Fields → List Event
+element_of name fields = element name (fields_events fields)
+
+-- whom all belongs to
+abbrev pub owner_fields : Fields
+owner_fields = (codes "ID", text (codes "s3d")) ∷ []
+
+abbrev pub owner : List Event
+owner = element_of (codes "Owner") owner_fields
+
+-- an element of fields between which an owner stands
+abbrev pub owned : List ℕ → (before behind : Fields) → List Event
+owned name before behind = element name (fields_events before ++ owner ++ fields_events behind)
+
+-- how all is stored
+abbrev pub standard : Value
+standard = text (codes "STANDARD")
+
+-- a row of ListBuckets
+abbrev pub bucket_events : ListedBucket → List Event
+bucket_events bucket = element_of (codes "Bucket") (bucket_row bucket)
+
+-- rows of ListObjectsV2: an object's, and a common prefix's
+abbrev pub object_fields : ListedObject → Fields
+object_fields object =
+    (codes "ETag", text (tag_told object.facts.tag))
+    ∷ (codes "Key", text object.key)
+    ∷ (codes "LastModified", moment object.facts.moment)
+    ∷ (codes "Size", number object.facts.size)
+    ∷ (codes "StorageClass", standard)
+    ∷ []
+
+abbrev pub object_events : ListedObject → List Event
+object_events object = element_of (codes "Contents") (object_fields object)
+
+abbrev pub prefix_events : List ℕ → List Event
+prefix_events prefix = element_of (codes "CommonPrefixes") (prefix_row prefix)
+
+-- a row of ListObjectVersions: a version's, or a delete marker's, which has no tag, no size and no class
+abbrev pub version_name : VersionRow → List ℕ
+version_name row = if is_none row.facts then codes "DeleteMarker" else codes "Version"
+
+abbrev pub version_before : VersionRow → Fields
+version_before row =
+    told (codes "ETag") (option_map tag_of_facts row.facts)
+    ++ (codes "IsLatest", truth row.is_latest)
+    ∷ (codes "Key", text row.key)
+    ∷ (codes "LastModified", moment row.moment)
+    ∷ []
+
+abbrev pub version_behind : VersionRow → Fields
+version_behind row =
+    told (codes "Size") (option_map size_of_facts row.facts)
+    ++ told (codes "StorageClass") (option_map (λ facts. standard) row.facts)
+    ++ (codes "VersionId", text (version_id_text row.id))
+    ∷ []
+
+abbrev pub version_events : VersionRow → List Event
+version_events row = owned (version_name row) (version_before row) (version_behind row)
+
+-- a row of ListMultipartUploads
+abbrev pub begun_before : UploadRow → Fields
+begun_before row = (codes "Initiated", moment row.moment) ∷ (codes "Key", text row.key) ∷ []
+
+abbrev pub begun_behind : UploadRow → Fields
+begun_behind row = (codes "StorageClass", standard) ∷ (codes "UploadId", text (upload_id_text row.id)) ∷ []
+
+abbrev pub upload_events : UploadRow → List Event
+upload_events row = owned (codes "Upload") (begun_before row) (begun_behind row)
+
+-- a row of ListParts
+abbrev pub part_events : PartRow → List Event
+part_events row = element_of (codes "Part") (part_fields row)
+
+-- ---- what stands beside the rows
+
+-- of ListObjectsV2: in front of the objects, between them and the common prefixes, and behind these
+abbrev pub objects_before : ObjectsTold → Fields
+objects_before page = (codes "IsTruncated", truth (is_some page.next)) ∷ []
+
+abbrev pub objects_between : List ℕ → ObjectsAsked → Fields
+objects_between name asked =
+    (codes "Name", text name)
+    ∷ (codes "Prefix", text asked.prefix)
+    ∷ told (codes "Delimiter") (delimiter_told asked.delimiter)
+    ++ (codes "MaxKeys", number asked.max_keys)
+    ∷ []
+
+abbrev pub objects_behind : ObjectsAsked → ObjectsTold → Fields
+objects_behind asked page =
+    (codes "KeyCount", number (key_count page))
+    ∷ told (codes "ContinuationToken") (option_map token_told asked.token)
+    ++ told (codes "NextContinuationToken") (option_map token_told page.next)
+    ++ told (codes "StartAfter") (option_map text asked.start_after)
+
+-- of ListObjectVersions: in front of the rows, and behind them
+abbrev pub versions_before : VersionsAsked → Page VersionRow → Fields
+versions_before asked page =
+    (codes "IsTruncated", truth page.is_truncated)
+    ∷ (codes "KeyMarker", text asked.key_marker)
+    ∷ (codes "VersionIdMarker", text (marker_told asked.id_marker))
+    ∷ told (codes "NextKeyMarker") (option_map key_of_row (next_of page))
+    ++ told (codes "NextVersionIdMarker") (option_map id_of_row (next_of page))
+
+abbrev pub versions_behind : List ℕ → VersionsAsked → Fields
+versions_behind name asked =
+    (codes "Name", text name) ∷ (codes "Prefix", text asked.prefix) ∷ (codes "MaxKeys", number asked.max_keys) ∷ []
+
+-- of ListMultipartUploads, in front of the rows
+abbrev pub uploads_before : List ℕ → UploadsAsked → Page UploadRow → Fields
+uploads_before name asked page =
+    (codes "Bucket", text name)
+    ∷ (codes "KeyMarker", text asked.key_marker)
+    ∷ (codes "UploadIdMarker", text (upload_marker_told asked.id_marker))
+    ∷ told (codes "NextKeyMarker") (option_map key_of_upload (next_of page))
+    ++ (codes "Prefix", text asked.prefix)
+    ∷ told (codes "NextUploadIdMarker") (option_map id_of_upload (next_of page))
+    ++ (codes "MaxUploads", number asked.max_uploads)
+    ∷ (codes "IsTruncated", truth page.is_truncated)
+    ∷ []
+
+-- of ListParts, in front of the rows
+abbrev pub parts_before : (bucket key : List ℕ) → ℕ → PartsAsked → Page PartRow → Fields
+parts_before bucket key id asked page =
+    (codes "Bucket", text bucket)
+    ∷ (codes "Key", text key)
+    ∷ (codes "UploadId", text (upload_id_text id))
+    ∷ (codes "PartNumberMarker", number asked.marker)
+    ∷ told (codes "NextPartNumberMarker") (option_map number_of_part (next_of page))
+    ++ (codes "MaxParts", number asked.max_parts)
+    ∷ (codes "IsTruncated", truth page.is_truncated)
+    ∷ []
+
+-- and behind them
+abbrev pub parts_behind : Fields
+parts_behind = (codes "StorageClass", standard) ∷ []
+
+-- ---- documents
+
+-- where an object is: behind its bucket, with its key UriEncoded (AWS Signature Version 4), slashes kept
+abbrev pub location_told : (bucket key : List ℕ) → List ℕ
+location_told bucket key = (codes "/" ++ bucket ++ codes "/") ++ encode_path key
+
+abbrev pub completed_elements : (bucket key tag : List ℕ) → Fields
+completed_elements bucket key tag =
+    (codes "Location", text (location_told bucket key))
+    ∷ (codes "Bucket", text bucket)
+    ∷ (codes "Key", text key)
+    ∷ (codes "ETag", text (tag_told tag))
+    ∷ []
+
+-- the name of a document's root
+abbrev pub root_of : Document → List ℕ
+root_of (buckets list) = codes "ListAllMyBucketsResult"
+root_of (objects name asked page) = codes "ListBucketResult"
+root_of (versions name asked page) = codes "ListVersionsResult"
+root_of (uploads name asked page) = codes "ListMultipartUploadsResult"
+root_of (parts bucket key id asked page) = codes "ListPartsResult"
+root_of (begun bucket key id) = codes "InitiateMultipartUploadResult"
+root_of (completed bucket key tag) = codes "CompleteMultipartUploadResult"
+root_of (copied tag made) = codes "CopyObjectResult"
+root_of (versioning state) = codes "VersioningConfiguration"
+
+-- the namespace of all of them
+abbrev pub namespace : List ℕ
+namespace = codes "http://s3.amazonaws.com/doc/2006-03-01/"
+
+-- rows, with fields in front of them and behind them
+abbrev pub listed : Fields → List Event → Fields → List Event
+listed before list behind = fields_events before ++ list ++ fields_events behind
+
+-- what stands in it
+abbrev pub events_of : Document → List Event
+events_of (buckets list) = element (codes "Buckets") (flat_map bucket_events list) ++ owner
+events_of (objects name asked page) =
+    fields_events (objects_before page)
+    ++ flat_map object_events page.contents
+    ++ listed (objects_between name asked) (flat_map prefix_events page.prefixes) (objects_behind asked page)
+events_of (versions name asked page) =
+    listed (versions_before asked page) (flat_map version_events page.given) (versions_behind name asked)
+events_of (uploads name asked page) = listed (uploads_before name asked page) (flat_map upload_events page.given) []
+events_of (parts bucket key id asked page) =
+    listed (parts_before bucket key id asked page) (flat_map part_events page.given) parts_behind
+events_of (begun bucket key id) = fields_events (begun_fields bucket key id)
+events_of (completed bucket key tag) = fields_events (completed_elements bucket key tag)
+events_of (copied tag made) = fields_events (copied_fields tag made)
+events_of (versioning state) = fields_events (versioning_fields state)

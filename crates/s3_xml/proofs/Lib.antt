@@ -1,0 +1,11 @@
+pub mod BoundLemmas
+pub mod CharacterLemmas
+pub mod DocumentLemmas
+pub mod ElementLemmas
+pub mod EscapeLemmas
+pub mod FitLemmas
+pub mod ReferenceLemmas
+pub mod ScanLemmas
+pub mod TagLemmas
+pub mod TextLemmas
+pub mod WriterLemmas

@@ -1,0 +1,9 @@
+pub mod Characters
+pub mod Documents
+pub mod Ended
+pub mod Events
+pub mod Grammar
+pub mod Laws
+pub mod Option
+pub mod Printed
+pub mod Writer
