@@ -1,0 +1,16 @@
+pub mod CharacterLemmas
+pub mod CutLemmas
+pub mod ReferenceLemmas
+pub mod PartLemmas
+pub mod OptionLemmas
+pub mod ShrinkLemmas
+pub mod TagLemmas
+pub mod ToldLemmas
+pub mod NameLemmas
+pub mod LineLemmas
+pub mod TextLemmas
+pub mod AppendLemmas
+pub mod PlaceLemmas
+pub mod ToldShrinkLemmas
+pub mod StepLemmas
+pub mod ReaderLemmas
