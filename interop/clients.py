@@ -1,7 +1,6 @@
 """The clients of S3 that are libraries, and curl: what `interop/run` asks of each client stands in `Client`."""
 
 import hashlib
-import json
 import os
 import re
 import shutil
@@ -10,6 +9,7 @@ import tempfile
 import urllib.parse
 from pathlib import Path
 
+from documents import JSON, completion, page_of, page_query, upload_of
 from server import BUCKET, ID, REGION, SECRET
 
 MIB = 1024 * 1024
@@ -48,6 +48,8 @@ PART = 8 * MIB
 # What a status tells.
 TOLD = {304: Unchanged, 403: Refused, 404: Missing, 412: Unmet}
 XML = "what was asked for is done, and the answer can't be read: it is JSON where XML is expected"
+# What clients say where the server has no such call.
+NO_CALL = re.compile(r"NotImplemented|Not Implemented|\b501\b")
 
 
 class Client:
@@ -55,13 +57,19 @@ class Client:
     any other error where the client fails."""
 
     name = ""
-    # What the client can't do here: the names of checks, and why. They are tried, and count only where they pass.
-    limits = {}
+    # What the client can't do here, in any dialect and in JSON: the names of checks, and why. They are tried, and count
+    # only where they pass.
+    limits, limits_in_json = {}, {}
+    # The checks for which it asks for a call that this server doesn't have, in the dialect s3. They are tried, and
+    # have to be answered NotImplemented where they don't pass.
+    calls = {}
+    # Why it isn't tried at all where documents are JSON.
+    skipped_in_json = ""
     # How many bytes are put in parts.
     large = 200 * MIB
 
-    def __init__(self, address, folder, secret=SECRET):
-        self.address, self.folder, self.secret = address, folder, secret
+    def __init__(self, address, folder, secret=SECRET, dialect=JSON):
+        self.address, self.folder, self.secret, self.dialect = address, folder, secret, dialect
 
     @classmethod
     def absent(cls):
@@ -105,12 +113,80 @@ class Client:
         """Puts an object in parts."""
         raise Lacking()
 
-    def send_part(self, key, upload, data):
-        """Sends the first part of an upload that was begun, and gives its tag."""
+    def begin(self, key):
+        """The id of an upload that begins."""
+        raise Lacking()
+
+    def send_part(self, key, upload, data, number=1):
+        """Sends a part of an upload that was begun, and gives its tag."""
+        raise Lacking()
+
+    def complete(self, key, upload, tags):
+        """Completes an upload by its parts with these tags."""
         raise Lacking()
 
     def abort(self, key, upload):
         """Aborts an upload that was begun."""
+        raise Lacking()
+
+    def move(self, key, other):
+        """Moves an object to another key."""
+        raise Lacking()
+
+    def remove_all(self, prefix):
+        """Deletes all objects whose keys begin so."""
+        raise Lacking()
+
+    def sync_up(self, folder, prefix):
+        """Has the objects whose keys begin so be the files of a folder."""
+        raise Lacking()
+
+    def sync_down(self, prefix, folder):
+        """Has the files of a folder be the objects whose keys begin so."""
+        raise Lacking()
+
+    def new_after_empty(self, key, other):
+        """Puts an empty object, and another one where there is none under its key, over one connection."""
+        raise Lacking()
+
+    def make_bucket(self, bucket, region=None):
+        """Makes a bucket, in a region where one is said."""
+        raise Lacking()
+
+    def set_versioning(self, bucket, status):
+        """Has a bucket keep versions, or keep them no more, and gives what it then tells of that."""
+        raise Lacking()
+
+    def put_version(self, bucket, key, data):
+        """The id of the version that a put makes."""
+        raise Lacking()
+
+    def delete_version(self, bucket, key, version=None):
+        """Deletes a version, or puts a delete marker and gives its id."""
+        raise Lacking()
+
+    def get_version(self, bucket, key, version):
+        """The bytes of a version."""
+        raise Lacking()
+
+    def versions(self, bucket, page):
+        """The keys and ids of versions, and then those of delete markers, in pages of so many."""
+        raise Lacking()
+
+    def list_first(self):
+        """Lists by the first version of the call, ListObjects."""
+        raise Lacking()
+
+    def location(self):
+        """Asks where the bucket is, by GetBucketLocation."""
+        raise Lacking()
+
+    def delete_many(self, keys):
+        """Deletes several objects by one call, DeleteObjects."""
+        raise Lacking()
+
+    def copy_part(self, key, other):
+        """Makes another object of this one, as the only part of an upload, by UploadPartCopy."""
         raise Lacking()
 
     def path(self, data=b""):
@@ -146,14 +222,26 @@ def told(status, said, missing=(), refused=(), unchanged=(), unmet=(), unread=()
     raise RuntimeError(f"status {status}: {said.strip()}")
 
 
-def listed_parts(tags):
-    """The document of a completion, by parts from the first one on with these tags."""
-    return json.dumps({"Parts": [{"ETag": tag, "PartNumber": number} for number, tag in enumerate(tags, 1)]}).encode()
-
-
 def in_order(objects, prefixes):
     """Objects with their sizes, and common prefixes, in their order."""
     return sorted([*objects, *((prefix, None) for prefix in prefixes)], key=lambda item: item[0].encode())
+
+
+def in_parts(client, key, data):
+    """Puts an object in parts, one request each."""
+    upload = client.begin(key)
+    parts = [data[first : first + PART] for first in range(0, len(data), PART)]
+    client.complete(key, upload, [client.send_part(key, upload, part, number) for number, part in enumerate(parts, 1)])
+
+
+def in_pages(dialect, ask, prefix, delimiter, page):
+    """A list whose pages `ask` gives by their queries."""
+    items, told = [], {"IsTruncated": True}
+    while told["IsTruncated"]:
+        token = told.get("NextContinuationToken")
+        told = page_of(dialect, ask(page_query(dialect, prefix, delimiter, page, token)))
+        items += of_page(told)
+    return items
 
 
 def of_page(page):
@@ -222,16 +310,16 @@ class Curl(Client):
         self.asked("PUT", other, more=["-H", f"x-amz-copy-source: /{BUCKET}/{key}"])
 
     def listed(self, prefix, delimiter, page=None):
-        if page is not None:
-            raise Lacking()
-        query = urllib.parse.urlencode({"delimiter": delimiter, "list-type": "2", "prefix": prefix}, safe="")
-        return of_page(json.loads(self.asked("GET", "", query=f"?{query}")))
+        return in_pages(self.dialect, lambda it: self.asked("GET", "", query=f"?{it}"), prefix, delimiter, page)
 
     def put_parts(self, key, data):
-        upload = json.loads(self.asked("POST", key, query="?uploads="))["UploadId"]
-        parts = [data[first : first + PART] for first in range(0, len(data), PART)]
-        tags = [self.send_part(key, upload, part, number) for number, part in enumerate(parts, 1)]
-        listed = listed_parts(tags)
+        in_parts(self, key, data)
+
+    def begin(self, key):
+        return upload_of(self.dialect, self.asked("POST", key, query="?uploads="))
+
+    def complete(self, key, upload, tags):
+        listed = completion(self.dialect, tags)
         self.asked("POST", key, listed, ["-T", self.path(listed)], f"?uploadId={upload}")
 
     def send_part(self, key, upload, data, number=1):
@@ -338,10 +426,17 @@ class Boto3(Client):
         self.read("copy_object", other, CopySource={"Bucket": BUCKET, "Key": key})
 
     def put_parts(self, key, data):
-        self.read("create_multipart_upload", key)
+        in_parts(self, key, data)
 
-    def send_part(self, key, upload, data):
-        return self.call("upload_part", key, UploadId=upload, PartNumber=1, Body=data)["ETag"]
+    def begin(self, key):
+        return self.read("create_multipart_upload", key)["UploadId"]
+
+    def send_part(self, key, upload, data, number=1):
+        return self.call("upload_part", key, UploadId=upload, PartNumber=number, Body=data)["ETag"]
+
+    def complete(self, key, upload, tags):
+        parts = [{"ETag": tag, "PartNumber": number} for number, tag in enumerate(tags, 1)]
+        self.read("complete_multipart_upload", key, UploadId=upload, MultipartUpload={"Parts": parts})
 
     def abort(self, key, upload):
         self.call("abort_multipart_upload", key, UploadId=upload)
@@ -360,6 +455,69 @@ class Boto3(Client):
     def delete(self, key):
         self.call("delete_object", key)
 
+    def new_after_empty(self, key, other):
+        # Where the server doesn't answer the `Expect` of an empty put as this library has it, the next put of the
+        # same connection waits for an answer that has come already.
+        client = self.client()
+        client.put_object(Bucket=BUCKET, Key=key, Body=b"")
+        client.put_object(Bucket=BUCKET, Key=other, Body=b"other", IfNoneMatch="*")
+        client.put_object(Bucket=BUCKET, Key=key, Body=b"")
+        try:
+            client.put_object(Bucket=BUCKET, Key=other, Body=b"", IfNoneMatch="*")
+        except client.exceptions.ClientError as error:
+            raise_told(error)
+
+    def of_bucket(self, operation, bucket, **more):
+        from botocore.exceptions import ClientError
+
+        try:
+            return getattr(self.client(), operation)(Bucket=bucket, **more)
+        except ClientError as error:
+            raise_told(error)
+
+    def make_bucket(self, bucket, region=None):
+        place = {"CreateBucketConfiguration": {"LocationConstraint": region}} if region else {}
+        self.of_bucket("create_bucket", bucket, **place)
+
+    def set_versioning(self, bucket, status):
+        self.of_bucket("put_bucket_versioning", bucket, VersioningConfiguration={"Status": status})
+        return self.of_bucket("get_bucket_versioning", bucket).get("Status")
+
+    def put_version(self, bucket, key, data):
+        return self.of_bucket("put_object", bucket, Key=key, Body=data)["VersionId"]
+
+    def delete_version(self, bucket, key, version=None):
+        named = {"VersionId": version} if version else {}
+        return self.of_bucket("delete_object", bucket, Key=key, **named)["VersionId"]
+
+    def get_version(self, bucket, key, version):
+        return self.of_bucket("get_object", bucket, Key=key, VersionId=version)["Body"].read()
+
+    def versions(self, bucket, page):
+        asked = {"Bucket": bucket, "PaginationConfig": {"PageSize": page}}
+        pages = list(self.client().get_paginator("list_object_versions").paginate(**asked))
+        kinds = ("Versions", "DeleteMarkers")
+        return [[(row["Key"], row["VersionId"]) for page in pages for row in page.get(kind, [])] for kind in kinds]
+
+    def list_first(self):
+        self.of_bucket("list_objects", BUCKET)
+
+    def location(self):
+        self.of_bucket("get_bucket_location", BUCKET)
+
+    def delete_many(self, keys):
+        self.of_bucket("delete_objects", BUCKET, Delete={"Objects": [{"Key": key} for key in keys]})
+
+    def copy_part(self, key, other):
+        upload = self.begin(other)
+        try:
+            named = {"UploadId": upload, "PartNumber": 1, "CopySource": {"Bucket": BUCKET, "Key": key}}
+            told = self.call("upload_part_copy", other, **named)
+        except Exception:
+            self.abort(other, upload)
+            raise
+        self.complete(other, upload, [told["CopyPartResult"]["ETag"]])
+
 
 class Boto3Files(Boto3):
     """The same library's transfers of files, which ask for an object before they get it."""
@@ -375,7 +533,7 @@ class Boto3Files(Boto3):
         except ClientError as error:
             raise_told(error)
         except Exception as error:
-            if "403" in str(error):
+            if "403" in str(error) or "SignatureDoesNotMatch" in str(error):
                 raise Refused(str(error)) from error
             raise
 

@@ -4,14 +4,14 @@ import json
 import os
 import shutil
 import socket
-import subprocess
 import sys
 import time
 import urllib.parse
 from pathlib import Path
 
 from clients import HOUR, MIB, PART, PATIENCE, TOLD, Client, Lacking
-from clients import first_line, in_order, listed_parts, of_page, ran, told
+from clients import first_line, in_order, in_pages, in_parts, of_page, ran, told
+from documents import JSON, completion, upload_of
 from server import BUCKET, ID, PROGRAM, REGION, SECRET, TOP
 
 # Files that are larger are sent in parts.
@@ -50,7 +50,7 @@ class Command(Client):
 
 class Signer(Command):
     """`s3d sign`, each of whose requests goes over a connection of its own. Lists and uploads are those of
-    `examples/`."""
+    `examples/` where documents are JSON."""
 
     name = "s3d sign"
     program = PROGRAM
@@ -113,6 +113,11 @@ class Signer(Command):
         self.asked("PUT", other, lines=[f"x-amz-copy-source:/{BUCKET}/{key}"])
 
     def listed(self, prefix, delimiter, page=None):
+        if self.dialect == JSON:
+            return self.listed_by_example(prefix, delimiter, page)
+        return in_pages(self.dialect, lambda it: self.asked("GET", "", query=f"?{it}")[1], prefix, delimiter, page)
+
+    def listed_by_example(self, prefix, delimiter, page):
         words = [sys.executable, TOP / "examples/list.py", "--keys", self.keys(), "--region", REGION]
         words += ["--prefix", prefix, "--delimiter", delimiter, *([] if page is None else ["--page", str(page)])]
         status, wrote, said = ran([*words, self.address, BUCKET])
@@ -121,20 +126,20 @@ class Signer(Command):
         return [(key, None if size == "-" else int(size)) for key, size in lines]
 
     def put_parts(self, key, data):
+        if self.dialect != JSON:
+            return in_parts(self, key, data)
         words = [sys.executable, TOP / "examples/upload.py", "--keys", self.keys(), "--region", REGION]
         status, _, said = ran([*words, self.address, BUCKET, key, self.path(data)])
         told(status, said)
 
     def begin(self, key):
-        """The id of an upload that begins."""
-        return json.loads(self.asked("POST", key, query="?uploads")[1])["UploadId"]
+        return upload_of(self.dialect, self.asked("POST", key, query="?uploads")[1])
 
-    def send_part(self, key, upload, data):
-        return self.line("ETag", self.asked("PUT", key, data, query=f"?partNumber=1&uploadId={upload}"))
+    def send_part(self, key, upload, data, number=1):
+        return self.line("ETag", self.asked("PUT", key, data, query=f"?partNumber={number}&uploadId={upload}"))
 
     def complete(self, key, upload, tags):
-        """Completes an upload by its parts with these tags."""
-        self.asked("POST", key, listed_parts(tags), query=f"?uploadId={upload}")
+        self.asked("POST", key, completion(self.dialect, tags), query=f"?uploadId={upload}")
 
     def abort(self, key, upload):
         self.asked("DELETE", key, query=f"?uploadId={upload}")
@@ -178,11 +183,16 @@ class Aws(Command):
             AWS_MAX_ATTEMPTS="1",
         )
         status, wrote, said = ran([self.found()[0], "--endpoint-url", f"http://{self.address}", *words], env)
-        told(status, said, ["(404)", "NoSuchKey"], ["(403)", "SignatureDoesNotMatch"], ["(304)"], ["(412)"], UNREAD)
+        missing, refused = ["(404)", "NoSuchKey", "NoSuchUpload"], ["(403)", "SignatureDoesNotMatch"]
+        told(status, said, missing, refused, ["(304)"], ["(412)", "PreconditionFailed"], UNREAD)
         return wrote
 
     def api(self, operation, key, *words):
         return self.aws("s3api", operation, "--bucket", BUCKET, "--key", key, *words)
+
+    def json(self, *words):
+        """What a command tells in JSON."""
+        return json.loads(self.aws(*words, "--output", "json") or "{}")
 
     def head(self, key, *words):
         return int(self.api("head-object", key, *words, "--query", "ContentLength", "--output", "text"))
@@ -217,11 +227,19 @@ class AwsApi(Aws):
         self.api("copy-object", other, "--copy-source", f"{BUCKET}/{key}")
 
     def put_parts(self, key, data):
-        self.api("create-multipart-upload", key)
+        in_parts(self, key, data)
 
-    def send_part(self, key, upload, data):
-        words = ["--upload-id", upload, "--part-number", "1", "--body", self.path(data)]
+    def begin(self, key):
+        return json.loads(self.api("create-multipart-upload", key, "--output", "json"))["UploadId"]
+
+    def send_part(self, key, upload, data, number=1):
+        words = ["--upload-id", upload, "--part-number", str(number), "--body", self.path(data)]
         return json.loads(self.api("upload-part", key, *words, "--output", "json"))["ETag"]
+
+    def complete(self, key, upload, tags):
+        parts = [{"ETag": tag, "PartNumber": number} for number, tag in enumerate(tags, 1)]
+        words = ["--upload-id", upload, "--multipart-upload", json.dumps({"Parts": parts})]
+        self.api("complete-multipart-upload", key, *words)
 
     def abort(self, key, upload):
         self.api("abort-multipart-upload", key, "--upload-id", upload)
@@ -234,9 +252,56 @@ class AwsApi(Aws):
     def delete(self, key):
         self.api("delete-object", key)
 
+    def of_bucket(self, operation, bucket, *words):
+        return self.json("s3api", operation, "--bucket", bucket, *words)
+
+    def make_bucket(self, bucket, region=None):
+        place = ["--create-bucket-configuration", f"LocationConstraint={region}"] if region else []
+        self.of_bucket("create-bucket", bucket, *place)
+
+    def set_versioning(self, bucket, status):
+        self.of_bucket("put-bucket-versioning", bucket, "--versioning-configuration", f"Status={status}")
+        return self.of_bucket("get-bucket-versioning", bucket).get("Status")
+
+    def put_version(self, bucket, key, data):
+        return self.of_bucket("put-object", bucket, "--key", key, "--body", self.path(data))["VersionId"]
+
+    def delete_version(self, bucket, key, version=None):
+        named = ["--version-id", version] if version else []
+        return self.of_bucket("delete-object", bucket, "--key", key, *named)["VersionId"]
+
+    def get_version(self, bucket, key, version):
+        path = self.path()
+        self.of_bucket("get-object", bucket, "--key", key, "--version-id", version, path)
+        return Path(path).read_bytes()
+
+    def versions(self, bucket, page):
+        told = self.of_bucket("list-object-versions", bucket, "--page-size", str(page))
+        kinds = ("Versions", "DeleteMarkers")
+        return [[(row["Key"], row["VersionId"]) for row in told.get(kind) or []] for kind in kinds]
+
+    def list_first(self):
+        self.of_bucket("list-objects", BUCKET)
+
+    def location(self):
+        self.of_bucket("get-bucket-location", BUCKET)
+
+    def delete_many(self, keys):
+        self.of_bucket("delete-objects", BUCKET, "--delete", json.dumps({"Objects": [{"Key": key} for key in keys]}))
+
+    def copy_part(self, key, other):
+        upload = self.begin(other)
+        try:
+            words = ["--upload-id", upload, "--part-number", "1", "--copy-source", f"{BUCKET}/{key}"]
+            told = json.loads(self.api("upload-part-copy", other, *words, "--output", "json"))
+        except Exception:
+            self.abort(other, upload)
+            raise
+        self.complete(other, upload, [told["CopyPartResult"]["ETag"]])
+
 
 class AwsCopy(Aws):
-    """`aws s3 cp` and `aws s3 rm`."""
+    """`aws s3`: `cp`, `rm`, `ls`, `mv`, `sync` and `presign`."""
 
     name = "aws1 s3 cp"
 
@@ -259,15 +324,43 @@ class AwsCopy(Aws):
     def copy(self, key, other):
         self.aws("s3", "cp", "--only-show-errors", f"s3://{BUCKET}/{key}", f"s3://{BUCKET}/{other}")
 
+    def ls(self, *words):
+        """What a list tells. Where there is nothing to tell, its status is 1, without a word."""
+        try:
+            return self.aws("s3", "ls", *words).decode()
+        except RuntimeError as error:
+            if str(error) != "status 1: ":
+                raise
+            return ""
+
     def listed(self, prefix, delimiter, page=None):
         words = [*([] if delimiter else ["--recursive"]), *([] if page is None else ["--page-size", str(page)])]
-        told = self.aws("s3", "ls", *words, f"s3://{BUCKET}/{prefix}").decode()
+        told = self.ls(*words, f"s3://{BUCKET}/{prefix}")
         rows, front = [line.split(maxsplit=3) for line in told.splitlines()], "" if "--recursive" in words else prefix
         objects = [(front + row[3], int(row[2])) for row in rows if row[0] != "PRE"]
         return in_order(objects, [prefix + row[1] for row in rows if row[0] == "PRE"])
 
     def delete(self, key):
         self.aws("s3", "rm", "--only-show-errors", f"s3://{BUCKET}/{key}")
+
+    def move(self, key, other):
+        self.aws("s3", "mv", "--only-show-errors", f"s3://{BUCKET}/{key}", f"s3://{BUCKET}/{other}")
+
+    def remove_all(self, prefix):
+        self.aws("s3", "rm", "--recursive", "--only-show-errors", f"s3://{BUCKET}/{prefix}")
+
+    def sync_up(self, folder, prefix):
+        self.aws("s3", "sync", "--delete", "--only-show-errors", str(folder), f"s3://{BUCKET}/{prefix}")
+
+    def sync_down(self, prefix, folder):
+        self.aws("s3", "sync", "--delete", "--only-show-errors", f"s3://{BUCKET}/{prefix}", str(folder))
+
+    def make_bucket(self, bucket, region=None):
+        self.aws("s3", "mb", f"s3://{bucket}", *(["--region", region] if region else []))
+
+    def copy_part(self, key, other):
+        # An object that is larger than the threshold is copied in parts.
+        self.aws("s3", "cp", "--only-show-errors", f"s3://{BUCKET}/{key}", f"s3://{BUCKET}/{other}", threshold="1KB")
 
 
 class Aws2Api(AwsApi):
@@ -283,6 +376,9 @@ class S3cmd(Command):
 
     name = program = "s3cmd"
     limits = {"presigned get": "it signs addresses by Signature Version 2 alone"}
+    calls = dict.fromkeys(["list", "1,001 keys", "odd names", "control bytes"], "ListObjects")
+    calls |= dict.fromkeys(["sync", "remove all", "list v1"], "ListObjects")
+    calls |= {"location": "GetBucketLocation"}
 
     def s3cmd(self, *words, in_parts=False):
         config = [f"access_key = {ID}", f"secret_key = {self.secret}", f"host_base = {self.address}"]
@@ -321,14 +417,48 @@ class S3cmd(Command):
     def delete(self, key):
         self.s3cmd("del", f"s3://{BUCKET}/{key}")
 
+    def listed(self, prefix, delimiter, page=None):
+        if page is not None or self.dialect == JSON:
+            raise Lacking()
+        words = ["ls", *([] if delimiter else ["--recursive"]), f"s3://{BUCKET}/{prefix}"]
+        rows, front = [line.split(maxsplit=3) for line in self.s3cmd(*words).decode().splitlines()], f"s3://{BUCKET}/"
+        objects = [(row[3].removeprefix(front), int(row[2])) for row in rows if row[0] != "DIR"]
+        return in_order(objects, [row[1].removeprefix(front) for row in rows if row[0] == "DIR"])
+
+    def move(self, key, other):
+        self.s3cmd("mv", f"s3://{BUCKET}/{key}", f"s3://{BUCKET}/{other}")
+
+    def remove_all(self, prefix):
+        self.s3cmd("del", "--recursive", "--force", f"s3://{BUCKET}/{prefix}")
+
+    def sync_up(self, folder, prefix):
+        self.s3cmd("sync", "--delete-removed", f"{folder}/", f"s3://{BUCKET}/{prefix}")
+
+    def sync_down(self, prefix, folder):
+        self.s3cmd("sync", "--delete-removed", f"s3://{BUCKET}/{prefix}", f"{folder}/")
+
+    def make_bucket(self, bucket, region=None):
+        self.s3cmd("mb", *([f"--bucket-location={region}"] if region else []), f"s3://{bucket}")
+
+    def list_first(self):
+        self.s3cmd("ls", f"s3://{BUCKET}/")
+
+    def location(self):
+        self.s3cmd("info", f"s3://{BUCKET}")
+
+
+# rclone tells a control byte by the character that is its picture. In JSON that byte has an escape.
+CONTROLS = {0x2400 + byte: f"\\u{byte:04x}" for byte in range(32)} | {0x2421: "\x7f"}
+
 
 class Rclone(Command):
     """`rclone`. It tells a get that was refused as one of an object that isn't there."""
 
     name = program = "rclone"
-    limits = {"list": "it takes an answer that is no XML for a list with nothing in it"}
+    limits_in_json = {"list": "it takes an answer that is no XML for a list with nothing in it"}
+    calls = {"list v1": "ListObjects"}
 
-    def rclone(self, *words, cutoff="1Gi"):
+    def rclone(self, *words, cutoff="1Gi", version="2", more=None):
         env = environment(
             RCLONE_CONFIG=self.path(),
             RCLONE_CONFIG_PAIL_TYPE="s3",
@@ -340,9 +470,11 @@ class Rclone(Command):
             RCLONE_S3_FORCE_PATH_STYLE="true",
             RCLONE_S3_NO_CHECK_BUCKET="true",
             RCLONE_S3_UPLOAD_CUTOFF=cutoff,
+            RCLONE_S3_LIST_VERSION=version,
             RCLONE_RETRIES="1",
             RCLONE_LOW_LEVEL_RETRIES="1",
         )
+        env |= more or {}
         status, wrote, said = ran(["rclone", *words], env)
         missing, refused = ["404", "not found", "doesn't exist"], ["403", "Forbidden", "SignatureDoesNotMatch"]
         told(status, said, missing, refused, unread=["SerializationError", "UploadPartInput.UploadId"])
@@ -377,13 +509,38 @@ class Rclone(Command):
     def listed(self, prefix, delimiter, page=None):
         if page is not None:
             raise Lacking()
-        words = ["lsjson", "--s3-list-version", "2", *([] if delimiter else ["--recursive"])]
-        rows = json.loads(self.rclone(*words, f"pail:{BUCKET}/{prefix}"))
+        words = ["lsjson", *([] if delimiter else ["--recursive"])]
+        rows = json.loads(self.rclone(*words, f"pail:{BUCKET}/{prefix}").decode().translate(CONTROLS))
         objects = [(prefix + row["Path"], row["Size"]) for row in rows if not row["IsDir"]]
         return in_order(objects, [f"{prefix}{row['Path']}/" for row in rows if row["IsDir"] and delimiter])
 
     def delete(self, key):
         self.rclone("deletefile", f"pail:{BUCKET}/{key}")
+
+    def move(self, key, other):
+        self.rclone("moveto", f"pail:{BUCKET}/{key}", f"pail:{BUCKET}/{other}")
+
+    def remove_all(self, prefix):
+        self.rclone("delete", f"pail:{BUCKET}/{prefix}")
+
+    def sync_up(self, folder, prefix):
+        self.rclone("sync", str(folder), f"pail:{BUCKET}/{prefix}")
+        self.rclone("check", str(folder), f"pail:{BUCKET}/{prefix}")
+        told = sorted(self.rclone("lsf", "-R", "--files-only", f"pail:{BUCKET}/{prefix}").decode().splitlines())
+        files = sorted(str(path.relative_to(folder)) for path in Path(folder).rglob("*") if path.is_file())
+        if told != files:
+            raise AssertionError(f"lsf tells {told[:5]}, and not {files[:5]}")
+
+    def sync_down(self, prefix, folder):
+        self.rclone("sync", f"pail:{BUCKET}/{prefix}", str(folder))
+
+    def make_bucket(self, bucket, region=None):
+        # It makes none where it isn't to check for one.
+        more = {"RCLONE_S3_NO_CHECK_BUCKET": "false", "RCLONE_S3_LOCATION_CONSTRAINT": region or ""}
+        self.rclone("mkdir", f"pail:{bucket}", more=more)
+
+    def list_first(self):
+        self.rclone("lsjson", f"pail:{BUCKET}", version="1")
 
 
 class S4cmd(Command):
@@ -392,7 +549,8 @@ class S4cmd(Command):
     name = program = "s4cmd"
     LISTS = "it asks for a list of objects first"
     ASKING = ["get", "put again", "head", "delete", "missing key", "wrong secret", "wrong, 8 MiB"]
-    limits = dict.fromkeys([*ASKING, "empty", "8 MiB", "odd key"], LISTS)
+    limits_in_json = dict.fromkeys([*ASKING, "empty", "8 MiB", "odd key"], LISTS)
+    calls = dict.fromkeys([*ASKING, "empty", "8 MiB", "64 MiB", "odd key", "list v1"], "ListObjects")
 
     def s4cmd(self, *words):
         env = environment(S3_ACCESS_KEY=ID, S3_SECRET_KEY=self.secret)
@@ -414,67 +572,5 @@ class S4cmd(Command):
     def delete(self, key):
         self.s4cmd("del", f"s3://{BUCKET}/{key}")
 
-
-class S3backer(Command):
-    """`s3backer`, a disk whose blocks are objects: a put writes to the front of a new disk that is named as the key,
-    and a get reads that from the disk, which is mounted anew."""
-
-    name = program = "s3backer"
-    SIZE = 8 << 20
-    NO_FILES = "it is a disk, and has no such operation"
-    limits = dict.fromkeys(["head", "delete", "missing key", "wrong, 8 MiB", "wrong secret", "odd key"], NO_FILES)
-
-    @classmethod
-    def absent(cls):
-        has_fuse = Path("/dev/fuse").exists() and shutil.which("fusermount")
-        return super().absent() or (None if has_fuse else "no FUSE here")
-
-    def __init__(self, address, folder, secret=SECRET):
-        super().__init__(address, folder, secret)
-        self.sizes = {}
-
-    def disk(self, key, work):
-        """What comes of work on the disk's file while it is mounted."""
-        mount = Path(self.path() + "-disk")
-        mount.mkdir()
-        words = ["s3backer", "-f", f"--baseURL=http://{self.address}/"]
-        words += [f"--accessId={ID}", f"--accessKey={self.secret}"]
-        words += ["--blockSize=64k", f"--size={self.SIZE}", f"--prefix={urllib.parse.quote(key, safe='')}-", "--force"]
-        running = subprocess.Popen([*words, "--maxRetryPause=500", BUCKET, mount], stderr=subprocess.PIPE, text=True)
-        try:
-            for _ in range(100):
-                if (mount / "file").exists() or running.poll() is not None:
-                    break
-                time.sleep(0.1)
-            return work(mount / "file")
-        finally:
-            subprocess.run(["fusermount", "-u", mount], capture_output=True)
-            try:
-                running.communicate(timeout=60)
-            except subprocess.TimeoutExpired:
-                running.kill()
-
-    def put(self, key, data):
-        def work(file):
-            with file.open("r+b") as disk:
-                disk.write(data)
-                disk.flush()
-                os.fsync(disk.fileno())
-
-        self.disk(key, work)
-        self.sizes[key] = len(data)
-
-    def get(self, key):
-        def work(file):
-            with file.open("rb") as disk:
-                return disk.read(self.sizes[key])
-
-        return self.disk(key, work)
-
-
-# Clients that can't work with this server at all: their names, their programs, and why.
-UNABLE = [
-    ("libs3", "s3", "it signs by Signature Version 2 alone"),
-    ("s3fs", "s3fs", "it asks for a list of objects before it mounts"),
-    ("restic", "restic", "it asks where the bucket is, and for lists"),
-]
+    def list_first(self):
+        self.s4cmd("ls", f"s3://{BUCKET}/")

@@ -9,6 +9,11 @@ from . import TOP
 DATA = TOP / "crates/s3_scenarios/data"
 
 
+def in_both(in_json, in_xml):
+    """The files of an example in both dialects, or in JSON alone where it has no document."""
+    return in_json | in_xml if list(in_json.values()) != list(in_xml.values()) else in_json
+
+
 def run(about, makers):
     """Has the makers of the names of the command line, or all, write their files; with `--check` it writes none, says
     which files are others, and ends with status 1 where there is one. A maker gives texts or bytes by their files."""

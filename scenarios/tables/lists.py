@@ -1,12 +1,13 @@
 """The lists of a server: the tables "Lists" and "Documents" of docs/PROTOCOL.md. All entries are sorted, and then
 those that are asked for are picked, rolled up and counted. (Python orders texts as their bytes of UTF-8.)"""
 
+from .documents import OWNED, url_encoded
 from .requests import UPLOAD_ID, refuse, token_of
 from .store import Store, page_of, quoted, stamp
 
 
 def object_row(key, version):
-    """What a list tells of an object."""
+    """What a list tells of an object, but for whom it belongs to."""
     data = version.data
     return {"ETag": quoted(data.tag), "Key": key, "LastModified": stamp(version.moment), "Size": data.body.size}
 
@@ -26,7 +27,13 @@ def part_row(number, part):
 class Server(Store):
     """A server: its store, and the lists of that."""
 
+    def listed(self, facts, is_encoded):
+        """The lines of a reply with a list, whose texts may have been asked for UriEncoded."""
+        lines, self.facts = self.told(url_encoded(facts) if is_encoded else facts), facts
+        return lines
+
     def list_objects_v2(self, request):
+        is_encoded, owned = request.is_encoded(), OWNED if request.wants_owners() else {}
         prefix, delimiter = request.value("prefix", otherwise=""), request.value("delimiter", otherwise="")
         start, token = request.value("start-after"), request.value("continuation-token", token_of)
         most, items = request.count("max-keys"), {}
@@ -38,7 +45,7 @@ class Server(Store):
         given, is_truncated = page_of(sorted(item for item in items if token is None or item > token), most)
         told = {
             "CommonPrefixes": [{"Prefix": item} for item in given if items[item] is None],
-            "Contents": [object_row(item, items[item]) for item in given if items[item] is not None],
+            "Contents": [object_row(item, items[item]) | owned for item in given if items[item] is not None],
             "IsTruncated": is_truncated,
             "KeyCount": len(given),
             "MaxKeys": most,
@@ -48,10 +55,12 @@ class Server(Store):
         told |= {} if token is None else {"ContinuationToken": token.encode().hex()}
         told |= {} if delimiter == "" else {"Delimiter": delimiter}
         told |= {} if start is None else {"StartAfter": start}
-        return self.told(told | ({"NextContinuationToken": given[-1].encode().hex()} if is_truncated else {}))
+        told |= {"NextContinuationToken": given[-1].encode().hex()} if is_truncated else {}
+        return self.listed(told, is_encoded)
 
     def list_object_versions(self, request):
         refuse(request.value("delimiter", bytes, b"") != b"", "NotImplemented")
+        is_encoded = request.is_encoded()
         prefix, key_marker = request.value("prefix", otherwise=""), request.value("key-marker", otherwise="")
         marker, most, entries = request.version_id("version-id-marker"), request.count("max-keys"), []
         refuse(marker is not None and key_marker == "")
@@ -72,10 +81,11 @@ class Server(Store):
         }
         if is_truncated:
             told |= {"NextKeyMarker": given[-1][0], "NextVersionIdMarker": given[-1][1].name}
-        return self.told(told)
+        return self.listed(told, is_encoded)
 
     def list_multipart_uploads(self, request):
         refuse(request.value("delimiter", bytes, b"") != b"", "NotImplemented")
+        is_encoded = request.is_encoded()
         prefix, key_marker = request.value("prefix", otherwise=""), request.value("key-marker", otherwise="")
         marker, most = request.value("upload-id-marker", bytes), request.count("max-uploads")
         refuse(marker is not None and (key_marker == "" or not UPLOAD_ID.fullmatch(marker)))
@@ -96,7 +106,7 @@ class Server(Store):
         }
         if is_truncated:
             told |= {"NextKeyMarker": given[-1]["Key"], "NextUploadIdMarker": given[-1]["UploadId"]}
-        return self.told(told)
+        return self.listed(told, is_encoded)
 
     def list_parts(self, request):
         marker, most = request.digits("part-number-marker", b"0"), request.count("max-parts")

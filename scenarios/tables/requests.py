@@ -9,6 +9,8 @@ import re
 from urllib.parse import unquote_to_bytes
 
 from .bodies import Body
+from .documents import JSON
+from .markup import NotXml, last_text, read, rows, trimmed
 
 SUB_RESOURCES = set(
     b"""accelerate acl analytics attributes cors delete encryption intelligent-tiering inventory legal-hold lifecycle
@@ -69,9 +71,19 @@ def json_of(body):
         raise Refused("MalformedBody") from None
 
 
+def xml_of(body, root):
+    """What an XML document with this root says, as `markup` reads it."""
+    try:
+        return read(body, root)
+    except NotXml:
+        raise Refused("MalformedXML") from None
+
+
 class Request:
     """A request: its method, what its target names, the pairs of its query and of these its parameters, its header
-    lines and its body."""
+    lines and its body. The server says in which dialect it reads it."""
+
+    dialect = JSON
 
     def __init__(self, method, target, lines=(), body=Body()):
         self.path, _, query = target.partition("?")
@@ -134,6 +146,16 @@ class Request:
         refuse(not re.fullmatch(rb"[0-9]{1,9}", found))
         return int(found)
 
+    def is_encoded(self):
+        """Whether a list is to tell texts UriEncoded."""
+        found = None if self.dialect == JSON else self.value("encoding-type", bytes)
+        refuse(found not in (None, b"url"))
+        return found is not None
+
+    def wants_owners(self):
+        """Whether a list is to tell whom objects belong to."""
+        return self.dialect != JSON and self.value("fetch-owner", bytes) == b"true"
+
     def version_id(self, name="versionId"):
         found = self.value(name, bytes)
         refuse(found is not None and not VERSION_ID.fullmatch(found))
@@ -160,20 +182,45 @@ class Request:
 
     def versioning(self):
         """The versioning that a bucket gets."""
-        said = json_of(self.received().bytes())
-        refuse(not isinstance(said, dict) or said.get("Status") not in ("Enabled", "Suspended"), "MalformedBody")
-        return said["Status"]
+        body = self.received().bytes()
+        if self.dialect == JSON:
+            said, fault = json_of(body), "MalformedBody"
+            said = said.get("Status") if isinstance(said, dict) else None
+        else:
+            said, fault = last_text(xml_of(body, "VersioningConfiguration"), "Status"), "MalformedXML"
+        refuse(said not in ("Enabled", "Suspended"), fault)
+        return said
+
+    def judge_location(self):
+        """Refuses a bucket that is to be made elsewhere."""
+        body = b"" if self.dialect == JSON else self.received().bytes()
+        said = last_text(xml_of(body, "CreateBucketConfiguration"), "LocationConstraint") if body else None
+        refuse(said not in (None, "", "us-east-1"), "InvalidLocationConstraint")
 
     def listed_parts(self):
         """The numbers and the tags of the parts that a completion lists."""
-        said = json_of(self.received().bytes())
-        parts = said.get("Parts") if isinstance(said, dict) else None
-        refuse(not isinstance(parts, list) or not 1 <= len(parts) <= 10_000, "MalformedBody")
-        for part in parts:
-            refuse(not isinstance(part, dict), "MalformedBody")
-            refuse(not isinstance(part.get("ETag"), str) or type(part.get("PartNumber")) is not int, "MalformedBody")
-        refuse(not all(1 <= part["PartNumber"] <= 10_000 for part in parts))
-        return [(part["PartNumber"], part["ETag"].strip('"')) for part in parts]
+        body = self.received().bytes()
+        parts = parts_in_json(json_of(body)) if self.dialect == JSON else parts_in_xml(body)
+        refuse(not all(1 <= number <= 10_000 for number, _ in parts))
+        return [(number, tag.strip('"')) for number, tag in parts]
+
+
+def parts_in_json(said):
+    parts = said.get("Parts") if isinstance(said, dict) else None
+    refuse(not isinstance(parts, list) or not 1 <= len(parts) <= 10_000, "MalformedBody")
+    for part in parts:
+        refuse(not isinstance(part, dict), "MalformedBody")
+        refuse(not isinstance(part.get("ETag"), str) or type(part.get("PartNumber")) is not int, "MalformedBody")
+    return [(part["PartNumber"], part["ETag"]) for part in parts]
+
+
+def parts_in_xml(body):
+    parts = rows(xml_of(body, "CompleteMultipartUpload"), "Part")
+    refuse(not 1 <= len(parts) <= 10_000, "MalformedXML")
+    told = [(trimmed(last_text(part, "PartNumber") or ""), last_text(part, "ETag")) for part in parts]
+    refuse(not all(re.fullmatch("[0-9]+", number) and tag is not None for number, tag in told), "MalformedXML")
+    # Of a number with many digits the first say that it is too large.
+    return [(int(number.lstrip("0")[:9] or "0"), tag) for number, tag in told]
 
 
 def always(_request):

@@ -2,54 +2,14 @@
 "By the store" of docs/PROTOCOL.md."""
 
 import hashlib
-import json
 import re
 import time
 
 from .bodies import Body
+from .codes import CODES, REASONS
+from .documents import CONTENT_TYPES, JSON, S3, document
 from .requests import Refused, operation
 
-REASONS = {
-    200: "OK",
-    204: "No Content",
-    206: "Partial Content",
-    304: "Not Modified",
-    400: "Bad Request",
-    403: "Forbidden",
-    404: "Not Found",
-    405: "Method Not Allowed",
-    409: "Conflict",
-    412: "Precondition Failed",
-    416: "Range Not Satisfiable",
-    501: "Not Implemented",
-}
-CODES = {
-    "NotImplemented": (501, "This is not implemented."),
-    "AccessDenied": (403, "Access is denied."),
-    "InvalidAccessKeyId": (403, "The access key id is unknown."),
-    "SignatureDoesNotMatch": (403, "The signature does not match."),
-    "InvalidDigest": (400, "The Content-MD5 is not valid."),
-    "BadDigest": (400, "The body MD5 does not match."),
-    "AuthorizationQueryParametersError": (400, "The signing query is malformed."),
-    "InvalidURI": (400, "The target cannot be read."),
-    "InvalidArgument": (400, "An argument is invalid."),
-    "InvalidBucketName": (400, "The bucket name is not valid."),
-    "KeyTooLongError": (400, "The key is too long."),
-    "MethodNotAllowed": (405, "The method is not allowed here."),
-    "MetadataTooLarge": (400, "The metadata is too large."),
-    "NoSuchUpload": (404, "The upload does not exist."),
-    "MalformedBody": (400, "The body is not the expected JSON."),
-    "NoSuchBucket": (404, "The bucket does not exist."),
-    "BucketAlreadyOwnedByYou": (409, "The bucket is already there."),
-    "BucketNotEmpty": (409, "The bucket is not empty."),
-    "NoSuchKey": (404, "The key does not exist."),
-    "NoSuchVersion": (404, "The version does not exist."),
-    "PreconditionFailed": (412, "A precondition failed."),
-    "InvalidRange": (416, "The range is not satisfiable."),
-    "InvalidPartOrder": (400, "The parts are not in order."),
-    "InvalidPart": (400, "A listed part is not there."),
-    "EntityTooSmall": (400, "A part is too small."),
-}
 # The least size of a part, but for the last one, in the servers of scenarios.
 MIN_PART = 5
 
@@ -100,15 +60,16 @@ def matches(value, tag):
     return "*" in items or tag in items
 
 
-def range_of(value, size):
-    """The first byte and the last one that are asked for, where a range is."""
+def range_of(value, size, lines):
+    """The first byte and the last one that are asked for, where a range is; one without a byte is refused with these
+    lines."""
     found = re.fullmatch("bytes=(?:([0-9]{1,18})-([0-9]{1,18})?|-([0-9]{1,18}))", value or "")
     if not found or (found[2] and int(found[1]) > int(found[2])):
         return None
     if found[3]:
-        deny(int(found[3]) == 0 or size == 0, "InvalidRange")
+        deny(int(found[3]) == 0 or size == 0, "InvalidRange", lines)
         return max(size - int(found[3]), 0), size - 1
-    deny(int(found[1]) >= size, "InvalidRange")
+    deny(int(found[1]) >= size, "InvalidRange", lines)
     return int(found[1]), min(int(found[2] or size), size - 1)
 
 
@@ -185,15 +146,17 @@ class Bucket:
 
 
 class Store:
-    """The bucket `pail` and others, and how many commands were answered. Each operation gives the lines of its
-    reply."""
+    """The bucket `pail` and others, how many commands were answered, and the facts of the last document. Each operation
+    gives the lines of its reply."""
 
-    def __init__(self, moment=1369353600):
+    def __init__(self, dialect=JSON, moment=1369353600):
         self.buckets, self.number, self.moment = {b"pail": Bucket()}, 0, moment
+        self.dialect, self.facts = dialect, None
 
     def answer(self, request, judge=lambda: None):
         """The lines of what a request is answered, and whether the connection ends with it. Its head may be refused
         before that, by `judge`."""
+        self.facts, request.dialect = None, self.dialect
         try:
             judge()
             lines, is_over = getattr(self, operation(request))(request), False
@@ -214,9 +177,12 @@ class Store:
         told += [] if status in (204, 304) else [f"Content-Length: {body.size}"]
         return [*told, "", *(f"{line}|" for line in body.lines())]
 
-    def told(self, document, lines=(), status=200):
-        text = json.dumps(document, ensure_ascii=False, sort_keys=True, separators=(",", ":"))
-        return self.reply(status, [*lines, "Content-Type: application/json"], Body.of(text))
+    def told(self, facts, lines=(), status=200):
+        """The lines of a reply with a document."""
+        self.facts = facts
+        number = 0 if "Connection: close" in lines else self.number
+        text = document(self.dialect, facts, f"{number:016x}")
+        return self.reply(status, [*lines, f"Content-Type: {CONTENT_TYPES[self.dialect]}"], Body.of(text))
 
     def refusal(self, code, lines):
         status, message = CODES[code]
@@ -234,6 +200,7 @@ class Store:
         return self.buckets[request.bucket]
 
     def create_bucket(self, request):
+        request.judge_location()
         deny(request.bucket in self.buckets, "BucketAlreadyOwnedByYou")
         self.buckets[request.bucket] = Bucket(self.moment)
         return self.reply(200, [f"Location: /{request.bucket.decode()}"])
@@ -283,7 +250,8 @@ class Store:
         deny(not matches(request.line("if-match") or "*", data.tag), "PreconditionFailed")
         if matches(request.line("if-none-match") or "", data.tag):
             return self.reply(304, told)
-        part, told = range_of(request.line("range"), data.body.size), [*told, "Accept-Ranges: bytes"]
+        size_told = [f"Content-Range: bytes */{data.body.size}"] if self.dialect == S3 else []
+        part, told = range_of(request.line("range"), data.body.size, size_told), [*told, "Accept-Ranges: bytes"]
         if part is not None:
             told.append(f"Content-Range: bytes {part[0]}-{part[1]}/{data.body.size}")
         told += [f"Content-Type: {data.content_type}"]

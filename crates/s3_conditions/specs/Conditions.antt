@@ -3,11 +3,11 @@
 use Rattle.std.specs.Prelude.{◌≤◌, ◌<◌, ◌-◌, ℕ, Bool, false, not, ◌||◌, ◌==◌, nat_lt, nat_le, min, if◌then◌else◌, List, Option, Some, None, Result, Ok, ⊤}
 use Rattle.s3_terms.specs.Fault.{refuse, ◌>>◌}
 use Rattle.s3_terms.specs.declared.code.Code.{Code}
-use Rattle.s3_terms.specs.declared.code.Code.TheVariants.{PreconditionFailed, InvalidRange}
+use Rattle.s3_terms.specs.declared.code.Code.TheVariants.{PreconditionFailed}
 use Rattle.s3_conditions.specs.Tags.{matches}
 use Rattle.s3_conditions.specs.declared.conditions.Conditions.{Conditions}
 use Rattle.s3_conditions.specs.declared.conditions.Selection.{Selection}
-use Rattle.s3_conditions.specs.declared.conditions.Selection.TheVariants.{Whole, Part, Unchanged}
+use Rattle.s3_conditions.specs.declared.conditions.Selection.TheVariants.{Whole, Part, Unchanged, Outside}
 use Rattle.s3_conditions.specs.declared.range.ByteRange.{ByteRange}
 use Rattle.s3_conditions.specs.declared.range.ByteRange.TheVariants.{FromTo, From, Last}
 
@@ -38,29 +38,23 @@ unmet asked moment tag = by_tags_or_date asked.if_match (λ tags. not (matches t
 unfoldable pub unchanged : Conditions → ℕ → List ℕ → Bool
 unchanged asked moment tag = by_tags_or_date asked.if_none_match (λ tags. matches tags tag) (is_not_later moment asked.modified_since)
 
--- the part of that many bytes that is in the range, if a byte is: up to the last position or the last byte, or as many at the end as
--- are asked for, and all where they are more
-abbrev pub satisfied : ByteRange → ℕ → Result Selection Code
-satisfied (FromTo first last) size = do
-  refuse (nat_le size first || nat_lt last first) InvalidRange
-  Ok (Part first (min last (size - 1)))
-satisfied (From first) size = do
-  refuse (nat_le size first) InvalidRange
-  Ok (Part first (size - 1))
-satisfied (Last count) size = do
-  refuse (count == 0 || size == 0) InvalidRange
-  Ok (Part (size - count) (size - 1))
+-- the part of that many bytes that is in the range: up to the last position or the last byte, or as many at the end as are asked
+-- for, and all where they are more; or that no byte is in it
+abbrev pub satisfied : ByteRange → ℕ → Selection
+satisfied (FromTo first last) size = if nat_le size first || nat_lt last first then Outside else Part first (min last (size - 1))
+satisfied (From first) size = if nat_le size first then Outside else Part first (size - 1)
+satisfied (Last count) size = if count == 0 || size == 0 then Outside else Part (size - count) (size - 1)
 
 -- what a range selects, and all where there is none
-unfoldable pub selected : Option ByteRange → ℕ → Result Selection Code
-selected None size = Ok Whole
+unfoldable pub selected : Option ByteRange → ℕ → Selection
+selected None size = Whole
 selected (Some range) size = satisfied range size
 
 -- what is shown of a version with this moment, this tag and this size
 unfoldable pub judged : Conditions → ℕ → List ℕ → ℕ → Result Selection Code
 judged asked moment tag size = do
   refuse (unmet asked moment tag) PreconditionFailed
-  if unchanged asked moment tag then Ok Unchanged else selected asked.range size
+  Ok (if unchanged asked moment tag then Unchanged else selected asked.range size)
 
 -- a part lies in that many bytes
 abbrev pub LiesIn : ℕ → Selection → Type 0

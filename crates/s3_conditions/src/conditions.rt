@@ -46,6 +46,8 @@ pub enum Selection {
     Part { first: u64, last: u64 },
     /// That it is as the reader knows it, and none of its bytes.
     Unchanged,
+    /// That no byte of it is in the range that was asked for, and none of its bytes.
+    Outside,
 }
 
 /// Judges a version that was made at `moment`, has this tag and is `size` bytes long, and takes no memory (RFC 9110, section 13.2.2):
@@ -54,7 +56,7 @@ pub enum Selection {
 ///    If-Unmodified-Since.
 /// 2. `Unchanged` where If-None-Match is there and matches, or where it is absent and the version isn't later than
 ///    If-Modified-Since.
-/// 3. The range, or all. `InvalidRange` where no byte of the version is in the range.
+/// 3. The range, or all. `Outside` where no byte of the version is in the range.
 #[tactic(auto, unfolding(crate::specs::Conditions::judged))]
 pub fn judge(
     conditions: &Conditions,
@@ -71,7 +73,7 @@ pub fn judge(
     if is_unchanged(conditions, moment, tag) {
         return Ok(Selection::Unchanged);
     }
-    selected(conditions.range, size)
+    Ok(selected(conditions.range, size))
 }
 
 // Whether a precondition isn't met.
@@ -104,18 +106,18 @@ fn is_unchanged(conditions: &Conditions, moment: Moment, tag: &Tag) -> bool
 
 // What a range selects of that many bytes.
 #[tactic(auto, unfolding(crate::specs::Conditions::selected))]
-fn selected(range: Option<ByteRange>, size: u64) -> Result<Selection, Code>
+fn selected(range: Option<ByteRange>, size: u64) -> Selection
     ensures value { result ≡ selected range size }
-    ensures within { IfOk result (LiesIn size) }
+    ensures within { LiesIn size result }
 {
     match range {
-        None => Ok(Selection::Whole),
+        None => Selection::Whole,
         Some(range) => satisfied(range, size),
     }
 }
 
-// The part of that many bytes that is in the range.
-fn satisfied(range: ByteRange, size: u64) -> Result<Selection, Code>
+// The part of that many bytes that is in the range, if a byte is.
+fn satisfied(range: ByteRange, size: u64) -> Selection
     ensures { result ≡ satisfied range size }
 {
     let (first, last) = match range {
@@ -124,8 +126,8 @@ fn satisfied(range: ByteRange, size: u64) -> Result<Selection, Code>
         ByteRange::Last { count } => (size.saturating_sub(count), size),
     };
     if first >= size || last < first {
-        return Err(Code::InvalidRange);
+        return Selection::Outside;
     }
     let last = last.min(size - 1);
-    Ok(Selection::Part { first, last })
+    Selection::Part { first, last }
 }

@@ -10,6 +10,8 @@ mod tags;
 
 pub use conditions::{Conditions, Selection, judge};
 pub use dates::read_date;
-pub use laws::{examples_hold, parts_lie_in_the_object, plain_reads_show_all};
+pub use laws::{
+    examples_hold, parts_are_what_is_asked, parts_lie_in_the_object, plain_reads_show_all,
+};
 pub use range::ByteRange;
 pub use tags::{TagList, unquoted};

@@ -14,7 +14,7 @@ use Rattle.s3_xml.specs.Events.{begin, end, leaf}
 use Rattle.s3_xml.specs.Printed.{event_text, escaped, markup, declaration, namespace_text, document_text as xml_text}
 use Rattle.s3_documents.specs.Xml.{is_plain}
 use Rattle.s3_documents.specs.declared.copied.TheConstants.{XML_FRONT}
-use Rattle.s3_documents.specs.Xml.{namespace, fields_events}
+use Rattle.s3_documents.specs.Xml.{namespace, plain, fields_events}
 use Rattle.s3_documents.specs.Copied.{tag_told, copied_fields}
 use Rattle.s3_documents.proofs.XmlLemmas.{markup_append}
 use Rattle.s3_documents.proofs.XmlPlainLemmas.{tag_is_plain, quoted_escaped, plain_alone}
@@ -53,7 +53,7 @@ abbrev within_leaf : (name text : List ℕ) → List ℕ
 within_leaf name text = event_text (begin name) ++ (text ++ event_text (end name))
 
 elements_text : (tag : List ℕ) (made : ℕ) → list_all is_tag_character tag ≡ true → list_all is_plain (timestamp made) ≡ true
-    → markup (fields_events (copied_fields tag made))
+    → markup (fields_events plain (copied_fields tag made))
     ≡ within_leaf (codes "ETag") (codes "&quot;" ++ (tag ++ codes "&quot;")) ++ within_leaf (codes "LastModified") (timestamp made)
 elements_text tag made characters plain =
     markup_append (leaf (codes "ETag") (tag_told tag)) (leaf (codes "LastModified") (timestamp made) ++ [])

@@ -9,7 +9,7 @@ use Rattle.serde_json.specs.Data.{Data}
 use Rattle.serde_json.specs.View.{items_of}
 use Rattle.serde_json.specs.Written.{outline, items_outline, members_outline, comma_if, compact_text, items_text, members_text}
 use Rattle.serde_json.proofs.Texts.{print-outline}
-use Rattle.s3_documents.specs.Tree.{Value, text, number, truth, moment, Branch, leaf, rows, Tree, with_commas, object_text, value_text, branch_text, tree_text}
+use Rattle.s3_documents.specs.Tree.{Value, text, encodable, number, truth, moment, Branch, leaf, rows, Tree, with_commas, object_text, value_text, branch_text, tree_text}
 use Rattle.s3_documents.specs.Json.{members_data, object_data, value_data, branch_data, tree_data}
 use Rattle.s3_documents.specs.Laws.{TreesAreJson}
 use Rattle.s3_documents.specs.Printed.{members_tokens, object_tokens, value_tokens, row_tokens, branch_tokens, begun}
@@ -65,6 +65,7 @@ object_spelled g h same ms = ap (λ t. 123 ∷ t) (members_spelled g h same fals
 
 value_spelled : (v : Value) → compact_text (value_data v) ≡ value_text v
 value_spelled (text s) = refl
+value_spelled (encodable s) = refl
 value_spelled (number n) = refl
 value_spelled (truth true) = refl
 value_spelled (truth false) = refl
@@ -98,6 +99,7 @@ object_sent f g same ms = ap (λ ts. Token.begin_object ∷ ts) (members_sent f 
 
 value_sent : (v : Value) → value_tokens v ≡ json_tokens (outline (value_data v))
 value_sent (text s) = refl
+value_sent (encodable s) = refl
 value_sent (number n) = refl
 value_sent (truth b) = refl
 value_sent (moment m) = refl

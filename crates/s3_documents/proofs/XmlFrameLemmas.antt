@@ -3,10 +3,10 @@ use Rattle.std.proofs.Common.{◌≤◌, ◌+◌, length, arith, Result, Ok, Err
 use Rattle.s3_xml.specs.Printed.{event_text}
 use Rattle.s3_xml.specs.Events.{end}
 use Rattle.s3_xml.specs.Writer.{opening}
-use Rattle.s3_documents.specs.Document.{Document, buckets, objects, versions, uploads, parts, begun, completed, copied, versioning}
-use Rattle.s3_documents.specs.Xml.{root_of, namespace}
+use Rattle.s3_documents.specs.Document.{Document, buckets, objects, versions, uploads, parts, begun, completed, copied, versioning, error}
+use Rattle.s3_documents.specs.Xml.{root_of, namespace_of}
 
-pub frame_room : (document : Document) → length (opening (root_of document) namespace) + length (event_text (end (root_of document))) ≤ 192
+pub frame_room : (document : Document) → length (opening (root_of document) (namespace_of document)) + length (event_text (end (root_of document))) ≤ 192
 unfolding opening
 frame_room (buckets list) = omega arith
 frame_room (objects name asked page) = omega arith
@@ -17,8 +17,9 @@ frame_room (begun bucket key id) = omega arith
 frame_room (completed bucket key tag) = omega arith
 frame_room (copied tag made) = omega arith
 frame_room (versioning state) = omega arith
+frame_room (error code number) = omega arith
 
 -- what follows from what is known of an error
 pub of_error : {A E P Q : Type 0} (r : Result A E) → (P → Q) → OnErr r P → OnErr r Q
 of_error (Ok value) implied is = tt
-of_error (Err error) implied is = implied is
+of_error (Err e) implied is = implied is

@@ -20,13 +20,13 @@ digit_plain b h = grind (arith, nat_tests)
 tag_character_plain : (b : ℕ) → is_tag_character b ≡ true → is_plain b ≡ true
 tag_character_plain b h = grind (arith, nat_tests)
 
-all_plain : (test : ℕ → Bool) → ((b : ℕ) → test b ≡ true → is_plain b ≡ true) → (bs : List ℕ) → list_all test bs ≡ true → list_all is_plain bs ≡ true
+pub all_plain : (test : ℕ → Bool) → ((b : ℕ) → test b ≡ true → is_plain b ≡ true) → (bs : List ℕ) → list_all test bs ≡ true → list_all is_plain bs ≡ true
 all_plain test plain [] h = refl
 all_plain test plain (b ∷ bs) h =
     let parts = and_parts (test b) (list_all test bs) h in
     rw (plain b parts.0) (all_plain test plain bs parts.1)
 
-joined_plain : (xs ys : List ℕ) → list_all is_plain xs ≡ true → list_all is_plain ys ≡ true → list_all is_plain (xs ++ ys) ≡ true
+pub joined_plain : (xs ys : List ℕ) → list_all is_plain xs ≡ true → list_all is_plain ys ≡ true → list_all is_plain (xs ++ ys) ≡ true
 joined_plain [] ys h k = k
 joined_plain (x ∷ xs) ys h k =
     let parts = and_parts (is_plain x) (list_all is_plain xs) h in

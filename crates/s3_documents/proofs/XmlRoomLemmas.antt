@@ -1,5 +1,5 @@
 -- How much room is taken in XML.
-use Rattle.std.proofs.Common.{◌≡◌, refl, sym, ap, ◌∙◌, ◌≤◌, ◌<◌, ◌+◌, ◌*◌, ◌^◌, ◌/◌, ◌%◌, ◌==◌, ◌||◌, nat_lt, ℕ, List, [], ◌∷◌, ◌++◌, Bool, true, false, cond, if◌then◌else◌, length, codes, length-append, arith, Option, Some, None, drop, get_or, subst}
+use Rattle.std.proofs.Common.{◌≡◌, refl, sym, ap, ◌∙◌, ◌≤◌, ◌<◌, ◌+◌, ◌*◌, ◌^◌, ◌/◌, ◌%◌, ◌==◌, ◌||◌, nat_lt, ℕ, List, [], ◌∷◌, ◌++◌, Bool, true, false, cond, if◌then◌else◌, length, codes, decimal, length-append, arith, Option, Some, None, drop, get_or, subst}
 use Rattle.std.specs.Char.{digit_char}
 use Rattle.std.specs.List.{flat_map}
 use Rattle.std.proofs.lemmas.Fmt.{length-decimal-le}
@@ -19,7 +19,7 @@ use Rattle.s3_listings.specs.declared.object_page.ListedObject.{ListedObject}
 use Rattle.s3_xml.specs.Characters.{is_control, is_noncharacter}
 use Rattle.s3_xml.specs.Events.{Event, begin, end, leaf, text_in, element}
 use Rattle.s3_xml.specs.Printed.{event_text, markup, escaped, escaped_byte, escaped_noncharacter}
-use Rattle.s3_documents.specs.Tree.{Value, text, number, truth, moment, Fields}
+use Rattle.s3_documents.specs.Tree.{Value, text, encodable, number, truth, moment, Fields}
 use Rattle.s3_documents.specs.Buckets.{bucket_row}
 use Rattle.s3_documents.specs.Copied.{tag_told}
 use Rattle.s3_documents.specs.ObjectList.{prefix_row}
@@ -27,7 +27,9 @@ use Rattle.s3_documents.specs.PartList.{part_fields}
 use Rattle.s3_documents.specs.Printed.{field_of, fields_of}
 use Rattle.s3_documents.specs.declared.printer.Field.{Field}
 use Rattle.s3_documents.specs.Timestamp.{timestamp, stamp_of}
-use Rattle.s3_documents.specs.Xml.{content_of, standard, fields_events, owner, owned, listed, bucket_events, prefix_events, object_fields, object_events, part_events, begun_before, begun_behind, upload_events, version_before, version_behind, version_events}
+use Rattle.s3_documents.specs.Xml.{plain, key_told, content_of, standard, fields_events, owner, owner_in, owned, listed, listed_owned, bucket_events, prefix_events, object_before, object_behind, object_events, part_events, begun_before, begun_behind, upload_events, version_before, version_behind, version_events}
+use Rattle.s3_documents.specs.declared.xml.Manner.{Manner}
+use Rattle.s3_documents.proofs.EncodedLemmas.{encoded_as_it_is, encoded_room}
 use Rattle.s3_documents.proofs.XmlLemmas.{markup_append, entries_from, fields_from}
 
 byte_room : (b : ℕ) → length (escaped_byte b) ≤ 6
@@ -89,47 +91,58 @@ element_room name inner =
       length-append (event_text (end name)) [],
     )
 
-pub leaf_room : (name s : List ℕ) → length (markup (leaf name s)) ≤ 2 * length name + 5 + 6 * length s
-leaf_room name s = omega (arith, element_room name (text_in s), text_in_markup s, escaped_room s)
+pub leaf_room : (name s : List ℕ) → length (markup (leaf name s)) ≡ 2 * length name + 5 + length (escaped s)
+leaf_room name s = omega (arith, element_room name (text_in s), text_in_markup s)
 
 -- a field in front of others
-pub fields_room : (name : List ℕ) (value : Value) (fields : Fields)
-    → length (markup (fields_events ((name, value) ∷ fields))) ≤ 2 * length name + 5 + 6 * length (content_of value) + length (markup (fields_events fields))
-fields_room name value fields =
+pub fields_room : (manner : Manner) (name : List ℕ) (value : Value) (fields : Fields)
+    → length (markup (fields_events manner ((name, value) ∷ fields)))
+    ≡ 2 * length name + 5 + length (escaped (content_of manner value)) + length (markup (fields_events manner fields))
+fields_room manner name value fields =
     omega (
       arith,
-      ap length (markup_append (leaf name (content_of value)) (fields_events fields)),
-      length-append (markup (leaf name (content_of value))) (markup (fields_events fields)),
-      leaf_room name (content_of value),
+      ap length (markup_append (leaf name (content_of manner value)) (fields_events manner fields)),
+      length-append (markup (leaf name (content_of manner value))) (markup (fields_events manner fields)),
+      leaf_room name (content_of manner value),
     )
 
 -- contents
-pub number_content : (n : ℕ) → n < 2 ^ 64 → length (content_of (number n)) ≤ 20
-number_content n small = omega (arith, length-decimal-le 20 n (omega arith) (omega arith) small)
+pub key_content : (is_url_encoded : Bool) (key : List ℕ) → length (escaped (key_told is_url_encoded key)) ≤ 6 * length key
+key_content true key = omega (arith, ap length (encoded_as_it_is key), encoded_room key)
+key_content false key = escaped_room key
 
-pub truth_content : (b : Bool) → length (content_of (truth b)) ≤ 5
-truth_content true = omega arith
-truth_content false = omega arith
+pub number_content : (manner : Manner) (n : ℕ) → n < 2 ^ 64 → length (escaped (content_of manner (number n))) ≤ 120
+number_content manner n small = omega (arith, escaped_room (decimal n), length-decimal-le 20 n (omega arith) (omega arith) small)
 
-pub moment_content : (m : ℕ) → length (content_of (moment m)) ≡ 24
+pub truth_content : (manner : Manner) (b : Bool) → length (escaped (content_of manner (truth b))) ≤ 30
+truth_content manner true = omega (arith, escaped_room (codes "true"))
+truth_content manner false = escaped_room (codes "false")
+
+timestamp_length : (m : ℕ) → length (timestamp m) ≡ 24
 unfolding timestamp stamp_of
-moment_content m = refl
+timestamp_length m = refl
+
+pub moment_content : (manner : Manner) (m : ℕ) → length (escaped (content_of manner (moment m))) ≤ 144
+moment_content manner m = omega (arith, escaped_room (timestamp m), timestamp_length m)
 
 -- ---- fields, one at a time
 
-pub text_field : (name s : List ℕ) → length (markup (fields_events ((name, text s) ∷ []))) ≤ 2 * length name + 5 + 6 * length s
-text_field name s = omega (arith, fields_room name (text s) [])
+pub text_field : (manner : Manner) (name s : List ℕ) → length (markup (fields_events manner ((name, text s) ∷ []))) ≤ 2 * length name + 5 + 6 * length s
+text_field manner name s = omega (arith, fields_room manner name (text s) [], escaped_room s)
 
-pub number_field : (name : List ℕ) (n : ℕ) → n < 2 ^ 64 → length (markup (fields_events ((name, number n) ∷ []))) ≤ 2 * length name + 125
-number_field name n small = omega (arith, fields_room name (number n) [], number_content n small)
+pub key_field : (manner : Manner) (name s : List ℕ) → length (markup (fields_events manner ((name, encodable s) ∷ []))) ≤ 2 * length name + 5 + 6 * length s
+key_field manner name s = omega (arith, fields_room manner name (encodable s) [], key_content manner.is_url_encoded s)
 
-pub truth_field : (name : List ℕ) (b : Bool) → length (markup (fields_events ((name, truth b) ∷ []))) ≤ 2 * length name + 35
-truth_field name b = omega (arith, fields_room name (truth b) [], truth_content b)
+pub number_field : (manner : Manner) (name : List ℕ) (n : ℕ) → n < 2 ^ 64 → length (markup (fields_events manner ((name, number n) ∷ []))) ≤ 2 * length name + 125
+number_field manner name n small = omega (arith, fields_room manner name (number n) [], number_content manner n small)
 
-pub moment_field : (name : List ℕ) (m : ℕ) → length (markup (fields_events ((name, moment m) ∷ []))) ≤ 2 * length name + 149
-moment_field name m = omega (arith, fields_room name (moment m) [], moment_content m)
+pub truth_field : (manner : Manner) (name : List ℕ) (b : Bool) → length (markup (fields_events manner ((name, truth b) ∷ []))) ≤ 2 * length name + 35
+truth_field manner name b = omega (arith, fields_room manner name (truth b) [], truth_content manner b)
 
-pub ruleset field_rooms = (text_field, number_field, truth_field, moment_field)
+pub moment_field : (manner : Manner) (name : List ℕ) (m : ℕ) → length (markup (fields_events manner ((name, moment m) ∷ []))) ≤ 2 * length name + 149
+moment_field manner name m = omega (arith, fields_room manner name (moment m) [], moment_content manner m)
+
+pub ruleset field_rooms = (text_field, key_field, number_field, truth_field, moment_field)
 
 -- ---- a list from a place on
 
@@ -140,12 +153,13 @@ entries_room events xs i x lt is =
     ∙ ap length (markup_append (events x) (flat_map events (drop (i + 1) xs)))
     ∙ length-append (markup (events x)) (markup (flat_map events (drop (i + 1) xs)))
 
-pub some_fields_room : (xs : List Field) (i : ℕ) (x : Field) → i < length xs → x ≡ get_or xs i x
-    → length (markup (fields_events (fields_of (drop i xs)))) ≡ length (markup (fields_events (field_of x))) + length (markup (fields_events (fields_of (drop (i + 1) xs))))
-some_fields_room xs i x lt is =
-    ap (λ es. length (markup es)) (fields_from xs i x lt is)
-    ∙ ap length (markup_append (fields_events (field_of x)) (fields_events (fields_of (drop (i + 1) xs))))
-    ∙ length-append (markup (fields_events (field_of x))) (markup (fields_events (fields_of (drop (i + 1) xs))))
+pub some_fields_room : (manner : Manner) (xs : List Field) (i : ℕ) (x : Field) → i < length xs → x ≡ get_or xs i x
+    → length (markup (fields_events manner (fields_of (drop i xs))))
+    ≡ length (markup (fields_events manner (field_of x))) + length (markup (fields_events manner (fields_of (drop (i + 1) xs))))
+some_fields_room manner xs i x lt is =
+    ap (λ es. length (markup es)) (fields_from manner xs i x lt is)
+    ∙ ap length (markup_append (fields_events manner (field_of x)) (fields_events manner (fields_of (drop (i + 1) xs))))
+    ∙ length-append (markup (fields_events manner (field_of x))) (markup (fields_events manner (fields_of (drop (i + 1) xs))))
 
 pub appended_room : (a b c : List Event) → length (markup (a ++ b ++ c)) ≡ length (markup a) + length (markup b) + length (markup c)
 appended_room a b c =
@@ -155,78 +169,87 @@ appended_room a b c =
 -- ---- rows
 
 owner_room : length (markup owner) ≤ 42
-owner_room = omega (arith, element_room (codes "Owner") (fields_events ((codes "ID", text (codes "s3d")) ∷ [])), text_field (codes "ID") (codes "s3d"))
+owner_room =
+    omega (arith, element_room (codes "Owner") (fields_events plain ((codes "ID", text (codes "s3d")) ∷ [])), text_field plain (codes "ID") (codes "s3d"))
 
-pub bucket_events_room : (bucket : ListedBucket) → length (markup (bucket_events bucket)) ≤ 6 * length bucket.name + 203
-bucket_events_room bucket =
+-- the owner, where it is told
+owner_in_room : (tells_owner : Bool) → length (markup (if tells_owner then owner else [])) ≤ 42
+owner_in_room true = owner_room
+owner_in_room false = omega arith
+
+pub bucket_events_room : (manner : Manner) (bucket : ListedBucket) → length (markup (bucket_events manner bucket)) ≤ 6 * length bucket.name + 203
+bucket_events_room manner bucket =
     omega (
       arith,
-      element_room (codes "Bucket") (fields_events (bucket_row bucket)),
-      fields_room (codes "CreationDate") (moment bucket.made) ((codes "Name", text bucket.name) ∷ []),
-      text_field (codes "Name") bucket.name,
-      moment_content bucket.made,
+      element_room (codes "Bucket") (fields_events manner (bucket_row bucket)),
+      fields_room manner (codes "CreationDate") (moment bucket.made) ((codes "Name", text bucket.name) ∷ []),
+      text_field manner (codes "Name") bucket.name,
+      moment_content manner bucket.made,
     )
 
-pub prefix_events_room : (prefix : List ℕ) → length (markup (prefix_events prefix)) ≤ 6 * length prefix + 50
-prefix_events_room prefix =
-    omega (arith, element_room (codes "CommonPrefixes") (fields_events (prefix_row prefix)), text_field (codes "Prefix") prefix)
+pub prefix_events_room : (manner : Manner) (prefix : List ℕ) → length (markup (prefix_events manner prefix)) ≤ 6 * length prefix + 50
+prefix_events_room manner prefix =
+    omega (arith, element_room (codes "CommonPrefixes") (fields_events manner (prefix_row prefix)), key_field manner (codes "Prefix") prefix)
 
-tag_length : (tag : List ℕ) → length tag ≤ 38 → length (tag_told tag) ≤ 40
-tag_length tag short = omega (arith, short, length-append tag (34 ∷ []))
+-- a tag in its quotes
+tag_content : (tag : List ℕ) → length tag ≤ 38 → length (escaped (tag_told tag)) ≤ 240
+tag_content tag short = omega (arith, short, escaped_room (tag_told tag), length-append tag (34 ∷ []))
 
-class_field : length (markup (fields_events ((codes "StorageClass", standard) ∷ []))) ≤ 77
-class_field = text_field (codes "StorageClass") (codes "STANDARD")
+class_field : (manner : Manner) → length (markup (fields_events manner ((codes "StorageClass", standard) ∷ []))) ≤ 77
+class_field manner = text_field manner (codes "StorageClass") (codes "STANDARD")
 
-pub object_events_room : (object : ListedObject) → length object.facts.tag ≤ 38 → object.facts.size < 2 ^ 64
-    → length (markup (object_events object)) ≤ 6 * length object.key + 668
-object_events_room object short small =
-    let class : Fields = (codes "StorageClass", standard) ∷ [] in
-    let size : Fields = (codes "Size", number object.facts.size) ∷ class in
-    let made : Fields = (codes "LastModified", moment object.facts.moment) ∷ size in
-    let key : Fields = (codes "Key", text object.key) ∷ made in
-    omega (
-      arith,
-      element_room (codes "Contents") (fields_events (object_fields object)),
-      fields_room (codes "ETag") (text (tag_told object.facts.tag)) key,
-      tag_length object.facts.tag short,
-      fields_room (codes "Key") (text object.key) made,
-      fields_room (codes "LastModified") (moment object.facts.moment) size,
-      moment_content object.facts.moment,
-      fields_room (codes "Size") (number object.facts.size) class,
-      number_content object.facts.size small,
-      class_field,
-    )
-
-pub part_events_room : (row : PartRow) → length row.tag ≤ 38 → row.size < 2 ^ 64 → row.number < 2 ^ 64 → length (markup (part_events row)) ≤ 717
-part_events_room row short small few =
+pub part_events_room : (manner : Manner) (row : PartRow) → length row.tag ≤ 38 → row.size < 2 ^ 64 → row.number < 2 ^ 64
+    → length (markup (part_events manner row)) ≤ 717
+part_events_room manner row short small few =
     let size : Fields = (codes "Size", number row.size) ∷ [] in
     let part : Fields = (codes "PartNumber", number row.number) ∷ size in
     let made : Fields = (codes "LastModified", moment row.moment) ∷ part in
     omega (
       arith,
-      element_room (codes "Part") (fields_events (part_fields row)),
-      fields_room (codes "ETag") (text (tag_told row.tag)) made,
-      tag_length row.tag short,
-      fields_room (codes "LastModified") (moment row.moment) part,
-      moment_content row.moment,
-      fields_room (codes "PartNumber") (number row.number) size,
-      number_content row.number few,
-      number_field (codes "Size") row.size small,
+      element_room (codes "Part") (fields_events manner (part_fields row)),
+      fields_room manner (codes "ETag") (text (tag_told row.tag)) made,
+      tag_content row.tag short,
+      fields_room manner (codes "LastModified") (moment row.moment) part,
+      moment_content manner row.moment,
+      fields_room manner (codes "PartNumber") (number row.number) size,
+      number_content manner row.number few,
+      number_field manner (codes "Size") row.size small,
     )
 
--- an element of fields between which the owner stands
+-- an element of fields between which the owner may stand
 three_room : (name : List ℕ) (a b c : List Event)
     → length (markup (element name (a ++ b ++ c))) ≡ 2 * length name + 5 + (length (markup a) + length (markup b) + length (markup c))
 three_room name a b c = element_room name (a ++ b ++ c) ∙ ap (λ n. 2 * length name + 5 + n) (appended_room a b c)
 
-owned_room : (name : List ℕ) (before behind : Fields)
-    → length (markup (owned name before behind)) ≤ 2 * length name + 47 + length (markup (fields_events before)) + length (markup (fields_events behind))
-owned_room name before behind =
-    within (length (markup (owned name before behind))) (length (markup (fields_events before))) (length (markup owner)) (length (markup (fields_events behind))) (length name)
-    (three_room name (fields_events before) owner (fields_events behind)) owner_room
+owned_room : (manner : Manner) (name : List ℕ) (before behind : Fields)
+    → length (markup (owned manner name before behind))
+    ≤ 2 * length name + 47 + length (markup (fields_events manner before)) + length (markup (fields_events manner behind))
+owned_room manner name before behind =
+    within (length (markup (owned manner name before behind))) (length (markup (fields_events manner before))) (length (markup (owner_in manner)))
+    (length (markup (fields_events manner behind))) (length name)
+    (three_room name (fields_events manner before) (owner_in manner) (fields_events manner behind)) (owner_in_room manner.tells_owner)
   where
     within : (whole a o c n : ℕ) → whole ≡ 2 * n + 5 + (a + o + c) → o ≤ 42 → whole ≤ 2 * n + 47 + a + c
     within whole a o c n is few = omega (arith, is, few)
+
+pub object_events_room : (manner : Manner) (object : ListedObject) → length object.facts.tag ≤ 38 → object.facts.size < 2 ^ 64
+    → length (markup (object_events manner object)) ≤ 6 * length object.key + 710
+object_events_room manner object short small =
+    let made : Fields = (codes "LastModified", moment object.facts.moment) ∷ [] in
+    let key : Fields = (codes "Key", encodable object.key) ∷ made in
+    let class : Fields = (codes "StorageClass", standard) ∷ [] in
+    omega (
+      arith,
+      owned_room manner (codes "Contents") (object_before object) (object_behind object),
+      fields_room manner (codes "ETag") (text (tag_told object.facts.tag)) key,
+      tag_content object.facts.tag short,
+      fields_room manner (codes "Key") (encodable object.key) made,
+      key_content manner.is_url_encoded object.key,
+      moment_field manner (codes "LastModified") object.facts.moment,
+      fields_room manner (codes "Size") (number object.facts.size) class,
+      number_content manner object.facts.size small,
+      class_field manner,
+    )
 
 id_length : (id : VersionId) → length (version_id_text id) ≤ 17
 unfolding numbered_id number_digits
@@ -237,79 +260,85 @@ upload_id_length : (id : ℕ) → length (upload_id_text id) ≤ 17
 unfolding numbered_id number_digits
 upload_id_length id = omega (arith, length-encode_with lower_digits (to_be_bytes w64 id))
 
-pub upload_events_room : (row : UploadRow) → length (markup (upload_events row)) ≤ 6 * length row.key + 437
-upload_events_room row =
+pub upload_events_room : (manner : Manner) (row : UploadRow) → length (markup (upload_events manner row)) ≤ 6 * length row.key + 437
+upload_events_room manner row =
+    let id : Fields = (codes "UploadId", text (upload_id_text row.id)) ∷ [] in
     omega (
       arith,
-      owned_room (codes "Upload") (begun_before row) (begun_behind row),
-      fields_room (codes "Initiated") (moment row.moment) ((codes "Key", text row.key) ∷ []),
-      moment_content row.moment,
-      text_field (codes "Key") row.key,
-      fields_room (codes "StorageClass") (standard) ((codes "UploadId", text (upload_id_text row.id)) ∷ []),
-      text_field (codes "UploadId") (upload_id_text row.id),
+      owned_room manner (codes "Upload") (begun_before row) (begun_behind row),
+      fields_room manner (codes "Initiated") (moment row.moment) ((codes "Key", encodable row.key) ∷ []),
+      moment_content manner row.moment,
+      key_field manner (codes "Key") row.key,
+      fields_room manner (codes "StorageClass") standard id,
+      escaped_room (codes "STANDARD"),
+      text_field manner (codes "UploadId") (upload_id_text row.id),
       upload_id_length row.id,
     )
 
 -- a version's row, and a delete marker's
-abbrev IsWithin : VersionRow → Option Facts → Type 0
-IsWithin row facts =
-    length (markup (version_events (record { key = row.key; id = row.id; is_latest = row.is_latest; moment = row.moment; facts = facts }))) ≤ 6 * length row.key + 894
+abbrev IsWithin : Manner → VersionRow → Option Facts → Type 0
+IsWithin manner row facts =
+    length (markup (version_events manner (record { key = row.key; id = row.id; is_latest = row.is_latest; moment = row.moment; facts = facts }))) ≤ 6 * length row.key + 894
 
-told_room : (key : List ℕ) (id : VersionId) (latest : Bool) (made : ℕ) (facts : Facts) → length facts.tag ≤ 38 → facts.size < 2 ^ 64
-    → IsWithin (record { key = key; id = id; is_latest = latest; moment = made; facts = Some facts }) (Some facts)
-told_room key id latest made facts short small =
+told_room : (manner : Manner) (key : List ℕ) (id : VersionId) (latest : Bool) (made : ℕ) (facts : Facts) → length facts.tag ≤ 38 → facts.size < 2 ^ 64
+    → IsWithin manner (record { key = key; id = id; is_latest = latest; moment = made; facts = Some facts }) (Some facts)
+told_room manner key id latest made facts short small =
     let row : VersionRow = record { key = key; id = id; is_latest = latest; moment = made; facts = Some facts } in
     let modified : Fields = (codes "LastModified", moment made) ∷ [] in
-    let named : Fields = (codes "Key", text key) ∷ modified in
+    let named : Fields = (codes "Key", encodable key) ∷ modified in
     let last : Fields = (codes "IsLatest", truth latest) ∷ named in
     let version : Fields = (codes "VersionId", text (version_id_text id)) ∷ [] in
     let class : Fields = (codes "StorageClass", standard) ∷ version in
     omega (
       arith,
-      owned_room (codes "Version") (version_before row) (version_behind row),
-      fields_room (codes "ETag") (text (tag_told facts.tag)) last,
-      tag_length facts.tag short,
-      fields_room (codes "IsLatest") (truth latest) named,
-      truth_content latest,
-      fields_room (codes "Key") (text key) modified,
-      moment_field (codes "LastModified") made,
-      fields_room (codes "Size") (number facts.size) class,
-      number_content facts.size small,
-      fields_room (codes "StorageClass") (standard) version,
-      text_field (codes "VersionId") (version_id_text id),
+      owned_room manner (codes "Version") (version_before row) (version_behind row),
+      fields_room manner (codes "ETag") (text (tag_told facts.tag)) last,
+      tag_content facts.tag short,
+      fields_room manner (codes "IsLatest") (truth latest) named,
+      truth_content manner latest,
+      fields_room manner (codes "Key") (encodable key) modified,
+      key_content manner.is_url_encoded key,
+      moment_field manner (codes "LastModified") made,
+      fields_room manner (codes "Size") (number facts.size) class,
+      number_content manner facts.size small,
+      fields_room manner (codes "StorageClass") standard version,
+      escaped_room (codes "STANDARD"),
+      text_field manner (codes "VersionId") (version_id_text id),
       id_length id,
     )
 
-marked_room : (key : List ℕ) (id : VersionId) (latest : Bool) (made : ℕ)
-    → IsWithin (record { key = key; id = id; is_latest = latest; moment = made; facts = None }) None
-marked_room key id latest made =
+marked_room : (manner : Manner) (key : List ℕ) (id : VersionId) (latest : Bool) (made : ℕ)
+    → IsWithin manner (record { key = key; id = id; is_latest = latest; moment = made; facts = None }) None
+marked_room manner key id latest made =
     let row : VersionRow = record { key = key; id = id; is_latest = latest; moment = made; facts = None } in
     let modified : Fields = (codes "LastModified", moment made) ∷ [] in
-    let named : Fields = (codes "Key", text key) ∷ modified in
+    let named : Fields = (codes "Key", encodable key) ∷ modified in
     omega (
       arith,
-      owned_room (codes "DeleteMarker") (version_before row) (version_behind row),
-      fields_room (codes "IsLatest") (truth latest) named,
-      truth_content latest,
-      fields_room (codes "Key") (text key) modified,
-      moment_field (codes "LastModified") made,
-      text_field (codes "VersionId") (version_id_text id),
+      owned_room manner (codes "DeleteMarker") (version_before row) (version_behind row),
+      fields_room manner (codes "IsLatest") (truth latest) named,
+      truth_content manner latest,
+      fields_room manner (codes "Key") (encodable key) modified,
+      key_content manner.is_url_encoded key,
+      moment_field manner (codes "LastModified") made,
+      text_field manner (codes "VersionId") (version_id_text id),
       id_length id,
     )
 
-pub version_events_room : (row : VersionRow) (facts : Facts) → row.facts ≡ Some facts → length facts.tag ≤ 38 → facts.size < 2 ^ 64
-    → length (markup (version_events row)) ≤ 6 * length row.key + 894
-version_events_room row facts some short small =
-    subst (IsWithin row) (sym some) (told_room row.key row.id row.is_latest row.moment facts short small)
+pub version_events_room : (manner : Manner) (row : VersionRow) (facts : Facts) → row.facts ≡ Some facts → length facts.tag ≤ 38 → facts.size < 2 ^ 64
+    → length (markup (version_events manner row)) ≤ 6 * length row.key + 894
+version_events_room manner row facts some short small =
+    subst (IsWithin manner row) (sym some) (told_room manner row.key row.id row.is_latest row.moment facts short small)
 
-pub marker_events_room : (row : VersionRow) → row.facts ≡ None → length (markup (version_events row)) ≤ 6 * length row.key + 894
-marker_events_room row none = subst (IsWithin row) (sym none) (marked_room row.key row.id row.is_latest row.moment)
+pub marker_events_room : (manner : Manner) (row : VersionRow) → row.facts ≡ None → length (markup (version_events manner row)) ≤ 6 * length row.key + 894
+marker_events_room manner row none = subst (IsWithin manner row) (sym none) (marked_room manner row.key row.id row.is_latest row.moment)
 
 -- ---- lists
 
-pub listed_room : (before behind : Fields) (list : List Event)
-    → length (markup (listed before list behind)) ≡ length (markup (fields_events before)) + length (markup list) + length (markup (fields_events behind))
-listed_room before behind list = appended_room (fields_events before) list (fields_events behind)
+pub listed_room : (manner : Manner) (before behind : Fields) (list : List Event)
+    → length (markup (listed manner before list behind))
+    ≡ length (markup (fields_events manner before)) + length (markup list) + length (markup (fields_events manner behind))
+listed_room manner before behind list = appended_room (fields_events manner before) list (fields_events manner behind)
 
 pub within_room : (name : List ℕ) (list : List Event) → length (markup (element name list ++ owner)) ≤ 2 * length name + 47 + length (markup list)
 within_room name list =
@@ -319,3 +348,19 @@ within_room name list =
   where
     within : (whole a o n l : ℕ) → whole ≡ a + o → a ≡ 2 * n + 5 + l → o ≤ 42 → whole ≤ 2 * n + 47 + l
     within whole a o n l is one few = omega (arith, is, one, few)
+
+-- an owner behind the rows
+with_owner : (before list behind : List Event) → length (markup (before ++ list ++ owner ++ behind)) ≤ length (markup (before ++ list ++ behind)) + 42
+with_owner before list behind =
+    omega (
+      arith,
+      ap length (markup_append (before ++ list ++ owner) behind),
+      length-append (markup (before ++ list ++ owner)) (markup behind),
+      appended_room before list owner,
+      owner_room,
+      appended_room before list behind,
+    )
+
+pub listed_owned_room : (manner : Manner) (before behind : Fields) (list : List Event)
+    → length (markup (listed_owned manner before list behind)) ≤ length (markup (listed manner before list behind)) + 42
+listed_owned_room manner before behind list = with_owner (fields_events manner before) list (fields_events manner behind)

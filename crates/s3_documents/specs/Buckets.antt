@@ -1,4 +1,4 @@
--- The list of buckets (Amazon S3 API Reference, ListBuckets, whose document is XML there).
+-- The list of buckets (Amazon S3 API Reference, ListBuckets).
 use Rattle.std.specs.Prelude.{List, [], ◌∷◌, map, codes}
 use Rattle.s3_records.specs.declared.records.ListedBucket.{ListedBucket}
 use Rattle.s3_documents.specs.Tree.{text, moment, Fields, rows, Tree}

@@ -1,4 +1,4 @@
--- What is told of a copy that was made (Amazon S3 API Reference, CopyObject, whose document is XML there).
+-- What is told of a copy that was made (Amazon S3 API Reference, CopyObject).
 use Rattle.std.specs.Prelude.{ℕ, List, [], ◌∷◌, ◌++◌, codes}
 use Rattle.s3_documents.specs.Tree.{text, moment, Fields}
 

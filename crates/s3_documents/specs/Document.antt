@@ -1,5 +1,6 @@
 -- What the documents of replies tell, as facts (Amazon S3 API Reference, the operations that are named).
 use Rattle.std.specs.Prelude.{ℕ, List}
+use Rattle.s3_terms.specs.declared.code.Code.{Code}
 use Rattle.s3_versions.specs.declared.version.Versioning.{Versioning}
 use Rattle.s3_prefixes.specs.declared.asked.ObjectsAsked.{ObjectsAsked}
 use Rattle.s3_uploads.specs.declared.part.PartRow.{PartRow}
@@ -13,6 +14,7 @@ use Rattle.s3_listings.specs.Objects.{ObjectsTold}
 use Rattle.s3_listings.specs.Pages.{Page}
 use Rattle.s3_documents.specs.Buckets.{buckets_tree}
 use Rattle.s3_documents.specs.Copied.{copied_fields}
+use Rattle.s3_documents.specs.Error.{error_fields}
 use Rattle.s3_documents.specs.ObjectList.{objects_tree}
 use Rattle.s3_documents.specs.PartList.{parts_tree}
 use Rattle.s3_documents.specs.Tree.{Tree, leaves}
@@ -38,6 +40,8 @@ pub data Document : Type 0 where
   copied : List ℕ → ℕ → Document
   -- GetBucketVersioning
   versioning : Versioning → Document
+  -- of a refusal: its code, and the number of the answer
+  error : Code → ℕ → Document
 
 -- what a document tells, under the names that JSON documents have for it
 abbrev pub tree_of : Document → Tree
@@ -50,3 +54,4 @@ tree_of (begun bucket key id) = leaves (begun_fields bucket key id)
 tree_of (completed bucket key tag) = leaves (completed_fields bucket key tag)
 tree_of (copied tag made) = leaves (copied_fields tag made)
 tree_of (versioning state) = leaves (versioning_fields state)
+tree_of (error code number) = leaves (error_fields code)

@@ -4,7 +4,7 @@ use Rattle.serde_json.specs.Data.{Num, unsigned, Data, boolean, string, array, o
 use Rattle.serde_json.specs.Data as json
 use Rattle.serde_json.specs.View.{items_of}
 use Rattle.s3_documents.specs.Timestamp.{timestamp}
-use Rattle.s3_documents.specs.Tree.{Value, text, number, truth, moment, Branch, leaf, rows, Tree}
+use Rattle.s3_documents.specs.Tree.{Value, text, encodable, number, truth, moment, Branch, leaf, rows, Tree}
 
 -- an object, by the values that it has under its names
 abbrev pub members_data : {A : Type 0} → (A → Data) → List (List ℕ × A) → Members
@@ -17,6 +17,7 @@ object_data data_of members = object (members_data data_of members)
 -- a value
 abbrev pub value_data : Value → Data
 value_data (text s) = string s
+value_data (encodable s) = string s
 value_data (number n) = json.number (unsigned n)
 value_data (truth b) = boolean b
 value_data (moment m) = string (timestamp m)

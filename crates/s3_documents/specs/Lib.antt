@@ -1,8 +1,7 @@
 pub mod Buckets
-pub mod Completion
 pub mod Copied
-pub mod Data
 pub mod Document
+pub mod Error
 pub mod Json
 pub mod Laws
 pub mod Listed

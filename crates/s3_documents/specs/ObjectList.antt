@@ -1,4 +1,4 @@
--- The list of a bucket's objects (Amazon S3 API Reference, ListObjectsV2, whose document is XML there).
+-- The list of a bucket's objects (Amazon S3 API Reference, ListObjectsV2).
 use Rattle.std.specs.Prelude.{ℕ, ◌+◌, ◌==◌, if◌then◌else◌, List, [], ◌∷◌, ◌++◌, map, length, codes, Option, Some, None, option_map, is_some}
 use Rattle.hex.specs.Hex.{encode_lower}
 use Rattle.s3_prefixes.specs.declared.asked.ObjectsAsked.{ObjectsAsked}
@@ -6,20 +6,20 @@ use Rattle.s3_listings.specs.declared.object_page.ListedObject.{ListedObject}
 use Rattle.s3_listings.specs.Objects.{ObjectsTold}
 use Rattle.s3_documents.specs.Copied.{tag_told}
 use Rattle.s3_documents.specs.Printed.{told}
-use Rattle.s3_documents.specs.Tree.{Value, text, number, truth, moment, Fields, leaves, rows, Tree}
+use Rattle.s3_documents.specs.Tree.{Value, text, encodable, number, truth, moment, Fields, leaves, rows, Tree}
 
 -- an object's row
 abbrev pub object_row : ListedObject → Fields
 object_row object =
     (codes "ETag", text (tag_told object.facts.tag))
-    ∷ (codes "Key", text object.key)
+    ∷ (codes "Key", encodable object.key)
     ∷ (codes "LastModified", moment object.facts.moment)
     ∷ (codes "Size", number object.facts.size)
     ∷ []
 
 -- a common prefix's
 abbrev pub prefix_row : List ℕ → Fields
-prefix_row prefix = (codes "Prefix", text prefix) ∷ []
+prefix_row prefix = (codes "Prefix", encodable prefix) ∷ []
 
 -- how many items are told
 abbrev pub key_count : ObjectsTold → ℕ
@@ -31,7 +31,7 @@ token_told token = text (encode_lower token)
 
 -- an empty delimiter counts as absent
 abbrev pub delimiter_told : List ℕ → Option Value
-delimiter_told delimiter = if length delimiter == 0 then None else Some (text delimiter)
+delimiter_told delimiter = if length delimiter == 0 then None else Some (encodable delimiter)
 
 -- what stands beside the rows: what was asked, and what is told of the page
 abbrev pub objects_fields : List ℕ → ObjectsAsked → ObjectsTold → Fields
@@ -44,8 +44,8 @@ objects_fields name asked page =
     ∷ (codes "Name", text name)
     ∷ []
     ++ told (codes "NextContinuationToken") (option_map token_told page.next)
-    ++ (codes "Prefix", text asked.prefix)
-    ∷ told (codes "StartAfter") (option_map text asked.start_after)
+    ++ (codes "Prefix", encodable asked.prefix)
+    ∷ told (codes "StartAfter") (option_map encodable asked.start_after)
 
 -- the document of these common prefixes and objects, with these fields beside them
 abbrev pub page_tree : List (List ℕ) → List ListedObject → Fields → Tree

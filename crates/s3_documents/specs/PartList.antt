@@ -1,4 +1,4 @@
--- The list of an upload's parts (Amazon S3 API Reference, ListParts, whose document is XML there).
+-- The list of an upload's parts (Amazon S3 API Reference, ListParts).
 use Rattle.std.specs.Prelude.{ℕ, List, [], ◌∷◌, ◌++◌, map, codes, option_map}
 use Rattle.s3_names.specs.Ids.{upload_id_text}
 use Rattle.s3_uploads.specs.declared.part.PartRow.{PartRow}

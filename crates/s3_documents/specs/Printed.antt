@@ -4,10 +4,10 @@ use Rattle.std.specs.String.{string_bytes}
 use Rattle.json.specs.Token as json
 use Rattle.json.specs.Print.{token_text}
 use Rattle.s3_documents.specs.Timestamp.{timestamp}
-use Rattle.s3_documents.specs.Tree.{Value, text, number, truth, moment, Fields, Branch, leaf, rows, Tree}
+use Rattle.s3_documents.specs.Tree.{Value, text, encodable, number, truth, moment, Fields, Branch, leaf, rows, Tree}
 use Rattle.s3_documents.specs.declared.printer.Field.{Field}
 use Rattle.s3_documents.specs.declared.printer.Leaf.{Leaf}
-use Rattle.s3_documents.specs.declared.printer.Leaf.TheVariants.{Text, Number, Truth, Moment, Absent}
+use Rattle.s3_documents.specs.declared.printer.Leaf.TheVariants.{Text, Encodable, Number, Truth, Moment, Absent}
 
 -- what stands under names, without the braces round it
 abbrev pub members_tokens : {A : Type 0} → (A → List json.Token) → List (List ℕ × A) → List json.Token
@@ -20,6 +20,7 @@ object_tokens tokens_of members = json.begin_object ∷ (members_tokens tokens_o
 -- a value
 abbrev pub value_tokens : Value → List json.Token
 value_tokens (text s) = json.string s ∷ []
+value_tokens (encodable s) = json.string s ∷ []
 value_tokens (number n) = json.number (decimal n) ∷ []
 value_tokens (truth b) = json.boolean b ∷ []
 value_tokens (moment m) = json.string (timestamp m) ∷ []
@@ -65,6 +66,7 @@ told name (Some value) = (name, value) ∷ []
 -- the value that is lent to a printer
 abbrev pub value_of : Leaf → Option Value
 value_of (Text s) = Some (text s.now)
+value_of (Encodable s) = Some (encodable s.now)
 value_of (Number n) = Some (number n)
 value_of (Truth b) = Some (truth b)
 value_of (Moment m) = Some (moment m)

@@ -5,9 +5,11 @@ use Rattle.std.specs.List.{join_with_byte}
 use Rattle.json.specs.Print.{quoted, escape_byte}
 use Rattle.s3_documents.specs.Timestamp.{timestamp}
 
--- a value: a text, a number, a truth or a moment
+-- a value: a text, a text that XML tells UriEncoded where that is asked (a key, and what keys are compared with), a
+-- number, a truth or a moment
 pub data Value : Type 0 where
   text : List ℕ → Value
+  encodable : List ℕ → Value
   number : ℕ → Value
   truth : Bool → Value
   moment : ℕ → Value
@@ -45,6 +47,7 @@ object_text text_of members =
 -- the text of a value
 abbrev pub value_text : Value → List ℕ
 value_text (text s) = quoted s
+value_text (encodable s) = quoted s
 value_text (number n) = decimal n
 value_text (truth b) = if b then codes "true" else codes "false"
 value_text (moment m) = quoted (timestamp m)

@@ -1,5 +1,5 @@
 -- What is told of an upload that was begun, and of one that was completed (Amazon S3 API Reference,
--- CreateMultipartUpload and CompleteMultipartUpload, whose documents are XML there).
+-- CreateMultipartUpload and CompleteMultipartUpload).
 use Rattle.std.specs.Prelude.{ℕ, List, [], ◌∷◌, codes}
 use Rattle.s3_names.specs.Ids.{upload_id_text}
 use Rattle.s3_documents.specs.Copied.{tag_told}

@@ -1,4 +1,4 @@
--- The list of the uploads in a bucket (Amazon S3 API Reference, ListMultipartUploads, whose document is XML there).
+-- The list of the uploads in a bucket (Amazon S3 API Reference, ListMultipartUploads).
 use Rattle.std.specs.Prelude.{ℕ, List, [], ◌∷◌, ◌++◌, map, codes, Option, option_map}
 use Rattle.std.specs.Option.{option_map_or}
 use Rattle.s3_names.specs.Ids.{upload_id_text}
@@ -6,13 +6,13 @@ use Rattle.s3_records.specs.declared.rows.UploadRow.{UploadRow}
 use Rattle.s3_listings.specs.declared.asked.UploadsAsked.{UploadsAsked}
 use Rattle.s3_listings.specs.Pages.{Page, next_of}
 use Rattle.s3_documents.specs.Printed.{told}
-use Rattle.s3_documents.specs.Tree.{Value, text, number, truth, moment, Fields, Tree, rows_between}
+use Rattle.s3_documents.specs.Tree.{Value, text, encodable, number, truth, moment, Fields, Tree, rows_between}
 
 -- an upload's row
 abbrev pub upload_fields : UploadRow → Fields
 upload_fields row =
     (codes "Initiated", moment row.moment)
-    ∷ (codes "Key", text row.key)
+    ∷ (codes "Key", encodable row.key)
     ∷ (codes "UploadId", text (upload_id_text row.id))
     ∷ []
 
@@ -22,7 +22,7 @@ upload_marker_told id = option_map_or upload_id_text id []
 
 -- the key and the id of a row
 abbrev pub key_of_upload : UploadRow → Value
-key_of_upload row = text row.key
+key_of_upload row = encodable row.key
 
 abbrev pub id_of_upload : UploadRow → Value
 id_of_upload row = text (upload_id_text row.id)
@@ -32,11 +32,11 @@ abbrev pub uploads_fields : List ℕ → UploadsAsked → Page UploadRow → Fie
 uploads_fields name asked page =
     (codes "Bucket", text name)
     ∷ (codes "IsTruncated", truth page.is_truncated)
-    ∷ (codes "KeyMarker", text asked.key_marker)
+    ∷ (codes "KeyMarker", encodable asked.key_marker)
     ∷ (codes "MaxUploads", number asked.max_uploads)
     ∷ told (codes "NextKeyMarker") (option_map key_of_upload (next_of page))
     ++ told (codes "NextUploadIdMarker") (option_map id_of_upload (next_of page))
-    ++ (codes "Prefix", text asked.prefix)
+    ++ (codes "Prefix", encodable asked.prefix)
     ∷ (codes "UploadIdMarker", text (upload_marker_told asked.id_marker))
     ∷ []
 

@@ -1,4 +1,4 @@
--- The list of a bucket's versions (Amazon S3 API Reference, ListObjectVersions, whose document is XML there).
+-- The list of a bucket's versions (Amazon S3 API Reference, ListObjectVersions).
 use Rattle.std.specs.Prelude.{ℕ, List, [], ◌∷◌, ◌++◌, map, codes, Option, option_map, is_none}
 use Rattle.std.specs.Option.{option_map_or}
 use Rattle.s3_names.specs.Ids.{version_id_text}
@@ -9,7 +9,7 @@ use Rattle.s3_listings.specs.declared.asked.VersionsAsked.{VersionsAsked}
 use Rattle.s3_listings.specs.Pages.{Page, next_of}
 use Rattle.s3_documents.specs.Copied.{tag_told}
 use Rattle.s3_documents.specs.Printed.{told}
-use Rattle.s3_documents.specs.Tree.{Value, text, number, truth, moment, Fields, Tree, rows_between}
+use Rattle.s3_documents.specs.Tree.{Value, text, encodable, number, truth, moment, Fields, Tree, rows_between}
 
 -- a version's row; a delete marker has neither a tag nor a size
 abbrev pub tag_of_facts : Facts → Value
@@ -23,7 +23,7 @@ version_fields row =
     (codes "DeleteMarker", truth (is_none row.facts))
     ∷ told (codes "ETag") (option_map tag_of_facts row.facts)
     ++ (codes "IsLatest", truth row.is_latest)
-    ∷ (codes "Key", text row.key)
+    ∷ (codes "Key", encodable row.key)
     ∷ (codes "LastModified", moment row.moment)
     ∷ told (codes "Size") (option_map size_of_facts row.facts)
     ++ (codes "VersionId", text (version_id_text row.id))
@@ -35,7 +35,7 @@ marker_told id = option_map_or version_id_text id []
 
 -- the key and the id of a row
 abbrev pub key_of_row : VersionRow → Value
-key_of_row row = text row.key
+key_of_row row = encodable row.key
 
 abbrev pub id_of_row : VersionRow → Value
 id_of_row row = text (version_id_text row.id)
@@ -44,12 +44,12 @@ id_of_row row = text (version_id_text row.id)
 abbrev pub versions_fields : List ℕ → VersionsAsked → Page VersionRow → Fields
 versions_fields name asked page =
     (codes "IsTruncated", truth page.is_truncated)
-    ∷ (codes "KeyMarker", text asked.key_marker)
+    ∷ (codes "KeyMarker", encodable asked.key_marker)
     ∷ (codes "MaxKeys", number asked.max_keys)
     ∷ (codes "Name", text name)
     ∷ told (codes "NextKeyMarker") (option_map key_of_row (next_of page))
     ++ told (codes "NextVersionIdMarker") (option_map id_of_row (next_of page))
-    ++ (codes "Prefix", text asked.prefix)
+    ++ (codes "Prefix", encodable asked.prefix)
     ∷ (codes "VersionIdMarker", text (marker_told asked.id_marker))
     ∷ []
 

@@ -1,6 +1,7 @@
--- What documents tell in XML, element by element in the order of the Amazon S3 API Reference; what it names beside that is left
--- out. One owner has all: whoever runs the server.
-use Rattle.std.specs.Prelude.{ℕ, Bool, not, ◌||◌, ◌==◌, if◌then◌else◌, List, [], ◌∷◌, ◌++◌, codes, decimal, option_map, is_some, is_none}
+-- What documents tell in XML, element by element in the order of the Amazon S3 API Reference; what it names beside that
+-- is left out. One owner has all: whoever runs the server. Where `encoding-type=url` is asked, keys and what keys are
+-- compared with are told UriEncoded; where `fetch-owner=true` is, objects are told with their owner.
+use Rattle.std.specs.Prelude.{ℕ, Bool, true, false, not, if◌then◌else◌, List, [], ◌∷◌, ◌++◌, codes, decimal, Option, Some, None, option_map, is_some, is_none}
 use Rattle.std.specs.List.{flat_map}
 use Rattle.s3_canonical.specs.Encoding.{encode_path}
 use Rattle.s3_names.specs.Ids.{upload_id_text, version_id_text}
@@ -17,75 +18,103 @@ use Rattle.s3_listings.specs.Objects.{ObjectsTold}
 use Rattle.s3_listings.specs.Pages.{Page, next_of}
 use Rattle.s3_documents.specs.Buckets.{bucket_row}
 use Rattle.s3_documents.specs.Copied.{tag_told, copied_fields}
-use Rattle.s3_documents.specs.Document.{Document, buckets, objects, versions, uploads, parts, begun, completed, copied, versioning}
+use Rattle.s3_documents.specs.Document.{Document, buckets, objects, versions, uploads, parts, begun, completed, copied, versioning, error}
+use Rattle.s3_documents.specs.Error.{error_elements}
 use Rattle.s3_documents.specs.ObjectList.{prefix_row, key_count, token_told, delimiter_told}
 use Rattle.s3_documents.specs.PartList.{part_fields, number_of_part}
 use Rattle.s3_documents.specs.Printed.{told}
 use Rattle.s3_documents.specs.Timestamp.{timestamp}
-use Rattle.s3_documents.specs.Tree.{Value, text, number, truth, moment, Fields}
+use Rattle.s3_documents.specs.Tree.{Value, text, encodable, number, truth, moment, Fields}
 use Rattle.s3_documents.specs.Upload.{begun_fields}
 use Rattle.s3_documents.specs.UploadList.{upload_marker_told, key_of_upload, id_of_upload}
 use Rattle.s3_documents.specs.VersionList.{marker_told, key_of_row, id_of_row, tag_of_facts, size_of_facts}
 use Rattle.s3_documents.specs.Versioning.{versioning_fields}
-use Rattle.s3_xml.specs.Characters.{is_control}
+use Rattle.s3_documents.specs.declared.xml.Manner.{Manner}
 use Rattle.s3_xml.specs.Events.{Event, element}
 use Rattle.s3_xml.specs.Events as xml
+use Rattle.s3_xml.specs.Writer.{is_special}
 
 -- a byte that stands in a text as it is, whatever stands behind it
 abbrev pub is_plain : ℕ → Bool
-is_plain b = not (b == 38 || b == 60 || b == 62 || b == 34 || b == 13 || b == 239 || is_control b)
+is_plain b = not (is_special b)
+
+-- ---- what is asked of the form
+
+-- nothing
+abbrev pub plain : Manner
+plain = record { is_url_encoded = false; tells_owner = false }
+
+-- of ListObjectsV2; and of ListObjectVersions and ListMultipartUploads, whose rows have an owner always
+abbrev pub objects_manner : ObjectsAsked → Manner
+objects_manner asked = record { is_url_encoded = asked.is_url_encoded; tells_owner = asked.tells_owner }
+
+abbrev pub owned_manner : Bool → Manner
+owned_manner is_url_encoded = record { is_url_encoded = is_url_encoded; tells_owner = true }
+
+-- a key, and what keys are compared with, as it is told: UriEncoded (AWS Signature Version 4), slashes kept, or as it is
+abbrev pub key_told : Bool → List ℕ → List ℕ
+key_told is_url_encoded key = if is_url_encoded then encode_path key else key
+
+-- that keys are told so
+abbrev pub encoding_told : Bool → Option Value
+encoding_told is_url_encoded = if is_url_encoded then Some (text (codes "url")) else None
 
 -- ---- fields and rows
 
 -- the text of a value
-abbrev pub content_of : Value → List ℕ
-content_of (text s) = s
-content_of (number n) = decimal n
-content_of (truth b) = if b then codes "true" else codes "false"
-content_of (moment m) = timestamp m
+abbrev pub content_of : Manner → Value → List ℕ
+content_of manner (text s) = s
+content_of manner (encodable s) = key_told manner.is_url_encoded s
+content_of manner (number n) = decimal n
+content_of manner (truth b) = if b then codes "true" else codes "false"
+content_of manner (moment m) = timestamp m
 
 -- fields, each as an element
-abbrev pub fields_events : Fields → List Event
-fields_events fields = flat_map (λ f. xml.leaf f.0 (content_of f.1)) fields
+abbrev pub fields_events : Manner → Fields → List Event
+fields_events manner fields = flat_map (λ f. xml.leaf f.0 (content_of manner f.1)) fields
 
 -- an element of fields
-abbrev pub element_of : List ℕ → Fields → List Event
-element_of name fields = element name (fields_events fields)
+abbrev pub element_of : Manner → List ℕ → Fields → List Event
+element_of manner name fields = element name (fields_events manner fields)
 
 -- whom all belongs to
 abbrev pub owner_fields : Fields
 owner_fields = (codes "ID", text (codes "s3d")) ∷ []
 
 abbrev pub owner : List Event
-owner = element_of (codes "Owner") owner_fields
+owner = element_of plain (codes "Owner") owner_fields
 
--- an element of fields between which an owner stands
-abbrev pub owned : List ℕ → (before behind : Fields) → List Event
-owned name before behind = element name (fields_events before ++ owner ++ fields_events behind)
+-- an element of fields between which an owner stands, where it is told
+abbrev pub owner_in : Manner → List Event
+owner_in manner = if manner.tells_owner then owner else []
+
+abbrev pub owned : Manner → List ℕ → (before behind : Fields) → List Event
+owned manner name before behind = element name (fields_events manner before ++ owner_in manner ++ fields_events manner behind)
 
 -- how all is stored
 abbrev pub standard : Value
 standard = text (codes "STANDARD")
 
 -- a row of ListBuckets
-abbrev pub bucket_events : ListedBucket → List Event
-bucket_events bucket = element_of (codes "Bucket") (bucket_row bucket)
+abbrev pub bucket_events : Manner → ListedBucket → List Event
+bucket_events manner bucket = element_of manner (codes "Bucket") (bucket_row bucket)
 
 -- rows of ListObjectsV2: an object's, and a common prefix's
-abbrev pub object_fields : ListedObject → Fields
-object_fields object =
+abbrev pub object_before : ListedObject → Fields
+object_before object =
     (codes "ETag", text (tag_told object.facts.tag))
-    ∷ (codes "Key", text object.key)
+    ∷ (codes "Key", encodable object.key)
     ∷ (codes "LastModified", moment object.facts.moment)
-    ∷ (codes "Size", number object.facts.size)
-    ∷ (codes "StorageClass", standard)
     ∷ []
 
-abbrev pub object_events : ListedObject → List Event
-object_events object = element_of (codes "Contents") (object_fields object)
+abbrev pub object_behind : ListedObject → Fields
+object_behind object = (codes "Size", number object.facts.size) ∷ (codes "StorageClass", standard) ∷ []
 
-abbrev pub prefix_events : List ℕ → List Event
-prefix_events prefix = element_of (codes "CommonPrefixes") (prefix_row prefix)
+abbrev pub object_events : Manner → ListedObject → List Event
+object_events manner object = owned manner (codes "Contents") (object_before object) (object_behind object)
+
+abbrev pub prefix_events : Manner → List ℕ → List Event
+prefix_events manner prefix = element_of manner (codes "CommonPrefixes") (prefix_row prefix)
 
 -- a row of ListObjectVersions: a version's, or a delete marker's, which has no tag, no size and no class
 abbrev pub version_name : VersionRow → List ℕ
@@ -95,7 +124,7 @@ abbrev pub version_before : VersionRow → Fields
 version_before row =
     told (codes "ETag") (option_map tag_of_facts row.facts)
     ++ (codes "IsLatest", truth row.is_latest)
-    ∷ (codes "Key", text row.key)
+    ∷ (codes "Key", encodable row.key)
     ∷ (codes "LastModified", moment row.moment)
     ∷ []
 
@@ -106,22 +135,22 @@ version_behind row =
     ++ (codes "VersionId", text (version_id_text row.id))
     ∷ []
 
-abbrev pub version_events : VersionRow → List Event
-version_events row = owned (version_name row) (version_before row) (version_behind row)
+abbrev pub version_events : Manner → VersionRow → List Event
+version_events manner row = owned manner (version_name row) (version_before row) (version_behind row)
 
 -- a row of ListMultipartUploads
 abbrev pub begun_before : UploadRow → Fields
-begun_before row = (codes "Initiated", moment row.moment) ∷ (codes "Key", text row.key) ∷ []
+begun_before row = (codes "Initiated", moment row.moment) ∷ (codes "Key", encodable row.key) ∷ []
 
 abbrev pub begun_behind : UploadRow → Fields
 begun_behind row = (codes "StorageClass", standard) ∷ (codes "UploadId", text (upload_id_text row.id)) ∷ []
 
-abbrev pub upload_events : UploadRow → List Event
-upload_events row = owned (codes "Upload") (begun_before row) (begun_behind row)
+abbrev pub upload_events : Manner → UploadRow → List Event
+upload_events manner row = owned manner (codes "Upload") (begun_before row) (begun_behind row)
 
 -- a row of ListParts
-abbrev pub part_events : PartRow → List Event
-part_events row = element_of (codes "Part") (part_fields row)
+abbrev pub part_events : Manner → PartRow → List Event
+part_events manner row = element_of manner (codes "Part") (part_fields row)
 
 -- ---- what stands beside the rows
 
@@ -132,43 +161,50 @@ objects_before page = (codes "IsTruncated", truth (is_some page.next)) ∷ []
 abbrev pub objects_between : List ℕ → ObjectsAsked → Fields
 objects_between name asked =
     (codes "Name", text name)
-    ∷ (codes "Prefix", text asked.prefix)
+    ∷ (codes "Prefix", encodable asked.prefix)
     ∷ told (codes "Delimiter") (delimiter_told asked.delimiter)
     ++ (codes "MaxKeys", number asked.max_keys)
     ∷ []
 
 abbrev pub objects_behind : ObjectsAsked → ObjectsTold → Fields
 objects_behind asked page =
-    (codes "KeyCount", number (key_count page))
+    told (codes "EncodingType") (encoding_told asked.is_url_encoded)
+    ++ (codes "KeyCount", number (key_count page))
     ∷ told (codes "ContinuationToken") (option_map token_told asked.token)
     ++ told (codes "NextContinuationToken") (option_map token_told page.next)
-    ++ told (codes "StartAfter") (option_map text asked.start_after)
+    ++ told (codes "StartAfter") (option_map encodable asked.start_after)
 
 -- of ListObjectVersions: in front of the rows, and behind them
 abbrev pub versions_before : VersionsAsked → Page VersionRow → Fields
 versions_before asked page =
     (codes "IsTruncated", truth page.is_truncated)
-    ∷ (codes "KeyMarker", text asked.key_marker)
+    ∷ (codes "KeyMarker", encodable asked.key_marker)
     ∷ (codes "VersionIdMarker", text (marker_told asked.id_marker))
     ∷ told (codes "NextKeyMarker") (option_map key_of_row (next_of page))
     ++ told (codes "NextVersionIdMarker") (option_map id_of_row (next_of page))
 
 abbrev pub versions_behind : List ℕ → VersionsAsked → Fields
 versions_behind name asked =
-    (codes "Name", text name) ∷ (codes "Prefix", text asked.prefix) ∷ (codes "MaxKeys", number asked.max_keys) ∷ []
+    (codes "Name", text name)
+    ∷ (codes "Prefix", encodable asked.prefix)
+    ∷ (codes "MaxKeys", number asked.max_keys)
+    ∷ told (codes "EncodingType") (encoding_told asked.is_url_encoded)
 
--- of ListMultipartUploads, in front of the rows
+-- of ListMultipartUploads: in front of the rows, and behind them
 abbrev pub uploads_before : List ℕ → UploadsAsked → Page UploadRow → Fields
 uploads_before name asked page =
     (codes "Bucket", text name)
-    ∷ (codes "KeyMarker", text asked.key_marker)
+    ∷ (codes "KeyMarker", encodable asked.key_marker)
     ∷ (codes "UploadIdMarker", text (upload_marker_told asked.id_marker))
     ∷ told (codes "NextKeyMarker") (option_map key_of_upload (next_of page))
-    ++ (codes "Prefix", text asked.prefix)
+    ++ (codes "Prefix", encodable asked.prefix)
     ∷ told (codes "NextUploadIdMarker") (option_map id_of_upload (next_of page))
     ++ (codes "MaxUploads", number asked.max_uploads)
     ∷ (codes "IsTruncated", truth page.is_truncated)
     ∷ []
+
+abbrev pub uploads_behind : UploadsAsked → Fields
+uploads_behind asked = told (codes "EncodingType") (encoding_told asked.is_url_encoded)
 
 -- of ListParts, in front of the rows
 abbrev pub parts_before : (bucket key : List ℕ) → ℕ → PartsAsked → Page PartRow → Fields
@@ -182,7 +218,7 @@ parts_before bucket key id asked page =
     ∷ (codes "IsTruncated", truth page.is_truncated)
     ∷ []
 
--- and behind them
+-- and behind them and the owner
 abbrev pub parts_behind : Fields
 parts_behind = (codes "StorageClass", standard) ∷ []
 
@@ -211,28 +247,51 @@ root_of (begun bucket key id) = codes "InitiateMultipartUploadResult"
 root_of (completed bucket key tag) = codes "CompleteMultipartUploadResult"
 root_of (copied tag made) = codes "CopyObjectResult"
 root_of (versioning state) = codes "VersioningConfiguration"
+root_of (error code answer) = codes "Error"
 
--- the namespace of all of them
+-- the namespace of S3
 abbrev pub namespace : List ℕ
 namespace = codes "http://s3.amazonaws.com/doc/2006-03-01/"
 
+-- the namespace of a document's root: that of a refusal has none
+abbrev pub namespace_of : Document → List ℕ
+namespace_of (buckets list) = namespace
+namespace_of (objects name asked page) = namespace
+namespace_of (versions name asked page) = namespace
+namespace_of (uploads name asked page) = namespace
+namespace_of (parts bucket key id asked page) = namespace
+namespace_of (begun bucket key id) = namespace
+namespace_of (completed bucket key tag) = namespace
+namespace_of (copied tag made) = namespace
+namespace_of (versioning state) = namespace
+namespace_of (error code answer) = []
+
 -- rows, with fields in front of them and behind them
-abbrev pub listed : Fields → List Event → Fields → List Event
-listed before list behind = fields_events before ++ list ++ fields_events behind
+abbrev pub listed : Manner → Fields → List Event → Fields → List Event
+listed manner before list behind = fields_events manner before ++ list ++ fields_events manner behind
+
+-- and with the owner between the rows and what stands behind them
+abbrev pub listed_owned : Manner → Fields → List Event → Fields → List Event
+listed_owned manner before list behind = fields_events manner before ++ list ++ owner ++ fields_events manner behind
 
 -- what stands in it
 abbrev pub events_of : Document → List Event
-events_of (buckets list) = element (codes "Buckets") (flat_map bucket_events list) ++ owner
+events_of (buckets list) = element (codes "Buckets") (flat_map (bucket_events plain) list) ++ owner
 events_of (objects name asked page) =
-    fields_events (objects_before page)
-    ++ flat_map object_events page.contents
-    ++ listed (objects_between name asked) (flat_map prefix_events page.prefixes) (objects_behind asked page)
+    let manner = objects_manner asked in
+    fields_events manner (objects_before page)
+    ++ flat_map (object_events manner) page.contents
+    ++ listed manner (objects_between name asked) (flat_map (prefix_events manner) page.prefixes) (objects_behind asked page)
 events_of (versions name asked page) =
-    listed (versions_before asked page) (flat_map version_events page.given) (versions_behind name asked)
-events_of (uploads name asked page) = listed (uploads_before name asked page) (flat_map upload_events page.given) []
+    let manner = owned_manner asked.is_url_encoded in
+    listed manner (versions_before asked page) (flat_map (version_events manner) page.given) (versions_behind name asked)
+events_of (uploads name asked page) =
+    let manner = owned_manner asked.is_url_encoded in
+    listed manner (uploads_before name asked page) (flat_map (upload_events manner) page.given) (uploads_behind asked)
 events_of (parts bucket key id asked page) =
-    listed (parts_before bucket key id asked page) (flat_map part_events page.given) parts_behind
-events_of (begun bucket key id) = fields_events (begun_fields bucket key id)
-events_of (completed bucket key tag) = fields_events (completed_elements bucket key tag)
-events_of (copied tag made) = fields_events (copied_fields tag made)
-events_of (versioning state) = fields_events (versioning_fields state)
+    listed_owned plain (parts_before bucket key id asked page) (flat_map (part_events plain) page.given) parts_behind
+events_of (begun bucket key id) = fields_events plain (begun_fields bucket key id)
+events_of (completed bucket key tag) = fields_events plain (completed_elements bucket key tag)
+events_of (copied tag made) = fields_events plain (copied_fields tag made)
+events_of (versioning state) = fields_events plain (versioning_fields state)
+events_of (error code answer) = fields_events plain (error_elements code answer)

@@ -9,7 +9,7 @@ use crate::printer::{Field, Leaf, Printer, Row};
 use crate::reserved::Told;
 use crate::room::{Bounded, room_of_rows, room_of_text};
 use crate::texts::name_told;
-use crate::xml::{Entry, put_element, put_owner, put_within, room_within};
+use crate::xml::{Entry, Manner, PLAIN, put_element, put_owner, put_within, room_within};
 use s3_records::ListedBucket;
 use s3_xml::Writer;
 use std::alloc::AllocError;
@@ -35,7 +35,7 @@ impl Told for BucketsList {
     }
 
     fn write(&self, writer: &mut Writer) -> Result<(), AllocError> {
-        put_within(writer, "Buckets", self.rows.as_slice())?;
+        put_within(writer, PLAIN, "Buckets", self.rows.as_slice())?;
         put_owner(writer)
     }
 
@@ -57,8 +57,8 @@ impl Row for ListedBucket {
 impl Entry for ListedBucket {
     ghost events = { bucket_events };
 
-    fn write(&self, writer: &mut Writer) -> Result<(), AllocError> {
-        put_element(writer, "Bucket", &row_of(self))
+    fn write(&self, writer: &mut Writer, manner: Manner) -> Result<(), AllocError> {
+        put_element(writer, manner, "Bucket", &row_of(self))
     }
 }
 

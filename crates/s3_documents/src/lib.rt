@@ -1,16 +1,13 @@
-//! The documents of requests and replies, as JSON: what is read from the body of a request, and what the body of a
-//! reply tells, a tree, with its one text, which is printed without a tree of values.
+//! The documents of replies: what each of them tells, and its one text, as JSON or in XML. A text is printed without a
+//! tree of values, into room that was taken before.
 #![tactic(auto)]
 
-mod body;
 mod buckets;
-mod completion;
 mod copied;
-mod data;
+mod encoded;
 mod laws;
 mod list;
 mod listed;
-mod numbers;
 mod object_list;
 mod part_list;
 mod printer;
@@ -21,12 +18,9 @@ mod timestamp;
 mod upload;
 mod upload_list;
 mod version_list;
-mod versioning;
 mod xml;
 
-pub use completion::read_completion;
 pub use copied::copied_document;
-pub use laws::documents_are_one;
+pub use laws::{documents_are_one, xml_is_read_back};
 pub use listed::Document;
 pub use printer::{Field, Leaf, Printer, Row, text_of};
-pub use versioning::read_versioning;

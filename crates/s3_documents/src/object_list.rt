@@ -3,16 +3,16 @@ ghost use Rattle.std.specs.Prelude.{◌≡◌, ◌+◌, ◌*◌, [], length, IfO
 ghost use Rattle.std.specs.Option.{option_copied};
 ghost use Rattle.s3_documents.specs.Copied.{tag_told};
 ghost use Rattle.s3_documents.specs.ObjectList.{object_row, prefix_row, key_count, token_told, delimiter_told, objects_fields, page_tree};
-ghost use Rattle.s3_documents.specs.Xml.{object_events, object_fields, prefix_events, objects_before, objects_between, objects_behind};
+ghost use Rattle.s3_documents.specs.Xml.{objects_manner, object_events, object_before, object_behind, prefix_events, objects_before, objects_between, objects_behind};
 ghost use Rattle.s3_documents.specs.Document.{objects};
 ghost use Rattle.s3_documents.specs.Printed.{branches_tokens, begun, fields_of, text_kept, value_of, room_of, TakesRoom, IsRoomFor};
-ghost use Rattle.s3_documents.specs.Tree.{text as text_value};
+ghost use Rattle.s3_documents.specs.Tree.{encodable};
 
 use crate::printer::{Field, Leaf, Printer, Row, text_of};
 use crate::reserved::Told;
 use crate::room::{Bounded, known_of, room_of_fields, room_of_rows, room_of_text};
 use crate::texts::{key_told, name_told, quoted, text_told};
-use crate::xml::{Entry, put_element, put_lists, room_of_lists};
+use crate::xml::{Entry, Manner, encoding_leaf, put_element, put_lists, put_owned, room_of_lists};
 use s3_listings::{ListedObject, ObjectPage};
 use s3_names::BucketName;
 use s3_prefixes::{ObjectsAsked, Text};
@@ -21,7 +21,7 @@ use s3_xml::Writer;
 use std::alloc::{AllocError, Global};
 
 /// No row of an object takes more room, beside that for its key.
-const ROW_MAX: usize = 664;
+const ROW_MAX: usize = 706;
 
 /// Nor does one of a common prefix, beside that.
 const PREFIX_ROW_MAX: usize = 46;
@@ -77,7 +77,10 @@ impl Told for ObjectsList {
         let between = between(&self.name, &self.asked);
         let behind = behind(&self.asked, &self.page, &self.token, &self.next);
         let (contents, prefixes) = (self.page.contents(), self.page.prefixes());
-        put_lists(writer, &before, contents, &between, prefixes, &behind)
+        let manner = manner_of(&self.asked);
+        put_lists(
+            writer, manner, &before, contents, &between, prefixes, &behind,
+        )
     }
 
     fn room(&self) -> usize {
@@ -164,13 +167,23 @@ fn fields_told<'a>(
         },
         Field {
             name: "Prefix",
-            value: Leaf::Text(text_told(&asked.prefix)),
+            value: Leaf::Encodable(text_told(&asked.prefix)),
         },
         Field {
             name: "StartAfter",
             value: start_leaf(&asked.start_after),
         },
     ]
+}
+
+// What is asked of the form in XML.
+fn manner_of(asked: &ObjectsAsked) -> Manner
+    ensures { result ≡ objects_manner asked.now }
+{
+    Manner {
+        is_url_encoded: asked.is_url_encoded,
+        tells_owner: asked.tells_owner,
+    }
 }
 
 // What stands in front of the objects in XML.
@@ -194,7 +207,7 @@ fn between<'a>(name: &'a BucketName, asked: &'a ObjectsAsked) -> [Field<'a>; 4]
         },
         Field {
             name: "Prefix",
-            value: Leaf::Text(text_told(&asked.prefix)),
+            value: Leaf::Encodable(text_told(&asked.prefix)),
         },
         Field {
             name: "Delimiter",
@@ -213,12 +226,16 @@ fn behind<'a>(
     page: &'a ObjectPage,
     token: &'a Option<String>,
     next: &'a Option<String>,
-) -> [Field<'a>; 4]
+) -> [Field<'a>; 5]
     requires token { option_map text_kept token.now ≡ option_map token_told asked.now.token }
     requires next { option_map text_kept next.now ≡ option_map token_told page.now.next }
     ensures { fields_of result ≡ objects_behind asked.now page.now }
 {
     [
+        Field {
+            name: "EncodingType",
+            value: encoding_leaf(asked.is_url_encoded),
+        },
         Field {
             name: "KeyCount",
             value: Leaf::Number(count_of(page)),
@@ -251,12 +268,14 @@ impl Row for ListedObject {
 impl Entry for ListedObject {
     ghost events = { object_events };
 
-    fn write(&self, writer: &mut Writer) -> Result<(), AllocError> {
+    fn write(&self, writer: &mut Writer, manner: Manner) -> Result<(), AllocError> {
         let tag = quoted(&self.facts.tag);
-        put_element(
+        put_owned(
             writer,
+            manner,
             "Contents",
-            &object_elements(self, text_of(tag.as_slice())),
+            &elements_before(self, text_of(tag.as_slice())),
+            &elements_behind(self),
         )
     }
 }
@@ -281,8 +300,8 @@ impl Row for Text {
 impl Entry for Text {
     ghost events = { prefix_events };
 
-    fn write(&self, writer: &mut Writer) -> Result<(), AllocError> {
-        put_element(writer, "CommonPrefixes", &prefix_fields(self))
+    fn write(&self, writer: &mut Writer, manner: Manner) -> Result<(), AllocError> {
+        put_element(writer, manner, "CommonPrefixes", &prefix_fields(self))
     }
 }
 
@@ -295,7 +314,7 @@ impl Bounded for Text {
 
 // The room for the row of an object with a key of so many bytes.
 fn room_of_object(key_len: usize) -> usize
-    ensures { IsRoomFor result (6 * key_len + 668) }
+    ensures { IsRoomFor result (6 * key_len + 710) }
 {
     room_of_text(key_len).saturating_add(ROW_MAX)
 }
@@ -318,7 +337,7 @@ fn object_fields<'a>(object: &'a ListedObject, tag: &'a str) -> [Field<'a>; 4]
         },
         Field {
             name: "Key",
-            value: Leaf::Text(key_told(&object.key)),
+            value: Leaf::Encodable(key_told(&object.key)),
         },
         Field {
             name: "LastModified",
@@ -331,9 +350,9 @@ fn object_fields<'a>(object: &'a ListedObject, tag: &'a str) -> [Field<'a>; 4]
     ]
 }
 
-fn object_elements<'a>(object: &'a ListedObject, tag: &'a str) -> [Field<'a>; 5]
+fn elements_before<'a>(object: &'a ListedObject, tag: &'a str) -> [Field<'a>; 3]
     requires { tag.now ≡ tag_told object.now.facts.tag }
-    ensures { fields_of result ≡ object_fields object.now }
+    ensures { fields_of result ≡ object_before object.now }
 {
     [
         Field {
@@ -342,12 +361,19 @@ fn object_elements<'a>(object: &'a ListedObject, tag: &'a str) -> [Field<'a>; 5]
         },
         Field {
             name: "Key",
-            value: Leaf::Text(key_told(&object.key)),
+            value: Leaf::Encodable(key_told(&object.key)),
         },
         Field {
             name: "LastModified",
             value: Leaf::Moment(object.facts.moment),
         },
+    ]
+}
+
+fn elements_behind(object: &ListedObject) -> [Field<'_>; 2]
+    ensures { fields_of result ≡ object_behind object.now }
+{
+    [
         Field {
             name: "Size",
             value: Leaf::Number(object.facts.size),
@@ -364,7 +390,7 @@ fn prefix_fields(prefix: &Text) -> [Field<'_>; 1]
 {
     [Field {
         name: "Prefix",
-        value: Leaf::Text(text_told(prefix)),
+        value: Leaf::Encodable(text_told(prefix)),
     }]
 }
 
@@ -407,15 +433,15 @@ fn delimiter_leaf(delimiter: &Text) -> Leaf<'_>
     if delimiter.as_bytes().is_empty() {
         Leaf::Absent
     } else {
-        Leaf::Text(text_told(delimiter))
+        Leaf::Encodable(text_told(delimiter))
     }
 }
 
 fn start_leaf(start: &Option<Text>) -> Leaf<'_>
-    ensures { value_of result ≡ option_map text_value start.now }
+    ensures { value_of result ≡ option_map encodable start.now }
 {
     match start {
-        Some(start) => Leaf::Text(text_told(start)),
+        Some(start) => Leaf::Encodable(text_told(start)),
         None => Leaf::Absent,
     }
 }

@@ -14,7 +14,7 @@ use crate::printer::{Field, Leaf, Printer, Row, text_of};
 use crate::reserved::Told;
 use crate::room::{Bounded, known_of};
 use crate::texts::{key_told, name_told, quoted, upload_id_told};
-use crate::xml::{Entry, put_element, put_list, room_of_listed};
+use crate::xml::{Entry, Manner, PLAIN, put_element, put_list_owned, room_of_listed_owned};
 use s3_listings::{PartPage, PartsAsked};
 use s3_names::{BucketName, Key, UploadId};
 use s3_uploads::PartRow;
@@ -50,12 +50,8 @@ impl Told for PartsList {
 
     fn write(&self, writer: &mut Writer) -> Result<(), AllocError> {
         let id = upload_id_told(Some(self.id));
-        put_list(
-            writer,
-            &fields_before(self, text_of(&id)),
-            self.page.rows(),
-            &class_fields(),
-        )
+        let before = fields_before(self, text_of(&id));
+        put_list_owned(writer, PLAIN, &before, self.page.rows(), &class_fields())
     }
 
     fn room(&self) -> usize {
@@ -64,7 +60,7 @@ impl Told for PartsList {
         let behind = id_fields(text_of(&id));
         let json = room_of_list(&before, "Parts", self.page.rows(), &behind);
         let before = fields_before(self, text_of(&id));
-        json.max(room_of_listed(&before, self.page.rows(), &class_fields()))
+        json.max(room_of_listed_owned(&before, self.page.rows(), &class_fields()))
     }
 }
 
@@ -147,7 +143,7 @@ fn fields_before<'a>(list: &'a PartsList, id: &'a str) -> [Field<'a>; 7]
     ]
 }
 
-// And behind them.
+// And behind them and the owner.
 fn class_fields() -> [Field<'static>; 1]
     ensures { fields_of result ≡ parts_behind }
 {
@@ -169,9 +165,14 @@ impl Row for PartRow {
 impl Entry for PartRow {
     ghost events = { part_events };
 
-    fn write(&self, writer: &mut Writer) -> Result<(), AllocError> {
+    fn write(&self, writer: &mut Writer, manner: Manner) -> Result<(), AllocError> {
         let tag = quoted(&self.tag);
-        put_element(writer, "Part", &row_fields(self, text_of(tag.as_slice())))
+        put_element(
+            writer,
+            manner,
+            "Part",
+            &row_fields(self, text_of(tag.as_slice())),
+        )
     }
 }
 

@@ -16,6 +16,8 @@ use std::str;
 #[derive(Drop)]
 pub enum Leaf<'a> {
     Text(&'a str),
+    /// A text that XML tells UriEncoded where that is asked: a key, and what keys are compared with.
+    Encodable(&'a str),
     Number(u64),
     Truth(bool),
     Moment(Moment),
@@ -159,6 +161,7 @@ impl Printer {
         let name = field.name;
         match field.value {
             Leaf::Text(text) => self.text(name, text),
+            Leaf::Encodable(text) => self.text(name, text),
             Leaf::Number(number) => self.number(name, number),
             Leaf::Truth(truth) => self.truth(name, truth),
             Leaf::Moment(moment) => self.moment(name, moment),

@@ -4,7 +4,7 @@ ghost use Rattle.s3_documents.specs.Document.{Document, tree_of};
 ghost use Rattle.s3_documents.specs.Printed.{branches_tokens, begun, room_of, TakesRoom, IsRoomFor};
 ghost use Rattle.s3_documents.specs.Spelling.{document_text};
 ghost use Rattle.s3_documents.specs.Tree.{tree_text};
-ghost use Rattle.s3_documents.specs.Xml.{namespace, root_of, events_of};
+ghost use Rattle.s3_documents.specs.Xml.{namespace, root_of, namespace_of, events_of};
 ghost use Rattle.s3_xml.specs.Printed.{markup, document_text as xml_text};
 ghost use Rattle.s3_xml.specs.Writer as xml;
 
@@ -14,7 +14,7 @@ use s3_xml::Writer;
 use std::alloc::{AllocError, Global};
 use std::marker::Model;
 
-/// The namespace of all documents.
+/// The namespace of all documents that are printed here.
 const NAMESPACE: &str = "http://s3.amazonaws.com/doc/2006-03-01/";
 
 /// What stands round the events of a document takes no more room, and no more do the brackets round its tree.
@@ -29,9 +29,10 @@ pub(crate) trait Told: Drop {
         ensures tokens { OnOk result (printer.old.tokens ≡ begun [] → printer.new.tokens ≡ begun (tree_of (document self.now))) }
         ensures room { TakesRoom result printer.old.spare printer.new.spare (branches_tokens (tree_of (document self.now))) };
 
-    /// The name of its root in XML.
+    /// The name of its root in XML, which has the namespace of S3.
     fn root(&self) -> &'static str
-        ensures { result.now ≡ root_of (document self.now) };
+        ensures name { result.now ≡ root_of (document self.now) }
+        ensures namespace { namespace_of (document self.now) ≡ namespace };
 
     /// Prints all that stands in the root.
     fn write(&self, writer: &mut Writer) -> Result<(), AllocError>
@@ -120,7 +121,7 @@ fn printed<P: Told>(told: &P, room: Vec<u8>) -> Result<Vec<u8>, AllocError>
 fn xml_text<P: Told>(told: &P, room: Vec<u8>) -> Vec<u8>
     requires empty { room.items ≡ [] }
     requires room { length (markup (events_of (P.document told.now))) + 192 ≤ vec_capacity room }
-    ensures { result.items ≡ xml_text (root_of (P.document told.now)) namespace (events_of (P.document told.now)) }
+    ensures { result.items ≡ xml_text (root_of (P.document told.now)) (namespace_of (P.document told.now)) (events_of (P.document told.now)) }
 {
     match written(told, room) {
         Ok(text) => text,
@@ -133,7 +134,7 @@ fn xml_text<P: Told>(told: &P, room: Vec<u8>) -> Vec<u8>
 #[tactic(auto, using(crate::proofs::XmlFrameLemmas::frame_room), unfolding(s3_xml::specs::Printed::document_text))]
 fn written<P: Told>(told: &P, room: Vec<u8>) -> Result<Vec<u8>, AllocError>
     requires { room.items ≡ [] }
-    ensures text { IfOk result (λ text. text.items ≡ xml_text (root_of (P.document told.now)) namespace (events_of (P.document told.now))) }
+    ensures text { IfOk result (λ text. text.items ≡ xml_text (root_of (P.document told.now)) (namespace_of (P.document told.now)) (events_of (P.document told.now))) }
     ensures room { OnErr result (vec_capacity room < length (markup (events_of (P.document told.now))) + 192) }
 {
     let root = told.root();

@@ -5,13 +5,14 @@ ghost use Rattle.s3_names.specs.Tags.{is_tag_character};
 ghost use Rattle.s3_documents.specs.Printed.{fields_tokens, row_tokens, all_tokens, branches_tokens, field_of, fields_of, room_of, IsRoomFor};
 ghost use Rattle.s3_documents.specs.Tree.{rows as rows_under};
 ghost use Rattle.s3_documents.specs.Xml.{fields_events};
+ghost use Rattle.s3_documents.specs.declared.xml.Manner.{Manner};
 ghost use Rattle.s3_xml.specs.Printed.{markup};
 
 use crate::printer::{Field, Leaf, Row};
 use crate::xml::Entry;
 use s3_names::Tag;
 
-/// A byte of a text is escaped by at most six.
+/// A byte of a text is escaped by at most six, and UriEncoded by three, of which none is escaped.
 const ESCAPED_MAX: usize = 6;
 
 /// Two quotes, a colon and a comma stand round a text.
@@ -29,12 +30,12 @@ const MOMENT_MAX: usize = 147;
 /// Two brackets or two braces, with their commas.
 const BRACKETS: usize = 4;
 
-/// A row of which is known how much room it takes.
+/// A row of which is known how much room it takes, in any manner.
 pub(crate) trait Bounded: Row + Entry {
     /// No less than the row takes.
     fn room(&self) -> usize
         ensures json { IsRoomFor result (room_of (row_tokens (Self.told self.now))) }
-        ensures xml { IsRoomFor result (length (markup (Self.events self.now))) };
+        ensures xml { (manner : Manner) → IsRoomFor result (length (markup (Self.events manner self.now))) };
 }
 
 /// The room for rows under a name, as JSON.
@@ -51,7 +52,7 @@ pub(crate) fn room_of_rows<R: Bounded>(name: &str, list: &[R]) -> usize
 #[tactic(auto, using(crate::proofs::RoomLemmas::fields_from, crate::proofs::XmlRoomLemmas::some_fields_room))]
 pub(crate) fn room_of_fields(fields: &[Field<'_>]) -> usize
     ensures json { IsRoomFor result (room_of (fields_tokens (fields_of fields.now))) }
-    ensures xml { IsRoomFor result (length (markup (fields_events (fields_of fields.now)))) }
+    ensures xml { (manner : Manner) → IsRoomFor result (length (markup (fields_events manner (fields_of fields.now)))) }
 {
     let mut room = 0usize;
     for field in fields {
@@ -80,7 +81,7 @@ pub(crate) fn known_of(tag: &Tag, size: u64)
 #[tactic(auto, using(crate::proofs::RoomLemmas::rows_from, crate::proofs::XmlRoomLemmas::entries_room))]
 pub(crate) fn room_of_all<R: Bounded>(list: &[R]) -> usize
     ensures json { IsRoomFor result (room_of (all_tokens (map R.told list.now))) }
-    ensures xml { IsRoomFor result (length (markup (flat_map R.events list.now))) }
+    ensures xml { (manner : Manner) → IsRoomFor result (length (markup (flat_map (R.events manner) list.now))) }
 {
     let mut room = 0usize;
     for row in list {
@@ -92,11 +93,12 @@ pub(crate) fn room_of_all<R: Bounded>(list: &[R]) -> usize
 #[tactic(auto, using(crate::proofs::RoomLemmas::token_rooms, crate::proofs::XmlRoomLemmas::field_rooms))]
 fn room_of_field(field: &Field<'_>) -> usize
     ensures json { IsRoomFor result (room_of (fields_tokens (field_of field.now))) }
-    ensures xml { IsRoomFor result (length (markup (fields_events (field_of field.now)))) }
+    ensures xml { (manner : Manner) → IsRoomFor result (length (markup (fields_events manner (field_of field.now)))) }
 {
     let name = room_of_text(field.name.len());
     match field.value {
         Leaf::Text(text) => name.saturating_add(room_of_text(text.len())),
+        Leaf::Encodable(text) => name.saturating_add(room_of_text(text.len())),
         Leaf::Number(_number) => name.saturating_add(NUMBER_MAX),
         Leaf::Truth(_) => name.saturating_add(TRUTH_MAX),
         Leaf::Moment(_) => name.saturating_add(MOMENT_MAX),

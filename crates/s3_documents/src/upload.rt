@@ -12,7 +12,7 @@ use crate::printer::{Field, Leaf, Printer, text_of};
 use crate::reserved::Told;
 use crate::room::room_of_fields;
 use crate::texts::{key_told, name_told, quoted, upload_id_told};
-use crate::xml::put_fields;
+use crate::xml::{PLAIN, put_fields};
 use s3_canonical::append_path;
 use s3_names::{BucketName, Key, Tag, UploadId};
 use s3_terms::NoMemory;
@@ -41,7 +41,7 @@ impl Told for UploadBegun {
 
     fn write(&self, writer: &mut Writer) -> Result<(), AllocError> {
         let id = upload_id_told(Some(self.id));
-        put_fields(writer, &begun_told(self, text_of(&id)))
+        put_fields(writer, PLAIN, &begun_told(self, text_of(&id)))
     }
 
     #[tactic(auto, using(crate::proofs::RoomLemmas::leaves_room))]
@@ -95,7 +95,7 @@ impl Told for UploadCompleted {
 
     fn write(&self, writer: &mut Writer) -> Result<(), AllocError> {
         let tag = quoted(&self.tag);
-        put_fields(writer, &elements(self, text_of(&tag)))
+        put_fields(writer, PLAIN, &elements(self, text_of(&tag)))
     }
 
     #[tactic(auto, using(crate::proofs::RoomLemmas::leaves_room))]

@@ -7,14 +7,14 @@ ghost use Rattle.s3_records.specs.declared.rows.UploadRow.{UploadRow as UploadAs
 ghost use Rattle.s3_documents.specs.Document.{uploads};
 ghost use Rattle.s3_documents.specs.Printed.{fields_of, value_of, IsRoomFor};
 ghost use Rattle.s3_documents.specs.UploadList.{upload_fields, upload_marker_told, key_of_upload, id_of_upload, uploads_fields};
-ghost use Rattle.s3_documents.specs.Xml.{upload_events, begun_before, begun_behind, uploads_before};
+ghost use Rattle.s3_documents.specs.Xml.{upload_events, begun_before, begun_behind, uploads_before, uploads_behind};
 
 use crate::list::{print_list, room_of_list};
 use crate::printer::{Field, Leaf, Printer, Row, text_of};
 use crate::reserved::Told;
 use crate::room::{Bounded, room_of_text};
 use crate::texts::{ID_MAX, key_told, name_told, text_told, upload_id_told};
-use crate::xml::{Entry, put_list, put_owned, room_of_listed};
+use crate::xml::{Entry, Manner, encoding_leaf, owned_manner, put_list, put_owned, room_of_listed};
 use arrayvec::ArrayVec;
 use s3_listings::{UploadPage, UploadsAsked};
 use s3_names::BucketName;
@@ -53,7 +53,14 @@ impl Told for UploadsList {
         let behind = upload_id_told(self.asked.id_marker);
         let next_behind = row_id(next);
         let before = fields_before(self, next, text_of(&behind), text_of(&next_behind));
-        put_list(writer, &before, self.page.rows(), &[])
+        let manner = owned_manner(self.asked.is_url_encoded);
+        put_list(
+            writer,
+            manner,
+            &before,
+            self.page.rows(),
+            &fields_behind(self),
+        )
     }
 
     fn room(&self) -> usize {
@@ -63,7 +70,7 @@ impl Told for UploadsList {
         let fields = fields_told(self, next, text_of(&behind), text_of(&next_behind));
         let before = fields_before(self, next, text_of(&behind), text_of(&next_behind));
         let json = room_of_list(&fields, "Uploads", self.page.rows(), &[]);
-        json.max(room_of_listed(&before, self.page.rows(), &[]))
+        json.max(room_of_listed(&before, self.page.rows(), &fields_behind(self)))
     }
 }
 
@@ -91,7 +98,7 @@ fn fields_told<'a>(
         },
         Field {
             name: "KeyMarker",
-            value: Leaf::Text(text_told(&list.asked.key_marker)),
+            value: Leaf::Encodable(text_told(&list.asked.key_marker)),
         },
         Field {
             name: "MaxUploads",
@@ -107,7 +114,7 @@ fn fields_told<'a>(
         },
         Field {
             name: "Prefix",
-            value: Leaf::Text(text_told(&list.asked.prefix)),
+            value: Leaf::Encodable(text_told(&list.asked.prefix)),
         },
         Field {
             name: "UploadIdMarker",
@@ -135,7 +142,7 @@ fn fields_before<'a>(
         },
         Field {
             name: "KeyMarker",
-            value: Leaf::Text(text_told(&list.asked.key_marker)),
+            value: Leaf::Encodable(text_told(&list.asked.key_marker)),
         },
         Field {
             name: "UploadIdMarker",
@@ -147,7 +154,7 @@ fn fields_before<'a>(
         },
         Field {
             name: "Prefix",
-            value: Leaf::Text(text_told(&list.asked.prefix)),
+            value: Leaf::Encodable(text_told(&list.asked.prefix)),
         },
         Field {
             name: "NextUploadIdMarker",
@@ -164,6 +171,16 @@ fn fields_before<'a>(
     ]
 }
 
+// And behind them.
+fn fields_behind(list: &UploadsList) -> [Field<'_>; 1]
+    ensures { fields_of result ≡ uploads_behind list.now.asked }
+{
+    [Field {
+        name: "EncodingType",
+        value: encoding_leaf(list.asked.is_url_encoded),
+    }]
+}
+
 impl Row for UploadRow {
     ghost told = { upload_fields };
 
@@ -176,10 +193,11 @@ impl Row for UploadRow {
 impl Entry for UploadRow {
     ghost events = { upload_events };
 
-    fn write(&self, writer: &mut Writer) -> Result<(), AllocError> {
+    fn write(&self, writer: &mut Writer, manner: Manner) -> Result<(), AllocError> {
         let id = upload_id_told(Some(self.id));
         put_owned(
             writer,
+            manner,
             "Upload",
             &elements_before(self),
             &elements_behind(text_of(&id)),
@@ -197,7 +215,7 @@ fn elements_before(row: &UploadRow) -> [Field<'_>; 2]
         },
         Field {
             name: "Key",
-            value: Leaf::Text(key_told(&row.key)),
+            value: Leaf::Encodable(key_told(&row.key)),
         },
     ]
 }
@@ -242,7 +260,7 @@ fn row_fields<'a>(row: &'a UploadRow, id: &'a str) -> [Field<'a>; 3]
         },
         Field {
             name: "Key",
-            value: Leaf::Text(key_told(&row.key)),
+            value: Leaf::Encodable(key_told(&row.key)),
         },
         Field {
             name: "UploadId",
@@ -266,7 +284,7 @@ fn key_leaf(row: Option<&UploadRow>) -> Leaf<'_>
     ensures { value_of result ≡ option_map key_of_upload (option_copied row.entry) }
 {
     match row {
-        Some(row) => Leaf::Text(key_told(&row.key)),
+        Some(row) => Leaf::Encodable(key_told(&row.key)),
         None => Leaf::Absent,
     }
 }

@@ -14,7 +14,7 @@ use crate::printer::{Field, Leaf, Printer, Row, text_of};
 use crate::reserved::Told;
 use crate::room::{Bounded, known_of, room_of_text};
 use crate::texts::{ID_MAX, id_told, key_told, name_told, quoted, text_told};
-use crate::xml::{Entry, put_list, put_owned, room_of_listed};
+use crate::xml::{Entry, Manner, encoding_leaf, owned_manner, put_list, put_owned, room_of_listed};
 use arrayvec::ArrayVec;
 use s3_listings::{VersionPage, VersionsAsked};
 use s3_names::BucketName;
@@ -55,7 +55,14 @@ impl Told for VersionsList {
         let behind = id_told(self.asked.id_marker);
         let next_behind = row_id(next);
         let before = fields_before(self, next, text_of(&behind), text_of(&next_behind));
-        put_list(writer, &before, self.page.rows(), &fields_behind(self))
+        let manner = owned_manner(self.asked.is_url_encoded);
+        put_list(
+            writer,
+            manner,
+            &before,
+            self.page.rows(),
+            &fields_behind(self),
+        )
     }
 
     fn room(&self) -> usize {
@@ -89,7 +96,7 @@ fn fields_told<'a>(
         },
         Field {
             name: "KeyMarker",
-            value: Leaf::Text(text_told(&list.asked.key_marker)),
+            value: Leaf::Encodable(text_told(&list.asked.key_marker)),
         },
         Field {
             name: "MaxKeys",
@@ -109,7 +116,7 @@ fn fields_told<'a>(
         },
         Field {
             name: "Prefix",
-            value: Leaf::Text(text_told(&list.asked.prefix)),
+            value: Leaf::Encodable(text_told(&list.asked.prefix)),
         },
         Field {
             name: "VersionIdMarker",
@@ -137,7 +144,7 @@ fn fields_before<'a>(
         },
         Field {
             name: "KeyMarker",
-            value: Leaf::Text(text_told(&list.asked.key_marker)),
+            value: Leaf::Encodable(text_told(&list.asked.key_marker)),
         },
         Field {
             name: "VersionIdMarker",
@@ -155,7 +162,7 @@ fn fields_before<'a>(
 }
 
 // And behind them.
-fn fields_behind(list: &VersionsList) -> [Field<'_>; 3]
+fn fields_behind(list: &VersionsList) -> [Field<'_>; 4]
     ensures { fields_of result ≡ versions_behind list.now.name list.now.asked }
 {
     [
@@ -165,11 +172,15 @@ fn fields_behind(list: &VersionsList) -> [Field<'_>; 3]
         },
         Field {
             name: "Prefix",
-            value: Leaf::Text(text_told(&list.asked.prefix)),
+            value: Leaf::Encodable(text_told(&list.asked.prefix)),
         },
         Field {
             name: "MaxKeys",
             value: Leaf::Number(list.asked.max_keys as u64),
+        },
+        Field {
+            name: "EncodingType",
+            value: encoding_leaf(list.asked.is_url_encoded),
         },
     ]
 }
@@ -192,7 +203,7 @@ impl Row for VersionRow {
 impl Entry for VersionRow {
     ghost events = { version_events };
 
-    fn write(&self, writer: &mut Writer) -> Result<(), AllocError> {
+    fn write(&self, writer: &mut Writer, manner: Manner) -> Result<(), AllocError> {
         let id = id_told(Some(self.id));
         let behind = elements_behind(self, text_of(&id));
         match &self.facts {
@@ -200,12 +211,19 @@ impl Entry for VersionRow {
                 let tag = quoted(&facts.tag);
                 put_owned(
                     writer,
+                    manner,
                     "Version",
                     &elements_before(self, text_of(tag.as_slice())),
                     &behind,
                 )
             }
-            None => put_owned(writer, "DeleteMarker", &elements_before(self, ""), &behind),
+            None => put_owned(
+                writer,
+                manner,
+                "DeleteMarker",
+                &elements_before(self, ""),
+                &behind,
+            ),
         }
     }
 }
@@ -225,7 +243,7 @@ fn elements_before<'a>(row: &'a VersionRow, tag: &'a str) -> [Field<'a>; 4]
         },
         Field {
             name: "Key",
-            value: Leaf::Text(key_told(&row.key)),
+            value: Leaf::Encodable(key_told(&row.key)),
         },
         Field {
             name: "LastModified",
@@ -301,7 +319,7 @@ fn row_fields<'a>(row: &'a VersionRow, tag: &'a str, id: &'a str) -> [Field<'a>;
         },
         Field {
             name: "Key",
-            value: Leaf::Text(key_told(&row.key)),
+            value: Leaf::Encodable(key_told(&row.key)),
         },
         Field {
             name: "LastModified",
@@ -353,7 +371,7 @@ fn key_leaf(row: Option<&VersionRow>) -> Leaf<'_>
     ensures { value_of result ≡ option_map key_of_row (option_copied row.entry) }
 {
     match row {
-        Some(row) => Leaf::Text(key_told(&row.key)),
+        Some(row) => Leaf::Encodable(key_told(&row.key)),
         None => Leaf::Absent,
     }
 }

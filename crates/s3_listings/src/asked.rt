@@ -14,6 +14,8 @@ pub struct VersionsAsked {
     pub id_marker: Option<VersionId>,
     /// How many versions a page has at most, from 0 to 1,000.
     pub max_keys: u16,
+    /// Whether keys and what was asked by are told UriEncoded (`encoding-type=url`).
+    pub is_url_encoded: bool,
 }
 
 /// What is asked of a list of the uploads in a bucket (Amazon S3 API Reference, ListMultipartUploads).
@@ -27,6 +29,8 @@ pub struct UploadsAsked {
     pub id_marker: Option<UploadId>,
     /// How many uploads a page has at most, from 0 to 1,000.
     pub max_uploads: u16,
+    /// Whether keys and what was asked by are told UriEncoded (`encoding-type=url`).
+    pub is_url_encoded: bool,
 }
 
 /// What is asked of a list of an upload's parts (Amazon S3 API Reference, ListParts).

@@ -1,13 +1,13 @@
--- What comes of a message, as its line tells it: the status that its reply has, and why it was refused.
+-- What comes of a message, as its line tells it: the status that its reply has, and why that is a refusal.
 use Rattle.std.specs.Prelude.{◌≡◌, ℕ, List, Option, Some, None, Result, MatchResult}
 use Rattle.s3_terms.specs.Code.{status_of}
 use Rattle.s3_terms.specs.declared.code.Code.{Code}
-use Rattle.s3_terms.specs.declared.code.Code.TheVariants.{InternalError}
+use Rattle.s3_terms.specs.declared.code.Code.TheVariants.{InternalError, InvalidRange}
 use Rattle.s3_terms.specs.declared.memory.NoMemory.{NoMemory}
 use Rattle.s3_terms.specs.declared.status.Status.{Status}
 use Rattle.s3_terms.specs.declared.status.Status.TheVariants as statuses
 use Rattle.s3_conditions.specs.declared.conditions.Selection.{Selection}
-use Rattle.s3_conditions.specs.declared.conditions.Selection.TheVariants.{Whole, Part, Unchanged}
+use Rattle.s3_conditions.specs.declared.conditions.Selection.TheVariants.{Whole, Part, Unchanged, Outside}
 use Rattle.s3_machine.specs.declared.command.Answer.{Answer}
 use Rattle.s3_machine.specs.declared.command.Outcome.{Outcome}
 use Rattle.s3_machine.specs.declared.command.Outcome.TheVariants as outcomes
@@ -26,10 +26,13 @@ abbrev pub status_with : Selection → Status
 status_with Whole = statuses.Ok
 status_with (Part first last) = statuses.PartialContent
 status_with Unchanged = statuses.NotModified
+status_with Outside = statuses.RangeNotSatisfiable
 
--- why the machine refused, if it did
+-- why the reply refuses, if it does: the machine did, or no byte of what was read is in the range that was asked for
 abbrev pub code_in : Outcome → Option Code
 code_in (outcomes.Refused code is_delete_marker) = Some code
+code_in (outcomes.Got found Outside) = Some InvalidRange
+code_in (outcomes.OutOfRange size) = Some InvalidRange
 code_in other = None
 
 -- it was refused with this code
@@ -46,7 +49,7 @@ HasStatus outcome status =
     (number : ℕ) (context : Context) (date : List ℕ) (modified : Option (List ℕ))
     → status_in (reply_to (opening_of number context date) modified outcome) ≡ status
 
--- the status of the reply to this answer, and why the machine refused, if it did
+-- the status of the reply to this answer, and why it refuses, if it does
 pub record IsTold (answer : Answer) (t : Told) : Type 0 where
   pub status : HasStatus answer.outcome t.status
   pub code : t.code ≡ code_in answer.outcome

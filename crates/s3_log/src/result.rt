@@ -72,6 +72,7 @@ fn status_of(outcome: &Outcome) -> Status
             Status::NoContent
         }
         Outcome::Got { selection, .. } => status_with(*selection),
+        Outcome::OutOfRange { .. } => Status::RangeNotSatisfiable,
         Outcome::Refused { code, .. } => code.status(),
     }
 }
@@ -84,15 +85,21 @@ fn status_with(selection: Selection) -> Status
         Selection::Whole => Status::Ok,
         Selection::Part { .. } => Status::PartialContent,
         Selection::Unchanged => Status::NotModified,
+        Selection::Outside => Status::RangeNotSatisfiable,
     }
 }
 
-// Why the machine refused, if it did.
+// Why the reply refuses, if it does.
 fn code_of(outcome: &Outcome) -> Option<Code>
     ensures { result ≡ rules.code_in outcome.now }
 {
     match outcome {
         Outcome::Refused { code, .. } => Some(*code),
+        Outcome::Got {
+            selection: Selection::Outside,
+            ..
+        }
+        | Outcome::OutOfRange { .. } => Some(Code::InvalidRange),
         _ => None,
     }
 }

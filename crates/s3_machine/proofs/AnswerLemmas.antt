@@ -34,7 +34,7 @@ use Rattle.s3_machine.specs.Effects.{Address, Object, UploadPlace, Read, place_o
 use Rattle.s3_machine.specs.History.{Entry, IsAnswer, after, after_entry}
 use Rattle.s3_machine.specs.Kept.{SparesVersion, ReadsVersion, Stores, Copies, WouldGive, WouldMake, Source, Put, Copy, Completion, Marks, EveryHistory, StoredIsKept, VersionsAreKept, StoredIsTold, ReadsGiveOrFail, MarkersHide, QuietEntriesChangeNothing, PutsAreKept, PutVersionsAreKept, CopiesAreKept, CopyVersionsAreKept, BodiesAreTagged, PutsStoreTheirContents, CopiesStoreTheirSource, CompletionsStoreTheirParts, StoredHasSource}
 use Rattle.s3_machine.specs.Laws.{QuietStepsChangeNothing, ConditionsJudgeReads}
-use Rattle.s3_machine.specs.Step.{State, Stepped, copied, data_of, data_read, shown_in, makes_marker, found_in, shown_by, key_done, done, stepped, step}
+use Rattle.s3_machine.specs.Step.{State, Stepped, copied, data_of, data_read, shown_in, makes_marker, found_in, outcome_shown, shown_by, key_done, done, stepped, step}
 use Rattle.s3_machine.proofs.EffectLemmas.{Rules, shown, after_line, copy_done, not_false}
 use Rattle.s3_machine.proofs.HistoryLemmas.{after-push, parts_of, right_at}
 use Rattle.s3_machine.proofs.KeptLemmas.{versions_at, outcome_is, picked, got, plain_shown, whole_given, step_reads, stored_there, key_left}
@@ -46,7 +46,7 @@ GivesOrRefuses st = is_some (given_whole st.1) ≡ succeeds st.1
 gives_or_refuses : (s : State) (name : List ℕ) (conditions : Conditions) (read : Result (Version (List ℕ) × Data (List ℕ)) Refusal) → conditions ≡ plain
     → GivesOrRefuses (stepped s (read >>= shown s name conditions))
 gives_or_refuses s name conditions (Ok read) is =
-    let P : Result Selection Refusal → Type 0 = λ chosen. GivesOrRefuses (stepped s (chosen >>= (λ selection. Ok (s, outcomes.Got (found_in (versioning_of s name) read) selection)))) in
+    let P : Result Selection Refusal → Type 0 = λ chosen. GivesOrRefuses (stepped s (chosen >>= (λ selection. Ok (s, outcome_shown (found_in (versioning_of s name) read) selection)))) in
     subst P (sym (ap (λ (c : Conditions). shown_by c (facts_of read)) is ∙ plain_shown (facts_of read))) refl
 gives_or_refuses s name conditions (Err refusal) is = refl
 

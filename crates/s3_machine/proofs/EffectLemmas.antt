@@ -42,7 +42,7 @@ use Rattle.s3_terms.specs.Fault as faults
 use Rattle.s3_terms.specs.Fault.{◌>>◌, ◌>>=◌}
 use Rattle.s3_machine.specs.Fault.{refuse, as_refusal}
 use Rattle.s3_machine.specs.Effects.{Address, writes, object_of, upload_stored, stored_by, acknowledged, touched, told, is_refused, succeeds, only_reads}
-use Rattle.s3_machine.specs.Step.{State, Stepped, is_taken, copied, data_of, shown_in, found_in, shown_by, upload_begun, open_upload, bucket_done, key_done, upload_done, done, stepped, step}
+use Rattle.s3_machine.specs.Step.{State, Stepped, is_taken, copied, data_of, shown_in, found_in, outcome_shown, shown_by, upload_begun, open_upload, bucket_done, key_done, upload_done, done, stepped, step}
 use Rattle.s3_machine.specs.Laws.{QuietStepsChangeNothing, StepsStayBelow}
 
 -- the command was refused, or only reads
@@ -106,6 +106,7 @@ unwritten {outcome} s n t command none = untouched s n t command outcome (no_wri
 -- what succeeds isn't refused
 not_refused : (outcome : Outcome) → succeeds outcome ≡ true → is_refused outcome ≡ false
 not_refused (outcomes.Refused code is_delete_marker) is = absurd (false≢true is)
+not_refused (outcomes.OutOfRange size) is = absurd (false≢true is)
 not_refused _ is = refl
 
 -- a rule's line that may refuse such a command
@@ -145,7 +146,7 @@ copy_done s n t name key what =
 
 -- what is done with a version that was read
 abbrev pub shown : State → List ℕ → Conditions → Version (List ℕ) × Data (List ℕ) → Result Stepped Refusal
-shown s name conditions read = shown_by conditions (facts_of read) >>= (λ selection. Ok (s, outcomes.Got (found_in (versioning_of s name) read) selection))
+shown s name conditions read = shown_by conditions (facts_of read) >>= (λ selection. Ok (s, outcome_shown (found_in (versioning_of s name) read) selection))
 
 -- what a rule is past a line that may refuse, where it doesn't
 let_pass : {A : Type 0} (fault : Bool) (code : Code) (next : Result A Code) (a : A) → (faults.refuse fault code >> next) ≡ Ok a → next ≡ Ok a
@@ -220,7 +221,7 @@ module _ (places : ChangesAreByPlace (List ℕ)) (rules : Rules) where
   showing s n t command (Err refusal) out none = unwritten s n t command none
 
   reading : (s : State) (n t : ℕ) (command : Command) (read : Result (Version (List ℕ) × Data (List ℕ)) Refusal) (name : List ℕ) (conditions : Conditions) → writes command ≡ None → Does s n t command (stepped s (read >>= shown s name conditions))
-  reading s n t command (Ok r) name conditions none = showing s n t command (shown_by conditions (facts_of r)) (outcomes.Got (found_in (versioning_of s name) r)) none
+  reading s n t command (Ok r) name conditions none = showing s n t command (shown_by conditions (facts_of r)) (outcome_shown (found_in (versioning_of s name) r)) none
   reading s n t command (Err refusal) name conditions none = unwritten s n t command none
 
   -- a command changes the versions under a key, as entry n

@@ -33,7 +33,7 @@ use Rattle.s3_machine.specs.Fault.{refuse}
 use Rattle.s3_machine.specs.Effects.{Address, Object, Read, writes, object_of, key_stored, stored_at, place_of, open_at, upload_stored, stored_by, whole, read_at, reads, given_whole, shown_as, acknowledged, touched, succeeds}
 use Rattle.s3_machine.specs.History.{Entry, IsAnswer, Legal, after, after_entry}
 use Rattle.s3_machine.specs.Kept.{Leaves, LeavesKey, Spares, SparesVersion, Stores, Tells, IsGiven, EveryHistory, StoredIsKept, VersionsAreKept, StoredIsTold}
-use Rattle.s3_machine.specs.Step.{State, Stepped, found_in, shown_by, key_done, done, stepped, step}
+use Rattle.s3_machine.specs.Step.{State, Stepped, found_in, outcome_shown, shown_by, key_done, done, stepped, step}
 use Rattle.s3_machine.proofs.EffectLemmas.{Rules, Changes, Does, shown, step_does}
 use Rattle.s3_machine.proofs.HistoryLemmas.{parts_of, right_at}
 
@@ -81,7 +81,7 @@ some_first None [] v is = absurd (cc)
 some_first (Some id) [] v is = absurd (cc)
 some_first asked (first ∷ rest) v is = (first, rest, refl)
 
-shows : (s : State) (found : Found (List ℕ)) (selection : Result Selection Refusal) → (stepped s (selection >>= (λ chosen. Ok (s, outcomes.Got found chosen)))).1 ≡ shown_as found selection
+shows : (s : State) (found : Found (List ℕ)) (selection : Result Selection Refusal) → (stepped s (selection >>= (λ chosen. Ok (s, outcome_shown found chosen)))).1 ≡ shown_as found selection
 shows s found (Ok selection) = refl
 shows s found (Err refusal) = refl
 

@@ -6,7 +6,7 @@ use Rattle.s3_names.specs.declared.ids.VersionId.{VersionId}
 use Rattle.s3_names.specs.declared.ids.VersionId.TheVariants.{Null, Numbered}
 use Rattle.s3_conditions.specs.declared.conditions.Conditions.{Conditions}
 use Rattle.s3_conditions.specs.declared.conditions.Selection.{Selection}
-use Rattle.s3_conditions.specs.declared.conditions.Selection.TheVariants.{Whole, Part, Unchanged}
+use Rattle.s3_conditions.specs.declared.conditions.Selection.TheVariants.{Whole, Part, Unchanged, Outside}
 use Rattle.s3_versions.specs.declared.picking.Refusal.{Refusal}
 use Rattle.s3_versions.specs.declared.version.Content.{Content}
 use Rattle.s3_versions.specs.declared.version.Content.TheVariants.{DeleteMarker, Stored}
@@ -21,7 +21,6 @@ use Rattle.s3_records.specs.Catalogue.{opening, has_bucket, versions_of, version
 use Rattle.s3_records.specs.Laws.{OpeningIsEmpty}
 use Rattle.s3_records.specs.Places.{version_at, ChangesAreByPlace}
 use Rattle.s3_machine.specs.declared.command.Found.{Found}
-use Rattle.s3_machine.specs.declared.command.Outcome.TheVariants as outcomes
 use Rattle.s3_machine.specs.Effects.{Address, Object, Read, writes, object_of, read_at, reads, given, found_object, touched, succeeds}
 use Rattle.s3_machine.specs.History.{Entry, IsAnswer, Legal, after, after_entry}
 use Rattle.s3_machine.specs.Kept.{Spares, SparesVersion, Stores, WasStored, Stands, IsFoundUnder, EveryHistory, OnlyStoredStands, OnlyStoredIsGiven}
@@ -29,7 +28,7 @@ use Rattle.s3_machine.specs.declared.command.Command.{Command}
 use Rattle.s3_machine.specs.declared.command.Command.TheVariants as commands
 use Rattle.s3_machine.specs.declared.command.KeyCommand.TheVariants as key_commands
 use Rattle.s3_terms.specs.Fault.{◌>>=◌}
-use Rattle.s3_machine.specs.Step.{State, found_in, shown_in, shown_by, key_done, done, stepped, step}
+use Rattle.s3_machine.specs.Step.{State, found_in, shown_in, outcome_shown, shown_by, key_done, done, stepped, step}
 use Rattle.s3_machine.proofs.EffectLemmas.{Rules, Changes, shown, after_line}
 use Rattle.s3_machine.proofs.HistoryLemmas.{Legal-append, after-push}
 use Rattle.s3_machine.proofs.KeptLemmas.{versions_at, outcome_is, same_address, entry_does, version_left}
@@ -221,10 +220,11 @@ picked_stands ids s a asked read picks =
 
 -- a read that hands out a version found it
 shows_found : (s : State) (here found : Found (List ℕ)) (selection : Result Selection Refusal)
-    → given (stepped s (selection >>= (λ chosen. Ok (s, outcomes.Got here chosen)))).1 ≡ Some found → here ≡ found
+    → given (stepped s (selection >>= (λ chosen. Ok (s, outcome_shown here chosen)))).1 ≡ Some found → here ≡ found
 shows_found s here found (Ok Whole) is = cc
 shows_found s here found (Ok (Part first last)) is = cc
 shows_found s here found (Ok Unchanged) is = absurd (cc)
+shows_found s here found (Ok Outside) is = absurd (cc)
 shows_found s here found (Err refusal) is = absurd (cc)
 
 given_of : (s : State) (name : List ℕ) (conditions : Conditions) (result : Result (Version (List ℕ) × Data (List ℕ)) Refusal) (found : Found (List ℕ))

@@ -6,7 +6,7 @@ use Rattle.s3_terms.specs.declared.code.Code.TheVariants.{NoSuchBucket}
 use Rattle.s3_terms.specs.Fault.{◌>>=◌}
 use Rattle.s3_conditions.specs.declared.conditions.Conditions.{Conditions}
 use Rattle.s3_conditions.specs.declared.conditions.Selection.{Selection}
-use Rattle.s3_conditions.specs.declared.conditions.Selection.TheVariants.{Whole, Part, Unchanged}
+use Rattle.s3_conditions.specs.declared.conditions.Selection.TheVariants.{Whole, Part, Unchanged, Outside}
 use Rattle.s3_conditions.specs.Conditions.{judged}
 use Rattle.s3_versions.specs.declared.picking.Refusal.{Refusal}
 use Rattle.s3_versions.specs.declared.version.Data.{Data}
@@ -17,12 +17,11 @@ use Rattle.s3_machine.specs.declared.command.Command.{Command}
 use Rattle.s3_machine.specs.declared.command.Command.TheVariants as commands
 use Rattle.s3_machine.specs.declared.command.KeyCommand.TheVariants as key_commands
 use Rattle.s3_machine.specs.declared.command.Found.{Found}
-use Rattle.s3_machine.specs.declared.command.Outcome.TheVariants as outcomes
 use Rattle.s3_machine.specs.Fault.{as_refusal}
 use Rattle.s3_machine.specs.Effects.{Read, reads, read_at, succeeds, facts_found}
 use Rattle.s3_machine.specs.History.{after}
 use Rattle.s3_machine.specs.Kept.{EveryHistory, IsShown, ReadsAreJudged}
-use Rattle.s3_machine.specs.Step.{State, Stepped, found_in, shown_by, key_done, done, stepped, step}
+use Rattle.s3_machine.specs.Step.{State, Stepped, found_in, outcome_shown, shown_by, key_done, done, stepped, step}
 use Rattle.s3_machine.proofs.EffectLemmas.{shown, after_line}
 use Rattle.s3_machine.proofs.HistoryLemmas.{right_at}
 use Rattle.s3_machine.proofs.KeptLemmas.{outcome_is}
@@ -38,12 +37,13 @@ judged_ok (Err code) selection is = absurd (cc)
 
 chosen_shown : (s : State) (conditions : Conditions) (found : Found (List ℕ)) (selection : Result Selection Refusal)
     → shown_by conditions (facts_found found) ≡ selection
-    → ShownOf conditions (stepped s (selection >>= (λ chosen. Ok (s, outcomes.Got found chosen))))
+    → ShownOf conditions (stepped s (selection >>= (λ chosen. Ok (s, outcome_shown found chosen))))
 chosen_shown s conditions found (Ok Whole) is success =
     record { found = found; selection = Whole; shows = refl; gives = refl; selects = judged_ok (judged conditions found.moment found.stored.tag found.stored.size) Whole is }
 chosen_shown s conditions found (Ok (Part first last)) is success =
     record { found = found; selection = Part first last; shows = refl; gives = refl; selects = judged_ok (judged conditions found.moment found.stored.tag found.stored.size) (Part first last) is }
 chosen_shown s conditions found (Ok Unchanged) is success = absurd (false≢true success)
+chosen_shown s conditions found (Ok Outside) is success = absurd (false≢true success)
 chosen_shown s conditions found (Err refusal) is success = absurd (false≢true success)
 
 read_shown : (s : State) (name : List ℕ) (conditions : Conditions) (read : Result (Version (List ℕ) × Data (List ℕ)) Refusal)

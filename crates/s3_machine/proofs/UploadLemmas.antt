@@ -31,10 +31,9 @@ use Rattle.s3_machine.specs.declared.command.UploadBegin.{UploadBegin}
 use Rattle.s3_machine.specs.declared.command.UploadCommand.{UploadCommand}
 use Rattle.s3_machine.specs.declared.command.UploadCommand.TheVariants as upload_commands
 use Rattle.s3_machine.specs.declared.command.Outcome.{Outcome}
-use Rattle.s3_machine.specs.declared.command.Outcome.TheVariants as outcomes
 use Rattle.s3_machine.specs.Fault.{refuse, as_refusal}
 use Rattle.s3_machine.specs.Effects.{Address, UploadPlace, PartPlace, place_of, open_at, begins, sends, sent, ends, succeeds}
-use Rattle.s3_machine.specs.Step.{State, Stepped, is_taken, copied, data_of, shown_by, found_in, upload_begun, open_upload, bucket_done, key_done, upload_done, done, stepped, step}
+use Rattle.s3_machine.specs.Step.{State, Stepped, is_taken, copied, data_of, outcome_shown, shown_by, found_in, upload_begun, open_upload, bucket_done, key_done, upload_done, done, stepped, step}
 use Rattle.s3_machine.proofs.EffectLemmas.{after_line, not_false, copy_done, shown, completing}
 
 -- a step leaves an upload, or the place of one: what the command may be to do there it doesn't do
@@ -204,7 +203,7 @@ module _ (law : ChangesAreByUpload (List ℕ)) where
       → begins command ≡ None → sends command ≡ None → ends command ≡ None
       → Fate s n t command (stepped s (read >>= shown s name conditions)) upload
   read_fate s n t command (Ok r) name conditions upload =
-      shown_fate s n t command (shown_by conditions (facts_of r)) (outcomes.Got (found_in (versioning_of s name) r)) upload
+      shown_fate s n t command (shown_by conditions (facts_of r)) (outcome_shown (found_in (versioning_of s name) r)) upload
   read_fate s n t command (Err refusal) name conditions upload = idle s n t command _ upload
 
   -- an upload begins at its place, and every other stays

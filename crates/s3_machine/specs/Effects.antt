@@ -6,7 +6,7 @@ use Rattle.s3_names.specs.declared.ids.VersionId.{VersionId}
 use Rattle.s3_names.specs.declared.ids.VersionId.TheVariants.{Null}
 use Rattle.s3_conditions.specs.declared.conditions.Conditions.{Conditions}
 use Rattle.s3_conditions.specs.declared.conditions.Selection.{Selection}
-use Rattle.s3_conditions.specs.declared.conditions.Selection.TheVariants.{Whole, Unchanged}
+use Rattle.s3_conditions.specs.declared.conditions.Selection.TheVariants.{Whole, Unchanged, Outside}
 use Rattle.s3_conditions.specs.Conditions.{plain}
 use Rattle.s3_versions.specs.declared.picking.Facts.{Facts}
 use Rattle.s3_versions.specs.declared.picking.Refusal.{Refusal}
@@ -34,7 +34,7 @@ use Rattle.s3_machine.specs.declared.command.Outcome.TheVariants as outcomes
 use Rattle.s3_machine.specs.declared.command.UploadBegin.{UploadBegin}
 use Rattle.s3_machine.specs.declared.command.UploadCommand.{UploadCommand}
 use Rattle.s3_machine.specs.declared.command.UploadCommand.TheVariants as upload_commands
-use Rattle.s3_machine.specs.Step.{State, copied, data_of, makes_marker, shown_by}
+use Rattle.s3_machine.specs.Step.{State, copied, data_of, makes_marker, outcome_shown, shown_by}
 
 -- a key of a bucket
 pub record Address : Type 0 where
@@ -278,16 +278,19 @@ takes_room s (commands.Upload name key id asked) = takes_room_in_upload asked
 -- the machine refuses
 abbrev pub is_refused : Outcome → Bool
 is_refused (outcomes.Refused code is_delete_marker) = true
+is_refused (outcomes.OutOfRange size) = true
 is_refused other = false
 
 -- something of a version is shown, and not that it is as the reader knows it
 abbrev pub shows_bytes : Selection → Bool
 shows_bytes Unchanged = false
+shows_bytes Outside = false
 shows_bytes other = true
 
 -- the command succeeds: the machine doesn't refuse, and what was read isn't as the reader knows it (RFC 9110, section 15.4.5)
 abbrev pub succeeds : Outcome → Bool
 succeeds (outcomes.Refused code is_delete_marker) = false
+succeeds (outcomes.OutOfRange size) = false
 succeeds (outcomes.Got found selection) = shows_bytes selection
 succeeds other = true
 
@@ -303,7 +306,7 @@ given_whole other = None
 
 -- what comes of a version that was found, by the judgement of the conditions of a read
 abbrev pub shown_as : Found (List ℕ) → Result Selection Refusal → Outcome
-shown_as found (Ok selection) = outcomes.Got found selection
+shown_as found (Ok selection) = outcome_shown found selection
 shown_as found (Err refusal) = outcomes.Refused refusal.code refusal.is_delete_marker
 
 -- what is known of a version that was found

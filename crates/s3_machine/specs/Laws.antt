@@ -51,7 +51,7 @@ abbrev pub reading : List ℕ → List ℕ → Option VersionId → Conditions �
 reading name key version conditions = commands.Key name key (key_commands.Read (record { version = version; conditions = conditions }))
 
 -- A read by conditions is the plain read, judged by them: it is refused where that is refused and as that is, else with their
--- refusal, or is shown that the version is as it knows it, or a part of it, or all.
+-- refusal, or is shown that the version is as it knows it, or that no byte of it is in the range, or a part of it, or all.
 abbrev pub ConditionsJudgeReads : Type 0
 ConditionsJudgeReads =
     (least : ℕ) (s : State) (n t : ℕ) (name key : List ℕ) (version : Option VersionId) (conditions : Conditions)
@@ -60,7 +60,16 @@ ConditionsJudgeReads =
 
 -- a list of all objects of a bucket
 abbrev pub all_keys : ObjectsAsked
-all_keys = record { prefix = []; delimiter = []; start_after = None; token = None; max_keys = 1000 }
+all_keys =
+    record {
+      prefix = [];
+      delimiter = [];
+      start_after = None;
+      token = None;
+      max_keys = 1000;
+      is_url_encoded = false;
+      tells_owner = false;
+    }
 
 -- the address is listed with these facts, among all objects of its bucket
 abbrev pub IsListed : State → Address → Facts → Type 0

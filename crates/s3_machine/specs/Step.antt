@@ -8,6 +8,7 @@ use Rattle.s3_terms.specs.declared.code.Code.TheVariants.{NoSuchBucket, BucketAl
 use Rattle.s3_names.specs.declared.ids.VersionId.{VersionId}
 use Rattle.s3_conditions.specs.declared.conditions.Conditions.{Conditions}
 use Rattle.s3_conditions.specs.declared.conditions.Selection.{Selection}
+use Rattle.s3_conditions.specs.declared.conditions.Selection.TheVariants.{Outside}
 use Rattle.s3_conditions.specs.Conditions.{judged}
 use Rattle.s3_versions.specs.declared.picking.Facts.{Facts}
 use Rattle.s3_versions.specs.declared.picking.Refusal.{Refusal}
@@ -105,6 +106,11 @@ copied s source = do
   refuse (not (has_bucket s source.bucket)) NoSuchBucket
   data_read (pick source.version (versions_of s source.bucket source.key))
 
+-- what comes of a read by what is shown of the version: where no byte of it is in the range, how many bytes it has
+abbrev pub outcome_shown : Found (List ℕ) → Selection → Outcome
+outcome_shown found Outside = outcomes.OutOfRange found.stored.size
+outcome_shown found other = outcomes.Got found other
+
 -- what is shown of a version by the conditions of a read
 abbrev pub shown_by : Conditions → Facts → Result Selection Refusal
 shown_by conditions facts = as_refusal (judged conditions facts.moment facts.tag facts.size)
@@ -159,7 +165,7 @@ key_done s n t name key (key_commands.Copy copy) = do
 key_done s n t name key (key_commands.Read asked) = do
   read ← pick asked.version (versions_of s name key)
   selection ← shown_by asked.conditions (facts_of read)
-  Ok (s, outcomes.Got (found_in (versioning_of s name) read) selection)
+  Ok (s, outcome_shown (found_in (versioning_of s name) read) selection)
 key_done s n t name key (key_commands.Delete None) =
     Ok (
       changed s name (KeyChanged key (KeyDeleted n t)),

@@ -1,6 +1,6 @@
 -- What the machine keeps of uploads: one is open from the entry that begins it to the one that ends it, the parts that are sent
 -- to it stand in it and no others do, and what a completion stores are these, which come back as an object.
-use Rattle.std.specs.Prelude.{◌≡◌, ◌≢◌, ◌↔◌, ℕ, ◌<◌, true, List, [], ◌∷◌, ◌++◌, length, Contains, Option, Some, None}
+use Rattle.std.specs.Prelude.{◌≡◌, ◌≢◌, ◌↔◌, ℕ, ◌<◌, true, false, List, [], ◌∷◌, ◌++◌, length, Contains, Option, Some, None}
 use Rattle.s3_names.specs.declared.ids.VersionId.{VersionId}
 use Rattle.s3_bodies.specs.Payload.{tag_of}
 use Rattle.s3_versions.specs.declared.version.Data.{Data}
@@ -29,7 +29,7 @@ use Rattle.s3_machine.specs.Uploads.{Begins, Sends, Completes, WasBegun, WasSent
 
 -- a list of all uploads of a bucket
 abbrev pub all_uploads : UploadsAsked
-all_uploads = record { prefix = []; key_marker = []; id_marker = None; max_uploads = 1000 }
+all_uploads = record { prefix = []; key_marker = []; id_marker = None; max_uploads = 1000; is_url_encoded = false }
 
 -- the upload is listed as one of this moment, among all of its bucket
 abbrev pub IsUploadListed : State → UploadPlace → ℕ → Type 0

@@ -188,6 +188,11 @@ pub enum Outcome {
         found: Found<Body>,
         selection: Selection,
     },
+    /// The version is there, and no byte of it is in the range that was asked for: how many bytes it has (RFC 9110, section
+    /// 15.5.17).
+    OutOfRange {
+        size: u64,
+    },
     /// What was to be deleted is not there now: the id is that of the delete marker that was made, or the one
     /// that the request named. Says whether a delete marker was made or is gone.
     Deleted {

@@ -17,7 +17,8 @@ pub fn steps_keep()
 }
 
 /// A law, with nothing to run: a read by conditions comes to what the plain read comes to, judged by them. Where that is
-/// refused, it is refused so; else by the conditions, or it is shown that the version is as it knows it, a part, or all.
+/// refused, it is refused so; else by the conditions, or it is shown that the version is as it knows it, that no byte of it is in
+/// the range, a part, or all.
 pub fn conditions_judge_reads()
     ensures { ConditionsJudgeReads }
 {}

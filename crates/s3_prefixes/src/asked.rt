@@ -15,4 +15,8 @@ pub struct ObjectsAsked {
     pub token: Option<Text>,
     /// How many items a page has at most, from 0 to 1,000.
     pub max_keys: u16,
+    /// Whether keys, common prefixes and what was asked by are told UriEncoded (`encoding-type=url`).
+    pub is_url_encoded: bool,
+    /// Whether each object is told with its owner (`fetch-owner=true`).
+    pub tells_owner: bool,
 }

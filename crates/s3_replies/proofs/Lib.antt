@@ -1,5 +1,5 @@
 pub mod LineLemmas
 pub mod DocumentLemmas
 pub mod UnbrokenLemmas
-pub mod ElementLemmas
+pub mod ErrorLemmas
 pub mod ReplyLemmas

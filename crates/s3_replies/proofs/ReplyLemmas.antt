@@ -15,7 +15,7 @@ use Rattle.s3_terms.specs.declared.status.Status.TheVariants as statuses
 use Rattle.s3_names.specs.declared.ids.VersionId.{VersionId}
 use Rattle.s3_versions.specs.declared.version.Data.{Data}
 use Rattle.s3_machine.specs.Effects.{succeeds as command_succeeds}
-use Rattle.s3_conditions.specs.declared.conditions.Selection.TheVariants.{Whole, Part, Unchanged}
+use Rattle.s3_conditions.specs.declared.conditions.Selection.TheVariants.{Whole, Part, Unchanged, Outside}
 use Rattle.s3_machine.specs.declared.command.Answer.{Answer}
 use Rattle.s3_machine.specs.declared.command.Found.{Found}
 use Rattle.s3_machine.specs.declared.command.Outcome.{Outcome}
@@ -98,6 +98,7 @@ status_tells opening modified (Refused code is_delete_marker) = refusal_fails co
 status_tells opening modified (Got found Whole) = refl
 status_tells opening modified (Got found (Part first last)) = refl
 status_tells opening modified (Got found Unchanged) = refl
+status_tells opening modified (Got found Outside) = refl
 status_tells opening modified _ = refl
 
 pub success_is_shown : SuccessIsShown

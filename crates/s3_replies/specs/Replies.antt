@@ -3,13 +3,15 @@
 use Rattle.std.specs.Prelude.{◌≡◌, ℕ, ◌+◌, Bool, true, false, if◌then◌else◌, List, [], ◌∷◌, ◌++◌, length, take, drop, codes, decimal, Option, Some, None, option_map}
 use Rattle.s3_terms.specs.Code.{status_of}
 use Rattle.s3_terms.specs.declared.code.Code.{Code}
+use Rattle.s3_terms.specs.declared.code.Code.TheVariants.{InvalidRange}
 use Rattle.s3_terms.specs.declared.dialect.Dialect.{Dialect}
+use Rattle.s3_terms.specs.declared.dialect.Dialect.TheVariants.{Json, S3}
 use Rattle.s3_text.specs.Characters.{crlf}
 use Rattle.s3_text.specs.Digits.{number_digits}
 use Rattle.s3_names.specs.Ids.{version_id_text}
 use Rattle.s3_names.specs.declared.ids.VersionId.{VersionId}
 use Rattle.s3_conditions.specs.declared.conditions.Selection.{Selection}
-use Rattle.s3_conditions.specs.declared.conditions.Selection.TheVariants.{Whole, Part, Unchanged}
+use Rattle.s3_conditions.specs.declared.conditions.Selection.TheVariants.{Whole, Part, Unchanged, Outside}
 use Rattle.s3_documents.specs.Document as documents
 use Rattle.s3_documents.specs.Spelling.{document_text}
 use Rattle.s3_machine.specs.declared.command.Answer.{Answer}
@@ -115,6 +117,20 @@ error_fields opening code is_delete_marker =
     let base = bare (status_of code) opening in
     record base { is_delete_marker = is_delete_marker; content_type = Some (content_type_in opening.dialect) }
 
+-- what is told of a range that has no byte of an object: in the dialect of S3 how many bytes the object has (RFC 9110,
+-- sections 14.4 and 15.5.17)
+abbrev pub range_told : Dialect → ℕ → Option (List ℕ)
+range_told Json size = None
+range_told S3 size = Some (codes "bytes */" ++ decimal size)
+
+-- GetObject and HeadObject of such a range: the refusal, and what is told of the range
+abbrev pub outside_fields : Opening → ℕ → Fields
+outside_fields opening size =
+    let base = error_fields opening InvalidRange false in record base { content_range = range_told opening.dialect size }
+
+abbrev pub outside_reply : Opening → ℕ → Reply
+outside_reply opening size = beside (outside_fields opening size) (error_document opening.dialect InvalidRange opening.number)
+
 -- the moment of the version that is shown, if one is
 abbrev pub shown_at : Outcome → Option ℕ
 shown_at (outcomes.Got found selection) = Some found.moment
@@ -132,6 +148,7 @@ abbrev pub reply_with : Opening → Option (List ℕ) → Found (List ℕ) → S
 reply_with opening modified found Whole = behind (got_fields opening found modified) found.stored.body
 reply_with opening modified found (Part first last) = behind (part_fields opening found modified first last) (part first last found.stored.body)
 reply_with opening modified found Unchanged = alone (unchanged_fields opening found modified)
+reply_with opening modified found Outside = outside_reply opening found.stored.size
 
 -- the reply to what came of a command; that moment is written as this date
 abbrev pub reply_to : Opening → Option (List ℕ) → Outcome → Reply
@@ -143,6 +160,7 @@ reply_to opening modified outcomes.VersioningSet = alone (bare statuses.Ok openi
 reply_to opening modified (outcomes.BucketVersioning versioning) = beside (document_fields opening) (document_text opening.dialect (documents.versioning versioning))
 reply_to opening modified (outcomes.Put tag shown) = alone (put_fields opening tag shown)
 reply_to opening modified (outcomes.Got found selection) = reply_with opening modified found selection
+reply_to opening modified (outcomes.OutOfRange size) = outside_reply opening size
 reply_to opening modified (outcomes.Copied tag moment shown) = beside (stored_fields opening shown) (document_text opening.dialect (documents.copied tag moment))
 reply_to opening modified (outcomes.PartPut tag) = alone (put_fields opening tag None)
 reply_to opening modified (outcomes.Completed document tag shown) = behind (stored_fields opening shown) (document_text opening.dialect document)

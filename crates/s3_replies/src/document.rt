@@ -1,11 +1,11 @@
 //! The documents of refusals, and those that tell of a bucket's versioning.
 
-ghost use Rattle.std.specs.Prelude.{◌≡◌, ◌+◌, ◌*◌, ◌≤◌, ◌++◌, length};
+ghost use Rattle.std.specs.Prelude.{◌≡◌, ◌+◌, ◌*◌, ◌≤◌, ℕ, ◌++◌, length};
 ghost use Rattle.arrayvec.specs.ArrayVec.{array_vec_len};
 ghost use Rattle.s3_documents.specs.Document as documents;
 ghost use Rattle.s3_documents.specs.Spelling.{document_text};
 ghost use Rattle.s3_terms.specs.Code.{name_of, message_of};
-ghost use Rattle.s3_replies.specs.Document.{content_type_in, error_document, error_element, error_object};
+ghost use Rattle.s3_replies.specs.Document.{content_type_in, error_document};
 
 use crate::room::Room;
 use arrayvec::ArrayVec;
@@ -47,7 +47,7 @@ pub(crate) fn document_of(code: Code, number: u64, dialect: Dialect) -> ArrayVec
 }
 
 fn object_of(code: Code) -> ArrayVec<u8, DOCUMENT_MAX>
-    ensures { result.items ≡ error_object code }
+    ensures { (number : ℕ) → result.items ≡ document_text Dialect.Json (documents.error code number) }
 {
     let mut object = ArrayVec::new();
     write_texts(&mut object, b"{\"Code\":\"", code, b"\",\"Message\":\"");
@@ -56,7 +56,7 @@ fn object_of(code: Code) -> ArrayVec<u8, DOCUMENT_MAX>
 }
 
 fn element_of(code: Code, number: u64) -> ArrayVec<u8, DOCUMENT_MAX>
-    ensures { result.items ≡ error_element code number }
+    ensures { result.items ≡ document_text Dialect.S3 (documents.error code number) }
 {
     let mut element = ArrayVec::new();
     write_texts(

@@ -6,6 +6,7 @@ mod body;
 mod context;
 mod date;
 mod document;
+mod errors;
 mod head;
 mod laws;
 mod lines;

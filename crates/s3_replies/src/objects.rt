@@ -10,6 +10,7 @@ ghost use Rattle.s3_replies.specs.Replies.{back, beside, front, reply_with, put_
 
 use crate::body::{part_of, place_of, sent, write_body};
 use crate::date::DateText;
+use crate::errors::outside_reply;
 use crate::head::{Head, Opening};
 use crate::room::Room;
 use crate::told::document_head;
@@ -126,6 +127,7 @@ pub(crate) fn got_reply<R: Room>(
             );
         }
         Selection::Unchanged => unchanged_reply(out, opening, found, modified),
+        Selection::Outside => outside_reply(out, opening, found.stored.size, head_only),
     }
 }
 
@@ -177,6 +179,6 @@ pub(crate) fn shown_body(head_only: bool, body: Body, selection: Selection) -> O
     match selection {
         Selection::Whole => sent(head_only, body),
         Selection::Part { first, last } => sent(head_only, part_of(body, first, last)),
-        Selection::Unchanged => None,
+        Selection::Unchanged | Selection::Outside => None,
     }
 }

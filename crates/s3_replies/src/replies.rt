@@ -2,14 +2,12 @@
 
 ghost use Rattle.std.specs.Prelude.{◌≡◌, ◌+◌, ◌≤◌, true, false, [], ◌++◌, length, List, ℕ, Option, unwrap_or};
 ghost use Rattle.s3_replies.specs.Date.{IsDateShown};
-ghost use Rattle.s3_replies.specs.Document.{error_document};
 ghost use Rattle.s3_replies.specs.Head.{bare, print_head};
-ghost use Rattle.s3_replies.specs.Replies.{Prints, PrintsRefusal, back, beside, front, has_body, reply_to, shown_at, made_fields, error_fields, internal_error, continue_line};
+ghost use Rattle.s3_replies.specs.Replies.{Prints, PrintsRefusal, back, front, has_body, reply_to, shown_at, made_fields, internal_error, continue_line};
 
 use crate::Context;
-use crate::body::write_body;
 use crate::date::DateText;
-use crate::document::{content_type_of, document_of};
+use crate::errors::{error_reply, outside_reply};
 use crate::head::{Head, Opening};
 use crate::objects::{copied_reply, deleted_reply, got_reply, put_reply, shown_body};
 use crate::room::Room;
@@ -46,32 +44,6 @@ fn made_reply<R: Room>(out: &mut R, opening: Opening, name: &BucketName)
     head.print(out);
 }
 
-/// Appends the whole reply that refuses with the code, and says whether what was asked for is a delete marker. It is
-/// 512 bytes long at most.
-fn error_reply<R: Room>(
-    out: &mut R,
-    opening: Opening,
-    code: Code,
-    is_delete_marker: bool,
-    head_only: bool,
-)
-    requires { R.size out.old + 4096 ≤ R.capacity out.old }
-    ensures written { R.written out.new ≡ R.written out.old
-        ++ front head_only (beside (error_fields opening code is_delete_marker) (error_document opening.dialect code opening.number)) }
-    ensures short { R.size out.new ≤ R.size out.old + 512 }
-    ensures capacity { R.capacity out.old ≤ R.capacity out.new }
-{
-    let document = document_of(code, opening.number, opening.dialect);
-    let head = Head {
-        is_delete_marker,
-        content_type: Some(content_type_of(opening.dialect)),
-        size: document.len() as u64,
-        ..Head::bare(code.status(), &opening)
-    };
-    head.print(out);
-    write_body(out, head_only, document.as_slice());
-}
-
 /// Appends the whole reply to what came of a command, where nothing stands behind it.
 fn whole_reply<R: Room>(out: &mut R, opening: Opening, outcome: Outcome, head_only: bool)
     requires room { R.size out.old + 4096 ≤ R.capacity out.old }
@@ -98,6 +70,7 @@ fn whole_reply<R: Room>(out: &mut R, opening: Opening, outcome: Outcome, head_on
             shown,
             is_delete_marker,
         } => deleted_reply(out, opening, shown, is_delete_marker),
+        Outcome::OutOfRange { size } => outside_reply(out, opening, size, head_only),
         Outcome::Refused {
             code,
             is_delete_marker,

@@ -4,13 +4,14 @@
 ghost use Rattle.std.specs.Prelude.{◌≡◌, ◌+◌, ◌≤◌, ◌++◌, length, codes, decimal};
 ghost use Rattle.arrayvec.specs.ArrayVec.{array_vec_len};
 ghost use Rattle.s3_replies.specs.Lines.{value_of, value_length};
-ghost use Rattle.s3_replies.specs.Replies.{content_range, shown_text};
+ghost use Rattle.s3_replies.specs.Replies.{content_range, range_told, shown_text};
 
 use crate::date::DateText;
 use crate::room::Room;
 use arrayvec::ArrayVec;
 use itoa::Buffer;
 use s3_names::{BucketName, IdText, VersionId};
+use s3_terms::Dialect;
 use std::marker::Model;
 
 /// A slash and the longest name of a bucket.
@@ -51,7 +52,7 @@ pub(crate) fn date_bytes(date: &Option<DateText>) -> Option<&[u8]>
 /// The longest text: `bytes `, three numbers of 64 bits, and what stands between them.
 const RANGE_MAX: usize = 68;
 
-/// The text that says which part of an object is sent. Contracts see its bytes.
+/// The text that says which part of an object is sent, or how many bytes it has. Contracts see its bytes.
 #[derive(Drop)]
 pub(crate) struct RangeText {
     text: ArrayVec<u8, RANGE_MAX>,
@@ -80,6 +81,16 @@ impl RangeText {
         RangeText { text }
     }
 
+    /// None of so many bytes.
+    fn none_of(size: u64) -> RangeText
+        ensures { result ≡ codes "bytes */" ++ decimal size }
+    {
+        let mut text: ArrayVec<u8, RANGE_MAX> = ArrayVec::new();
+        text.write(b"bytes */");
+        write_decimal(&mut text, size);
+        RangeText { text }
+    }
+
     /// Its bytes.
     pub(crate) fn as_bytes(&self) -> &[u8]
         ensures value { result.now ≡ self.now }
@@ -99,7 +110,17 @@ fn write_decimal(text: &mut ArrayVec<u8, RANGE_MAX>, number: u64)
     text.write(digits.format(number).as_bytes());
 }
 
-/// The bytes of the text that says which part is sent, if a part is.
+/// What is told of a range that has no byte of an object of this size.
+pub(crate) fn range_told(dialect: Dialect, size: u64) -> Option<RangeText>
+    ensures { result ≡ range_told dialect size }
+{
+    match dialect {
+        Dialect::Json => None,
+        Dialect::S3 => Some(RangeText::none_of(size)),
+    }
+}
+
+/// The bytes of that text, if there is one.
 pub(crate) fn range_bytes(range: &Option<RangeText>) -> Option<&[u8]>
     ensures value { value_of result ≡ range.now }
     ensures bound { value_length (value_of result) ≤ 68 }

@@ -1,3 +1,4 @@
+pub mod CommandLemmas
 pub mod CopySourceLemmas
 pub mod DescriptionLemmas
 pub mod RoutingLemmas

@@ -1,51 +1,26 @@
--- A plan with its body is a command, and a target with its names a plan.
-use Rattle.std.proofs.Common.{◌≡◌, refl, ℕ, true, false, List, length, ◌==◌, Ok}
+-- A target with its names is a plan.
+use Rattle.std.proofs.Common.{◌≡◌, refl, sym, ap, ◌∙◌, ℕ, true, false, List, length, ◌==◌, Ok}
+use Rattle.s3_config.specs.Settings.{Settings}
+use Rattle.s3_terms.specs.declared.dialect.Dialect.{Dialect}
 use Rattle.s3_http_heads.specs.Head.{HeadParts}
 use Rattle.s3_http_heads.specs.Target.{TargetParts}
 use Rattle.s3_names.specs.Names.{object_key}
-use Rattle.s3_names.specs.declared.ids.UploadId.{UploadId}
-use Rattle.s3_machine.specs.declared.command.BucketCommand.{BucketCommand}
-use Rattle.s3_machine.specs.declared.command.KeyCommand.{KeyCommand}
-use Rattle.s3_machine.specs.declared.command.UploadCommand.{UploadCommand}
-use Rattle.s3_machine.specs.declared.command.Command.TheVariants as commands
-use Rattle.s3_requests.specs.declared.routing.Plan.{Plan}
 use Rattle.s3_requests.specs.declared.routing.Plan.TheVariants as plans
 use Rattle.s3_requests.specs.declared.routing.BucketPlan.{BucketPlan}
-use Rattle.s3_requests.specs.declared.routing.UploadPlan.{UploadPlan}
 use Rattle.s3_requests.specs.declared.routing.KeyAsked.{KeyAsked}
-use Rattle.s3_requests.specs.Routing.{KeyPlan, bucket_command_of, key_command_of, upload_command_of, command_of, bucket_named, bucket_plan, key_plan, plan_under, named_plan}
-
--- of the service
-pub buckets_done : (plan : Plan) (body : List ℕ) → plan ≡ plans.ListBuckets → command_of plan body ≡ Ok commands.ListBuckets
-unfolding command_of
-buckets_done plan body is = rw is refl
-
--- of a bucket
-pub bucket_done : (plan : Plan) (name : List ℕ) (asked : BucketPlan) (body : List ℕ) (command : BucketCommand) → plan ≡ plans.Bucket name asked
-    → bucket_command_of asked body ≡ Ok command → command_of plan body ≡ Ok (commands.Bucket name command)
-unfolding command_of
-bucket_done plan name asked body command is done = rw (is, done) refl
-
--- of a key
-pub key_done : (plan : Plan) (bucket key : List ℕ) (asked : KeyPlan) (body : List ℕ) (command : KeyCommand (List ℕ)) → plan ≡ plans.Key bucket key asked
-    → command ≡ key_command_of asked body → command_of plan body ≡ Ok (commands.Key bucket key command)
-unfolding command_of
-key_done plan bucket key asked body command is done = rw (is, done) refl
-
--- of an upload
-pub upload_done : (plan : Plan) (bucket key : List ℕ) (id : UploadId) (asked : UploadPlan) (body : List ℕ) (command : UploadCommand) → plan ≡ plans.Upload bucket key id asked
-    → upload_command_of asked body ≡ Ok command → command_of plan body ≡ Ok (commands.Upload bucket key id command)
-unfolding command_of
-upload_done plan bucket key id asked body command is done = rw (is, done) refl
+use Rattle.s3_requests.specs.Routing.{bucket_named, bucket_plan, key_plan, plan_under, named_plan}
 
 -- a target without a key means its bucket
-pub bucket_meant : (head : HeadParts) (target : TargetParts) (name : List ℕ) (asked : BucketPlan) → bucket_named target ≡ Ok name → (length target.key == 0) ≡ true
-    → bucket_plan head target ≡ Ok asked → named_plan head target ≡ Ok (plans.Bucket name asked)
+pub bucket_meant : (settings : Settings) (head : HeadParts) (target : TargetParts) (name : List ℕ) (asked : BucketPlan) → bucket_named target ≡ Ok name → (length target.key == 0) ≡ true
+    → bucket_plan settings head target ≡ Ok asked → named_plan settings head target ≡ Ok (plans.Bucket name asked)
 unfolding named_plan
-bucket_meant head target name asked named empty is = rw (named, empty, is) refl
+bucket_meant settings head target name asked named empty is = rw (named, empty, is) refl
 
--- another means its key
-pub key_meant : (head : HeadParts) (target : TargetParts) (name key : List ℕ) (asked : KeyAsked) → bucket_named target ≡ Ok name → (length target.key == 0) ≡ false
-    → object_key target.key ≡ Ok key → key_plan head target ≡ Ok asked → named_plan head target ≡ Ok (plan_under name key asked)
+-- another means its key, in the dialect of the settings
+pub key_meant : (settings : Settings) (head : HeadParts) (target : TargetParts) (dialect : Dialect) (name key : List ℕ) (asked : KeyAsked)
+    → dialect ≡ settings.dialect → bucket_named target ≡ Ok name → (length target.key == 0) ≡ false
+    → object_key target.key ≡ Ok key → key_plan dialect head target ≡ Ok asked → named_plan settings head target ≡ Ok (plan_under name key asked)
 unfolding named_plan
-key_meant head target name key asked named some keyed is = rw (named, some, keyed, is) refl
+key_meant settings head target dialect name key asked same named some keyed is =
+    let planned : key_plan settings.dialect head target ≡ Ok asked = ap (λ (d : Dialect). key_plan d head target) (sym same) ∙ is in
+    rw (named, some, keyed, planned) refl

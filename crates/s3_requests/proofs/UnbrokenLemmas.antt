@@ -13,6 +13,8 @@ use Rattle.s3_text.specs.Sorting.{insert_by, sorted_by}
 use Rattle.s3_terms.specs.Fault.{refuse, ◌>>◌, ◌>>=◌}
 use Rattle.s3_terms.specs.declared.code.Code.{Code}
 use Rattle.s3_terms.specs.declared.code.Code.TheVariants.{MethodNotAllowed}
+use Rattle.s3_terms.specs.declared.dialect.Dialect.{Dialect}
+use Rattle.s3_config.specs.Settings.{Settings}
 use Rattle.s3_http_heads.specs.Method.{method_of}
 use Rattle.s3_http_heads.specs.Head.{HeadParts, LinesAreWhole, is_named, is_unbroken, is_whole_line, values_of}
 use Rattle.s3_http_heads.specs.Target.{TargetParts}
@@ -274,29 +276,29 @@ module _ (head : HeadParts) (lines : list_all is_whole_line head.headers ≡ tru
   planned_unbroken operations.CreateMultipartUpload target asked is = described key_commands.Begin asked (λ said unbroken. unbroken) is
   planned_unbroken _ target asked is = absurd (cc)
 
-  asked_unbroken_for : (operation : Operation) (target : TargetParts) (asked : KeyAsked) → asked_for operation head target ≡ Ok asked → IsUnbrokenUnder asked
+  asked_unbroken_for : (dialect : Dialect) (operation : Operation) (target : TargetParts) (asked : KeyAsked) → asked_for dialect operation head target ≡ Ok asked → IsUnbrokenUnder asked
   unfolding parts_plan complete_plan
-  asked_unbroken_for operations.UploadPart target asked is =
+  asked_unbroken_for dialect operations.UploadPart target asked is =
       of_upload (part_argument target) (λ (part : ℕ × ℕ). key_asked.Upload part.0 (upload_plans.PutPart part.1)) asked (λ part. tt) is
-  asked_unbroken_for operations.ListParts target asked is =
+  asked_unbroken_for dialect operations.ListParts target asked is =
       let one = bound (parts_asked_of target) (λ (listed : PartsAsked). upload_plan (upload_plans.ListParts listed) target) asked is in
       of_upload (upload_argument target) (λ (id : ℕ). key_asked.Upload id (upload_plans.ListParts one.0)) asked (λ id. tt) one.2
-  asked_unbroken_for operations.CompleteMultipartUpload target asked is =
+  asked_unbroken_for dialect operations.CompleteMultipartUpload target asked is =
       let one = bound (upload_argument target)
-      (λ (id : ℕ). absence_of head >>= (λ (if_absent : Bool). Ok (key_asked.Upload id (upload_plans.Complete if_absent)))) asked is in
-      of_upload (absence_of head) (λ (if_absent : Bool). key_asked.Upload one.0 (upload_plans.Complete if_absent)) asked (λ if_absent. tt) one.2
-  asked_unbroken_for operations.AbortMultipartUpload target asked is =
+      (λ (id : ℕ). absence_of head >>= (λ (if_absent : Bool). Ok (key_asked.Upload id (upload_plans.Complete dialect if_absent)))) asked is in
+      of_upload (absence_of head) (λ (if_absent : Bool). key_asked.Upload one.0 (upload_plans.Complete dialect if_absent)) asked (λ if_absent. tt) one.2
+  asked_unbroken_for dialect operations.AbortMultipartUpload target asked is =
       of_upload (upload_argument target) (λ (id : ℕ). key_asked.Upload id upload_plans.Abort) asked (λ id. tt) is
-  asked_unbroken_for operation target asked is =
+  asked_unbroken_for dialect operation target asked is =
       let one = bound (key_plan_for operation head target) (λ (a : KeyPlan). Ok (key_asked.Key a)) asked is in
       let same : key_asked.Key one.0 ≡ asked = cc in
       subst IsUnbrokenUnder same (planned_unbroken operation target one.0 one.1)
 
-  asked_unbroken : (target : TargetParts) (asked : KeyAsked) → key_plan head target ≡ Ok asked → IsUnbrokenUnder asked
+  asked_unbroken : (dialect : Dialect) (target : TargetParts) (asked : KeyAsked) → key_plan dialect head target ≡ Ok asked → IsUnbrokenUnder asked
   unfolding key_plan
-  asked_unbroken target asked is =
-      let one = bound (ok_or (key_operation (method_of head.method) head target) MethodNotAllowed) (λ (operation : Operation). asked_for operation head target) asked is in
-      asked_unbroken_for one.0 target asked one.2
+  asked_unbroken dialect target asked is =
+      let one = bound (ok_or (key_operation (method_of head.method) head target) MethodNotAllowed) (λ (operation : Operation). asked_for dialect operation head target) asked is in
+      asked_unbroken_for dialect one.0 target asked one.2
 
   service_unbroken : (plan : Plan) → service_plan head ≡ Ok plan → IsUnbrokenPlan plan
   unfolding service_plan
@@ -304,31 +306,31 @@ module _ (head : HeadParts) (lines : list_all is_whole_line head.headers ≡ tru
       let one = bound (ok_or (service_operation (method_of head.method)) MethodNotAllowed) service_plan_for plan is in
       service_planned one.0 plan one.2
 
-  bucket_unbroken : (name : List ℕ) (target : TargetParts) (plan : Plan) → plan_of_bucket name head target ≡ Ok plan → IsUnbrokenPlan plan
-  bucket_unbroken name target plan is =
-      let one = bound (bucket_plan head target) (λ (asked : BucketPlan). Ok (plans.Bucket name asked)) plan is in
+  bucket_unbroken : (settings : Settings) (name : List ℕ) (target : TargetParts) (plan : Plan) → plan_of_bucket settings name head target ≡ Ok plan → IsUnbrokenPlan plan
+  bucket_unbroken settings name target plan is =
+      let one = bound (bucket_plan settings head target) (λ (asked : BucketPlan). Ok (plans.Bucket name asked)) plan is in
       let same : plans.Bucket name one.0 ≡ plan = cc in
       subst IsUnbrokenPlan same tt
 
-  key_unbroken : (name : List ℕ) (target : TargetParts) (plan : Plan) → plan_of_key name head target ≡ Ok plan → IsUnbrokenPlan plan
-  key_unbroken name target plan is =
-      let key = bound (object_key target.key) (λ (k : List ℕ). key_plan head target >>= (λ (a : KeyAsked). Ok (plan_under name k a))) plan is in
-      let asked = bound (key_plan head target) (λ (a : KeyAsked). Ok (plan_under name key.0 a)) plan key.2 in
+  key_unbroken : (dialect : Dialect) (name : List ℕ) (target : TargetParts) (plan : Plan) → plan_of_key dialect name head target ≡ Ok plan → IsUnbrokenPlan plan
+  key_unbroken dialect name target plan is =
+      let key = bound (object_key target.key) (λ (k : List ℕ). key_plan dialect head target >>= (λ (a : KeyAsked). Ok (plan_under name k a))) plan is in
+      let asked = bound (key_plan dialect head target) (λ (a : KeyAsked). Ok (plan_under name key.0 a)) plan key.2 in
       let same : plan_under name key.0 asked.0 ≡ plan = cc in
-      subst IsUnbrokenPlan same (under name key.0 asked.0 (asked_unbroken target asked.0 asked.1))
+      subst IsUnbrokenPlan same (under name key.0 asked.0 (asked_unbroken dialect target asked.0 asked.1))
 
-  named_unbroken : (target : TargetParts) (plan : Plan) → named_plan head target ≡ Ok plan → IsUnbrokenPlan plan
+  named_unbroken : (settings : Settings) (target : TargetParts) (plan : Plan) → named_plan settings head target ≡ Ok plan → IsUnbrokenPlan plan
   unfolding named_plan
-  named_unbroken target plan is =
-      let name = bound (bucket_named target) (λ (name : List ℕ). if length target.key == 0 then plan_of_bucket name head target else plan_of_key name head target) plan is in
-      either (length target.key == 0) (plan_of_bucket name.0 head target) (plan_of_key name.0 head target) plan name.2
-      (bucket_unbroken name.0 target plan) (key_unbroken name.0 target plan)
+  named_unbroken settings target plan is =
+      let name = bound (bucket_named target) (λ (name : List ℕ). if length target.key == 0 then plan_of_bucket settings name head target else plan_of_key settings.dialect name head target) plan is in
+      either (length target.key == 0) (plan_of_bucket settings name.0 head target) (plan_of_key settings.dialect name.0 head target) plan name.2
+      (bucket_unbroken settings name.0 target plan) (key_unbroken settings.dialect name.0 target plan)
 
-  route_unbroken : (plan : Plan) → route_of head ≡ Ok plan → IsUnbrokenPlan plan
+  route_unbroken : (settings : Settings) (plan : Plan) → route_of settings head ≡ Ok plan → IsUnbrokenPlan plan
   unfolding route_of
-  route_unbroken plan is =
-      let target = bound (address_at head) (λ (t : TargetParts). if is_service t then service_plan head else named_plan head t) plan is in
-      either (is_service target.0) (service_plan head) (named_plan head target.0) plan target.2 (service_unbroken plan) (named_unbroken target.0 plan)
+  route_unbroken settings plan is =
+      let target = bound (address_at head) (λ (t : TargetParts). if is_service t then service_plan head else named_plan settings head t) plan is in
+      either (is_service target.0) (service_plan head) (named_plan settings head target.0) plan target.2 (service_unbroken plan) (named_unbroken settings target.0 plan)
 
 pub plans_are_unbroken : LinesAreWhole → PlansAreUnbroken
-plans_are_unbroken whole text head plan says is = route_unbroken head (whole text head says) plan is
+plans_are_unbroken whole settings text head plan says is = route_unbroken head (whole text head says) settings plan is

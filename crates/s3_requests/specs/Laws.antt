@@ -3,6 +3,7 @@
 use Rattle.std.specs.Prelude.{◌≡◌, ℕ, Bool, true, ◌&&◌, List, Some, Ok, IsUtf8}
 use Rattle.std.specs.List.{list_all}
 use Rattle.hex.specs.Hex.{encode_lower}
+use Rattle.s3_config.specs.Settings.{Settings}
 use Rattle.s3_http_heads.specs.Head.{HeadParts, Says, is_unbroken}
 use Rattle.s3_versions.specs.Metadata.{Entry}
 use Rattle.s3_requests.specs.declared.routing.Plan.{Plan}
@@ -32,7 +33,7 @@ IsUnbrokenPlan other = Unit {0}
 -- what a head asks for has none there
 abbrev pub PlansAreUnbroken : Type 0
 PlansAreUnbroken =
-    (text : List ℕ) (head : HeadParts) (plan : Plan) → Says text head → route_of head ≡ Ok plan → IsUnbrokenPlan plan
+    (settings : Settings) (text : List ℕ) (head : HeadParts) (plan : Plan) → Says text head → route_of settings head ≡ Ok plan → IsUnbrokenPlan plan
 
 -- the digits of a text, as a list tells them, name the text again
 abbrev pub TokensAreReadBack : Type 0

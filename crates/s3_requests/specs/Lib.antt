@@ -1,4 +1,5 @@
 pub mod Arguments
+pub mod Commands
 pub mod CopySource
 pub mod Description
 pub mod Laws
@@ -18,5 +19,6 @@ pub use Rattle.s3_names.specs.Ids
 pub use Rattle.s3_names.specs.Names
 pub use Rattle.s3_versions.specs.ContentType
 pub use Rattle.s3_versions.specs.Metadata
-pub use Rattle.s3_documents.specs.Completion
-pub use Rattle.s3_documents.specs.Versioning
+pub use Rattle.s3_request_documents.specs.Completion
+pub use Rattle.s3_request_documents.specs.Location
+pub use Rattle.s3_request_documents.specs.Versioning

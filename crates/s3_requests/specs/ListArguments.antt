@@ -1,15 +1,18 @@
 -- The arguments of lists: of ListObjectsV2, ListObjectVersions, ListMultipartUploads and ListParts (Amazon S3 API Reference,
 -- "URI Request Parameters" of each): of a parameter the first occurrence counts, and one that is there with an empty value is
 -- there.
-use Rattle.std.specs.Prelude.{ℕ, Bool, not, ◌&&◌, ◌==◌, min, List, [], length, codes, Option, Some, None, option_map, ok_or, Result, Ok}
+use Rattle.std.specs.Prelude.{ℕ, Bool, true, false, not, ◌&&◌, ◌==◌, min, List, [], length, codes, Option, Some, None, option_map, ok_or, Result, Ok}
 use Rattle.std.specs.List.{list_all}
 use Rattle.std.specs.Option.{unwrap_or}
+use Rattle.std.specs.Str.{bytes_eq}
 use Rattle.hex.specs.Hex.{decode_of}
 use Rattle.s3_text.specs.Characters.{is_lower_hex}
 use Rattle.s3_text.specs.Digits.{decimal_number}
 use Rattle.s3_terms.specs.Fault.{refuse, ◌>>◌, ◌>>=◌}
 use Rattle.s3_terms.specs.declared.code.Code.{Code}
 use Rattle.s3_terms.specs.declared.code.Code.TheVariants.{InvalidArgument, NotImplemented}
+use Rattle.s3_terms.specs.declared.dialect.Dialect.{Dialect}
+use Rattle.s3_terms.specs.declared.dialect.Dialect.TheVariants.{Json, S3}
 use Rattle.s3_names.specs.Ids.{upload_id}
 use Rattle.s3_names.specs.declared.ids.VersionId.{VersionId}
 use Rattle.s3_http_heads.specs.Target.{TargetParts, first_parameter, has_parameter}
@@ -87,42 +90,69 @@ upload_marker key target = do
   refuse (lacks_key (codes "upload-id-marker") key target) InvalidArgument
   upload_marked (first_parameter (codes "upload-id-marker") target)
 
+-- keys are to be told UriEncoded, where an encoding is named; there is no other one
+abbrev pub encoding_named : Option (List ℕ) → Result Bool Code
+encoding_named None = Ok false
+encoding_named (Some name) = do
+  refuse (not (bytes_eq name (codes "url"))) InvalidArgument
+  Ok true
+
+-- the same of a request: JSON has all keys as they are
+abbrev pub encoding_asked : Dialect → TargetParts → Result Bool Code
+encoding_asked Json target = Ok false
+encoding_asked S3 target = encoding_named (first_parameter (codes "encoding-type") target)
+
+-- the owners of objects are to be told; JSON has none
+abbrev pub owner_asked : Dialect → TargetParts → Bool
+owner_asked Json target = false
+owner_asked S3 target = bytes_eq (value_of (codes "fetch-owner") target) (codes "true")
+
 -- what is asked of a list of objects
-unfoldable pub objects_asked_of : TargetParts → Result ObjectsAsked Code
-objects_asked_of target = do
+unfoldable pub objects_asked_of : Dialect → TargetParts → Result ObjectsAsked Code
+objects_asked_of dialect target = do
   max_keys ← count_named (first_parameter (codes "max-keys") target)
   prefix ← text_argument (codes "prefix") target
   delimiter ← text_argument (codes "delimiter") target
   start_after ← text_named (first_parameter (codes "start-after") target)
   token ← token_named (first_parameter (codes "continuation-token") target)
-  Ok (record { prefix = prefix; delimiter = delimiter; start_after = start_after; token = token; max_keys = max_keys })
+  is_url_encoded ← encoding_asked dialect target
+  Ok (record {
+    prefix = prefix;
+    delimiter = delimiter;
+    start_after = start_after;
+    token = token;
+    max_keys = max_keys;
+    is_url_encoded = is_url_encoded;
+    tells_owner = owner_asked dialect target;
+  })
 
 -- common prefixes are asked for; an empty delimiter counts as absent
 abbrev pub has_delimiter : TargetParts → Bool
 has_delimiter target = not (length (value_of (codes "delimiter") target) == 0)
 
 -- what is asked of a list of versions or of uploads, none of which has common prefixes, but for the id behind which it goes on
-unfoldable pub keys_asked_of : List ℕ → TargetParts → Result KeysAsked Code
-keys_asked_of count target = do
+unfoldable pub keys_asked_of : Dialect → List ℕ → TargetParts → Result KeysAsked Code
+keys_asked_of dialect count target = do
   refuse (has_delimiter target) NotImplemented
   most ← count_named (first_parameter count target)
   prefix ← text_argument (codes "prefix") target
   key_marker ← text_argument (codes "key-marker") target
-  Ok (record { prefix = prefix; key_marker = key_marker; most = most })
+  is_url_encoded ← encoding_asked dialect target
+  Ok (record { prefix = prefix; key_marker = key_marker; most = most; is_url_encoded = is_url_encoded })
 
 -- what is asked of a list of versions
-unfoldable pub versions_asked_of : TargetParts → Result VersionsAsked Code
-versions_asked_of target = do
-  keys ← keys_asked_of (codes "max-keys") target
+unfoldable pub versions_asked_of : Dialect → TargetParts → Result VersionsAsked Code
+versions_asked_of dialect target = do
+  keys ← keys_asked_of dialect (codes "max-keys") target
   id_marker ← version_marker keys.key_marker target
-  Ok (record { prefix = keys.prefix; key_marker = keys.key_marker; id_marker = id_marker; max_keys = keys.most })
+  Ok (record { prefix = keys.prefix; key_marker = keys.key_marker; id_marker = id_marker; max_keys = keys.most; is_url_encoded = keys.is_url_encoded })
 
 -- what is asked of a list of uploads
-unfoldable pub uploads_asked_of : TargetParts → Result UploadsAsked Code
-uploads_asked_of target = do
-  keys ← keys_asked_of (codes "max-uploads") target
+unfoldable pub uploads_asked_of : Dialect → TargetParts → Result UploadsAsked Code
+uploads_asked_of dialect target = do
+  keys ← keys_asked_of dialect (codes "max-uploads") target
   id_marker ← upload_marker keys.key_marker target
-  Ok (record { prefix = keys.prefix; key_marker = keys.key_marker; id_marker = id_marker; max_uploads = keys.most })
+  Ok (record { prefix = keys.prefix; key_marker = keys.key_marker; id_marker = id_marker; max_uploads = keys.most; is_url_encoded = keys.is_url_encoded })
 
 -- what is asked of a list of parts: those behind a number, or all
 unfoldable pub parts_asked_of : TargetParts → Result PartsAsked Code

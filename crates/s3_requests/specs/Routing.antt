@@ -1,6 +1,6 @@
 -- What a head asks for, and of which bucket and which key (addresses are path-style: Amazon S3 User Guide,
 -- "Path-style requests"), and the faults of routing in their order.
-use Rattle.std.specs.Prelude.{ℕ, Bool, true, false, ◌==◌, if◌then◌else◌, List, length, codes, ok_or, Result, Ok, Err}
+use Rattle.std.specs.Prelude.{ℕ, Bool, ◌==◌, if◌then◌else◌, List, length, codes, Option, Some, None, ok_or, Result, Ok, Err}
 use Rattle.std.specs.List.{list_any}
 use Rattle.std.specs.Str.{bytes_eq}
 use Rattle.s3_text.specs.Characters.{space}
@@ -9,6 +9,9 @@ use Rattle.s3_names.specs.Names.{bucket_name, object_key}
 use Rattle.s3_terms.specs.Fault.{refuse, ◌>>◌, ◌>>=◌}
 use Rattle.s3_terms.specs.declared.code.Code.{Code}
 use Rattle.s3_terms.specs.declared.code.Code.TheVariants.{NotImplemented, MethodNotAllowed}
+use Rattle.s3_terms.specs.declared.dialect.Dialect.{Dialect}
+use Rattle.s3_terms.specs.declared.dialect.Dialect.TheVariants.{Json, S3}
+use Rattle.s3_config.specs.Settings.{Settings}
 use Rattle.s3_http_heads.specs.Method.{method_of}
 use Rattle.s3_http_heads.specs.Head.{HeadParts}
 use Rattle.s3_http_heads.specs.Target.{TargetParts, target_of, has_parameter}
@@ -22,18 +25,9 @@ use Rattle.s3_requests.specs.declared.routing.UploadPlan.{UploadPlan}
 use Rattle.s3_requests.specs.declared.routing.UploadPlan.TheVariants as upload_plans
 use Rattle.s3_requests.specs.declared.routing.KeyAsked.{KeyAsked}
 use Rattle.s3_requests.specs.declared.routing.KeyAsked.TheVariants as key_asked
-use Rattle.s3_machine.specs.declared.command.Command.{Command}
-use Rattle.s3_machine.specs.declared.command.Command.TheVariants as commands
-use Rattle.s3_machine.specs.declared.command.BucketCommand.{BucketCommand}
-use Rattle.s3_machine.specs.declared.command.BucketCommand.TheVariants as bucket_commands
 use Rattle.s3_machine.specs.declared.command.KeyCommand.{KeyCommand}
 use Rattle.s3_machine.specs.declared.command.KeyCommand.TheVariants as key_commands
-use Rattle.s3_machine.specs.declared.command.ObjectPut.{ObjectPut}
 use Rattle.s3_machine.specs.declared.command.UploadBegin.{UploadBegin}
-use Rattle.s3_machine.specs.declared.command.UploadCommand.{UploadCommand}
-use Rattle.s3_machine.specs.declared.command.UploadCommand.TheVariants as upload_commands
-use Rattle.s3_documents.specs.Completion.{completion_read}
-use Rattle.s3_documents.specs.Versioning.{versioning_read}
 use Rattle.s3_requests.specs.Arguments.{version_argument}
 use Rattle.s3_requests.specs.ListArguments.{objects_asked_of, versions_asked_of, uploads_asked_of, parts_asked_of}
 use Rattle.s3_requests.specs.UploadArguments.{upload_argument, part_argument}
@@ -79,40 +73,45 @@ abbrev pub bucket_named : TargetParts → Result (List ℕ) Code
 bucket_named target = bucket_name target.bucket
 
 -- ListObjectsV2, with what is asked of the list
-abbrev pub objects_plan : TargetParts → Result BucketPlan Code
-objects_plan target = do
-  asked ← objects_asked_of target
+abbrev pub objects_plan : Dialect → TargetParts → Result BucketPlan Code
+objects_plan dialect target = do
+  asked ← objects_asked_of dialect target
   Ok (bucket_plans.ListObjects asked)
 
 -- ListObjectVersions, with what is asked of the list
-abbrev pub versions_plan : TargetParts → Result BucketPlan Code
-versions_plan target = do
-  asked ← versions_asked_of target
+abbrev pub versions_plan : Dialect → TargetParts → Result BucketPlan Code
+versions_plan dialect target = do
+  asked ← versions_asked_of dialect target
   Ok (bucket_plans.ListVersions asked)
 
 -- ListMultipartUploads, with what is asked of the list
-abbrev pub uploads_plan : TargetParts → Result BucketPlan Code
-uploads_plan target = do
-  asked ← uploads_asked_of target
+abbrev pub uploads_plan : Dialect → TargetParts → Result BucketPlan Code
+uploads_plan dialect target = do
+  asked ← uploads_asked_of dialect target
   Ok (bucket_plans.ListUploads asked)
 
+-- the region that the body of a CreateBucket may name; where documents are JSON its body isn't read
+abbrev pub region_in : Dialect → List ℕ → Option (List ℕ)
+region_in Json region = None
+region_in S3 region = Some region
+
 -- an operation on a bucket with its arguments, if this server has it
-abbrev pub bucket_plan_for : Operation → TargetParts → Result BucketPlan Code
-bucket_plan_for operations.CreateBucket target = Ok bucket_plans.Create
-bucket_plan_for operations.HeadBucket target = Ok bucket_plans.Head
-bucket_plan_for operations.DeleteBucket target = Ok bucket_plans.Delete
-bucket_plan_for operations.PutBucketVersioning target = Ok bucket_plans.PutVersioning
-bucket_plan_for operations.GetBucketVersioning target = Ok bucket_plans.GetVersioning
-bucket_plan_for operations.ListObjectsV2 target = objects_plan target
-bucket_plan_for operations.ListObjectVersions target = versions_plan target
-bucket_plan_for operations.ListMultipartUploads target = uploads_plan target
-bucket_plan_for other target = Err NotImplemented
+abbrev pub bucket_plan_for : Settings → Operation → TargetParts → Result BucketPlan Code
+bucket_plan_for settings operations.CreateBucket target = Ok (bucket_plans.Create (region_in settings.dialect settings.region))
+bucket_plan_for settings operations.HeadBucket target = Ok bucket_plans.Head
+bucket_plan_for settings operations.DeleteBucket target = Ok bucket_plans.Delete
+bucket_plan_for settings operations.PutBucketVersioning target = Ok (bucket_plans.PutVersioning settings.dialect)
+bucket_plan_for settings operations.GetBucketVersioning target = Ok bucket_plans.GetVersioning
+bucket_plan_for settings operations.ListObjectsV2 target = objects_plan settings.dialect target
+bucket_plan_for settings operations.ListObjectVersions target = versions_plan settings.dialect target
+bucket_plan_for settings operations.ListMultipartUploads target = uploads_plan settings.dialect target
+bucket_plan_for settings other target = Err NotImplemented
 
 -- what is asked of a bucket
-unfoldable pub bucket_plan : HeadParts → TargetParts → Result BucketPlan Code
-bucket_plan head target = do
+unfoldable pub bucket_plan : Settings → HeadParts → TargetParts → Result BucketPlan Code
+bucket_plan settings head target = do
   operation ← ok_or (bucket_operation (method_of head.method) target) MethodNotAllowed
-  bucket_plan_for operation target
+  bucket_plan_for settings operation target
 
 -- what is asked of a key before the body is read
 abbrev pub KeyPlan : Type 0
@@ -165,12 +164,12 @@ key_plan_for operations.DeleteObject head target = delete_plan target
 key_plan_for operations.CreateMultipartUpload head target = begin_plan head
 key_plan_for other head target = Err NotImplemented
 
--- CompleteMultipartUpload, with its upload and its condition
-unfoldable pub complete_plan : HeadParts → TargetParts → Result KeyAsked Code
-complete_plan head target = do
+-- CompleteMultipartUpload, with its upload, its condition, and the dialect of the document that it brings
+unfoldable pub complete_plan : Dialect → HeadParts → TargetParts → Result KeyAsked Code
+complete_plan dialect head target = do
   id ← upload_argument target
   if_absent ← absence_of head
-  Ok (key_asked.Upload id (upload_plans.Complete if_absent))
+  Ok (key_asked.Upload id (upload_plans.Complete dialect if_absent))
 
 -- AbortMultipartUpload and ListParts, with their upload
 abbrev pub upload_plan : UploadPlan → TargetParts → Result KeyAsked Code
@@ -197,23 +196,23 @@ of_key plan = do
   Ok (key_asked.Key asked)
 
 -- an operation on a key, or on an upload to it, with its arguments, if this server has it
-abbrev pub asked_for : Operation → HeadParts → TargetParts → Result KeyAsked Code
-asked_for operations.UploadPart head target = part_plan target
-asked_for operations.ListParts head target = parts_plan target
-asked_for operations.CompleteMultipartUpload head target = complete_plan head target
-asked_for operations.AbortMultipartUpload head target = upload_plan upload_plans.Abort target
-asked_for other head target = of_key (key_plan_for other head target)
+abbrev pub asked_for : Dialect → Operation → HeadParts → TargetParts → Result KeyAsked Code
+asked_for dialect operations.UploadPart head target = part_plan target
+asked_for dialect operations.ListParts head target = parts_plan target
+asked_for dialect operations.CompleteMultipartUpload head target = complete_plan dialect head target
+asked_for dialect operations.AbortMultipartUpload head target = upload_plan upload_plans.Abort target
+asked_for dialect other head target = of_key (key_plan_for other head target)
 
 -- what is asked of a key, or of an upload to it
-unfoldable pub key_plan : HeadParts → TargetParts → Result KeyAsked Code
-key_plan head target = do
+unfoldable pub key_plan : Dialect → HeadParts → TargetParts → Result KeyAsked Code
+key_plan dialect head target = do
   operation ← ok_or (key_operation (method_of head.method) head target) MethodNotAllowed
-  asked_for operation head target
+  asked_for dialect operation head target
 
 -- what is asked of the bucket of this name
-abbrev pub plan_of_bucket : List ℕ → HeadParts → TargetParts → Result Plan Code
-plan_of_bucket name head target = do
-  asked ← bucket_plan head target
+abbrev pub plan_of_bucket : Settings → List ℕ → HeadParts → TargetParts → Result Plan Code
+plan_of_bucket settings name head target = do
+  asked ← bucket_plan settings head target
   Ok (plans.Bucket name asked)
 
 -- the plan of what is asked of this key
@@ -222,96 +221,26 @@ plan_under bucket key (key_asked.Key asked) = plans.Key bucket key asked
 plan_under bucket key (key_asked.Upload id asked) = plans.Upload bucket key id asked
 
 -- what is asked of a key in the bucket of this name
-abbrev pub plan_of_key : List ℕ → HeadParts → TargetParts → Result Plan Code
-plan_of_key name head target = do
+abbrev pub plan_of_key : Dialect → List ℕ → HeadParts → TargetParts → Result Plan Code
+plan_of_key dialect name head target = do
   key ← object_key target.key
-  asked ← key_plan head target
+  asked ← key_plan dialect head target
   Ok (plan_under name key asked)
 
 -- what is asked of a bucket, or of a key in it; where the key is empty, the bucket is meant
-unfoldable pub named_plan : HeadParts → TargetParts → Result Plan Code
-named_plan head target = do
+unfoldable pub named_plan : Settings → HeadParts → TargetParts → Result Plan Code
+named_plan settings head target = do
   name ← bucket_named target
-  if length target.key == 0 then plan_of_bucket name head target else plan_of_key name head target
+  if length target.key == 0 then plan_of_bucket settings name head target else plan_of_key settings.dialect name head target
 
 -- what the head asks for
-unfoldable pub route_of : HeadParts → Result Plan Code
-route_of head = do
+unfoldable pub route_of : Settings → HeadParts → Result Plan Code
+route_of settings head = do
   target ← address_at head
-  if is_service target then service_plan head else named_plan head target
+  if is_service target then service_plan head else named_plan settings head target
 
 -- the name of the bucket that a head addresses; the service has none
 unfoldable pub bucket_at : HeadParts → Result (List ℕ) Code
 bucket_at head = do
   target ← address_at head
   bucket_named target
-
--- PutBucketVersioning, with the status that the body names
-abbrev pub versioning_command_of : List ℕ → Result BucketCommand Code
-versioning_command_of body = do
-  status ← versioning_read body
-  Ok (bucket_commands.PutVersioning status)
-
--- what is asked of a bucket, with the body that came; a body that an operation has no use for is left out
-abbrev pub bucket_command_of : BucketPlan → List ℕ → Result BucketCommand Code
-bucket_command_of bucket_plans.Create body = Ok bucket_commands.Create
-bucket_command_of bucket_plans.Head body = Ok bucket_commands.Head
-bucket_command_of bucket_plans.Delete body = Ok bucket_commands.Delete
-bucket_command_of bucket_plans.PutVersioning body = versioning_command_of body
-bucket_command_of bucket_plans.GetVersioning body = Ok bucket_commands.GetVersioning
-bucket_command_of (bucket_plans.ListObjects asked) body = Ok (bucket_commands.ListObjects asked)
-bucket_command_of (bucket_plans.ListVersions asked) body = Ok (bucket_commands.ListVersions asked)
-bucket_command_of (bucket_plans.ListUploads asked) body = Ok (bucket_commands.ListUploads asked)
-
--- what is to be stored, with its body
-abbrev pub put_with : ObjectPut (Unit {0}) → List ℕ → ObjectPut (List ℕ)
-put_with put body =
-    record { content_type = put.content_type; metadata = put.metadata; if_absent = put.if_absent; payload = body }
-
--- the same of a key
-abbrev pub key_command_of : KeyPlan → List ℕ → KeyCommand (List ℕ)
-key_command_of (key_commands.Put put) body = key_commands.Put (put_with put body)
-key_command_of (key_commands.Copy copy) body = key_commands.Copy copy
-key_command_of (key_commands.Read read) body = key_commands.Read read
-key_command_of (key_commands.Delete version) body = key_commands.Delete version
-key_command_of (key_commands.Begin begin) body = key_commands.Begin begin
-
--- CompleteMultipartUpload, with the parts that the body lists
-abbrev pub completion_command_of : Bool → List ℕ → Result UploadCommand Code
-completion_command_of if_absent body = do
-  listed ← completion_read body
-  Ok (upload_commands.Complete listed if_absent)
-
--- the same of an upload
-abbrev pub upload_command_of : UploadPlan → List ℕ → Result UploadCommand Code
-upload_command_of (upload_plans.PutPart number) body = Ok (upload_commands.PutPart number body)
-upload_command_of (upload_plans.Complete if_absent) body = completion_command_of if_absent body
-upload_command_of upload_plans.Abort body = Ok upload_commands.Abort
-upload_command_of (upload_plans.ListParts asked) body = Ok (upload_commands.ListParts asked)
-
--- the operation with the body that came, if it can use the body
-unfoldable pub command_of : Plan → List ℕ → Result Command Code
-command_of plans.ListBuckets body = Ok commands.ListBuckets
-command_of (plans.Bucket name asked) body = do
-  command ← bucket_command_of asked body
-  Ok (commands.Bucket name command)
-command_of (plans.Key bucket key asked) body = Ok (commands.Key bucket key (key_command_of asked body))
-command_of (plans.Upload bucket key id asked) body = do
-  command ← upload_command_of asked body
-  Ok (commands.Upload bucket key id command)
-
--- the bucket's versioning is to be set
-abbrev pub is_versioning_set : BucketPlan → Bool
-is_versioning_set bucket_plans.PutVersioning = true
-is_versioning_set other = false
-
--- the upload is to be completed
-abbrev pub is_completion : UploadPlan → Bool
-is_completion (upload_plans.Complete if_absent) = true
-is_completion other = false
-
--- the operation reads a document from its body: a PutBucketVersioning, or a CompleteMultipartUpload
-abbrev pub reads_body : Plan → Bool
-reads_body (plans.Bucket name asked) = is_versioning_set asked
-reads_body (plans.Upload bucket key id asked) = is_completion asked
-reads_body other = false

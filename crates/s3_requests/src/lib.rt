@@ -3,18 +3,22 @@
 #![tactic(auto)]
 
 mod arguments;
+mod commands;
 mod copy_source;
 mod description;
 mod laws;
 mod list_arguments;
 mod operations;
 mod read_conditions;
+mod region;
 mod routing;
 mod upload_arguments;
 mod write_condition;
 
+pub use commands::command;
 pub use laws::{plans_are_unbroken, tokens_are_read_back};
-pub use routing::{BucketPlan, Plan, UploadPlan, command, route};
+pub use region::Region;
+pub use routing::{BucketPlan, Plan, UploadPlan, route};
 pub use s3_machine::{
     BucketCommand, Command, KeyCommand, ObjectPut, ObjectRead, UploadBegin, UploadCommand,
 };

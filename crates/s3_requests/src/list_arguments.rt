@@ -13,7 +13,7 @@ use s3_http_heads::Target;
 use s3_listings::{PartsAsked, UploadsAsked, VersionsAsked};
 use s3_names::{UploadId, VersionId};
 use s3_prefixes::{ObjectsAsked, Text};
-use s3_terms::Code;
+use s3_terms::{Code, Dialect};
 use s3_text::decimal_number;
 use std::alloc::Global;
 
@@ -25,51 +25,68 @@ const NUMBER_DIGITS: usize = 9;
 
 // What is asked of a list of objects: `InvalidArgument` where an argument isn't of its form.
 #[tactic(auto, unfolding(crate::specs::ListArguments::objects_asked_of))]
-pub(crate) fn objects_asked(alloc: Global, target: &Target) -> Result<ObjectsAsked, Code>
-    ensures { Follows result (rules.objects_asked_of target.now) }
+pub(crate) fn objects_asked(
+    alloc: Global,
+    dialect: Dialect,
+    target: &Target,
+) -> Result<ObjectsAsked, Code>
+    ensures { Follows result (rules.objects_asked_of dialect target.now) }
 {
     let max_keys = count_argument(target, b"max-keys")?;
     let prefix = text_argument(alloc, target, b"prefix")?;
     let delimiter = text_argument(alloc, target, b"delimiter")?;
     let start_after = optional_text(alloc, target, b"start-after")?;
     let token = token_argument(alloc, target)?;
+    let is_url_encoded = is_encoding_asked(dialect, target)?;
     Ok(ObjectsAsked {
         prefix,
         delimiter,
         start_after,
         token,
         max_keys,
+        is_url_encoded,
+        tells_owner: is_owner_asked(dialect, target),
     })
 }
 
 // What is asked of a list of versions: `NotImplemented` where common prefixes are asked for, and then `InvalidArgument`
 // where an argument isn't of its form.
 #[tactic(auto, unfolding(crate::specs::ListArguments::versions_asked_of, crate::specs::ListArguments::keys_asked_of))]
-pub(crate) fn versions_asked(alloc: Global, target: &Target) -> Result<VersionsAsked, Code>
-    ensures { Follows result (rules.versions_asked_of target.now) }
+pub(crate) fn versions_asked(
+    alloc: Global,
+    dialect: Dialect,
+    target: &Target,
+) -> Result<VersionsAsked, Code>
+    ensures { Follows result (rules.versions_asked_of dialect target.now) }
 {
-    let keys = keys_asked(alloc, target, b"max-keys")?;
+    let keys = keys_asked(alloc, dialect, target, b"max-keys")?;
     let id_marker = version_marker(target, &keys.key_marker)?;
     Ok(VersionsAsked {
         prefix: keys.prefix,
         key_marker: keys.key_marker,
         id_marker,
         max_keys: keys.most,
+        is_url_encoded: keys.is_url_encoded,
     })
 }
 
 // What is asked of a list of uploads, with the refusals of a list of versions.
 #[tactic(auto, unfolding(crate::specs::ListArguments::uploads_asked_of, crate::specs::ListArguments::keys_asked_of))]
-pub(crate) fn uploads_asked(alloc: Global, target: &Target) -> Result<UploadsAsked, Code>
-    ensures { Follows result (rules.uploads_asked_of target.now) }
+pub(crate) fn uploads_asked(
+    alloc: Global,
+    dialect: Dialect,
+    target: &Target,
+) -> Result<UploadsAsked, Code>
+    ensures { Follows result (rules.uploads_asked_of dialect target.now) }
 {
-    let keys = keys_asked(alloc, target, b"max-uploads")?;
+    let keys = keys_asked(alloc, dialect, target, b"max-uploads")?;
     let id_marker = upload_marker(target, &keys.key_marker)?;
     Ok(UploadsAsked {
         prefix: keys.prefix,
         key_marker: keys.key_marker,
         id_marker,
         max_uploads: keys.most,
+        is_url_encoded: keys.is_url_encoded,
     })
 }
 
@@ -79,12 +96,18 @@ pub(crate) struct KeysAsked {
     prefix: Text,
     key_marker: Text,
     most: u16,
+    is_url_encoded: bool,
 }
 
 // What is asked of such a list, whose count this parameter says.
 #[tactic(auto, unfolding(crate::specs::ListArguments::keys_asked_of))]
-fn keys_asked(alloc: Global, target: &Target, count: &[u8]) -> Result<KeysAsked, Code>
-    ensures { Follows result (rules.keys_asked_of count.now target.now) }
+fn keys_asked(
+    alloc: Global,
+    dialect: Dialect,
+    target: &Target,
+    count: &[u8],
+) -> Result<KeysAsked, Code>
+    ensures { Follows result (rules.keys_asked_of dialect count.now target.now) }
 {
     if has_delimiter(target) {
         return Err(Code::NotImplemented);
@@ -92,10 +115,12 @@ fn keys_asked(alloc: Global, target: &Target, count: &[u8]) -> Result<KeysAsked,
     let most = count_argument(target, count)?;
     let prefix = text_argument(alloc, target, b"prefix")?;
     let key_marker = text_argument(alloc, target, b"key-marker")?;
+    let is_url_encoded = is_encoding_asked(dialect, target)?;
     Ok(KeysAsked {
         prefix,
         key_marker,
         most,
+        is_url_encoded,
     })
 }
 
@@ -107,6 +132,41 @@ pub(crate) fn parts_asked(target: &Target) -> Result<PartsAsked, Code>
     let max_parts = count_argument(target, b"max-parts")?;
     let marker = number_argument(target, b"part-number-marker", 0)?;
     Ok(PartsAsked { marker, max_parts })
+}
+
+// Whether keys are to be told UriEncoded: `InvalidArgument` where another encoding is named.
+fn is_encoding_asked(dialect: Dialect, target: &Target) -> Result<bool, Code>
+    ensures { result ≡ rules.encoding_asked dialect target.now }
+{
+    match dialect {
+        Dialect::Json => Ok(false),
+        Dialect::S3 => encoding_named(target.first(b"encoding-type")),
+    }
+}
+
+// The same by the name of the encoding, if there is one.
+fn encoding_named(name: Option<&[u8]>) -> Result<bool, Code>
+    ensures { result ≡ rules.encoding_named (option_copied name.entry) }
+{
+    match name {
+        None => Ok(false),
+        Some(name) => {
+            if name != b"url".as_slice() {
+                return Err(Code::InvalidArgument);
+            }
+            Ok(true)
+        }
+    }
+}
+
+// Whether the owners of objects are to be told.
+fn is_owner_asked(dialect: Dialect, target: &Target) -> bool
+    ensures { result ≡ rules.owner_asked dialect target.now }
+{
+    match dialect {
+        Dialect::Json => false,
+        Dialect::S3 => value_of(target, b"fetch-owner") == b"true".as_slice(),
+    }
 }
 
 // Whether common prefixes are asked for.

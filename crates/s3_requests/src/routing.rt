@@ -1,5 +1,5 @@
-//! From a verified head to the operation that it asks for, and on to a command.
-ghost use Rattle.std.specs.Prelude.{◌≡◌, ◌<◌, true, length, Ok, Err, IfOk, IfErr, OnErr};
+//! From a verified head to the operation that it asks for.
+ghost use Rattle.std.specs.Prelude.{◌≡◌, Ok, Err, IfOk, IfErr};
 ghost use Rattle.std.specs.List.{list_any};
 ghost use Rattle.s3_terms.specs.Fault.{Follows, FollowsPast};
 ghost use Rattle.s3_text.specs.Characters.{space};
@@ -13,18 +13,16 @@ use crate::description::description_of;
 use crate::list_arguments::{objects_asked, parts_asked, uploads_asked, versions_asked};
 use crate::operations::{Operation, bucket_operation, key_operation, service_operation};
 use crate::read_conditions::conditions_of;
+use crate::region::Region;
 use crate::upload_arguments::{part_argument, upload_argument};
 use crate::write_condition::absence_of;
-use s3_bodies::Payload;
-use s3_documents::{read_completion, read_versioning};
+use s3_config::Config;
 use s3_http_heads::{Head, Target};
 use s3_listings::{PartsAsked, UploadsAsked, VersionsAsked};
-use s3_machine::{
-    BucketCommand, Command, KeyCommand, ObjectCopy, ObjectPut, ObjectRead, UploadCommand,
-};
+use s3_machine::{KeyCommand, ObjectCopy, ObjectPut, ObjectRead};
 use s3_names::{BucketName, Key, PartNumber, UploadId};
 use s3_prefixes::ObjectsAsked;
-use s3_terms::{Code, NoMemory};
+use s3_terms::{Code, Dialect};
 use std::alloc::Global;
 
 /// What a head asks for, before the body is read: an operation with its arguments.
@@ -56,13 +54,18 @@ pub enum Plan {
 #[derive(Drop)]
 pub enum BucketPlan {
     /// Make it (CreateBucket).
-    Create,
+    Create {
+        /// The region that the body may name; `None` where the body isn't read.
+        region: Option<Region>,
+    },
     /// Ask whether it is there (HeadBucket).
     Head,
     /// Drop it, where nothing is in it (DeleteBucket).
     Delete,
     /// Set its versioning to what the body says (PutBucketVersioning).
-    PutVersioning,
+    PutVersioning {
+        dialect: Dialect,
+    },
     /// Ask for its versioning (GetBucketVersioning).
     GetVersioning,
     /// List its objects (ListObjectsV2).
@@ -82,6 +85,8 @@ pub enum UploadPlan {
     },
     /// Store the parts that the body lists as one object (CompleteMultipartUpload).
     Complete {
+        /// How the body spells them.
+        dialect: Dialect,
         /// Whether only where the key has no object.
         if_absent: bool,
     },
@@ -105,149 +110,19 @@ const LACKING: &[u8] =
 /// The operation that a verified head asks for, with its bucket, its key and its arguments (Amazon S3 User
 /// Guide, "Path-style requests"). A refusal is the first fault of routing in the order of
 /// `docs/PROTOCOL.md`; `InternalError` says that there was no memory for the names, for what a put or the beginning of an
-/// upload says of its object, for the tags that a read names and for the texts that a list is asked by, of an address that
-/// may have them: without a sub-resource that this server lacks, and with the name of a bucket. The cost is linear in the
-/// names and the query, and in the header lines times the names of metadata.
+/// upload says of its object, for the tags that a read names, for the texts that a list is asked by and for the region that
+/// a new bucket may name, of an address that may have them: without a sub-resource that this server lacks, and with the name
+/// of a bucket. The cost is linear in the names and the query, and in the header lines times the names of metadata. Of
+/// `config` it takes the dialect and the region, by which some arguments and the documents of bodies are read.
 #[tactic(auto, unfolding(crate::specs::Routing::route_of, crate::specs::Routing::bucket_at))]
-pub fn route(alloc: Global, head: &Head) -> Result<Plan, Code>
-    ensures { FollowsPast (rules.bucket_at head.now) result (rules.route_of head.now) }
+pub fn route(alloc: Global, config: &Config, head: &Head) -> Result<Plan, Code>
+    ensures { FollowsPast (rules.bucket_at head.now) result (rules.route_of config.now head.now) }
 {
     let target = address_at(head)?;
     if is_service(target) {
         return service_plan(head);
     }
-    named_plan(alloc, head, target)
-}
-
-/// The command of an operation and the body that came with its message, where the operation can use the body:
-/// `MalformedBody` where it can't, and `InvalidArgument` where a completion lists a number that no part has. A body that the
-/// operation has no use for is dropped. Memory is taken for the document of a PutBucketVersioning or of a
-/// CompleteMultipartUpload alone, of a body that isn't empty; `InternalError` says that there was none.
-#[tactic(auto, unfolding(crate::specs::Routing::command_of))]
-pub fn command(alloc: Global, plan: Plan, payload: Payload) -> Result<Command, Code>
-    ensures rule { Follows result (rules.command_of plan payload) }
-    ensures memory { IfErr result (λ code. code ≡ Code.InternalError
-        → (rules.reads_body plan ≡ true) × (0 < length payload)) }
-{
-    match plan {
-        Plan::ListBuckets => Ok(Command::ListBuckets),
-        Plan::Bucket { name, asked } => match bucket_command(alloc, asked, payload) {
-            Ok(asked) => Ok(Command::Bucket { name, asked }),
-            Err(code) => Err(code),
-        },
-        Plan::Key { bucket, key, asked } => {
-            let asked = key_command(asked, payload);
-            Ok(Command::Key { bucket, key, asked })
-        }
-        Plan::Upload {
-            bucket,
-            key,
-            id,
-            asked,
-        } => match upload_command(alloc, asked, payload) {
-            Ok(asked) => Ok(Command::Upload {
-                bucket,
-                key,
-                id,
-                asked,
-            }),
-            Err(code) => Err(code),
-        },
-    }
-}
-
-// What is asked of a bucket, with the body.
-fn bucket_command(alloc: Global, asked: BucketPlan, payload: Payload) -> Result<BucketCommand, Code>
-    ensures rule { Follows result (rules.bucket_command_of asked payload) }
-    ensures memory { IfErr result (λ code. code ≡ Code.InternalError
-        → (rules.is_versioning_set asked ≡ true) × (0 < length payload)) }
-{
-    match asked {
-        BucketPlan::Create => Ok(BucketCommand::Create),
-        BucketPlan::Head => Ok(BucketCommand::Head),
-        BucketPlan::Delete => Ok(BucketCommand::Delete),
-        BucketPlan::PutVersioning => versioning_command(alloc, payload),
-        BucketPlan::GetVersioning => Ok(BucketCommand::GetVersioning),
-        BucketPlan::ListObjects(asked) => Ok(BucketCommand::ListObjects(asked)),
-        BucketPlan::ListVersions(asked) => Ok(BucketCommand::ListVersions(asked)),
-        BucketPlan::ListUploads(asked) => Ok(BucketCommand::ListUploads(asked)),
-    }
-}
-
-// PutBucketVersioning, with the status that the body names.
-fn versioning_command(alloc: Global, payload: Payload) -> Result<BucketCommand, Code>
-    ensures rule { Follows result (rules.versioning_command_of payload) }
-    ensures memory { IfErr result (λ code. code ≡ Code.InternalError → 0 < length payload) }
-{
-    let text = text_of(alloc, payload)?;
-    match read_versioning(alloc, text.as_slice()) {
-        Ok(status) => Ok(BucketCommand::PutVersioning { status }),
-        Err(code) => Err(code),
-    }
-}
-
-// The bytes of a body in one piece, which are copied.
-fn text_of(alloc: Global, payload: Payload) -> Result<Vec<u8>, NoMemory>
-    ensures value { IfOk result (λ text. text.items ≡ payload) }
-    ensures memory { OnErr result (0 < length payload) }
-{
-    let body = payload.into_body()?;
-    body.to_vec(alloc)
-}
-
-// What is asked of a key, with the body.
-fn key_command(asked: KeyCommand<()>, payload: Payload) -> KeyCommand<Payload>
-    ensures { result ≡ rules.key_command_of asked payload }
-{
-    match asked {
-        KeyCommand::Put(put) => KeyCommand::Put(put_with(put, payload)),
-        KeyCommand::Copy(copy) => KeyCommand::Copy(copy),
-        KeyCommand::Read(read) => KeyCommand::Read(read),
-        KeyCommand::Delete { version } => KeyCommand::Delete { version },
-        KeyCommand::Begin(begin) => KeyCommand::Begin(begin),
-    }
-}
-
-// What is to be stored, with its body.
-fn put_with(put: ObjectPut<()>, payload: Payload) -> ObjectPut<Payload>
-    ensures { result ≡ rules.put_with put payload }
-{
-    ObjectPut {
-        content_type: put.content_type,
-        metadata: put.metadata,
-        if_absent: put.if_absent,
-        payload,
-    }
-}
-
-// What is asked of an upload, with the body.
-fn upload_command(alloc: Global, asked: UploadPlan, payload: Payload) -> Result<UploadCommand, Code>
-    ensures rule { Follows result (rules.upload_command_of asked payload) }
-    ensures memory { IfErr result (λ code. code ≡ Code.InternalError
-        → (rules.is_completion asked ≡ true) × (0 < length payload)) }
-{
-    match asked {
-        UploadPlan::PutPart { number } => Ok(UploadCommand::PutPart { number, payload }),
-        UploadPlan::Complete { if_absent } => completion_command(alloc, if_absent, payload),
-        UploadPlan::Abort => Ok(UploadCommand::Abort),
-        UploadPlan::ListParts(asked) => Ok(UploadCommand::ListParts(asked)),
-    }
-}
-
-// CompleteMultipartUpload, with the parts that the body lists.
-fn completion_command(
-    alloc: Global,
-    if_absent: bool,
-    payload: Payload,
-) -> Result<UploadCommand, Code>
-    ensures rule { Follows result (rules.completion_command_of if_absent payload) }
-    ensures memory { IfErr result (λ code. code ≡ Code.InternalError → 0 < length payload) }
-{
-    let text = text_of(alloc, payload)?;
-    match read_completion(alloc, text.as_slice()) {
-        Ok(listed) => Ok(UploadCommand::Complete { listed, if_absent }),
-        Err(code) => Err(code),
-    }
+    named_plan(alloc, config, head, target)
 }
 
 // What the target says, unless it names a sub-resource that isn't there.
@@ -300,16 +175,16 @@ fn service_plan(head: &Head) -> Result<Plan, Code>
 
 // What is asked of a bucket, or of a key in it.
 #[tactic(auto, unfolding(crate::specs::Routing::named_plan))]
-fn named_plan(alloc: Global, head: &Head, target: &Target) -> Result<Plan, Code>
-    ensures { FollowsPast (rules.bucket_named target.now) result (rules.named_plan head.now target.now) }
+fn named_plan(alloc: Global, config: &Config, head: &Head, target: &Target) -> Result<Plan, Code>
+    ensures { FollowsPast (rules.bucket_named target.now) result (rules.named_plan config.now head.now target.now) }
 {
     let name = BucketName::read(alloc, target.bucket())?;
     if target.key().is_empty() {
-        let asked = bucket_plan(alloc, head, target)?;
+        let asked = bucket_plan(alloc, config, head, target)?;
         return Ok(Plan::Bucket { name, asked });
     }
     let key = Key::read(alloc, target.key())?;
-    let asked = key_plan(alloc, head, target)?;
+    let asked = key_plan(alloc, config.dialect(), head, target)?;
     Ok(plan_under(name, key, asked))
 }
 
@@ -330,56 +205,77 @@ fn plan_under(bucket: BucketName, key: Key, asked: KeyAsked) -> Plan
 
 // What is asked of a bucket.
 #[tactic(auto, unfolding(crate::specs::Routing::bucket_plan))]
-fn bucket_plan(alloc: Global, head: &Head, target: &Target) -> Result<BucketPlan, Code>
-    ensures { Follows result (rules.bucket_plan head.now target.now) }
+fn bucket_plan(
+    alloc: Global,
+    config: &Config,
+    head: &Head,
+    target: &Target,
+) -> Result<BucketPlan, Code>
+    ensures { Follows result (rules.bucket_plan config.now head.now target.now) }
 {
+    let dialect = config.dialect();
     match bucket_operation(head.method(), target) {
-        Some(Operation::CreateBucket) => Ok(BucketPlan::Create),
+        Some(Operation::CreateBucket) => create_plan(alloc, config),
         Some(Operation::HeadBucket) => Ok(BucketPlan::Head),
         Some(Operation::DeleteBucket) => Ok(BucketPlan::Delete),
-        Some(Operation::PutBucketVersioning) => Ok(BucketPlan::PutVersioning),
+        Some(Operation::PutBucketVersioning) => Ok(BucketPlan::PutVersioning { dialect }),
         Some(Operation::GetBucketVersioning) => Ok(BucketPlan::GetVersioning),
-        Some(Operation::ListObjectsV2) => objects_plan(alloc, target),
-        Some(Operation::ListObjectVersions) => versions_plan(alloc, target),
-        Some(Operation::ListMultipartUploads) => uploads_plan(alloc, target),
+        Some(Operation::ListObjectsV2) => objects_plan(alloc, dialect, target),
+        Some(Operation::ListObjectVersions) => versions_plan(alloc, dialect, target),
+        Some(Operation::ListMultipartUploads) => uploads_plan(alloc, dialect, target),
         Some(_) => Err(Code::NotImplemented),
         None => Err(Code::MethodNotAllowed),
     }
 }
 
-// ListObjectsV2, with what is asked of the list.
-fn objects_plan(alloc: Global, target: &Target) -> Result<BucketPlan, Code>
-    ensures { Follows result (rules.objects_plan target.now) }
+// CreateBucket, with the region that its body may name.
+fn create_plan(alloc: Global, config: &Config) -> Result<BucketPlan, Code>
+    ensures { Follows result (Ok (BucketPlan.Create (rules.region_in config.now.dialect config.now.region))) }
 {
-    let asked = objects_asked(alloc, target)?;
+    match config.dialect() {
+        Dialect::Json => Ok(BucketPlan::Create { region: None }),
+        Dialect::S3 => {
+            let region = Region::copy(alloc, config.region())?;
+            Ok(BucketPlan::Create {
+                region: Some(region),
+            })
+        }
+    }
+}
+
+// ListObjectsV2, with what is asked of the list.
+fn objects_plan(alloc: Global, dialect: Dialect, target: &Target) -> Result<BucketPlan, Code>
+    ensures { Follows result (rules.objects_plan dialect target.now) }
+{
+    let asked = objects_asked(alloc, dialect, target)?;
     Ok(BucketPlan::ListObjects(asked))
 }
 
 // ListObjectVersions, with what is asked of the list.
-fn versions_plan(alloc: Global, target: &Target) -> Result<BucketPlan, Code>
-    ensures { Follows result (rules.versions_plan target.now) }
+fn versions_plan(alloc: Global, dialect: Dialect, target: &Target) -> Result<BucketPlan, Code>
+    ensures { Follows result (rules.versions_plan dialect target.now) }
 {
-    let asked = versions_asked(alloc, target)?;
+    let asked = versions_asked(alloc, dialect, target)?;
     Ok(BucketPlan::ListVersions(asked))
 }
 
 // ListMultipartUploads, with what is asked of the list.
-fn uploads_plan(alloc: Global, target: &Target) -> Result<BucketPlan, Code>
-    ensures { Follows result (rules.uploads_plan target.now) }
+fn uploads_plan(alloc: Global, dialect: Dialect, target: &Target) -> Result<BucketPlan, Code>
+    ensures { Follows result (rules.uploads_plan dialect target.now) }
 {
-    let asked = uploads_asked(alloc, target)?;
+    let asked = uploads_asked(alloc, dialect, target)?;
     Ok(BucketPlan::ListUploads(asked))
 }
 
 // What is asked of a key, or of an upload to it.
 #[tactic(auto, unfolding(crate::specs::Routing::key_plan))]
-fn key_plan(alloc: Global, head: &Head, target: &Target) -> Result<KeyAsked, Code>
-    ensures { Follows result (rules.key_plan head.now target.now) }
+fn key_plan(alloc: Global, dialect: Dialect, head: &Head, target: &Target) -> Result<KeyAsked, Code>
+    ensures { Follows result (rules.key_plan dialect head.now target.now) }
 {
     match key_operation(head.method(), head, target) {
         Some(Operation::UploadPart) => part_plan(target),
         Some(Operation::ListParts) => parts_plan(target),
-        Some(Operation::CompleteMultipartUpload) => complete_plan(head, target),
+        Some(Operation::CompleteMultipartUpload) => complete_plan(dialect, head, target),
         Some(Operation::AbortMultipartUpload) => upload_plan(target, UploadPlan::Abort),
         Some(operation) => match key_plan_for(alloc, head, target, operation) {
             Ok(asked) => Ok(KeyAsked::Key(asked)),
@@ -409,16 +305,16 @@ fn parts_plan(target: &Target) -> Result<KeyAsked, Code>
     upload_plan(target, UploadPlan::ListParts(asked))
 }
 
-// CompleteMultipartUpload, with its upload and its condition.
+// CompleteMultipartUpload, with its upload, its condition, and the dialect of the document that it brings.
 #[tactic(auto, unfolding(crate::specs::Routing::complete_plan))]
-fn complete_plan(head: &Head, target: &Target) -> Result<KeyAsked, Code>
-    ensures { result ≡ rules.complete_plan head.now target.now }
+fn complete_plan(dialect: Dialect, head: &Head, target: &Target) -> Result<KeyAsked, Code>
+    ensures { result ≡ rules.complete_plan dialect head.now target.now }
 {
     let id = upload_argument(target)?;
     let if_absent = absence_of(head)?;
     Ok(KeyAsked::Upload {
         id,
-        asked: UploadPlan::Complete { if_absent },
+        asked: UploadPlan::Complete { dialect, if_absent },
     })
 }
 

@@ -1,9 +1,9 @@
 //! An example of events: what happens to the connections of one store, and what they are answered.
 
 use crate::cut::{Cut, recut};
+use crate::server::{Server, SystemFiles, config, server_of};
 use crate::trimmed::leave_same;
 use s3_devices::{Recorded, Streams};
-use s3_settings::Files;
 use s3_tasks::{Ran, run_words};
 use std::alloc::Global;
 use std::sync::Wait;
@@ -12,29 +12,16 @@ use std::{fs, io};
 // How long a file of events is at most that is cut at each place.
 const SHORT: usize = 4_096;
 
-// The bucket that is there from the start, where the name of an example says no other.
-const BUCKET: &str = "pail";
-
-// The files of the system.
-#[derive(Clone, Copy)]
-struct SystemFiles<'a>(&'a HostRuntime);
-
-impl Files for SystemFiles<'_> {
-    fn read(&self, _alloc: Global, path: &str) -> io::Result<Vec<u8>> {
-        fs::read(self.0, path)
-    }
-}
-
-// An example: the bucket that is there from the start, what happens, and what is answered.
+// An example: its server, what happens, and what is answered.
 #[derive(Clone, Copy)]
 struct Example<'a> {
-    bucket: &'a str,
+    server: Server<'a>,
     events: &'a [u8],
     answers: &'a [u8],
 }
 
-// The words of a run over a store with this bucket.
-fn words(bucket: &str) -> [&str; 9] {
+// The words of a run of this server.
+fn words(server: Server<'_>) -> [&str; 11] {
     [
         "s3d",
         "replay",
@@ -44,12 +31,14 @@ fn words(bucket: &str) -> [&str; 9] {
         "--min-part",
         "5",
         "--bucket",
-        bucket,
+        server.bucket,
+        "--dialect",
+        server.dialect,
     ]
 }
 
 // The same, where first faults are told too.
-fn words_with_faults(bucket: &str) -> [&str; 10] {
+fn words_with_faults(server: Server<'_>) -> [&str; 12] {
     [
         "s3d",
         "replay",
@@ -60,7 +49,9 @@ fn words_with_faults(bucket: &str) -> [&str; 10] {
         "--min-part",
         "5",
         "--bucket",
-        bucket,
+        server.bucket,
+        "--dialect",
+        server.dialect,
     ]
 }
 
@@ -93,19 +84,21 @@ fn is_answered<W: Wait>(waits: &W, rt: &HostRuntime, example: Example, cut: Cut)
     let Ok(events) = recut(rt.alloc(), example.events, cut) else {
         return false;
     };
-    match answers(waits, rt, &words(example.bucket), events.as_slice()) {
+    match answers(waits, rt, &words(example.server), events.as_slice()) {
         Some(answers) => answers.as_slice() == example.answers,
         None => false,
     }
 }
 
-// Whether an example is answered so in each way: as it stands, byte by byte and, where it is short, with one cut more.
+// Whether an example is answered so in each way: as it stands, byte by byte and, where it is short, with one cut more. Cuts
+// are the same for each dialect, and XML is tried without the last.
 fn is_answered_each_way<W: Wait>(waits: &W, rt: &HostRuntime, example: Example) -> bool {
     let len = example.events.len();
     if !is_answered(waits, rt, example, Cut { first: 0, size: 1 }) {
         return false;
     }
-    let places = if len <= SHORT { len / 2 } else { 1 };
+    let is_cut = len <= SHORT && example.server.dialect == "json";
+    let places = if is_cut { len / 2 } else { 1 };
     for first in 0..places {
         if !is_answered(waits, rt, example, Cut { first, size: len }) {
             return false;
@@ -125,7 +118,7 @@ fn tells<W: Wait>(waits: &W, rt: &HostRuntime, example: Example, faults: Option<
     let Some(faults) = faults else {
         return true;
     };
-    let words = words_with_faults(example.bucket);
+    let words = words_with_faults(example.server);
     match answers(waits, rt, &words, example.events) {
         Some(text) => text.strip_prefix(example.answers) == Some(faults.as_slice()),
         None => false,
@@ -133,20 +126,18 @@ fn tells<W: Wait>(waits: &W, rt: &HostRuntime, example: Example, faults: Option<
 }
 
 /// Whether the example of this name is answered as its file of answers says, in each way, tells the first faults that
-/// its file of these says, if there is one, and leaves the same without what is refused; the bucket that is there from the
-/// start is what stands behind a dot of its name, or `pail`.
+/// its file of these says, if there is one, and leaves the same without what is refused.
 pub(crate) fn holds<W: Wait>(waits: &W, rt: &HostRuntime, name: &str) -> bool {
-    let (_, bucket) = name.split_once('.').unwrap_or((name, BUCKET));
     match (file(rt, name, ".events"), file(rt, name, ".out")) {
         (Some(events), Some(answers)) => {
             let example = Example {
-                bucket,
+                server: server_of(name),
                 events: events.as_slice(),
                 answers: answers.as_slice(),
             };
             is_answered_each_way(waits, rt, example)
                 && tells(waits, rt, example, file(rt, name, ".faults"))
-                && leave_same(rt.alloc(), bucket, example.events)
+                && leave_same(rt.alloc(), config(rt, example.server), example.events)
         }
         _ => false,
     }

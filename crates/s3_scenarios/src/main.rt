@@ -3,9 +3,10 @@
 //!
 //! An example is data, and adding one touches nothing else. There are two forms. What is answered to the events of
 //! `NAME.events`, by `s3d replay --events`, stands in `NAME.out`: with the bytes in the pieces of the file, byte by byte and,
-//! where the file is short, with one cut more, at each place in turn. What `--faults` tells behind that may stand in
-//! `NAME.faults`. Without what is refused they leave the same (`trimmed.rt`). In `NAME.scenario` stand the requests of
-//! connections, and what each of these is answered (`scenario.rt`).
+//! where the file is short and tells JSON, with one cut more, at each place in turn. What `--faults` tells behind that may
+//! stand in `NAME.faults`. Without what is refused they leave the same (`trimmed.rt`). In `NAME.scenario` stand the requests of
+//! connections, and what each of these is answered (`scenario.rt`). The name says the server: where it ends with `.s3`, its
+//! documents are XML (`server.rt`).
 #![tactic(auto)]
 
 mod body;
@@ -13,6 +14,7 @@ mod cut;
 mod events;
 mod request;
 mod scenario;
+mod server;
 mod trimmed;
 
 use std::fs;
@@ -22,10 +24,10 @@ use std::sync::Wait;
 
 // Whether the example of this file is answered as it says; `None` where the file is none.
 fn holds<W: Wait>(waits: &W, rt: &HostRuntime, file: &str) -> Option<bool> {
-    match file.strip_suffix(".events") {
-        Some(name) => Some(events::holds(waits, rt, name)),
-        None if file.ends_with(".scenario") => Some(scenario::holds(rt, file)),
-        None => None,
+    match (file.strip_suffix(".events"), file.strip_suffix(".scenario")) {
+        (Some(name), _) => Some(events::holds(waits, rt, name)),
+        (None, Some(name)) => Some(scenario::holds(rt, name, file)),
+        (None, None) => None,
     }
 }
 

@@ -4,7 +4,6 @@ use s3_config::Config;
 use s3_events::{Event, Script, read_events};
 use s3_records::MapRecords;
 use s3_store::Store;
-use s3_test_servers::config;
 use s3_world::{World, run, trim};
 use std::alloc::Global;
 use std::mem::drop;
@@ -124,10 +123,10 @@ fn same_lines(alloc: Global, config: &Config, lines: &[u8]) -> bool {
     }
 }
 
-/// Whether event lines leave the same without what is refused, over a store with this bucket; not so where they are none, or memory
-/// ran out.
-pub(crate) fn leave_same(alloc: Global, bucket: &str, lines: &[u8]) -> bool {
-    match config(alloc, b"us-east-1", 5, 67_108_864, &[bucket.as_bytes()]) {
+/// Whether event lines leave the same without what is refused, over a store with these settings; not so where there are none,
+/// the lines are none, or memory ran out.
+pub(crate) fn leave_same(alloc: Global, config: Option<Config>, lines: &[u8]) -> bool {
+    match config {
         Some(config) => {
             let same = same_lines(alloc, &config, lines);
             drop(config);

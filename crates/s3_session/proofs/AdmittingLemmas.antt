@@ -34,7 +34,7 @@ module _ (settings : Settings) (head : HeadParts) (moment size : ℕ) (proved : 
   early_ok = let checked = stage_ok (checked_head settings head moment) _ proved verified in rw framed (given_ok _ checked.0 checked.1)
 
   -- it is routed too
-  pub admits_asked : (reader : PayloadReader) (plan : Plan) → Begins (announced_payload settings head size proved) (Ok reader) → route_of head ≡ Ok plan
+  pub admits_asked : (reader : PayloadReader) (plan : Plan) → Begins (announced_payload settings head size proved) (Ok reader) → route_of settings head ≡ Ok plan
       → Admits (early_admission settings head moment) (Ok (record { length = size; reader = reader; plan = plan })) (admission_of settings head moment)
   unfolding admission_of
   admits_asked reader plan (announced, at, stands) routed =
@@ -42,7 +42,7 @@ module _ (settings : Settings) (head : HeadParts) (moment size : ℕ) (proved : 
 
   -- or its routing refuses it
   pub admits_unrouted : (reader : PayloadReader) (code : Code) → Begins (announced_payload settings head size proved) (Ok reader)
-      → FollowsPast {A = Plan} (bucket_at head) (Err code) (route_of head) → Admits (early_admission settings head moment) (Err code) (admission_of settings head moment)
+      → FollowsPast {A = Plan} (bucket_at head) (Err code) (route_of settings head) → Admits (early_admission settings head moment) (Err code) (admission_of settings head moment)
   unfolding admission_of
   admits_unrouted reader code (announced, at, stands) (inl lost) = inl (lost.0, early_ok)
   admits_unrouted reader code (announced, at, stands) (inr refused) = inr (rw (framed, verified, at, refused) refl)

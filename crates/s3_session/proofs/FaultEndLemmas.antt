@@ -30,7 +30,7 @@ text_invites : (settings : Settings) (moment : ℕ) (ended : Bool) (text behind 
     → TextJudged settings moment ended text behind d → (written : List ℕ) × FoundInvites settings moment bytes (found.Head n) written
 text_invites settings moment ended text behind d bytes n at (inl unreadable) = ([], inl (subst (λ (t : List ℕ). HasNoHead t) at unreadable.0, refl))
 text_invites settings moment ended text behind d bytes n at (inr said) =
-    (invitation said.0 (admission_of settings said.0 moment), inr (said.0, subst (λ (t : List ℕ). Says t said.0) at said.1, refl))
+    (invitation settings.dialect said.0 (admission_of settings said.0 moment), inr (said.0, subst (λ (t : List ℕ). Says t said.0) at said.1, refl))
 
 found_invites : (settings : Settings) (moment : ℕ) (ended : Bool) (bytes : List ℕ) (d : Decision) (f : Found)
     → FoundJudged settings moment ended bytes f d → (written : List ℕ) × FoundInvites settings moment bytes f written

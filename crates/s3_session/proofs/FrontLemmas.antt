@@ -62,11 +62,11 @@ module _ (settings : Settings) (moment : ℕ) (ended : Bool) (rest text behind :
       (verdict, judged, refl))
 
   -- and this is written before the body is read
-  pub said_invites : IsFront rest text behind → Says text head → Invites settings moment rest (invitation head (admission_of settings head moment))
+  pub said_invites : IsFront rest text behind → Says text head → Invites settings moment rest (invitation settings.dialect head (admission_of settings head moment))
   unfolding Invites
   said_invites f says =
       let here : text_at (length text) rest ≡ text = ap (take (length text)) f.joined ∙ take_at text behind (length text) refl in
-      subst (λ (f : Found). FoundInvites settings moment rest f (invitation head (admission_of settings head moment))) (sym f.found)
+      subst (λ (f : Found). FoundInvites settings moment rest f (invitation settings.dialect head (admission_of settings head moment))) (sym f.found)
       (inr (head, subst (λ (t : List ℕ). Says t head) (sym here) says, refl))
 
 -- a message is refused where its bytes end inside its body

@@ -9,7 +9,7 @@ use Rattle.s3_payloads.specs.Outcome.{part_of}
 use Rattle.s3_payloads.specs.Reader.{IsFed, Stands, taken_of, verdict_of}
 use Rattle.s3_payloads.specs.Verdict as payloads
 use Rattle.s3_machine.specs.declared.command.Command.{Command}
-use Rattle.s3_requests.specs.Routing.{command_of}
+use Rattle.s3_requests.specs.Commands.{command_of}
 use Rattle.s3_replies.specs.declared.context.Context.{Context}
 use Rattle.s3_session.specs.Verdict as verdicts
 use Rattle.s3_session.specs.Decision.{Decision, Judges, commanded, concluded, context_of}

@@ -16,7 +16,7 @@ use Rattle.s3_session.proofs.VerdictLemmas.{SaysOneThing}
 abbrev TextInvites : Settings → ℕ → List ℕ → List ℕ → Type 0
 TextInvites settings moment text written =
     (HasNoHead text × (written ≡ []))
-    ⊎ ((head : HeadParts) × Says text head × (written ≡ invitation head (admission_of settings head moment)))
+    ⊎ ((head : HeadParts) × Says text head × (written ≡ invitation settings.dialect head (admission_of settings head moment)))
 
 found_invites_stays : HeadsStay → LargeStays → PairsStay → IsExact → (settings : Settings) (moment : ℕ) (bytes more text : List ℕ) (f : Found)
     → found_in bytes ≡ f → f ≢ found.NeedMore → FoundInvites settings moment bytes f text
@@ -39,7 +39,7 @@ text_invites_once one settings moment text a b (inl x) (inl y) = x.1 ∙ sym y.1
 text_invites_once one settings moment text a b (inl x) (inr y) = absurd (x.0 y.1.0 y.1.1)
 text_invites_once one settings moment text a b (inr x) (inl y) = absurd (y.0 x.1.0 x.1.1)
 text_invites_once one settings moment text a b (inr x) (inr y) =
-    let same = subst (λ (head : HeadParts). b ≡ invitation head (admission_of settings head moment)) (sym (one text x.0 y.0 x.1 y.1)) y.2 in
+    let same = subst (λ (head : HeadParts). b ≡ invitation settings.dialect head (admission_of settings head moment)) (sym (one text x.0 y.0 x.1 y.1)) y.2 in
     x.2 ∙ sym same
 
 found_invites_once : SaysOneThing → (settings : Settings) (moment : ℕ) (bytes a b : List ℕ) (f : Found)

@@ -18,9 +18,9 @@ use Rattle.s3_machine.specs.declared.command.KeyCommand.TheVariants as key_comma
 use Rattle.s3_machine.specs.declared.command.UploadCommand.{UploadCommand}
 use Rattle.s3_machine.specs.declared.command.UploadCommand.TheVariants as upload_commands
 use Rattle.s3_requests.specs.Laws.{PlansAreUnbroken}
-use Rattle.s3_requests.specs.Routing.{bucket_command_of, upload_command_of, command_of}
+use Rattle.s3_requests.specs.Commands.{bucket_command_of, upload_command_of, command_of}
 use Rattle.s3_conditions.specs.declared.conditions.Selection.{Selection}
-use Rattle.s3_conditions.specs.declared.conditions.Selection.TheVariants.{Whole, Part, Unchanged}
+use Rattle.s3_conditions.specs.declared.conditions.Selection.TheVariants.{Whole, Part, Unchanged, Outside}
 use Rattle.s3_machine.specs.declared.command.Command.{Command}
 use Rattle.s3_machine.specs.declared.command.Found.{Found}
 use Rattle.s3_machine.specs.declared.command.Outcome.{Outcome}
@@ -214,6 +214,7 @@ module _ (laws : LawsBelow) (settings : Settings) (exchanges : List Exchange) (a
   shown_of read found (Part first last) replied shows gives unbroken whole =
       laws.parts read.answer read.context read.reply found first last replied shows unbroken whole
   shown_of read found Unchanged replied shows gives unbroken whole = let none = sym (ap given shows) ∙ gives in absurd (cc)
+  shown_of read found Outside replied shows gives unbroken whole = let none = sym (ap given shows) ∙ gives in absurd (cc)
 
   shown_before : EveryHistory ReadsAreJudged → OnlyStoredIsShown settings exchanges
   shown_before judges earlier later read asked at asks told =
@@ -414,7 +415,7 @@ completion_came (Err code) if_absent came taken asked made is = absurd (cc)
 part_came : (plan : UploadPlan) (came taken : List ℕ) (asked : UploadCommand) → upload_command_of plan came ≡ Ok asked
     → upload_sent asked ≡ Some taken → taken ≡ came
 part_came (upload_plans.PutPart number) came taken asked made is = cc
-part_came (upload_plans.Complete if_absent) came taken asked made is = completion_came _ if_absent came taken asked made is
+part_came (upload_plans.Complete dialect if_absent) came taken asked made is = completion_came _ if_absent came taken asked made is
 part_came _ came taken asked made is = absurd (cc)
 
 came_sent : CameAs sent

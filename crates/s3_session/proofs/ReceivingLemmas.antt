@@ -204,12 +204,12 @@ module _ (settings : Settings) (moment : ℕ) (rest : List ℕ) where
   -- and its client is told to go on, or nothing is said
   admitted_invites : found_in rest ≡ found.Head (length (skip_pairs rest)) → (head : HeadParts) → Says (skip_pairs rest) head
       → (incoming : Incoming) (rule : Result Asked Code) → admission_of settings head moment ≡ rule → IsRuled rule incoming.admission
-      → (invited : Bool) → invited ≡ may_be_invited head incoming.admission.length
+      → (invited : Bool) → invited ≡ may_be_invited settings.dialect head incoming.admission.length
       → Invites settings moment rest (if invited then continue_line else [])
   admitted_invites found head says incoming (Err code) is ruled invited may = absurd ruled
   admitted_invites found head says incoming (Ok asked) is ruled invited may =
       let told = said_invites settings moment false rest (skip_pairs rest) [] head (whole_front found) says in
-      let text : invitation head (admission_of settings head moment) ≡ (if invited then continue_line else []) = rw (is, may, ruled.2) refl in
+      let text : invitation settings.dialect head (admission_of settings head moment) ≡ (if invited then continue_line else []) = rw (is, may, ruled.2) refl in
       subst (Invites settings moment rest) text told
 
   -- a text that is no head
@@ -232,7 +232,7 @@ module _ (settings : Settings) (moment : ℕ) (rest : List ℕ) where
       let front = whole_front found in
       let judged = subst (λ (r : Result Asked Code). AskedJudged settings.dialect head moment false [] r (refused_message code (asks_head_only head))) (sym rule) refl in
       let told = said_invites settings moment false rest (skip_pairs rest) [] head front says in
-      let nothing : invitation head (admission_of settings head moment) ≡ [] = rw rule refl in (
+      let nothing : invitation settings.dialect head (admission_of settings head moment) ≡ [] = rw rule refl in (
         said_judged settings moment false rest (skip_pairs rest) [] head front says (refused_message code (asks_head_only head)) judged,
         subst (Invites settings moment rest) nothing told,
       )

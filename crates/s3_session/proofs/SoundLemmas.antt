@@ -14,7 +14,8 @@ use Rattle.s3_http_heads.specs.BodyLength.{framing_of, length_lines, announced, 
 use Rattle.s3_http_heads.specs.Message.{IsMessage}
 use Rattle.s3_signing.specs.Verdict.{Proved, head_verdict}
 use Rattle.s3_machine.specs.declared.command.Command.{Command}
-use Rattle.s3_requests.specs.Routing.{command_of, route_of}
+use Rattle.s3_requests.specs.Commands.{command_of}
+use Rattle.s3_requests.specs.Routing.{route_of}
 use Rattle.s3_replies.specs.declared.context.Context.{Context}
 use Rattle.s3_session.specs.Verdict as verdicts
 use Rattle.s3_aws_chunked.specs.Verdict as bodies
@@ -65,20 +66,20 @@ admitted_length settings head moment asked is =
     let size = stage_ok (framing_of head settings.body_limit) _ asked is in
     let proved = stage_ok (head_verdict settings head moment) _ asked size.2 in
     let announces = stage_ok (announced_payload settings head size.0 proved.0) _ asked proved.2 in
-    let plan = stage_ok (route_of head) _ asked announces.2 in
+    let plan = stage_ok (route_of settings head) _ asked announces.2 in
     let same : announces.0 ≡ asked.announced = ap (λ (a : Asked). a.announced) (one_value _ asked plan.2) in
     let length_is = announced_size settings head size.0 proved.0 announces.0 announces.1 in
     framed head settings.body_limit size.0 size.1 ∙ ap Some (sym length_is ∙ ap (λ (a : Announced). a.length) same)
 
 -- and asks for what routing plans
 pub admitted_route : (settings : Settings) (head : HeadParts) (moment : ℕ) (asked : Asked)
-    → admission_of settings head moment ≡ Ok asked → route_of head ≡ Ok asked.plan
+    → admission_of settings head moment ≡ Ok asked → route_of settings head ≡ Ok asked.plan
 unfolding admission_of
 admitted_route settings head moment asked is =
     let size = stage_ok (framing_of head settings.body_limit) _ asked is in
     let proved = stage_ok (head_verdict settings head moment) _ asked size.2 in
     let announces = stage_ok (announced_payload settings head size.0 proved.0) _ asked proved.2 in
-    let plan = stage_ok (route_of head) _ asked announces.2 in
+    let plan = stage_ok (route_of settings head) _ asked announces.2 in
     plan.1 ∙ ap Ok (ap (λ (a : Asked). a.plan) (one_value _ asked plan.2))
 
 -- ---- what a sound verdict says

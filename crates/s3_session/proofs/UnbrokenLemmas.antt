@@ -17,7 +17,7 @@ use Rattle.s3_machine.specs.declared.command.Command.TheVariants as commands
 use Rattle.s3_requests.specs.declared.routing.Plan.{Plan}
 use Rattle.s3_requests.specs.declared.routing.Plan.TheVariants as plans
 use Rattle.s3_requests.specs.Laws.{is_unbroken_entry, IsUnbrokenPlan, PlansAreUnbroken}
-use Rattle.s3_requests.specs.Routing.{bucket_command_of, upload_command_of, put_with, command_of}
+use Rattle.s3_requests.specs.Commands.{bucket_command_of, upload_command_of, put_with, command_of}
 use Rattle.s3_machine.specs.declared.command.KeyCommand.TheVariants as key_commands
 use Rattle.s3_machine.specs.Step.{data_of}
 use Rattle.s3_machine.specs.Effects.{Address, begins, brought}
@@ -89,7 +89,7 @@ module _ (law : PlansAreUnbroken) (messages : SoundMessages) (tags : TagsAreUnbr
   sound_unbroken moment bytes rest context command sound =
       let routed = admitted_route settings sound.head moment sound.asks sound.admitted in
       planned tags sound.asks.plan sound.payload command
-      (law sound.message.text sound.head sound.asks.plan sound.message.says routed) sound.asked
+      (law settings sound.message.text sound.head sound.asks.plan sound.message.says routed) sound.asked
 
   no_more : (xs : List Exchange) → map message_of xs ≡ [] → AllByRecursion (λ (x : Exchange). BringsUnbroken x.command) xs
   no_more [] none = tt

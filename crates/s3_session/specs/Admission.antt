@@ -22,5 +22,5 @@ admission_of settings head moment = do
   size ← framing_of head settings.body_limit
   proved ← head_verdict settings head moment
   announced ← announced_payload settings head size proved
-  plan ← route_of head
+  plan ← route_of settings head
   Ok (record { announced = announced; plan = plan })

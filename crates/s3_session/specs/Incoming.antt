@@ -11,7 +11,7 @@ use Rattle.s3_http_heads.specs.Head.{HeadParts, Says, HasNoHead, asks_head_only}
 use Rattle.s3_aws_chunked.specs.Verdict as bodies
 use Rattle.s3_payloads.specs.Reader as payloads
 use Rattle.s3_machine.specs.declared.command.Command.{Command}
-use Rattle.s3_requests.specs.Routing.{command_of}
+use Rattle.s3_requests.specs.Commands.{command_of}
 use Rattle.s3_replies.specs.declared.context.Context.{Context}
 use Rattle.s3_session.specs.Verdict as verdicts
 use Rattle.s3_session.specs.Admission.{Asked, admission_of}
@@ -30,7 +30,7 @@ abbrev pub HeadOpens : Dialect → HeadParts → ℕ → Result Asked Code → O
 HeadOpens dialect head moment rule (opening.Admitted incoming invited) =
     IsRuled rule incoming.admission
     × (incoming.context ≡ context_of dialect head moment)
-    × (invited ≡ may_be_invited head incoming.admission.length)
+    × (invited ≡ may_be_invited dialect head incoming.admission.length)
 HeadOpens dialect head moment rule (opening.Refused code head_only) = (rule ≡ Err code) × (head_only ≡ asks_head_only head)
 HeadOpens dialect head moment rule opening.Died = Unit {0}
 

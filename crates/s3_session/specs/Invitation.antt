@@ -2,6 +2,8 @@
 use Rattle.std.specs.Prelude.{◌≡◌, ◌⊎◌, ℕ, Bool, false, ◌&&◌, nat_lt, if◌then◌else◌, List, [], Result, Ok, Err}
 use Rattle.s3_config.specs.Settings.{Settings}
 use Rattle.s3_terms.specs.declared.code.Code.{Code}
+use Rattle.s3_terms.specs.declared.dialect.Dialect.{Dialect}
+use Rattle.s3_terms.specs.declared.dialect.Dialect.TheVariants.{Json, S3}
 use Rattle.s3_http_heads.specs.Find.{found_in}
 use Rattle.s3_http_heads.specs.declared.find.Found.{Found}
 use Rattle.s3_http_heads.specs.declared.find.Found.TheVariants as found
@@ -10,24 +12,25 @@ use Rattle.s3_replies.specs.Replies.{continue_line}
 use Rattle.s3_session.specs.Admission.{Asked, admission_of}
 use Rattle.s3_session.specs.Decision.{text_at}
 
--- the client waits to be told to go on, with a body of so many bytes, which isn't empty
-abbrev pub may_be_invited : HeadParts → ℕ → Bool
-may_be_invited head size = expects_continue head && nat_lt 0 size
+-- the client waits to be told to go on, with a body of so many bytes; where documents are JSON, only with one that isn't empty
+abbrev pub may_be_invited : Dialect → HeadParts → ℕ → Bool
+may_be_invited Json head size = expects_continue head && nat_lt 0 size
+may_be_invited S3 head size = expects_continue head
 
 -- it is told so where nothing refuses the head
-abbrev pub is_invited : HeadParts → Result Asked Code → Bool
-is_invited head (Err code) = false
-is_invited head (Ok asked) = may_be_invited head asked.announced.length
+abbrev pub is_invited : Dialect → HeadParts → Result Asked Code → Bool
+is_invited dialect head (Err code) = false
+is_invited dialect head (Ok asked) = may_be_invited dialect head asked.announced.length
 
-abbrev pub invitation : HeadParts → Result Asked Code → List ℕ
-invitation head rule = if is_invited head rule then continue_line else []
+abbrev pub invitation : Dialect → HeadParts → Result Asked Code → List ℕ
+invitation dialect head rule = if is_invited dialect head rule then continue_line else []
 
 abbrev pub FoundInvites : Settings → ℕ → List ℕ → Found → List ℕ → Type 0
 FoundInvites settings moment bytes found.NeedMore text = text ≡ []
 FoundInvites settings moment bytes found.TooLarge text = text ≡ []
 FoundInvites settings moment bytes (found.Head n) text =
     (HasNoHead (text_at n bytes) × (text ≡ []))
-    ⊎ ((head : HeadParts) × Says (text_at n bytes) head × (text ≡ invitation head (admission_of settings head moment)))
+    ⊎ ((head : HeadParts) × Says (text_at n bytes) head × (text ≡ invitation settings.dialect head (admission_of settings head moment)))
 
 -- this is written before the body of the message at the front of the bytes is read: a line, or nothing
 unfoldable pub Invites : Settings → ℕ → List ℕ → List ℕ → Type 0

@@ -10,7 +10,7 @@ use Rattle.s3_http_heads.specs.Message.{IsMessage}
 use Rattle.s3_aws_chunked.specs.Verdict.{Accepted}
 use Rattle.s3_payloads.specs.Verdict as payloads
 use Rattle.s3_machine.specs.declared.command.Command.{Command}
-use Rattle.s3_requests.specs.Routing.{command_of}
+use Rattle.s3_requests.specs.Commands.{command_of}
 use Rattle.s3_replies.specs.declared.context.Context.{Context}
 use Rattle.s3_session.specs.Verdict.{Verdict}
 use Rattle.s3_session.specs.Verdict as verdicts

@@ -10,7 +10,7 @@ use Rattle.s3_versions.specs.declared.version.Data.{Data}
 use Rattle.s3_uploads.specs.declared.listed.ListedPart.{ListedPart}
 use Rattle.s3_records.specs.Catalogue.{opening}
 use Rattle.s3_conditions.specs.declared.conditions.Selection.{Selection}
-use Rattle.s3_conditions.specs.declared.conditions.Selection.TheVariants.{Whole, Part, Unchanged}
+use Rattle.s3_conditions.specs.declared.conditions.Selection.TheVariants.{Whole, Part, Unchanged, Outside}
 use Rattle.s3_conditions.specs.Conditions.{judged}
 use Rattle.s3_machine.specs.declared.command.Command.{Command}
 use Rattle.s3_machine.specs.Step.{State}
@@ -44,6 +44,7 @@ abbrev pub Shows : Selection → List ℕ → List ℕ → Type 0
 Shows Whole body reply = Carries body reply
 Shows (Part first last) body reply = CarriesPart first last body reply
 Shows Unchanged body reply = ⊥
+Shows Outside body reply = ⊥
 
 -- the message puts these bytes under the address, and its reply tells of success
 pub record Wrote (address : Address) (body : List ℕ) (x : Exchange) : Type 0 where

@@ -52,7 +52,7 @@ pub fn admit(
     let verified = verify_head(alloc, config, head, moment, &mut signer.key)?;
     signer.is_verified = true;
     let reader = PayloadReader::new(alloc, config, head, length, verified)?;
-    let plan = route(alloc, head)?;
+    let plan = route(alloc, config, head)?;
     Ok(Admission {
         length,
         reader,

@@ -4,7 +4,7 @@ ghost use Rattle.std.specs.Prelude.{◌≡◌, ◌≢◌, ◌⊎◌, ◌<◌, �
 ghost use Rattle.s3_config.specs.Settings.{Settings};
 ghost use Rattle.s3_payloads.specs.Form.{Announced};
 ghost use Rattle.s3_payloads.specs.Reader.{Stands, taken_of, verdict_of};
-ghost use Rattle.s3_requests.specs.Routing.{command_of};
+ghost use Rattle.s3_requests.specs.Commands.{command_of};
 ghost use Rattle.s3_session.specs.Decision.{Judges, open_yet};
 ghost use Rattle.s3_session.specs.Incoming as rules;
 

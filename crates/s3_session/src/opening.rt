@@ -14,7 +14,7 @@ use s3_calendar::Moment;
 use s3_config::Config;
 use s3_http_heads::{Head, texts_say_one_thing};
 use s3_replies::Context;
-use s3_terms::{Code, NoMemory};
+use s3_terms::{Code, Dialect, NoMemory};
 use std::alloc::Global;
 
 // What comes of a whole head.
@@ -71,7 +71,7 @@ fn open_head(
 {
     match admit(alloc, config, head, moment, signer) {
         Ok(admission) => {
-            let invited = may_be_invited(head, admission.length);
+            let invited = may_be_invited(config.dialect(), head, admission.length);
             let context = context_of(config, head, moment);
             admitted(alloc, Incoming { admission, context }, invited)
         }
@@ -93,11 +93,14 @@ fn admitted(alloc: Global, incoming: Incoming, invited: bool) -> Opening
     }
 }
 
-// Whether the client waits to be told to send a body of so many bytes.
-fn may_be_invited(head: &Head, length: u64) -> bool
-    ensures { result ≡ may_be_invited head.now length }
+// Whether the client waits to be told to send a body of so many bytes. Clients of S3 wait also before an empty one.
+fn may_be_invited(dialect: Dialect, head: &Head, length: u64) -> bool
+    ensures { result ≡ may_be_invited dialect head.now length }
 {
-    head.expects_continue() && length > 0
+    match dialect {
+        Dialect::Json => head.expects_continue() && length > 0,
+        Dialect::S3 => head.expects_continue(),
+    }
 }
 
 // What a reply takes from a message with this head.

@@ -52,14 +52,14 @@ may_enter s now n name v same may = subst (λ s. MayEnter s n name v) (sym same)
 
 -- ---- reads
 
-module _ (s now : State) (name key : List ℕ) (asked : ObjectRead) (facts : Result Facts Refusal) (chosen : Result Selection Refusal) where
+module _ (s now : State) (name key : List ℕ) (asked : ObjectRead) (facts : Result Facts Refusal) (chosen : Result Selection Outcome) where
   -- what is told of the version, and what is chosen of it
   pub record IsChosen : Type 0 where
     pub told : facts ≡ facts_read (pick asked.version (versions_of s name key))
     pub is : chosen ≡ selected_by asked.conditions facts
     pub same : now ≡ s
 
-  chosen_as : IsChosen → (r : Result Selection Refusal) → chosen ≡ r → selected_by asked.conditions (facts_read (pick asked.version (versions_of s name key))) ≡ r
+  chosen_as : IsChosen → (r : Result Selection Outcome) → chosen ≡ r → selected_by asked.conditions (facts_read (pick asked.version (versions_of s name key))) ≡ r
   chosen_as h r is = ap (selected_by asked.conditions) (sym h.told) ∙ sym h.is ∙ is
 
   pub read_told : IsChosen → (after : State) (v : Versioning) (selection : Selection) (read : Result (Found (List ℕ)) Refusal) (outcome : Outcome)
@@ -67,9 +67,9 @@ module _ (s now : State) (name key : List ℕ) (asked : ObjectRead) (facts : Res
       → (n t : ℕ) → key_step s n t name key (key_commands.Read asked) ≡ (after, outcome)
   read_told h after v selection read outcome is of reads same got n t = let step = read_shown s n t name key asked selection (chosen_as h (Ok selection) is) in cc
 
-  pub read_fails : IsChosen → (refusal : Refusal) (outcome : Outcome) → chosen ≡ Err refusal → outcome ≡ outcomes.Refused refusal.code refusal.is_delete_marker
+  pub read_fails : IsChosen → (outcome : Outcome) → chosen ≡ Err outcome
       → (n t : ℕ) → key_step s n t name key (key_commands.Read asked) ≡ (now, outcome)
-  read_fails h refusal outcome is refused n t = let step = read_refused s n t name key asked refusal (chosen_as h (Err refusal) is) in cc
+  read_fails h outcome is n t = let step = read_refused s n t name key asked outcome (chosen_as h (Err outcome) is) in cc
 
   pub read_unrefused : IsChosen → (selection : Selection) → chosen ≡ Ok selection → (n t : ℕ) → is_refused (key_step s n t name key (key_commands.Read asked)).1 ≡ false
   read_unrefused h selection is n t = read_accepted s n t name key asked selection (chosen_as h (Ok selection) is)

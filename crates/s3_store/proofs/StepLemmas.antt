@@ -6,6 +6,7 @@ use Rattle.s3_terms.specs.declared.code.Code.TheVariants.{NoSuchBucket, Precondi
 use Rattle.s3_names.specs.declared.ids.VersionId.{VersionId}
 use Rattle.s3_conditions.specs.declared.conditions.Conditions.{Conditions}
 use Rattle.s3_conditions.specs.declared.conditions.Selection.{Selection}
+use Rattle.s3_conditions.specs.declared.conditions.Selection.TheVariants.{Whole, Part, Unchanged, Outside}
 use Rattle.s3_versions.specs.declared.picking.Refusal.{Refusal}
 use Rattle.s3_versions.specs.declared.version.Content.{Content}
 use Rattle.s3_versions.specs.declared.version.Content.TheVariants.{DeleteMarker, Stored}
@@ -26,11 +27,12 @@ use Rattle.s3_machine.specs.declared.command.ObjectCopy.{ObjectCopy}
 use Rattle.s3_machine.specs.declared.command.ObjectPut.{ObjectPut}
 use Rattle.s3_machine.specs.declared.command.ObjectRead.{ObjectRead}
 use Rattle.s3_machine.specs.declared.command.Source.{Source}
+use Rattle.s3_machine.specs.declared.command.Outcome.{Outcome}
 use Rattle.s3_machine.specs.declared.command.Outcome.TheVariants as outcomes
 use Rattle.s3_terms.specs.Fault.{◌>>◌, ◌>>=◌}
 use Rattle.s3_machine.specs.Fault.{refuse}
-use Rattle.s3_machine.specs.Step.{State, step, is_taken, data_of, copied, data_read, key_done, done, Stepped, stepped, found_in, shown_by}
-use Rattle.s3_store.specs.Steps.{bucket_step, key_step, put_step, copy_step, copied_as, data_found, read_as_found, selected_by, got_of}
+use Rattle.s3_machine.specs.Step.{State, step, is_taken, data_of, copied, data_read, key_done, done, Stepped, stepped, found_in, outcome_shown, shown_by}
+use Rattle.s3_store.specs.Steps.{bucket_step, key_step, put_step, copy_step, copied_as, data_found, read_as_found, selected_of, selected_by, got_of}
 
 -- a bucket that is there tells its versioning
 abbrev told_versioning : Option BucketFacts → Versioning
@@ -60,26 +62,44 @@ Read = Version (List ℕ) × Data (List ℕ)
 -- what a rule answers that shows what conditions select of a version
 abbrev showing : State → Versioning → Conditions → Result Read Refusal → Result Stepped Refusal
 showing s v conditions read =
-    read >>= (λ r. shown_by conditions (version_facts r) >>= (λ selection. Ok (s, outcomes.Got (found_in v r) selection)))
+    read >>= (λ r. shown_by conditions (version_facts r) >>= (λ selection. Ok (s, outcome_shown (found_in v r) selection)))
+
+-- what is shown of its bytes
+shows_chosen : (s : State) (v : Versioning) (read : Read) (chosen : Result Selection Refusal) (selection : Selection)
+    → selected_of (version_facts read) chosen ≡ Ok selection
+    → stepped s (chosen >>= (λ c. Ok (s, outcome_shown (found_in v read) c))) ≡ (s, outcomes.Got (found_in v read) selection)
+shows_chosen s v read (Ok Whole) selection selects = cc
+shows_chosen s v read (Ok (Part first last)) selection selects = cc
+shows_chosen s v read (Ok Unchanged) selection selects = cc
+shows_chosen s v read (Ok Outside) selection selects = absurd (cc)
+shows_chosen s v read (Err refusal) selection selects = absurd (cc)
+
+-- and what comes of a read that shows none of them
+tells_chosen : (s : State) (v : Versioning) (read : Read) (chosen : Result Selection Refusal) (outcome : Outcome)
+    → selected_of (version_facts read) chosen ≡ Err outcome
+    → stepped s (chosen >>= (λ c. Ok (s, outcome_shown (found_in v read) c))) ≡ (s, outcome)
+tells_chosen s v read (Ok Whole) outcome selects = absurd (cc)
+tells_chosen s v read (Ok (Part first last)) outcome selects = absurd (cc)
+tells_chosen s v read (Ok Unchanged) outcome selects = absurd (cc)
+tells_chosen s v read (Ok Outside) outcome selects = cc
+tells_chosen s v read (Err refusal) outcome selects = cc
 
 shows : (s : State) (v : Versioning) (conditions : Conditions) (read : Result Read Refusal) (selection : Selection)
     → selected_by conditions (facts_read read) ≡ Ok selection
     → stepped s (showing s v conditions read) ≡ (s, got_of selection (read_as_found v read))
-shows s v conditions (Ok read) selection selects =
-    ap (λ (r : Result Selection Refusal). stepped s (r >>= (λ chosen. Ok (s, outcomes.Got (found_in v read) chosen)))) selects
+shows s v conditions (Ok read) selection selects = shows_chosen s v read (shown_by conditions (version_facts read)) selection selects
 shows s v conditions (Err refusal) selection selects = absurd (cc)
 
-refuses : (s : State) (v : Versioning) (conditions : Conditions) (read : Result Read Refusal) (refusal : Refusal)
-    → selected_by conditions (facts_read read) ≡ Err refusal
-    → stepped s (showing s v conditions read) ≡ (s, outcomes.Refused refusal.code refusal.is_delete_marker)
-refuses s v conditions (Ok read) refusal selects =
-    ap (λ (r : Result Selection Refusal). stepped s (r >>= (λ chosen. Ok (s, outcomes.Got (found_in v read) chosen)))) selects
-refuses s v conditions (Err other) refusal selects = cc
+refuses : (s : State) (v : Versioning) (conditions : Conditions) (read : Result Read Refusal) (outcome : Outcome)
+    → selected_by conditions (facts_read read) ≡ Err outcome
+    → stepped s (showing s v conditions read) ≡ (s, outcome)
+refuses s v conditions (Ok read) outcome selects = tells_chosen s v read (shown_by conditions (version_facts read)) outcome selects
+refuses s v conditions (Err refusal) outcome selects = cc
 
 accepts : (s : State) (v : Versioning) (conditions : Conditions) (read : Result Read Refusal) (selection : Selection)
     → selected_by conditions (facts_read read) ≡ Ok selection → is_refused (stepped s (showing s v conditions read)).1 ≡ false
 accepts s v conditions (Ok read) selection selects =
-    ap (λ (r : Result Selection Refusal). is_refused (stepped s (r >>= (λ chosen. Ok (s, outcomes.Got (found_in v read) chosen)))).1) selects
+    ap (λ (st : Stepped). is_refused st.1) (shows_chosen s v read (shown_by conditions (version_facts read)) selection selects)
 accepts s v conditions (Err refusal) selection selects = absurd (cc)
 
 module _ (s : State) (n t : ℕ) (name key : List ℕ) (asked : ObjectRead) where
@@ -89,11 +109,11 @@ module _ (s : State) (n t : ℕ) (name key : List ℕ) (asked : ObjectRead) wher
   unfolding key_done
   read_shown selection = shows s (versioning_of s name) asked.conditions (pick asked.version (versions_of s name key)) selection
 
-  pub read_refused : (refusal : Refusal)
-      → selected_by asked.conditions (facts_read (pick asked.version (versions_of s name key))) ≡ Err refusal
-      → key_step s n t name key (key_commands.Read asked) ≡ (s, outcomes.Refused refusal.code refusal.is_delete_marker)
+  pub read_refused : (outcome : Outcome)
+      → selected_by asked.conditions (facts_read (pick asked.version (versions_of s name key))) ≡ Err outcome
+      → key_step s n t name key (key_commands.Read asked) ≡ (s, outcome)
   unfolding key_done
-  read_refused refusal = refuses s (versioning_of s name) asked.conditions (pick asked.version (versions_of s name key)) refusal
+  read_refused outcome = refuses s (versioning_of s name) asked.conditions (pick asked.version (versions_of s name key)) outcome
 
   pub read_accepted : (selection : Selection)
       → selected_by asked.conditions (facts_read (pick asked.version (versions_of s name key))) ≡ Ok selection

@@ -6,6 +6,7 @@ use Rattle.s3_terms.specs.declared.code.Code.TheVariants.{NoSuchUpload, Precondi
 use Rattle.s3_versions.specs.Codes.{coded_bytes}
 use Rattle.s3_conditions.specs.declared.conditions.Conditions.{Conditions}
 use Rattle.s3_conditions.specs.declared.conditions.Selection.{Selection}
+use Rattle.s3_conditions.specs.declared.conditions.Selection.TheVariants.{Outside}
 use Rattle.s3_versions.specs.declared.picking.Facts.{Facts}
 use Rattle.s3_versions.specs.declared.picking.Refusal.{Refusal}
 use Rattle.s3_versions.specs.declared.version.Data.{Data}
@@ -65,10 +66,16 @@ abbrev pub read_as_found : {B : Type 0} → Versioning → Result (Version B × 
 read_as_found versioning (Ok read) = Ok (found_in versioning read)
 read_as_found versioning (Err refusal) = Err refusal
 
--- what is shown of a version that is read, by conditions and by what is known of it
-abbrev pub selected_by : Conditions → Result Facts Refusal → Result Selection Refusal
-selected_by conditions (Ok facts) = shown_by conditions facts
-selected_by conditions (Err refusal) = Err refusal
+-- what is shown of the bytes of a version of which this is known, or what comes of a read that shows none of them
+abbrev pub selected_of : Facts → Result Selection Refusal → Result Selection Outcome
+selected_of facts (Ok Outside) = Err (outcomes.OutOfRange facts.size)
+selected_of facts (Ok selection) = Ok selection
+selected_of facts (Err refusal) = Err (outcomes.Refused refusal.code refusal.is_delete_marker)
+
+-- the same of a version that is read, by conditions and by what is known of it
+abbrev pub selected_by : Conditions → Result Facts Refusal → Result Selection Outcome
+selected_by conditions (Ok facts) = selected_of facts (shown_by conditions facts)
+selected_by conditions (Err refusal) = Err (outcomes.Refused refusal.code refusal.is_delete_marker)
 
 -- what came of a read that is shown this
 abbrev pub got_of : Selection → Result (Found (List ℕ)) Refusal → Outcome

@@ -209,23 +209,22 @@ fn read<R: Records>(
             let read = look(records, alloc, bucket, versioning, key, asked.version)?;
             Ok(got(read, selection))
         }
-        Err(refusal) => Ok(refused_with(refusal)),
+        Err(outcome) => Ok(outcome),
     }
 }
 
-// What is shown of a version that is read, or the refusal, by the conditions of the read.
-fn selected(facts: Result<Facts, Refusal>, conditions: &Conditions) -> Result<Selection, Refusal>
+// What is shown of the bytes of a version that is read, by the conditions of the read, or what comes of a read that shows
+// none of them and needs no look at them.
+fn selected(facts: Result<Facts, Refusal>, conditions: &Conditions) -> Result<Selection, Outcome>
     ensures { result ≡ selected_by conditions.now facts }
 {
     match facts {
         Ok(facts) => match judge(conditions, facts.moment, &facts.tag, facts.size) {
+            Ok(Selection::Outside) => Err(Outcome::OutOfRange { size: facts.size }),
             Ok(selection) => Ok(selection),
-            Err(code) => Err(Refusal {
-                code,
-                is_delete_marker: false,
-            }),
+            Err(code) => Err(refused(code)),
         },
-        Err(refusal) => Err(refusal),
+        Err(refusal) => Err(refused_with(refusal)),
     }
 }
 

@@ -4,4 +4,4 @@
 
 mod settings;
 
-pub use settings::{ID, SECRET, config};
+pub use settings::{ID, SECRET, config, config_in};

@@ -50,8 +50,20 @@ pub fn config(
     body_limit: u64,
     buckets: &[&[u8]],
 ) -> Option<Config> {
+    config_in(alloc, Dialect::Json, region, min_part, body_limit, buckets)
+}
+
+/// The same, with documents of this dialect.
+pub fn config_in(
+    alloc: Global,
+    dialect: Dialect,
+    region: &[u8],
+    min_part: u64,
+    body_limit: u64,
+    buckets: &[&[u8]],
+) -> Option<Config> {
     let region = Vec::from_slice(alloc, region).ok()?;
     let keys = keys(alloc)?;
     let names = names(alloc, buckets)?;
-    Config::new(region, keys, min_part, body_limit, names, Dialect::Json)
+    Config::new(region, keys, min_part, body_limit, names, dialect)
 }

@@ -2,21 +2,22 @@
 use crate::checks::check;
 use crate::requests::asked::{Told, is_told, word};
 use crate::requests::operations;
+use crate::requests::plans::routed;
 use s3_bodies::{Payload, PayloadBuilder, Sink};
 use s3_http_heads::Head;
-use s3_requests::{Command, Plan, command, route};
-use s3_terms::Code;
+use s3_requests::{Command, Plan, command};
+use s3_terms::{Code, Dialect};
 use std::alloc::Global;
 
 // The version behind a method and a target, and the lines that every head has.
 const LINES: &[u8] = b" HTTP/1.1\r\ncontent-type: text/plain\r\nx-amz-meta-colour: red\r\n";
 
 // What a request of this method and target asks for, whose head has also the lines that stand behind a line feed.
-fn plan_of(alloc: Global, line: &str) -> Result<Plan, Code> {
+fn plan_of(alloc: Global, dialect: Dialect, line: &str) -> Result<Plan, Code> {
     let (line, more) = line.split_once('\n').unwrap_or((line, ""));
     let text = [line.as_bytes(), LINES, more.as_bytes(), b"\r\n"].concat(alloc)?;
     let head = Head::read(alloc, &text)?;
-    let plan = route(alloc, &head);
+    let plan = routed(alloc, dialect, &head);
     drop(head);
     plan
 }
@@ -34,9 +35,14 @@ fn planned(alloc: Global, plan: Plan, body: &[u8]) -> Result<Command, Code> {
 }
 
 /// The command of a request with this method and target, and this body. It says that its body is text, and has one name of
-/// metadata, `colour`, with the value `red`, and the lines that stand behind a line feed.
-pub(crate) fn command_of(alloc: Global, line: &str, body: &[u8]) -> Result<Command, Code> {
-    planned(alloc, plan_of(alloc, line)?, body)
+/// metadata, `colour`, with the value `red`, and the lines that stand behind a line feed. Documents are of this dialect.
+pub(crate) fn command_of(
+    alloc: Global,
+    dialect: Dialect,
+    line: &str,
+    body: &[u8],
+) -> Result<Command, Code> {
+    planned(alloc, plan_of(alloc, dialect, line)?, body)
 }
 
 /// The method and target of a request, and the body behind the first `<`, if there is one.
@@ -45,16 +51,16 @@ pub(crate) fn cut(asked: &str) -> (&str, &str) {
 }
 
 // What a request asks for with this body.
-fn command_text(alloc: Global, line: &str, body: &[u8]) -> Told {
-    let command = command_of(alloc, line, body)?;
+fn command_text(alloc: Global, dialect: Dialect, line: &str, body: &[u8]) -> Told {
+    let command = command_of(alloc, dialect, line, body)?;
     let text = operations::command_text(&command);
     drop(command);
     word(alloc, text)
 }
 
 // Whether the request asks for that with this body.
-fn is_asked(alloc: Global, line: &str, body: &[u8], wanted: &str) -> bool {
-    is_told(&command_text(alloc, line, body), wanted.as_bytes())
+fn is_asked(alloc: Global, dialect: Dialect, line: &str, body: &[u8], wanted: &str) -> bool {
+    is_told(&command_text(alloc, dialect, line, body), wanted.as_bytes())
 }
 
 // Requests, and what they ask for. A `^` stands between two rows.
@@ -102,28 +108,75 @@ const UPLOADS: &str = "\
     POST /pail/k?uploadId=u0000000000000000<{\"Parts\":[{\"ETag\":\"a\",\"PartNumber\":0},{\"PartNumber\":1}]}|MalformedBody^\
     POST /pail/k?uploadId=u0000000000000000<{\"Parts\":[{\"ETag\":\"a\",\"PartNumber\":\"1\"}]}|MalformedBody";
 
+// What is asked where documents are XML (Amazon S3 API Reference, the request syntax of each operation).
+const IN_XML: &str = "\
+    PUT /pail|CreateBucket^\
+    PUT /pail<<CreateBucketConfiguration xmlns=\"http://s3.amazonaws.com/doc/2006-03-01/\"><LocationConstraint>us-east-1</LocationConstraint></CreateBucketConfiguration>|CreateBucket^\
+    PUT /pail<<CreateBucketConfiguration><LocationConstraint></LocationConstraint></CreateBucketConfiguration>|CreateBucket^\
+    PUT /pail<<CreateBucketConfiguration/>|CreateBucket^\
+    PUT /pail<<CreateBucketConfiguration><LocationConstraint>eu-west-1</LocationConstraint></CreateBucketConfiguration>|InvalidLocationConstraint^\
+    PUT /pail<<VersioningConfiguration/>|MalformedXML^\
+    PUT /pail<hello|MalformedXML^\
+    PUT /pail?versioning<<VersioningConfiguration xmlns=\"http://s3.amazonaws.com/doc/2006-03-01/\"><Status>Enabled</Status></VersioningConfiguration>|PutBucketVersioning Enabled^\
+    PUT /pail?versioning<<a:VersioningConfiguration>\n<a:MfaDelete/>\n<a:Status>Enabled</a:Status><Status><![CDATA[Susp]]>ended</Status></a:VersioningConfiguration>\n|PutBucketVersioning Suspended^\
+    PUT /pail?versioning|MalformedXML^\
+    PUT /pail?versioning<{\"Status\":\"Enabled\"}|MalformedXML^\
+    PUT /pail?versioning<<VersioningConfiguration><Status>enabled</Status></VersioningConfiguration>|MalformedXML^\
+    PUT /pail?versioning<<Status>Enabled</Status>|MalformedXML^\
+    POST /pail/k?uploadId=u0000000000000000<<CompleteMultipartUpload xmlns=\"http://s3.amazonaws.com/doc/2006-03-01/\"><Part><ETag>&quot;5d41402abc4b2a76b9719d911017c592&quot;</ETag><PartNumber> 1\n</PartNumber></Part></CompleteMultipartUpload>|CompleteMultipartUpload hello^\
+    POST /pail/k?uploadId=u0000000000000000<<CompleteMultipartUpload><Part><PartNumber>10000</PartNumber><ETag/></Part><Part><PartNumber>1</PartNumber><ETag>b</ETag></Part></CompleteMultipartUpload>|CompleteMultipartUpload^\
+    POST /pail/k?uploadId=u0000000000000000<<CompleteMultipartUpload><Part><PartNumber>0</PartNumber><ETag>a</ETag></Part></CompleteMultipartUpload>|InvalidArgument^\
+    POST /pail/k?uploadId=u0000000000000000<<CompleteMultipartUpload><Part><PartNumber>10001</PartNumber><ETag>a</ETag></Part></CompleteMultipartUpload>|InvalidArgument^\
+    POST /pail/k?uploadId=u0000000000000000<<CompleteMultipartUpload><Part><PartNumber>0</PartNumber><ETag>a</ETag></Part><Part><ETag>a</ETag></Part></CompleteMultipartUpload>|MalformedXML^\
+    POST /pail/k?uploadId=u0000000000000000<<CompleteMultipartUpload/>|MalformedXML^\
+    POST /pail/k?uploadId=u0000000000000000<<CompleteMultipartUpload><Part><PartNumber>1</PartNumber><ETag>a</ETag></Part>|MalformedXML^\
+    POST /pail/k?uploadId=u0000000000000000<{\"Parts\":[{\"ETag\":\"a\",\"PartNumber\":1}]}|MalformedXML^\
+    GET /pail?list-type=2&encoding-type=url&fetch-owner=true|ListObjectsV2^\
+    GET /pail?list-type=2&encoding-type=URL|InvalidArgument^\
+    GET /pail?versions&encoding-type|InvalidArgument^\
+    GET /pail?uploads&encoding-type=utf8|InvalidArgument";
+
+// JSON has no other spelling of keys, and no bucket in another region.
+const IN_JSON: &str = "\
+    GET /pail?list-type=2&encoding-type=utf8|ListObjectsV2^\
+    PUT /pail<<CreateBucketConfiguration><LocationConstraint>eu-west-1</LocationConstraint></CreateBucketConfiguration>|CreateBucket";
+
+// Tables, and the dialect of each.
+const TABLES: [(Dialect, &str); 4] = [
+    (Dialect::Json, ROWS),
+    (Dialect::Json, UPLOADS),
+    (Dialect::Json, IN_JSON),
+    (Dialect::S3, IN_XML),
+];
+
 // Whether a row holds; `None` says that it has no bar.
-fn holds(alloc: Global, row: &str) -> Option<bool> {
+fn holds(alloc: Global, dialect: Dialect, row: &str) -> Option<bool> {
     let (asked, wanted) = row.split_once('|')?;
     let (line, body) = cut(asked);
-    Some(is_asked(alloc, line, body.as_bytes(), wanted))
+    Some(is_asked(alloc, dialect, line, body.as_bytes(), wanted))
 }
 
 // A document that is no text.
 const NO_TEXT: &[u8] = b"{\"Status\":\"Enabled\",\"a\":\"\xff\"}";
 
-// PutBucketVersioning and CompleteMultipartUpload alone read a document, and PutObject and UploadPart keep the body; nothing
-// else looks at it.
+// Whether the document that is no text is refused so.
+fn is_no_document(alloc: Global, dialect: Dialect, wanted: &str) -> bool {
+    is_asked(alloc, dialect, "PUT /pail?versioning", NO_TEXT, wanted)
+}
+
+// PutBucketVersioning, CompleteMultipartUpload and, in XML, CreateBucket alone read a document, and PutObject and UploadPart
+// keep the body; nothing else looks at it.
 #[test]
 fn bodies_of_commands(rt: HostRuntime) {
-    for rows in [ROWS, UPLOADS] {
+    for (dialect, rows) in TABLES {
         for row in rows.split('^') {
-            check(&rt, holds(rt.alloc(), row) == Some(true), row);
+            check(&rt, holds(rt.alloc(), dialect, row) == Some(true), row);
         }
     }
     check(
         &rt,
-        is_asked(rt.alloc(), "PUT /pail?versioning", NO_TEXT, "MalformedBody"),
+        is_no_document(rt.alloc(), Dialect::Json, "MalformedBody")
+            && is_no_document(rt.alloc(), Dialect::S3, "MalformedXML"),
         "a document that is no text",
     );
 }

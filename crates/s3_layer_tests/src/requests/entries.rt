@@ -4,9 +4,10 @@
 //! 1970. A row has a method and a target, a line feed and more lines of the head, if there are more, the body behind a `<`, a
 //! bar, and what is answered. A semicolon stands between two rows: one text costs less to prove than a table.
 //!
-//! Answered are words and `-` where no id is shown: `stored`, the id and the tag; `got` and `head`, the id, the number of
-//! the put, the tag, and the bytes or their count; `part` and the tag; `completed`, the id, the tag and the document; `deleted`
-//! and the id, or a refusal, and `marker` where it tells of a delete marker. Tags are those of md5sum.
+//! Answered are words and `-` where no id is shown: `stored`, the id and the tag; `got`, the id, the number of the put, the
+//! tag, and the bytes or the part that is shown; `out of range` and how many bytes there are; `part` and the tag; `completed`,
+//! the id, the tag and the document; `deleted` and the id, or a refusal, and `marker` where it tells of a delete marker.
+//! Tags are those of md5sum.
 
 // A bucket that was never versioned ("How S3 Versioning works"): each put replaces its key alone, and a delete leaves
 // nothing.
@@ -30,7 +31,9 @@ pub(crate) const UNVERSIONED: &str = "\
     DELETE /pail/k|deleted -;\
     DELETE /pail/j?versionId=null|deleted -;\
     HEAD /pail/j|NoSuchKey;\
-    GET /vat/k|got - 2 5d41402abc4b2a76b9719d911017c592 hello";
+    GET /vat/k|got - 2 5d41402abc4b2a76b9719d911017c592 hello;\
+    GET /vat/k\nrange: bytes=-2\r\n|got - 2 5d41402abc4b2a76b9719d911017c592 3-4;\
+    GET /vat/k\nrange: bytes=5-\r\n|out of range 5";
 
 // Versions of their own, and delete markers, which can be deleted ("Working with delete markers").
 pub(crate) const ENABLED: &str = "\

@@ -17,10 +17,10 @@ use std::alloc::Global;
 // The operation on a bucket.
 fn bucket_operation(asked: &BucketPlan) -> &'static str {
     match asked {
-        BucketPlan::Create => "CreateBucket",
+        BucketPlan::Create { .. } => "CreateBucket",
         BucketPlan::Head => "HeadBucket",
         BucketPlan::Delete => "DeleteBucket",
-        BucketPlan::PutVersioning => "PutBucketVersioning",
+        BucketPlan::PutVersioning { .. } => "PutBucketVersioning",
         BucketPlan::GetVersioning => "GetBucketVersioning",
         BucketPlan::ListObjects(_) => "ListObjectsV2",
         BucketPlan::ListVersions(_) => "ListObjectVersions",
@@ -151,7 +151,7 @@ fn with_part(alloc: Global, text: &[u8], asked: &UploadPlan) -> Told {
             let text = with_number(alloc, text, asked.marker)?;
             with_number(alloc, &text, u64::from(asked.max_parts))
         }
-        UploadPlan::Complete { if_absent } => with_absence(alloc, text, *if_absent),
+        UploadPlan::Complete { if_absent, .. } => with_absence(alloc, text, *if_absent),
         _ => Ok(Vec::from_slice(alloc, text)?),
     }
 }
@@ -309,6 +309,7 @@ fn selection_text(alloc: Global, selection: Selection) -> Told {
             .concat(alloc)?)
         }
         Selection::Unchanged => word(alloc, "unchanged"),
+        Selection::Outside => word(alloc, "outside"),
     }
 }
 
@@ -389,6 +390,7 @@ pub(crate) fn outcome_text(alloc: Global, outcome: Outcome) -> Told {
         } => completed_text(alloc, document, &tag, shown),
         Outcome::UploadDropped => word(alloc, "upload dropped"),
         Outcome::Got { found, selection } => got_text(alloc, &found, selection),
+        Outcome::OutOfRange { size } => joined(alloc, b"out of range ", &number(alloc, size)?),
         Outcome::Deleted {
             shown,
             is_delete_marker,

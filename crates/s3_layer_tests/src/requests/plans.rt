@@ -5,13 +5,22 @@ use crate::requests::operations::{operation, plan_text};
 use crate::requests::targets::push_line;
 use s3_http_heads::Head;
 use s3_requests::{KeyCommand, Plan, route};
-use s3_terms::Code;
+use s3_terms::{Code, Dialect};
+use s3_test_servers::config_in;
 use s3_versions::{ContentType, Metadata};
 use std::alloc::Global;
 
+/// What the head asks of a server in `us-east-1` whose documents are of this dialect.
+pub(crate) fn routed(alloc: Global, dialect: Dialect, head: &Head) -> Result<Plan, Code> {
+    match config_in(alloc, dialect, b"us-east-1", 5, 100, &[]) {
+        Some(config) => route(alloc, &config, head),
+        None => Err(Code::InternalError),
+    }
+}
+
 /// What the head asks for.
 pub(crate) fn route_text(alloc: Global, head: &Head) -> Told {
-    let plan = route(alloc, head)?;
+    let plan = routed(alloc, Dialect::Json, head)?;
     let text = plan_text(alloc, &plan);
     drop(plan);
     text
@@ -19,7 +28,7 @@ pub(crate) fn route_text(alloc: Global, head: &Head) -> Told {
 
 /// The operation that the head asks for.
 pub(crate) fn operation_text(alloc: Global, head: &Head) -> Told {
-    let plan = route(alloc, head)?;
+    let plan = routed(alloc, Dialect::Json, head)?;
     let operation = operation(&plan);
     drop(plan);
     word(alloc, operation)
@@ -51,7 +60,7 @@ fn put_text(alloc: Global, plan: &Plan) -> Told {
 
 /// What the head, that of a put or of the beginning of an upload, says of the object.
 pub(crate) fn description_text(alloc: Global, head: &Head) -> Told {
-    let plan = route(alloc, head)?;
+    let plan = routed(alloc, Dialect::Json, head)?;
     let text = put_text(alloc, &plan);
     drop(plan);
     text

@@ -160,6 +160,36 @@ const MISSING_IN_XML_REPLY: &str = "HTTP/1.1 404 Not Found\r\n\
     <Error><Code>NoSuchKey</Code><Message>The key does not exist.</Message>\
     <RequestId>00000000000000ff</RequestId></Error>";
 
+// A range that has no byte of what is read.
+const OUTSIDE_REPLY: &str = "HTTP/1.1 416 Range Not Satisfiable\r\n\
+    Date: Fri, 24 May 2013 00:00:00 GMT\r\n\
+    x-amz-request-id: 00000000000000ff\r\n\
+    Content-Type: application/json\r\n\
+    Content-Length: 65\r\n\
+    \r\n\
+    {\"Code\":\"InvalidRange\",\"Message\":\"The range is not satisfiable.\"}";
+
+// The same in XML, where a line tells how many bytes there are (RFC 9110, section 15.5.17).
+const OUTSIDE_IN_XML_REPLY: &str = "HTTP/1.1 416 Range Not Satisfiable\r\n\
+    Date: Fri, 24 May 2013 00:00:00 GMT\r\n\
+    x-amz-request-id: 00000000000000ff\r\n\
+    Content-Range: bytes */5\r\n\
+    Content-Type: application/xml\r\n\
+    Content-Length: 166\r\n\
+    \r\n\
+    <?xml version=\"1.0\" encoding=\"UTF-8\"?>\n\
+    <Error><Code>InvalidRange</Code><Message>The range is not satisfiable.</Message>\
+    <RequestId>00000000000000ff</RequestId></Error>";
+
+// That to a HEAD.
+const OUTSIDE_HEAD_REPLY: &str = "HTTP/1.1 416 Range Not Satisfiable\r\n\
+    Date: Fri, 24 May 2013 00:00:00 GMT\r\n\
+    x-amz-request-id: 00000000000000ff\r\n\
+    Content-Range: bytes */5\r\n\
+    Content-Type: application/xml\r\n\
+    Content-Length: 166\r\n\
+    \r\n";
+
 // To a HEAD that ends its connection.
 const LAST_REPLY: &str = "HTTP/1.1 404 Not Found\r\n\
     Date: Thu, 01 Jan 1970 00:00:00 GMT\r\n\
@@ -254,7 +284,7 @@ static VERSIONED: [Row; 11] = [
 ];
 
 // Requests to buckets without versions.
-static UNVERSIONED: [Row; 13] = [
+static UNVERSIONED: [Row; 16] = [
     Row {
         request: "HEAD /vat",
         ..ROW
@@ -295,6 +325,27 @@ static UNVERSIONED: [Row; 13] = [
         request: "PUT /vat/k<hello",
         dialect: Dialect::S3,
         reply: PUT_REPLY,
+        ..ROW
+    },
+    Row {
+        request: "GET /vat/k\nRange: bytes=5-\r\n",
+        number: 255,
+        reply: OUTSIDE_REPLY,
+        ..ROW
+    },
+    Row {
+        request: "GET /vat/k\nRange: bytes=5-\r\n",
+        number: 255,
+        dialect: Dialect::S3,
+        reply: OUTSIDE_IN_XML_REPLY,
+        ..ROW
+    },
+    Row {
+        request: "HEAD /vat/k\nRange: bytes=-0\r\n",
+        number: 255,
+        is_head: true,
+        dialect: Dialect::S3,
+        reply: OUTSIDE_HEAD_REPLY,
         ..ROW
     },
     Row {

@@ -11,7 +11,7 @@ use s3_machine::Answer;
 use s3_names::BucketName;
 use s3_records::MapRecords;
 use s3_store::Store;
-use s3_terms::Code;
+use s3_terms::{Code, Dialect};
 use std::alloc::Global;
 
 /// The least size of a part, which is Amazon's: 5 MiB.
@@ -29,7 +29,7 @@ pub(crate) fn answer_to(
 ) -> Result<Answer, Code> {
     let (line, body) = cut(asked);
     let moment = Moment::new(seconds).ok_or(Code::InvalidArgument)?;
-    let command = command_of(alloc, line, body.as_bytes())?;
+    let command = command_of(alloc, Dialect::Json, line, body.as_bytes())?;
     Ok(store.apply(alloc, LEAST_PART, command, moment)?)
 }
 

@@ -37,20 +37,34 @@ const HELLO: [u8; 16] = [
 fn part_in(shown: Result<Selection, Code>) -> Option<(u64, u64)> {
     match shown {
         Ok(Selection::Part { first, last }) => Some((first, last)),
-        Ok(Selection::Whole) | Ok(Selection::Unchanged) | Err(_) => None,
+        Ok(Selection::Whole) | Ok(Selection::Unchanged) | Ok(Selection::Outside) | Err(_) => None,
     }
 }
 
-// The part that a range shows of so many bytes.
-fn part_of(range: &[u8], size: u64) -> Option<(u64, u64)> {
-    let mut asked = Conditions::plain();
-    asked.range = ByteRange::read(range);
-    let moment = Moment::new(0)?;
-    let shown = judge(&asked, moment, &Tag::of_digest(HELLO), size);
-    part_in(shown)
+// Whether no byte is in the range.
+fn is_outside(shown: Result<Selection, Code>) -> bool {
+    matches!(shown, Ok(Selection::Outside))
 }
 
-// The value of a Range line, how many bytes there are, and the part that is shown; where none is, all is shown or it is refused.
+// What a range shows of so many bytes.
+fn shown_of(range: &[u8], size: u64) -> Result<Selection, Code> {
+    let mut asked = Conditions::plain();
+    asked.range = ByteRange::read(range);
+    let moment = Moment::new(0).ok_or(Code::InvalidArgument)?;
+    judge(&asked, moment, &Tag::of_digest(HELLO), size)
+}
+
+// Values of a Range line that have no byte of so many: a first position behind the last byte, and a suffix of no byte (RFC 9110,
+// section 14.1.2).
+static OUTSIDE: [(&[u8], u64); 4] = [
+    (b"bytes=5-", 5),
+    (b"bytes=47022-47030", 47_022),
+    (b"bytes=-0", 5),
+    (b"bytes=0-", 0),
+];
+
+// The value of a Range line, how many bytes there are, and the part that is shown; where none is, all is shown or no byte is in the
+// range.
 static RANGES: [(&[u8], u64, Option<(u64, u64)>); 12] = [
     (b"bytes=0-499", 10_000, Some((0, 499))),
     (b"bytes=500-999", 10_000, Some((500, 999))),
@@ -92,7 +106,14 @@ fn dates_and_ranges(rt: HostRuntime) {
         check(&rt, seconds_of(case.0) == case.1, "dates");
     }
     for case in &RANGES {
-        check(&rt, part_of(case.0, case.1) == case.2, "ranges");
+        check(&rt, part_in(shown_of(case.0, case.1)) == case.2, "ranges");
+    }
+    for case in &OUTSIDE {
+        check(
+            &rt,
+            is_outside(shown_of(case.0, case.1)),
+            "ranges without a byte",
+        );
     }
 }
 

@@ -1,8 +1,8 @@
 //! The versioning that a body asks for.
 
 use crate::checks::check;
-use s3_documents::read_versioning;
-use s3_terms::Code;
+use s3_request_documents::read_versioning;
+use s3_terms::{Code, Dialect};
 use s3_versions::VersioningStatus::{self, Enabled, Suspended};
 use std::alloc::Global;
 
@@ -33,7 +33,7 @@ static BODIES: [Case; 14] = [
 ];
 
 fn is_read(alloc: Global, case: &Case) -> bool {
-    match read_versioning(alloc, case.0) {
+    match read_versioning(alloc, Dialect::Json, case.0) {
         Ok(status) => Some(status) == case.1,
         Err(code) => code == Code::MalformedBody && case.1.is_none(),
     }

@@ -1,5 +1,5 @@
 use Rattle.std.proofs.Common.{sym}
-use Rattle.s3_replies.proofs.ElementLemmas.{error_element_is}
+use Rattle.s3_replies.proofs.ErrorLemmas.{error_element_is}
 use Rattle.s3_replies.proofs.document.element_of.Goals as goal
 
 pub returns : goal.returns

@@ -7,11 +7,11 @@ pub returns-then-is_empty : goal.returns-then-is_empty
 returns-then-is_empty c =
     let named = ap bucket_name (sym c.bucket.ensures) ∙ c.in_ok-name.ensures.rule in
     let empty = ap (λ key. length key == 0) (sym c.key.ensures) ∙ sym c.is_empty.ensures ∙ c.if-is_empty.true in
-    bucket_meant c.args.head.now c.args.target.now _ _ named empty c.in_ok-asked.ensures
+    bucket_meant c.args.config.now c.args.head.now c.args.target.now _ _ named empty c.in_ok-asked.ensures
 
 pub returns : goal.returns
 returns c =
     let named = ap bucket_name (sym c.bucket.ensures) ∙ c.in_ok-name.ensures.rule in
     let some = ap (λ key. length key == 0) (sym c.key.ensures) ∙ sym c.is_empty.ensures ∙ c.if-is_empty.false in
     let keyed = ap object_key (sym c.key-2.ensures) ∙ c.in_ok-key.ensures.rule in
-    key_meant c.args.head.now c.args.target.now _ _ _ named some keyed c.in_ok-asked-2.ensures ∙ ap Ok (sym c.plan_under.ensures)
+    key_meant c.args.config.now c.args.head.now c.args.target.now _ _ _ _ c.dialect.ensures.value named some keyed c.in_ok-asked-2.ensures ∙ ap Ok (sym c.plan_under.ensures)

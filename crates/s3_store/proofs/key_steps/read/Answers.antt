@@ -17,4 +17,4 @@ pub returns-in-Err-clause-ok : goal.returns-in-Err-clause-ok
 returns-in-Err-clause-ok g c =
     read_fails _ _ _ _ c.args.asked.now _ c.selected.result
     (record { told = c.in_ok-facts.ensures.value; is = c.selected.ensures; same = c.facts.ensures.same })
-    c.in-Err.refusal c.refused_with.result c.in-Err.is c.refused_with.ensures
+    c.in-Err.outcome c.in-Err.is

@@ -1,0 +1,261 @@
+-- Documents in XML are read back.
+use Rattle.std.proofs.Common.{◌≡◌, refl, ◌≤◌, Bool, true, false, if◌then◌else◌, ℕ, List, [], ◌∷◌, ◌++◌, codes, is_none, Option, Some, None, option_map, arith}
+use Rattle.std.specs.List.{flat_map, list_all}
+use Rattle.std.proofs.lemmas.Bool.{and_parts}
+use Rattle.s3_versions.specs.declared.version.Versioning.TheVariants.{Unversioned, Enabled, Suspended}
+use Rattle.s3_versions.specs.declared.version.Versioning.{Versioning}
+use Rattle.s3_names.specs.Ids.{upload_id_text, version_id_text}
+use Rattle.s3_records.specs.declared.rows.VersionRow.{VersionRow}
+use Rattle.s3_listings.specs.Pages.{next_of}
+use Rattle.s3_xml.specs.Events.{Event, leaf, element}
+use Rattle.s3_xml.specs.Laws.{is_name, is_namespace, Fits, ContentsFit}
+use Rattle.s3_documents.specs.Document.{Document, buckets, objects, versions, uploads, parts, begun, completed, copied, versioning, error}
+use Rattle.s3_documents.specs.Laws.{XmlIsReadBack}
+use Rattle.s3_documents.specs.Printed.{told}
+use Rattle.s3_documents.specs.Buckets.{bucket_row}
+use Rattle.s3_documents.specs.Copied.{copied_fields}
+use Rattle.s3_documents.specs.Error.{error_elements}
+use Rattle.s3_documents.specs.ObjectList.{prefix_row, key_count, token_told, delimiter_told}
+use Rattle.s3_documents.specs.PartList.{part_fields, number_of_part}
+use Rattle.s3_documents.specs.Tree.{Value, text, encodable, number, truth, moment, Fields}
+use Rattle.s3_documents.specs.Upload.{begun_fields}
+use Rattle.s3_documents.specs.UploadList.{upload_marker_told, key_of_upload, id_of_upload}
+use Rattle.s3_documents.specs.VersionList.{key_of_row, id_of_row, tag_of_facts, size_of_facts}
+use Rattle.s3_documents.specs.Versioning.{versioning_fields}
+use Rattle.s3_documents.specs.Xml.{standard, encoding_told, completed_elements, plain, objects_manner, owned_manner, content_of, fields_events, element_of, owner, owner_fields, owner_in, owned, listed, bucket_events, object_before, object_behind, object_events, prefix_events, version_name, version_before, version_behind, version_events, begun_before, begun_behind, upload_events, part_events, objects_before, objects_between, objects_behind, versions_before, versions_behind, uploads_before, uploads_behind, parts_before, parts_behind, root_of, namespace_of, events_of}
+use Rattle.s3_documents.specs.declared.xml.Manner.{Manner}
+
+-- ---- fields whose names are names
+
+abbrev IsNamed : Fields → Type 0
+IsNamed fields = list_all (λ f. is_name f.0) fields ≡ true
+
+told_named : (name : List ℕ) (value : Option Value) → is_name name ≡ true → IsNamed (told name value)
+told_named name None is = refl
+told_named name (Some value) is = rw is refl
+
+joined : (xs ys : Fields) → IsNamed xs → IsNamed ys → IsNamed (xs ++ ys)
+joined [] ys h k = k
+joined (x ∷ xs) ys h k =
+    let parts = and_parts (is_name x.0) (list_all (λ f. is_name f.0) xs) h in
+    rw (parts.0) (joined xs ys parts.1 k)
+
+version_named : (is_marker : Bool) → is_name (if is_marker then codes "DeleteMarker" else codes "Version") ≡ true
+version_named true = refl
+version_named false = refl
+
+versioning_named : (state : Versioning) → IsNamed (versioning_fields state)
+versioning_named Unversioned = refl
+versioning_named Enabled = refl
+versioning_named Suspended = refl
+
+-- what stands in rows and beside them
+version_before_named : (tag : Option Value) (latest key made : Value)
+    → IsNamed (told (codes "ETag") tag ++ (codes "IsLatest", latest) ∷ (codes "Key", key) ∷ (codes "LastModified", made) ∷ [])
+version_before_named None latest key made = refl
+version_before_named (Some tag) latest key made = refl
+
+version_behind_named : (size class : Option Value) (id : Value)
+    → IsNamed (told (codes "Size") size ++ told (codes "StorageClass") class ++ (codes "VersionId", id) ∷ [])
+version_behind_named None None id = refl
+version_behind_named None (Some class) id = refl
+version_behind_named (Some size) None id = refl
+version_behind_named (Some size) (Some class) id = refl
+
+between_named : (name prefix most : Value) (delimiter : Option Value)
+    → IsNamed ((codes "Name", name) ∷ (codes "Prefix", prefix) ∷ told (codes "Delimiter") delimiter ++ (codes "MaxKeys", most) ∷ [])
+between_named name prefix most None = refl
+between_named name prefix most (Some delimiter) = refl
+
+two_named : (one two : List ℕ) (x y : Option Value) → is_name one ≡ true → is_name two ≡ true → IsNamed (told one x ++ told two y)
+two_named one two x y first second = joined (told one x) (told two y) (told_named one x first) (told_named two y second)
+
+objects_behind_named : (encoding token next start : Option Value) (count : Value)
+    → IsNamed (
+    told (codes "EncodingType") encoding
+    ++ (codes "KeyCount", count)
+    ∷ told (codes "ContinuationToken") token
+    ++ told (codes "NextContinuationToken") next
+    ++ told (codes "StartAfter") start
+    )
+objects_behind_named encoding token next start count =
+    let first = told (codes "EncodingType") encoding ++ (codes "KeyCount", count) ∷ told (codes "ContinuationToken") token in
+    joined (first ++ told (codes "NextContinuationToken") next) (told (codes "StartAfter") start)
+    (joined first (told (codes "NextContinuationToken") next)
+    (joined (told (codes "EncodingType") encoding) ((codes "KeyCount", count) ∷ told (codes "ContinuationToken") token)
+    (told_named (codes "EncodingType") encoding refl) (told_named (codes "ContinuationToken") token refl))
+    (told_named (codes "NextContinuationToken") next refl))
+    (told_named (codes "StartAfter") start refl)
+
+uploads_before_named : (bucket key id prefix most more : Value) (next_key next_id : Option Value)
+    → IsNamed (
+    (codes "Bucket", bucket)
+    ∷ (codes "KeyMarker", key)
+    ∷ (codes "UploadIdMarker", id)
+    ∷ told (codes "NextKeyMarker") next_key
+    ++ (codes "Prefix", prefix)
+    ∷ told (codes "NextUploadIdMarker") next_id
+    ++ (codes "MaxUploads", most)
+    ∷ (codes "IsTruncated", more)
+    ∷ []
+    )
+uploads_before_named bucket key id prefix most more None None = refl
+uploads_before_named bucket key id prefix most more None (Some next_id) = refl
+uploads_before_named bucket key id prefix most more (Some next_key) None = refl
+uploads_before_named bucket key id prefix most more (Some next_key) (Some next_id) = refl
+
+parts_before_named : (bucket key id marker most more : Value) (next : Option Value)
+    → IsNamed (
+    (codes "Bucket", bucket)
+    ∷ (codes "Key", key)
+    ∷ (codes "UploadId", id)
+    ∷ (codes "PartNumberMarker", marker)
+    ∷ told (codes "NextPartNumberMarker") next
+    ++ (codes "MaxParts", most)
+    ∷ (codes "IsTruncated", more)
+    ∷ []
+    )
+parts_before_named bucket key id marker most more None = refl
+parts_before_named bucket key id marker most more (Some next) = refl
+
+-- ---- what fits, by what is known of that
+
+module _ (law : ContentsFit) where
+  fields_fit : (manner : Manner) (fields : Fields) → IsNamed fields → Fits 1 (fields_events manner fields)
+  fields_fit manner [] named = law.deeper 0 1 [] (omega arith) law.nothing
+  fields_fit manner (f ∷ fields) named =
+      let parts = and_parts (is_name f.0) (list_all (λ f. is_name f.0) fields) named in
+      law.several 1 (leaf f.0 (content_of manner f.1)) (fields_events manner fields)
+      (law.leaves f.0 (content_of manner f.1) parts.0) (fields_fit manner fields parts.1)
+
+  fields_within : (manner : Manner) (levels : ℕ) (fields : Fields) → 1 ≤ levels → IsNamed fields → Fits levels (fields_events manner fields)
+  fields_within manner levels fields less named = law.deeper 1 levels (fields_events manner fields) less (fields_fit manner fields named)
+
+  element_fits : (manner : Manner) (name : List ℕ) (fields : Fields) → is_name name ≡ true → IsNamed fields → Fits 2 (element_of manner name fields)
+  element_fits manner name fields is named = law.elements name 1 (fields_events manner fields) is (fields_fit manner fields named)
+
+  owner_fits : Fits 2 owner
+  owner_fits = element_fits plain (codes "Owner") owner_fields refl refl
+
+  owner_in_fits : (tells_owner : Bool) → Fits 2 (if tells_owner then owner else [])
+  owner_in_fits true = owner_fits
+  owner_in_fits false = law.deeper 0 2 [] (omega arith) law.nothing
+
+  owned_fits : (manner : Manner) (name : List ℕ) (before behind : Fields) → is_name name ≡ true → IsNamed before → IsNamed behind
+      → Fits 3 (owned manner name before behind)
+  owned_fits manner name before behind is first last =
+      law.elements name 2 (fields_events manner before ++ owner_in manner ++ fields_events manner behind) is
+      (law.several 2 (fields_events manner before ++ owner_in manner) (fields_events manner behind)
+      (law.several 2 (fields_events manner before) (owner_in manner) (fields_within manner 2 before (omega arith) first) (owner_in_fits manner.tells_owner))
+      (fields_within manner 2 behind (omega arith) last))
+
+  rows_fit : {A : Type 0} (levels : ℕ) (events : A → List Event) → ((x : A) → Fits levels (events x)) → (xs : List A) → Fits levels (flat_map events xs)
+  rows_fit levels events each [] = law.deeper 0 levels [] (omega arith) law.nothing
+  rows_fit levels events each (x ∷ xs) = law.several levels (events x) (flat_map events xs) (each x) (rows_fit levels events each xs)
+
+  listed_fits : (manner : Manner) (before behind : Fields) (list : List Event) → IsNamed before → Fits 3 list → IsNamed behind
+      → Fits 3 (listed manner before list behind)
+  listed_fits manner before behind list first rows last =
+      law.several 3 (fields_events manner before ++ list) (fields_events manner behind)
+      (law.several 3 (fields_events manner before) list (fields_within manner 3 before (omega arith) first) rows)
+      (fields_within manner 3 behind (omega arith) last)
+
+  version_fits : (manner : Manner) (row : VersionRow) → Fits 3 (version_events manner row)
+  version_fits manner row =
+      owned_fits manner (version_name row) (version_before row) (version_behind row) (version_named (is_none row.facts))
+      (version_before_named (option_map tag_of_facts row.facts) (truth row.is_latest) (encodable row.key) (moment row.moment))
+      (version_behind_named (option_map size_of_facts row.facts) (option_map (λ facts. standard) row.facts) (text (version_id_text row.id)))
+
+  buckets_fit : (list : _) → Fits 3 (events_of (buckets list))
+  buckets_fit list =
+      law.several 3 (element (codes "Buckets") (flat_map (bucket_events plain) list)) owner
+      (law.elements (codes "Buckets") 2 (flat_map (bucket_events plain) list) refl
+      (rows_fit 2 (bucket_events plain) (λ bucket. element_fits plain (codes "Bucket") (bucket_row bucket) refl refl) list))
+      (law.deeper 2 3 owner (omega arith) owner_fits)
+
+  objects_fit : (name : List ℕ) (asked : _) (page : _) → Fits 3 (events_of (objects name asked page))
+  objects_fit name asked page =
+      let manner = objects_manner asked in
+      law.several 3
+      (fields_events manner (objects_before page) ++ flat_map (object_events manner) page.contents)
+      (listed manner (objects_between name asked) (flat_map (prefix_events manner) page.prefixes) (objects_behind asked page))
+      (law.several 3 (fields_events manner (objects_before page)) (flat_map (object_events manner) page.contents)
+      (fields_within manner 3 (objects_before page) (omega arith) refl)
+      (rows_fit 3 (object_events manner) (λ object. owned_fits manner (codes "Contents") (object_before object) (object_behind object) refl refl refl) page.contents))
+      (listed_fits manner (objects_between name asked) (objects_behind asked page) (flat_map (prefix_events manner) page.prefixes)
+      (between_named (text name) (encodable asked.prefix) (number asked.max_keys) (delimiter_told asked.delimiter))
+      (rows_fit 3 (prefix_events manner) (λ prefix. law.deeper 2 3 (prefix_events manner prefix) (omega arith) (element_fits manner (codes "CommonPrefixes") (prefix_row prefix) refl refl)) page.prefixes)
+      (objects_behind_named (encoding_told asked.is_url_encoded) (option_map token_told asked.token) (option_map token_told page.next)
+      (option_map encodable asked.start_after) (number (key_count page))))
+
+  versions_fit : (name : List ℕ) (asked : _) (page : _) → Fits 3 (events_of (versions name asked page))
+  versions_fit name asked page =
+      let manner = owned_manner asked.is_url_encoded in
+      listed_fits manner (versions_before asked page) (versions_behind name asked) (flat_map (version_events manner) page.given)
+      (two_named (codes "NextKeyMarker") (codes "NextVersionIdMarker") (option_map key_of_row (next_of page)) (option_map id_of_row (next_of page)) refl refl)
+      (rows_fit 3 (version_events manner) (version_fits manner) page.given)
+      (told_named (codes "EncodingType") (encoding_told asked.is_url_encoded) refl)
+
+  uploads_fit : (name : List ℕ) (asked : _) (page : _) → Fits 3 (events_of (uploads name asked page))
+  uploads_fit name asked page =
+      let manner = owned_manner asked.is_url_encoded in
+      listed_fits manner (uploads_before name asked page) (uploads_behind asked) (flat_map (upload_events manner) page.given)
+      (uploads_before_named (text name) (encodable asked.key_marker) (text (upload_marker_told asked.id_marker)) (encodable asked.prefix)
+      (number asked.max_uploads) (truth page.is_truncated) (option_map key_of_upload (next_of page)) (option_map id_of_upload (next_of page)))
+      (rows_fit 3 (upload_events manner) (λ row. owned_fits manner (codes "Upload") (begun_before row) (begun_behind row) refl refl refl) page.given)
+      (told_named (codes "EncodingType") (encoding_told asked.is_url_encoded) refl)
+
+  parts_fit : (bucket key : List ℕ) (id : ℕ) (asked : _) (page : _) → Fits 3 (events_of (parts bucket key id asked page))
+  parts_fit bucket key id asked page =
+      let before = fields_events plain (parts_before bucket key id asked page) in
+      let list = flat_map (part_events plain) page.given in
+      law.several 3 (before ++ list ++ owner) (fields_events plain parts_behind)
+      (law.several 3 (before ++ list) owner
+      (law.several 3 before list
+      (fields_within plain 3 (parts_before bucket key id asked page) (omega arith)
+      (parts_before_named (text bucket) (text key) (text (upload_id_text id)) (number asked.marker) (number asked.max_parts) (truth page.is_truncated)
+      (option_map number_of_part (next_of page))))
+      (rows_fit 3 (part_events plain) (λ row. law.deeper 2 3 (part_events plain row) (omega arith) (element_fits plain (codes "Part") (part_fields row) refl refl)) page.given))
+      (law.deeper 2 3 owner (omega arith) owner_fits))
+      (fields_within plain 3 parts_behind (omega arith) refl)
+
+  document_fits : (document : Document) → Fits 3 (events_of document)
+  document_fits (buckets list) = buckets_fit list
+  document_fits (objects name asked page) = objects_fit name asked page
+  document_fits (versions name asked page) = versions_fit name asked page
+  document_fits (uploads name asked page) = uploads_fit name asked page
+  document_fits (parts bucket key id asked page) = parts_fit bucket key id asked page
+  document_fits (begun bucket key id) = fields_within plain 3 (begun_fields bucket key id) (omega arith) refl
+  document_fits (completed bucket key tag) = fields_within plain 3 (completed_elements bucket key tag) (omega arith) refl
+  document_fits (copied tag made) = fields_within plain 3 (copied_fields tag made) (omega arith) refl
+  document_fits (versioning state) = fields_within plain 3 (versioning_fields state) (omega arith) (versioning_named state)
+  document_fits (error code answer) = fields_within plain 3 (error_elements code answer) (omega arith) refl
+
+root_named : (document : Document) → is_name (root_of document) ≡ true
+root_named (buckets list) = refl
+root_named (objects name asked page) = refl
+root_named (versions name asked page) = refl
+root_named (uploads name asked page) = refl
+root_named (parts bucket key id asked page) = refl
+root_named (begun bucket key id) = refl
+root_named (completed bucket key tag) = refl
+root_named (copied tag made) = refl
+root_named (versioning state) = refl
+root_named (error code answer) = refl
+
+namespace_fits : (document : Document) → is_namespace (namespace_of document) ≡ true
+namespace_fits (buckets list) = refl
+namespace_fits (objects name asked page) = refl
+namespace_fits (versions name asked page) = refl
+namespace_fits (uploads name asked page) = refl
+namespace_fits (parts bucket key id asked page) = refl
+namespace_fits (begun bucket key id) = refl
+namespace_fits (completed bucket key tag) = refl
+namespace_fits (copied tag made) = refl
+namespace_fits (versioning state) = refl
+namespace_fits (error code answer) = refl
+
+pub xml_read_back : ContentsFit → XmlIsReadBack
+xml_read_back law document =
+    law.documents (root_of document) (namespace_of document) (events_of document) (root_named document) (namespace_fits document)
+    (law.deeper 3 15 (events_of document) (omega arith) (document_fits law document))
