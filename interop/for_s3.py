@@ -87,7 +87,8 @@ def bucket_elsewhere(client, _other):
     try:
         client.make_bucket(f"vat-{new_name()}", "eu-west-1")
     except RuntimeError as error:
-        if "InvalidLocationConstraint" in str(error):
+        # Who also signs by that region is refused for the signature's.
+        if any(it in str(error) for it in ("InvalidLocationConstraint", "AuthorizationHeaderMalformed")):
             return
         raise
     raise AssertionError("a bucket is made in a region that isn't the server's")
