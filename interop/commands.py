@@ -555,7 +555,7 @@ class S4cmd(Command):
     def s4cmd(self, *words):
         env = environment(S3_ACCESS_KEY=ID, S3_SECRET_KEY=self.secret)
         status, wrote, said = ran(["s4cmd", "--retry", "1", "--endpoint-url", f"http://{self.address}", *words], env)
-        told(status, said, ["404"], ["403"])
+        told(status, said, ["404"], ["403", "SignatureDoesNotMatch"])
         return wrote
 
     def put(self, key, data):

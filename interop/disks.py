@@ -68,6 +68,7 @@ class S3backer(Disk):
     name = program = "s3backer"
     SIZE = 8 << 20
     limits = dict.fromkeys(["head", "delete", "missing key", "wrong, 8 MiB", "wrong secret", "odd key"], Disk.NO_FILES)
+    limits |= dict.fromkeys(["presigned get", "presigned head"], "their key is odd, which it signs otherwise than it asks")
     limits |= {"64 MiB": "the disk that is tried has 8 MiB"}
 
     def __init__(self, *words, **more):
