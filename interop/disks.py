@@ -5,6 +5,7 @@ import json
 import os
 import re
 import shutil
+import stat
 import subprocess
 import time
 import urllib.parse
@@ -25,8 +26,8 @@ class Disk(Command):
         has_fuse = Path("/dev/fuse").exists() and shutil.which("fusermount")
         return super().absent() or (None if has_fuse else "no FUSE here")
 
-    def words(self, mount):
-        """The command that mounts it there and stays."""
+    def words(self, mount, *options):
+        """The command that mounts it there with these options, and stays."""
         raise NotImplementedError
 
     def is_there(self, mount):
@@ -37,12 +38,12 @@ class Disk(Command):
             return False
 
     @contextlib.contextmanager
-    def mounted(self):
-        """The folder where it is mounted."""
+    def mounted(self, *options):
+        """The folder where it is mounted, with options of its own besides."""
         mount, said = Path(self.path() + "-disk"), Path(self.path())
         mount.mkdir()
         with said.open("wb") as log:
-            running = subprocess.Popen(self.words(mount), stdin=subprocess.DEVNULL, stdout=log, stderr=log)
+            running = subprocess.Popen(self.words(mount, *options), stdin=subprocess.DEVNULL, stdout=log, stderr=log)
         try:
             for _ in range(100):
                 if self.is_there(mount) or running.poll() is not None:
@@ -75,7 +76,7 @@ class S3backer(Disk):
         super().__init__(*words, **more)
         self.sizes, self.key = {}, ""
 
-    def words(self, mount):
+    def words(self, mount, *options):
         words = ["s3backer", "-f", f"--baseURL=http://{self.address}/"]
         words += [f"--accessId={ID}", f"--accessKey={self.secret}", "--blockSize=64k", f"--size={self.SIZE}"]
         words += [f"--prefix={urllib.parse.quote(self.key, safe='')}-", "--force", "--maxRetryPause=500"]
@@ -99,22 +100,22 @@ class S3backer(Disk):
 
 
 class S3fs(Disk):
-    """`s3fs`, a disk whose files are objects."""
+    """`s3fs`, a disk whose files are objects. It lists by the first version of the call where it isn't told otherwise,
+    and keeps who may do what, and when a file was changed, in the metadata of objects."""
 
     name = program = "s3fs"
     skipped_in_json = "it asks for a list of objects before it mounts"
-    limits = {"control bytes": "its files have names without them"}
+    limits = dict.fromkeys(["control bytes", "control bytes v1"], "its files have names without them")
 
     @classmethod
     def version(cls):
         return re.search(r"V([\d.]+)", first_line(["s3fs", "--version"]))[1]
 
-    def words(self, mount):
+    def words(self, mount, *options):
         keys = Path(self.path(f"{ID}:{self.secret}\n".encode()))
         keys.chmod(0o600)
-        options = f"passwd_file={keys},url=http://{self.address},use_path_request_style,endpoint={REGION}"
-        # Without this one a file is renamed by a copy with other metadata, which is NotImplemented.
-        return ["s3fs", BUCKET, mount, "-f", "-o", f"{options},listobjectsv2,nocopyapi,retries=1"]
+        where = [f"url=http://{self.address}", "use_path_request_style", f"endpoint={REGION}"]
+        return ["s3fs", BUCKET, mount, "-f", "-o", ",".join([f"passwd_file={keys}", *where, "retries=1", *options])]
 
     def put(self, key, data):
         with self.mounted() as mount:
@@ -126,10 +127,10 @@ class S3fs(Disk):
         self.put(key, data)
 
     @contextlib.contextmanager
-    def found(self):
+    def found(self, *options):
         """The folder where it is mounted, whose files have to be there."""
         try:
-            with self.mounted() as mount:
+            with self.mounted(*options) as mount:
                 yield mount
         except FileNotFoundError as error:
             raise Missing(str(error)) from error
@@ -155,10 +156,41 @@ class S3fs(Disk):
         with self.found() as mount:
             (mount / key).rename(mount / other)
 
+    def move_large(self, key, other):
+        with self.found("singlepart_copy_limit=16", "multipart_copy_size=16") as mount:
+            (mount / key).rename(mount / other)
+
+    def touch(self, key, moment):
+        with self.found() as mount:
+            os.utime(mount / key, (moment, moment))
+
+    def moment(self, key):
+        with self.found() as mount:
+            return int((mount / key).stat().st_mtime)
+
+    def set_mode(self, key, mode):
+        with self.found() as mount:
+            (mount / key).chmod(mode)
+
+    def mode(self, key):
+        with self.found() as mount:
+            return stat.S_IMODE((mount / key).stat().st_mode)
+
+    def patch(self, key, first, data):
+        with self.found() as mount, (mount / key).open("r+b") as file:
+            file.seek(first)
+            file.write(data)
+
+    def total(self, prefix):
+        return sum(size for _, size in self.listed_first(prefix, ""))
+
     def listed(self, prefix, delimiter, page=None):
+        return self.listed_first(prefix, delimiter, page, "listobjectsv2")
+
+    def listed_first(self, prefix, delimiter, page=None, *options):
         if page is not None:
             raise Lacking()
-        with self.found() as mount:
+        with self.found(*options) as mount:
             found = list((mount / prefix).glob("*" if delimiter else "**/*"))
             files = [(str(path.relative_to(mount)), path.stat().st_size) for path in found if path.is_file()]
             folders = [f"{path.relative_to(mount)}/" for path in found if path.is_dir()]
@@ -178,6 +210,10 @@ class S3fs(Disk):
         with self.found() as mount:
             shutil.copytree(mount / prefix, folder)
 
+    def add_up(self, folder, prefix):
+        with self.mounted() as mount:
+            shutil.copytree(folder, mount / prefix, dirs_exist_ok=True)
+
 
 class Restic(Command):
     """`restic`: each key is a repository, whose one file is put by a backup, and got by a restore."""
@@ -185,27 +221,32 @@ class Restic(Command):
     name = program = "restic"
     skipped_in_json = "it asks for lists of objects"
     limits = {"empty": "it keeps no backup of nothing", "head": "it has no such operation"}
+    # The repository of the backups of folders.
+    FOLDERS = "folders"
 
     @classmethod
     def version(cls):
         return first_line(["restic", "version"])
 
-    def restic(self, key, *words, data=b""):
+    def restic(self, key, *words, data=b"", folder=None):
         env = environment(AWS_ACCESS_KEY_ID=ID, AWS_SECRET_ACCESS_KEY=self.secret, RESTIC_PASSWORD="a password")
         place = f"s3:http://{self.address}/{BUCKET}/backup/{urllib.parse.quote(key, safe='')}"
-        # With a region it doesn't ask where the bucket is.
-        options = ["--no-cache", "-o", f"s3.region={REGION}", "-o", "s3.bucket-lookup=path", "-r", place]
+        options = ["--no-cache", "-o", "s3.bucket-lookup=path", "-r", place]
         with open(self.path(data), "rb") as given:
-            status, wrote, said = ran(["restic", *options, *words], env, given)
+            status, wrote, said = ran(["restic", *options, *words], env, given, folder)
         missing = ["does not exist", "no snapshot found", "no such file", "no matching ID"]
         told(status, said, missing, ["403", "signature", "Access Denied"])
         return wrote
 
-    def put(self, key, data):
+    def begin_in(self, key):
+        """Makes a repository, where there is none."""
         try:
             self.restic(key, "cat", "config")
         except Missing:
             self.restic(key, "init")
+
+    def put(self, key, data):
+        self.begin_in(key)
         self.restic(key, "backup", "--stdin", "--stdin-filename", "data", data=data)
         self.restic(key, "check", "--read-data")
 
@@ -216,8 +257,23 @@ class Restic(Command):
         return self.restic(key, "dump", "latest", "/data")
 
     def delete(self, key):
-        snapshots = json.loads(self.restic(key, "snapshots", "--json"))
-        self.restic(key, "forget", "--prune", *(it["id"] for it in snapshots))
+        self.restic(key, "forget", "--prune", *self.backups(key))
+
+    def back_up(self, folder):
+        self.begin_in(self.FOLDERS)
+        before = self.backups()
+        self.restic(self.FOLDERS, "backup", ".", folder=folder)
+        return [it for it in self.backups() if it not in before][0]
+
+    def backups(self, key=FOLDERS):
+        return [it["id"] for it in json.loads(self.restic(key, "snapshots", "--json"))]
+
+    def restore(self, backup, folder):
+        self.restic(self.FOLDERS, "restore", backup, "--target", str(folder))
+
+    def forget(self, backup):
+        self.restic(self.FOLDERS, "forget", "--prune", backup)
+        self.restic(self.FOLDERS, "check", "--read-data")
 
 
 # Clients that can't work with this server at all: their names, their programs, and why.

@@ -1,38 +1,51 @@
 """The checks of `interop/run` that it makes with `--dialect s3` alone, where documents are XML: of lists with odd keys,
-of versions, of folders that are copied as a whole, and of calls that the server doesn't have."""
+of copies, of buckets and versions, and of calls that the server doesn't have. `folders.py` has those of folders."""
 
 import os
-import tempfile
+import re
 import time
-from pathlib import Path
 
-from clients import MIB, Missing, Unmet
+from clients import MIB, Lacking, Missing, Unmet, copied_in_parts, in_parts
 from documents import Direct
-from server import REGION
+from expected import expect, same, same_bytes
+from server import BUCKET, REGION
 
 # Keys that are told otherwise in a query, in a header line or in XML than they are.
 ODD = ["a b", "a+b", "a%b", "a%20b", "a&b", "a&amp;b", "a<b>", "a'b\"c", "ü €/漢字", "😀", "~!*()", "x=1;y,z:@$"]
 # No character of XML 1.0 is one of these bytes but for the last.
 CONTROL = ["a\x01b", "a\x1fb", "a\x7fb"]
-FILES = {"a b.txt": b"1", "a+b": b"22", "a%20b": b"333", "a&b<c>'d": b"4", "ü €/漢字": b"5", "deep/er/file": b"6"}
-# Some clients compare files by size and time alone: each change is one of the size.
-CHANGED = {"a b.txt": b"another", "deep/er/new": b""}
 # The greatest body of one request.
 LARGEST = 64 * MIB
+# An object has at most so many bytes that is got, copied or moved part by part.
+LARGE = 100_000_000
 # Seconds after which a put that follows an empty one came too late: a client of botocore waits for 60.
 SOON = 20
 # What the server doesn't have, by the check that asks for it.
-CALLS = {"list v1": "ListObjects", "location": "GetBucketLocation"}
-CALLS |= {"delete many": "DeleteObjects", "part copied": "UploadPartCopy"}
+CALLS = {"delete many": "DeleteObjects"}
+# A media type and metadata, and what takes their place.
+KEPT = ("text/css", {"a": "1", "old": "x"})
+NEW = ("text/html", {"a": "2", "new": "v w"})
+# A moment before all copies, and one at which a file may have been changed.
+BEFORE, CHANGED_AT = "Thu, 01 Jan 2015 00:00:00 GMT", 1_234_567_890
+# Spans of an object of 12 MiB that make another one: all of it; a middle, the front and one byte.
+SPANS = [[None], [(6 * MIB, 12 * MIB - 1), (0, 5 * MIB - 1), (1, 1)]]
+# Configurations that no bucket has: the sub-resource, the call that asks for it, and the code of its absence.
+ABSENT = [
+    ("policy", "get-bucket-policy", "NoSuchBucketPolicy"),
+    ("cors", "get-bucket-cors", "NoSuchCORSConfiguration"),
+    ("lifecycle", "get-bucket-lifecycle-configuration", "NoSuchLifecycleConfiguration"),
+    ("tagging", "get-bucket-tagging", "NoSuchTagSet"),
+    ("encryption", "get-bucket-encryption", "ServerSideEncryptionConfigurationNotFoundError"),
+    ("publicAccessBlock", "get-public-access-block", "NoSuchPublicAccessBlockConfiguration"),
+    ("object-lock", "get-object-lock-configuration", "ObjectLockConfigurationNotFoundError"),
+    ("website", "get-bucket-website", "NoSuchWebsiteConfiguration"),
+    ("replication", "get-bucket-replication", "ReplicationConfigurationNotFoundError"),
+    ("ownershipControls", "get-bucket-ownership-controls", "OwnershipControlsNotFoundError"),
+]
 
 
 def new_name():
     return os.urandom(4).hex()
-
-
-def same(told, wanted, what):
-    if told != wanted:
-        raise AssertionError(f"{what}: {str(told)[:150]} in place of {str(wanted)[:150]}")
 
 
 def filled(client, names):
@@ -41,6 +54,16 @@ def filled(client, names):
     for name in names:
         direct.put(folder + name, b"hello")
     return direct, folder
+
+
+def new_bucket(direct):
+    bucket = f"vat-{new_name()}"
+    direct.make_bucket(bucket)
+    return bucket
+
+
+def large_data(client):
+    return os.urandom(min(client.large, LARGE))
 
 
 def lists_odd(client, names):
@@ -60,38 +83,82 @@ def control_bytes(client, _other):
 def whole(client, _other):
     data = os.urandom(LARGEST)
     client.put("largest", data)
-    if client.get("largest") != data:
-        raise AssertionError("other bytes came back")
+    same_bytes(client.get("largest"), data)
+
+
+def got_in_parts(client, _other):
+    direct, folder = filled(client, [])
+    data = large_data(client)
+    in_parts(direct, f"{folder}a", data)
+    same_bytes(client.get_parts(f"{folder}a"), data)
 
 
 def after_empty(client, _other):
     first, folder = filled(client, [])
     before = time.monotonic()
-    try:
-        client.new_after_empty(f"{folder}empty", f"{folder}new")
-        raise AssertionError("a put of a key that has an object succeeds under If-None-Match, and should not")
-    except Unmet:
-        pass
+    expect(Unmet, lambda: client.new_after_empty(f"{folder}empty", f"{folder}new"))
     took = time.monotonic() - before
     same(first.objects(folder), {"empty": b"", "new": b"other"}, "the objects")
     if took > SOON:
         raise AssertionError(f"four puts took {took:.0f} seconds")
 
 
+def total(client, _other):
+    direct, folder = filled(client, ["a", "b/c"])
+    direct.put(f"{folder}d", bytes(1234))
+    same(client.total(folder), 1244, "the sum of the sizes")
+
+
 def bucket_here(client, _other):
     bucket = f"vat-{new_name()}"
     client.make_bucket(bucket, REGION)
+    same(Direct(client.address, client.dialect).is_bucket(bucket), True, "the bucket is there")
 
 
 def bucket_elsewhere(client, _other):
-    try:
-        client.make_bucket(f"vat-{new_name()}", "eu-west-1")
-    except RuntimeError as error:
-        # Who also signs by that region is refused for the signature's.
-        if any(it in str(error) for it in ("InvalidLocationConstraint", "AuthorizationHeaderMalformed")):
-            return
-        raise
-    raise AssertionError("a bucket is made in a region that isn't the server's")
+    # Who also signs by that region is refused for the signature's.
+    codes = ("InvalidLocationConstraint", "AuthorizationHeaderMalformed")
+    error = expect(RuntimeError, lambda: client.make_bucket(f"vat-{new_name()}", "eu-west-1"))
+    if not any(code in str(error) for code in codes):
+        raise error
+
+
+def bucket_gone(client, _other):
+    direct, _ = filled(client, [])
+    bucket = new_bucket(direct)
+    direct.put("k", b"hello", bucket)
+    # Some ask for a list first, and say in their own words that the bucket isn't empty.
+    expect(RuntimeError, lambda: client.remove_bucket(bucket))
+    same(direct.objects("", bucket), {"k": b"hello"}, "the objects")
+    direct.asked("DELETE", "k", bucket=bucket)
+    client.remove_bucket(bucket)
+    same(direct.is_bucket(bucket), False, "the bucket is there")
+
+
+def purged(client, _other):
+    direct, _ = filled(client, [])
+    bucket = new_bucket(direct)
+    for key in ("a", "b/c", "b/d e+%"):
+        direct.put(key, b"hello", bucket)
+    client.purge(bucket)
+    same(direct.is_bucket(bucket), False, "the bucket is there")
+
+
+def location(client, _other):
+    same(client.location(), REGION, "the region")
+
+
+def absences(client, _other):
+    for resource, call, code in ABSENT:
+        try:
+            client.configuration(resource, call)
+        except Lacking:
+            raise
+        except (Missing, RuntimeError) as error:
+            if code not in str(error):
+                raise
+        else:
+            raise AssertionError(f"the bucket has a configuration {resource}")
 
 
 def versions(client, _other):
@@ -112,32 +179,118 @@ def versions(client, _other):
     same(client.put_version(bucket, "k", b"null"), "null", "the version")
 
 
-def write(folder, files):
-    for name, data in files.items():
-        path = Path(folder, name)
-        path.parent.mkdir(parents=True, exist_ok=True)
-        path.write_bytes(data)
+def copy_version(client, _other):
+    direct, bucket = Direct(client.address, client.dialect), f"vat-{new_name()}"
+    client.make_bucket(bucket)
+    client.set_versioning(bucket, "Enabled")
+    ids = [client.put_version(bucket, "k", data) for data in (b"first", b"second")]
+    for version, data in zip(ids, (b"first", b"second"), strict=True):
+        client.copy_version(bucket, "k", version, "copy")
+        same_bytes(direct.get("copy", bucket), data)
 
 
-def read(folder):
-    """The files of a folder with their bytes, by their paths."""
-    files = [path for path in Path(folder).rglob("*") if path.is_file()]
-    return {str(path.relative_to(folder)): path.read_bytes() for path in files}
+def new_metadata(client, _other):
+    direct, folder = filled(client, [])
+    media, metadata = KEPT
+    lines = {"content-type": media, **{f"x-amz-meta-{name}": value for name, value in metadata.items()}}
+    direct.put(f"{folder}a", b"hello", lines=lines)
+    client.copy(f"{folder}a", f"{folder}b")
+    same(direct.told(f"{folder}b")[:2], KEPT, "what is told of the copy")
+    # The second copy is one of the object onto itself.
+    for name in ("b", "a"):
+        client.copy_anew(f"{folder}a", f"{folder}{name}", *NEW)
+        wanted = (NEW[0], {**(metadata if client.adds_metadata else {}), **NEW[1]})
+        same(direct.told(f"{folder}{name}")[:2], wanted, "what is told of the copy")
+    same(direct.objects(folder), {"a": b"hello", "b": b"hello"}, "the objects")
 
 
-def sync(client, _other):
-    direct, prefix = filled(client, [])
-    with tempfile.TemporaryDirectory() as here, tempfile.TemporaryDirectory() as there:
-        write(here, FILES)
-        client.sync_up(here, prefix)
-        same(direct.objects(prefix), FILES, "the objects")
-        Path(here, "a+b").unlink()
-        write(here, CHANGED)
-        client.sync_up(here, prefix)
-        same(direct.objects(prefix), read(here), "the objects after a change")
-        write(there, {"only there": b"x"})
-        client.sync_down(prefix, there)
-        same(read(there), read(here), "the files")
+def conditions(tag, moment):
+    """Conditions that an object of this tag and moment meets, and such that it doesn't."""
+    other = '"5d41402abc4b2a76b9719d911017c593"'
+    met = [{"if-match": tag}, {"if-none-match": other}, {"if-modified-since": BEFORE}, {"if-unmodified-since": moment}]
+    met += [{"if-match": tag, "if-unmodified-since": BEFORE}]
+    unmet = [{"if-match": other}, {"if-none-match": tag}, {"if-modified-since": moment}]
+    unmet += [{"if-unmodified-since": BEFORE}, {"if-none-match": tag, "if-modified-since": BEFORE}]
+    return met, unmet
+
+
+def copy_if(client, _other):
+    direct, folder = filled(client, ["a"])
+    met, unmet = conditions(*direct.told(f"{folder}a")[2:])
+    for number, asked in enumerate(met):
+        client.copy_if(f"{folder}a", f"{folder}{number}", asked)
+    for asked in unmet:
+        expect(Unmet, lambda asked=asked: client.copy_if(f"{folder}a", f"{folder}none", asked))
+    wanted = dict.fromkeys(["a", *(str(number) for number in range(len(met)))], b"hello")
+    same(direct.objects(folder), wanted, "the objects")
+
+
+def part_copied(client, _other):
+    direct, folder = filled(client, [])
+    data = os.urandom(12 * MIB)
+    direct.put(f"{folder}a", data)
+    for spans in SPANS:
+        copied_in_parts(client, f"{folder}a", f"{folder}b", spans)
+        wanted = [data if span is None else data[span[0] : span[1] + 1] for span in spans]
+        same_bytes(direct.get(f"{folder}b"), b"".join(wanted))
+    outside = [(0, len(data))]
+    expect(RuntimeError, lambda: copied_in_parts(client, f"{folder}a", f"{folder}c", outside))
+    expect(Missing, lambda: copied_in_parts(client, f"{folder}none", f"{folder}c", [None]))
+    same(direct.keys(folder), [f"{folder}a", f"{folder}b"], "the keys")
+
+
+def with_large(client):
+    """The connection, a new folder, and the bytes of the object `a` in it, which was put in parts of a size that no
+    client takes."""
+    direct, folder = filled(client, [])
+    data = large_data(client)
+    in_parts(direct, f"{folder}a", data, 6 * MIB)
+    return direct, folder, data
+
+
+def same_in_parts(direct, key, bucket, data):
+    """The object has these bytes, and was copied part by part: in one call its tag would tell as many parts as that of
+    its source."""
+    same_bytes(direct.get(key, bucket), data)
+    told = re.fullmatch('"[0-9a-f]{32}-([0-9]+)"', tag := direct.told(key, bucket)[2])
+    if told is None or int(told[1]) == -(-len(data) // (6 * MIB)):
+        raise AssertionError(f"a copy with the tag {tag} isn't made of parts")
+
+
+def large_copy(client, _other):
+    direct, folder, data = with_large(client)
+    for bucket in (BUCKET, new_bucket(direct)):
+        client.copy_large(f"{folder}a", bucket, f"{folder}b")
+        same_in_parts(direct, f"{folder}b", bucket, data)
+
+
+def large_move(client, _other):
+    direct, folder, data = with_large(client)
+    client.move_large(f"{folder}a", f"{folder}b")
+    same(direct.keys(folder), [f"{folder}b"], "the keys")
+    same_in_parts(direct, f"{folder}b", BUCKET, data)
+
+
+def patched(client, _other):
+    direct, folder, data = with_large(client)
+    at = len(data) // 2
+    client.patch(f"{folder}a", at, b"patched")
+    same_bytes(direct.get(f"{folder}a"), data[:at] + b"patched" + data[at + 7 :])
+
+
+def touched(client, _other):
+    direct, folder = filled(client, ["a"])
+    client.touch(f"{folder}a", CHANGED_AT)
+    same(client.moment(f"{folder}a"), CHANGED_AT, "the moment")
+    same(direct.objects(folder), {"a": b"hello"}, "the objects")
+
+
+def moded(client, _other):
+    direct, folder = filled(client, ["a"])
+    for mode in (0o600, 0o754):
+        client.set_mode(f"{folder}a", mode)
+        same(client.mode(f"{folder}a"), mode, "the mode")
+    same(direct.objects(folder), {"a": b"hello"}, "the objects")
 
 
 def move(client, _other):
@@ -146,43 +299,36 @@ def move(client, _other):
     same(direct.objects(folder), {"c &<d": b"hello"}, "the objects")
 
 
-def remove_all(client, _other):
-    direct, folder = filled(client, ["a", "b/c", "b/d e", "f+%"])
-    client.remove_all(folder)
-    same(direct.keys(folder), [], "the keys")
-
-
 def delete_many(client, _other):
     direct, folder = filled(client, ["a", "b"])
     client.delete_many([f"{folder}a", f"{folder}b"])
     same(direct.keys(folder), [], "the keys")
 
 
-def part_copied(client, _other):
-    direct, folder = filled(client, [])
-    data = os.urandom(6 * MIB)
-    direct.put(f"{folder}a", data)
-    try:
-        client.copy_part(f"{folder}a", f"{folder}b")
-    except Missing as error:
-        raise AssertionError("the source isn't found") from error
-    same(direct.get(f"{folder}b") == data, True, "the copy has the bytes of its source")
-
-
 # By name, in their order, as those of `interop/run`.
 CHECKS_FOR_S3 = {
     "64 MiB": whole,
+    "got in parts": got_in_parts,
     "odd names": odd_names,
     "control bytes": control_bytes,
     "new after empty": after_empty,
+    "sum of sizes": total,
+    "move": move,
+    "new metadata": new_metadata,
+    "copy if": copy_if,
+    "copy version": copy_version,
+    "part copied": part_copied,
+    "large copy": large_copy,
+    "large move": large_move,
+    "moment": touched,
+    "mode": moded,
+    "patch": patched,
     "versions": versions,
     "bucket here": bucket_here,
     "bucket else": bucket_elsewhere,
-    "sync": sync,
-    "move": move,
-    "remove all": remove_all,
-    "list v1": lambda client, _: client.list_first(),
-    "location": lambda client, _: client.location(),
+    "bucket gone": bucket_gone,
+    "purge": purged,
+    "location": location,
+    "absences": absences,
     "delete many": delete_many,
-    "part copied": part_copied,
 }

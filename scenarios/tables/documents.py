@@ -16,8 +16,8 @@ ORDER = {
     "ListAllMyBucketsResult": "Buckets Owner",
     "Bucket": "CreationDate Name",
     "Owner": "ID",
-    "ListBucketResult": """IsTruncated Contents Name Prefix Delimiter MaxKeys CommonPrefixes EncodingType KeyCount
-        ContinuationToken NextContinuationToken StartAfter""",
+    "ListBucketResult": """IsTruncated Marker NextMarker Contents Name Prefix Delimiter MaxKeys CommonPrefixes
+        EncodingType KeyCount ContinuationToken NextContinuationToken StartAfter""",
     "Contents": "ETag Key LastModified Owner Size StorageClass",
     "CommonPrefixes": "Prefix",
     "ListVersionsResult": """IsTruncated KeyMarker VersionIdMarker NextKeyMarker NextVersionIdMarker Versions Name
@@ -33,10 +33,11 @@ ORDER = {
     "InitiateMultipartUploadResult": "Bucket Key UploadId",
     "CompleteMultipartUploadResult": "Location Bucket Key ETag",
     "CopyObjectResult": "ETag LastModified",
+    "CopyPartResult": "ETag LastModified",
     "VersioningConfiguration": "Status",
     "Error": "Code Message RequestId",
 }
-# The document of which members a JSON document has: the first row whose names are all there.
+# The document of which members a JSON document has, or would have: the first row whose names are all there.
 ROOTS = {
     "Error": "Code Message",
     "ListAllMyBucketsResult": "Buckets",
@@ -44,6 +45,7 @@ ROOTS = {
     "ListVersionsResult": "Versions",
     "ListMultipartUploadsResult": "Uploads",
     "ListPartsResult": "Parts",
+    "LocationConstraint": "LocationConstraint",
     "InitiateMultipartUploadResult": "Bucket Key UploadId",
     "CompleteMultipartUploadResult": "Bucket ETag Key",
     "CopyObjectResult": "ETag LastModified",
@@ -60,7 +62,7 @@ ADDED = {
     "ListPartsResult": OWNED | STORED,
 }
 # What `encoding-type=url` asks to be UriEncoded.
-ENCODED = {"Key", "Prefix", "Delimiter", "StartAfter", "KeyMarker", "NextKeyMarker"}
+ENCODED = {"Key", "Prefix", "Delimiter", "Marker", "NextMarker", "StartAfter", "KeyMarker", "NextKeyMarker"}
 # What stands as a reference: a carriage return, and what XML 1.0 has no character for, which its readers refuse.
 REFERRED, UNREADABLE = re.compile("[\0-\x08\x0b-\x1f\ufffe\uffff]"), re.compile("&#x(?!d;)")
 
@@ -139,21 +141,20 @@ def is_same(one, other):
 
 
 def in_xml(root, facts):
-    """The text of a document with this root."""
-    told = (root, elements(root, facts))
-    inner = "".join(map(spelled, told[1]))
+    """The text of a document with this root, which may be the one element there is."""
+    told = (root, facts[root] if root in facts else elements(root, facts))
     space = "" if root == "Error" else f' xmlns="{NAMESPACE}"'
-    text = f"{DECLARATION}<{root}{space}>{inner}</{root}>"
+    text = DECLARATION + spelled(told).replace(f"<{root}>", f"<{root}{space}>", 1)
     if not UNREADABLE.search(text):
         assert is_same(read_back(ElementTree.fromstring(text.encode())), told), text
     return text
 
 
-def document(dialect, facts, number):
-    """A document in a dialect, where the answer has this number."""
+def document(dialect, facts, number, root=None):
+    """A document in a dialect, where the answer has this number. Where no root is named, its members tell it."""
     if dialect == JSON:
         return in_json(facts)
-    root = next(root for root, names in ROOTS.items() if all(name in facts for name in names.split()))
+    root = root or next(root for root, names in ROOTS.items() if all(name in facts for name in names.split()))
     if root == "Error":
         facts = facts | {"RequestId": number}
     if root == "CompleteMultipartUploadResult":

@@ -32,30 +32,42 @@ class Server(Store):
         lines, self.facts = self.told(url_encoded(facts) if is_encoded else facts), facts
         return lines
 
-    def list_objects_v2(self, request):
-        is_encoded, owned = request.is_encoded(), OWNED if request.wants_owners() else {}
+    def objects(self, request, start, behind, owned):
+        """What either list of objects tells of the keys that are greater than one text, and among the items that they
+        make of those that are greater than another; and these items."""
         prefix, delimiter = request.value("prefix", otherwise=""), request.value("delimiter", otherwise="")
-        start, token = request.value("start-after"), request.value("continuation-token", token_of)
         most, items = request.count("max-keys"), {}
         for key, version in self.bucket(request).current().items():
             key = key.decode()
-            if key.startswith(prefix) and (token is not None or start is None or key > start):
+            if key.startswith(prefix) and key > start:
                 before, found, _ = key[len(prefix) :].partition(delimiter) if delimiter else ("", "", "")
                 items[prefix + before + found if found else key] = None if found else version
-        given, is_truncated = page_of(sorted(item for item in items if token is None or item > token), most)
+        given, is_truncated = page_of(sorted(item for item in items if item > behind), most)
         told = {
             "CommonPrefixes": [{"Prefix": item} for item in given if items[item] is None],
             "Contents": [object_row(item, items[item]) | owned for item in given if items[item] is not None],
             "IsTruncated": is_truncated,
-            "KeyCount": len(given),
             "MaxKeys": most,
             "Name": request.bucket.decode(),
             "Prefix": prefix,
         }
+        return told | ({} if delimiter == "" else {"Delimiter": delimiter}), given
+
+    def list_objects(self, request):
+        marker, is_encoded = request.value("marker", otherwise=""), request.is_encoded()
+        told, given = self.objects(request, "", marker, OWNED)
+        is_marked = told["IsTruncated"] and "Delimiter" in told
+        return self.listed(told | {"Marker": marker} | ({"NextMarker": given[-1]} if is_marked else {}), is_encoded)
+
+    def list_objects_v2(self, request):
+        is_encoded, owned = request.is_encoded(), OWNED if request.wants_owners() else {}
+        start, token = request.value("start-after"), request.value("continuation-token", token_of)
+        first = start if token is None and start is not None else ""
+        told, given = self.objects(request, first, token or "", owned)
+        told |= {"KeyCount": len(given)}
         told |= {} if token is None else {"ContinuationToken": token.encode().hex()}
-        told |= {} if delimiter == "" else {"Delimiter": delimiter}
         told |= {} if start is None else {"StartAfter": start}
-        told |= {"NextContinuationToken": given[-1].encode().hex()} if is_truncated else {}
+        told |= {"NextContinuationToken": given[-1].encode().hex()} if told["IsTruncated"] else {}
         return self.listed(told, is_encoded)
 
     def list_object_versions(self, request):

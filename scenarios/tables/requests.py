@@ -9,7 +9,7 @@ import re
 from urllib.parse import unquote_to_bytes
 
 from .bodies import Body
-from .documents import JSON
+from .documents import JSON, S3
 from .markup import NotXml, last_text, read, rows, trimmed
 
 SUB_RESOURCES = set(
@@ -17,6 +17,21 @@ SUB_RESOURCES = set(
     location logging metrics notification object-lock ownershipControls policy policyStatus publicAccessBlock
     replication requestPayment restore retention select tagging torrent website""".split()
 )
+# What no bucket has, and by which code the dialect s3 says so of one that is read.
+CONFIGURATIONS = {
+    b"cors": "NoSuchCORSConfiguration",
+    b"encryption": "ServerSideEncryptionConfigurationNotFoundError",
+    b"lifecycle": "NoSuchLifecycleConfiguration",
+    b"object-lock": "ObjectLockConfigurationNotFoundError",
+    b"ownershipControls": "OwnershipControlsNotFoundError",
+    b"policy": "NoSuchBucketPolicy",
+    b"publicAccessBlock": "NoSuchPublicAccessBlockConfiguration",
+    b"replication": "ReplicationConfigurationNotFoundError",
+    b"tagging": "NoSuchTagSet",
+    b"website": "NoSuchWebsiteConfiguration",
+}
+# Which sub-resources that dialect answers of a bucket that is read.
+READ_OF_BUCKETS = {b"location", *CONFIGURATIONS}
 VERSION_ID, UPLOAD_ID = re.compile(rb"null|v[0-9a-f]{16}"), re.compile(rb"u[0-9a-f]{16}")
 BUCKET_NAME, FOUR_NUMBERS = re.compile(rb"[a-z0-9][a-z0-9.-]{1,61}[a-z0-9]"), re.compile(rb"[0-9]+(\.[0-9]+){3}")
 
@@ -122,10 +137,32 @@ class Request:
         refuse(found not in (None, "*"), "NotImplemented")
         return found is not None
 
+    def replaces(self):
+        """Whether a copy has the media type and the metadata of its own head, and not those of its source. JSON has
+        neither such copies nor conditions of copies."""
+        found, conditions = self.line("x-amz-metadata-directive"), self.values("x-amz-copy-source-if-")
+        refuse(not is_s3(self) and (found not in (None, "COPY") or conditions), "NotImplemented")
+        refuse(found not in (None, "COPY", "REPLACE"))
+        return found == "REPLACE"
+
     def source(self):
-        """The bucket and the key that a copy is of, by their names alone."""
-        bucket, _, key = self.line("x-amz-copy-source").removeprefix("/").partition("/")
-        return unquote_to_bytes(bucket), unquote_to_bytes(key)
+        """The bucket and the key that a copy is of, and the id of the version, where there is one."""
+        place, mark, version = self.line("x-amz-copy-source").partition("?")
+        refuse(mark and not re.fullmatch(f"versionId=({VERSION_ID.pattern.decode()})", version))
+        refuse(re.search("%(?![0-9A-Fa-f]{2})", place))
+        bucket, key = (unquote_to_bytes(name) for name in place.removeprefix("/").partition("/")[::2])
+        refuse(not is_bucket_name(bucket) or not 1 <= len(key) <= 1024)
+        text_of(key)
+        return bucket, key, version.removeprefix("versionId=") or None
+
+    def source_range(self):
+        """The first and the last of the bytes that a part is copied of, where they are named."""
+        line = self.line("x-amz-copy-source-range")
+        found = re.fullmatch("bytes=([0-9]{1,18})-([0-9]{1,18})", line or "")
+        refuse(line is not None and not found)
+        named = found and (int(found[1]), int(found[2]))
+        refuse(named and named[0] > named[1])
+        return named
 
     # Parameters.
 
@@ -231,6 +268,18 @@ def has(*names):
     return lambda request: request.has(*names)
 
 
+def is_bucket_name(name):
+    return BUCKET_NAME.fullmatch(name) and b".." not in name and not FOUR_NUMBERS.fullmatch(name)
+
+
+def is_s3(request):
+    return request.dialect == S3
+
+
+def has_in_s3(*names):
+    return lambda request: is_s3(request) and request.has(*names)
+
+
 def is_copy(request):
     return request.line("x-amz-copy-source") is not None
 
@@ -239,18 +288,23 @@ def is_part(request):
     return request.has("partNumber", "uploadId")
 
 
-# The method, whether a key is named, where, and the operation, which is none where S3 has one that isn't here.
+# The method, whether a key is named, where, and the operation, which is none where S3 has one that isn't here, or not
+# in this dialect.
 OPERATIONS = [
     ("PUT", False, has("versioning"), "put_bucket_versioning"),
     ("GET", False, has("versioning"), "get_bucket_versioning"),
     ("GET", False, has("uploads"), "list_multipart_uploads"),
     ("GET", False, has("versions"), "list_object_versions"),
+    ("GET", False, has_in_s3("location"), "get_bucket_location"),
+    ("GET", False, has_in_s3(*(name.decode() for name in CONFIGURATIONS)), "get_bucket_configuration"),
     ("GET", False, lambda request: request.value("list-type", bytes) == b"2", "list_objects_v2"),
+    ("GET", False, lambda request: is_s3(request) and not request.has("list-type"), "list_objects"),
     ("GET", False, always, None),
     ("POST", False, always, None),
     ("PUT", False, always, "create_bucket"),
     ("HEAD", False, always, "head_bucket"),
     ("DELETE", False, always, "delete_bucket"),
+    ("PUT", True, lambda request: is_part(request) and is_copy(request) and is_s3(request), "upload_part_copy"),
     ("PUT", True, lambda request: is_part(request) and is_copy(request), None),
     ("PUT", True, is_part, "upload_part"),
     ("PUT", True, is_copy, "copy_object"),
@@ -269,12 +323,13 @@ OPERATIONS = [
 
 def operation(request):
     """The operation that a request asks for: the first row that applies."""
-    refuse(SUB_RESOURCES & set(request.asked), "NotImplemented")
+    is_bucket_read = request.method == "GET" and request.path != "/" and request.key == b""
+    lacking = SUB_RESOURCES - (READ_OF_BUCKETS if is_bucket_read and is_s3(request) else set())
+    refuse(lacking & set(request.asked), "NotImplemented")
     if request.path == "/":
         refuse(request.method != "GET", "MethodNotAllowed")
         return "list_buckets"
-    name = request.bucket
-    refuse(not BUCKET_NAME.fullmatch(name) or b".." in name or FOUR_NUMBERS.fullmatch(name), "InvalidBucketName")
+    refuse(not is_bucket_name(request.bucket), "InvalidBucketName")
     text_of(request.key, "InvalidURI")
     refuse(len(request.key) > 1024, "KeyTooLongError")
     for method, is_key, is_so, found in OPERATIONS:

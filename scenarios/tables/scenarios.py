@@ -19,6 +19,11 @@ def markers_of(page):
     return f"&key-marker={quote(page['NextKeyMarker'])}&version-id-marker={page['NextVersionIdMarker']}"
 
 
+def marker_of(page):
+    """What asks for the objects after those of a page of ListObjects: after its last key, where none else is told."""
+    return f"&marker={quote(page.get('NextMarker') or page['Contents'][-1]['Key'])}"
+
+
 def is_told(reply):
     """Whether the lines of a file stand for a reply, which they don't for each line's end within a body."""
     end = reply.index("") + 1
@@ -84,6 +89,12 @@ class Connection:
 
     def do_list(self, rest, _lines):
         self.ask("GET", f"/pail?list-type=2&{rest}".rstrip("&"))
+
+    def do_objects(self, rest, _lines):
+        self.ask("GET", f"/pail?{rest}".rstrip("?"))
+
+    def do_object_pages(self, rest, _lines):
+        self.follow(f"/pail?{rest}", marker_of)
 
     def do_versions(self, rest, _lines):
         self.ask("GET", f"/pail?versions&{rest}".rstrip("&"))

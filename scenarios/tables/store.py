@@ -1,6 +1,7 @@
 """What the store does with a command, and how it is answered: the tables "Versions", "Uploads", "Lists", "Replies" and
 "By the store" of docs/PROTOCOL.md."""
 
+import calendar
 import hashlib
 import re
 import time
@@ -8,7 +9,7 @@ import time
 from .bodies import Body
 from .codes import CODES, REASONS
 from .documents import CONTENT_TYPES, JSON, S3, document
-from .requests import Refused, operation
+from .requests import CONFIGURATIONS, Refused, is_s3, operation, refuse
 
 # The least size of a part, but for the last one, in the servers of scenarios.
 MIN_PART = 5
@@ -60,6 +61,34 @@ def matches(value, tag):
     return "*" in items or tag in items
 
 
+# The three forms of a date of HTTP.
+DATES = ("%a, %d %b %Y %H:%M:%S GMT", "%A, %d-%b-%y %H:%M:%S GMT", "%a %b %d %H:%M:%S %Y")
+
+
+def moment_of_date(value):
+    """The moment of a date; any other value is as if it weren't there."""
+    for form in DATES:
+        try:
+            moment = calendar.timegm(time.strptime(value or "", form))
+        except ValueError:
+            continue
+        # Python takes any day of the week.
+        if time.strftime(form, time.gmtime(moment)) == value:
+            return moment
+    return None
+
+
+def judged(request, front, version):
+    """How a read of a version is answered by the conditions whose names begin so: 412, 304, or 200."""
+    match, none = request.line(f"{front}if-match"), request.line(f"{front}if-none-match")
+    after, until = (moment_of_date(request.line(f"{front}if-{it}-since")) for it in ("modified", "unmodified"))
+    if not matches(match, version.data.tag) if match is not None else until is not None and version.moment > until:
+        return 412
+    if matches(none, version.data.tag) if none is not None else after is not None and version.moment <= after:
+        return 304
+    return 200
+
+
 def range_of(value, size, lines):
     """The first byte and the last one that are asked for, where a range is; one without a byte is refused with these
     lines."""
@@ -88,10 +117,11 @@ class Version:
 
 
 class Part:
-    """A part of an upload."""
+    """A part of an upload. The digest of one that is copied is that of a text which stands for its bytes."""
 
-    def __init__(self, body, moment):
-        self.body, self.moment, self.digest = body, moment, hashlib.md5(body.bytes()).digest()
+    def __init__(self, body, moment, text=None):
+        self.body, self.moment = body, moment
+        self.digest = hashlib.md5(body.bytes() if text is None else text.encode()).digest()
 
 
 class Upload:
@@ -177,11 +207,11 @@ class Store:
         told += [] if status in (204, 304) else [f"Content-Length: {body.size}"]
         return [*told, "", *(f"{line}|" for line in body.lines())]
 
-    def told(self, facts, lines=(), status=200):
-        """The lines of a reply with a document."""
+    def told(self, facts, lines=(), status=200, root=None):
+        """The lines of a reply with a document, which may have a root of its own."""
         self.facts = facts
         number = 0 if "Connection: close" in lines else self.number
-        text = document(self.dialect, facts, f"{number:016x}")
+        text = document(self.dialect, facts, f"{number:016x}", root)
         return self.reply(status, [*lines, f"Content-Type: {CONTENT_TYPES[self.dialect]}"], Body.of(text))
 
     def refusal(self, code, lines):
@@ -224,6 +254,15 @@ class Store:
         mode = self.bucket(request).mode
         return self.told({} if mode is None else {"Status": mode})
 
+    def get_bucket_location(self, request):
+        self.bucket(request)
+        # Servers of scenarios are in us-east-1, which S3 tells by no letters.
+        return self.told({"LocationConstraint": ""})
+
+    def get_bucket_configuration(self, request):
+        self.bucket(request)
+        raise Denied(next(code for name, code in CONFIGURATIONS.items() if name in request.asked))
+
     # Objects.
 
     def put_object(self, request):
@@ -233,11 +272,25 @@ class Store:
         name = bucket.put(request.key, self.number, self.moment, data)
         return self.reply(200, [*shown(name), f"ETag: {quoted(data.tag)}"])
 
+    def source(self, request, place):
+        """The version that a copy is of, which has to be as the request's conditions say."""
+        bucket, key, name = place
+        deny(bucket not in self.buckets, "NoSuchBucket")
+        try:
+            version = self.buckets[bucket].picked(key, name)
+        except Denied as denied:
+            # A line about a delete marker would be read as one about what is made.
+            raise Denied(str(denied).replace("MethodNotAllowed", "InvalidRequest")) from None
+        deny(judged(request, "x-amz-copy-source-", version) != 200, "PreconditionFailed")
+        return version
+
     def copy_object(self, request):
-        (source, key), bucket = request.source(), self.bucket(request)
-        deny(source not in self.buckets, "NoSuchBucket")
-        deny(key not in self.buckets[source].current(), "NoSuchKey")
-        data = self.buckets[source].current()[key].data
+        replaces, place = request.replaces(), request.source()
+        is_same = place == (request.bucket, request.key, None)
+        refuse(is_s3(request) and is_same and not replaces, "InvalidRequest")
+        description, bucket = request.description() if replaces else None, self.bucket(request)
+        data = self.source(request, place).data
+        data = Data(data.tag, description or (data.content_type, data.metadata), data.body)
         name = bucket.put(request.key, self.number, self.moment, data)
         return self.told({"ETag": quoted(data.tag), "LastModified": stamp(self.moment)}, shown(name))
 
@@ -247,8 +300,9 @@ class Store:
         version = bucket.picked(request.key, name)
         data, told = version.data, shown(bucket.mode and version.name)
         told += [f"ETag: {quoted(data.tag)}", f"Last-Modified: {date(version.moment)}"]
-        deny(not matches(request.line("if-match") or "*", data.tag), "PreconditionFailed")
-        if matches(request.line("if-none-match") or "", data.tag):
+        status = judged(request, "", version)
+        deny(status == 412, "PreconditionFailed")
+        if status == 304:
             return self.reply(304, told)
         size_told = [f"Content-Range: bytes */{data.body.size}"] if self.dialect == S3 else []
         part, told = range_of(request.line("range"), data.body.size, size_told), [*told, "Accept-Ranges: bytes"]
@@ -285,6 +339,18 @@ class Store:
         part = Part(request.received(), self.moment)
         self.upload(request, name).parts[number] = part
         return self.reply(200, [f"ETag: {quoted(part.digest.hex())}"])
+
+    def upload_part_copy(self, request):
+        number, name = request.part_number(), request.upload_id()
+        place, asked = request.source(), request.source_range()
+        upload, version = self.upload(request, name), self.source(request, place)
+        first, last = asked or (0, version.data.body.size - 1)
+        deny(asked and not first <= last < version.data.body.size, "InvalidArgument")
+        text = version.data.tag + (f"bytes={first}-{last}" if asked else "")
+        part = upload.parts[number] = Part(version.data.body.cut(first, last), self.moment, text)
+        lines = [f"x-amz-copy-source-version-id: {version.name}"] if self.buckets[place[0]].mode else []
+        facts = {"ETag": quoted(part.digest.hex()), "LastModified": stamp(self.moment)}
+        return self.told(facts, lines, root="CopyPartResult")
 
     def complete_multipart_upload(self, request):
         name, wants_none, listed = request.upload_id(), request.wants_none(), request.listed_parts()

@@ -9,18 +9,15 @@ use Rattle.std.proofs.lemmas.Str.{IsAscii-append, IsUtf8-from_ascii}
 use Rattle.json.specs.Print.{escape, escape_byte}
 use Rattle.s3_names.specs.Tags.{is_tag_character}
 use Rattle.s3_documents.specs.Timestamp.{timestamp}
-use Rattle.s3_documents.specs.Tree.{tree_text}
+use Rattle.s3_documents.specs.Tree.{leaves, tree_text}
 use Rattle.s3_xml.specs.Events.{begin, end, leaf}
 use Rattle.s3_xml.specs.Printed.{event_text, escaped, markup, declaration, namespace_text, document_text as xml_text}
 use Rattle.s3_documents.specs.Xml.{is_plain}
-use Rattle.s3_documents.specs.declared.copied.TheConstants.{XML_FRONT}
+use Rattle.s3_documents.specs.declared.copied.TheConstants.{XML_FRONT, XML_TO_TAG}
 use Rattle.s3_documents.specs.Xml.{namespace, plain, fields_events}
 use Rattle.s3_documents.specs.Copied.{tag_told, copied_fields}
 use Rattle.s3_documents.proofs.XmlLemmas.{markup_append}
 use Rattle.s3_documents.proofs.XmlPlainLemmas.{tag_is_plain, quoted_escaped, plain_alone}
-use Rattle.s3_documents.specs.Document.{copied}
-use Rattle.s3_documents.specs.Spelling.{document_text}
-use Rattle.s3_terms.specs.declared.dialect.Dialect.TheVariants.{Json, S3}
 use Rattle.s3_documents.proofs.PlainLemmas.{tag_plain}
 
 -- of a tag and the quote behind it the quote alone is escaped
@@ -35,7 +32,7 @@ from_tag : (tag stamp x y : List ℕ) → x ≡ tag ++ 92 ∷ 34 ∷ [] → y �
 from_tag tag stamp x y a b = rw (a, b) (simp append_assoc)
 
 pub copied_spelled : (tag : List ℕ) (made : ℕ) → list_all is_tag_character tag ≡ true → escape (timestamp made) ≡ timestamp made
-    → document_text Json (copied tag made) ≡ (((([] ++ codes "{\"ETag\":\"\\\"") ++ tag) ++ codes "\\\"\",\"LastModified\":\"") ++ timestamp made) ++ codes "\"}"
+    → tree_text (leaves (copied_fields tag made)) ≡ (((([] ++ codes "{\"ETag\":\"\\\"") ++ tag) ++ codes "\\\"\",\"LastModified\":\"") ++ timestamp made) ++ codes "\"}"
 unfolding tree_text escape_byte
 copied_spelled tag made digits plain =
     ap (λ t. codes "{\"ETag\":\"\\\"" ++ t)
@@ -63,21 +60,24 @@ elements_text tag made characters plain =
     ∙ leaf_text (codes "LastModified") (timestamp made)
     ∙ ap (within_leaf (codes "LastModified")) (plain_alone (timestamp made) plain))
 
-regroup_written : (x y : List ℕ)
-    → (((x ++ codes "&quot;") ++ codes "</ETag>") ++ (codes "<LastModified>" ++ (y ++ codes "</LastModified>"))) ++ codes "</CopyObjectResult>"
-    ≡ ((x ++ codes "&quot;</ETag><LastModified>") ++ y) ++ codes "</LastModified></CopyObjectResult>"
-regroup_written x y = simp append_assoc
+regroup_written : (root tag made a b c d e f g h i j k : List ℕ)
+    → ((((a ++ root) ++ b) ++ c) ++ ((d ++ ((e ++ (tag ++ f)) ++ g)) ++ (h ++ (made ++ i)))) ++ ((j ++ root) ++ k)
+    ≡ (((((((a ++ root) ++ (b ++ (c ++ (d ++ e)))) ++ tag) ++ (f ++ (g ++ h))) ++ made) ++ (i ++ j)) ++ root) ++ k
+regroup_written root tag made a b c d e f g h i j k = simp append_assoc
 
-abbrev framed : List ℕ → List ℕ
-framed inner =
-    declaration ++ codes "<" ++ codes "CopyObjectResult" ++ namespace_text namespace ++ codes ">" ++ inner ++ event_text (end (codes "CopyObjectResult"))
+abbrev framed : List ℕ → List ℕ → List ℕ
+framed root inner = declaration ++ codes "<" ++ root ++ namespace_text namespace ++ codes ">" ++ inner ++ event_text (end root)
 
-pub copied_written : (tag : List ℕ) (made : ℕ) → list_all is_tag_character tag ≡ true → list_all is_plain (timestamp made) ≡ true
-    → document_text S3 (copied tag made)
-    ≡ (((([] ++ XML_FRONT.now) ++ tag) ++ codes "&quot;</ETag><LastModified>") ++ timestamp made) ++ codes "</LastModified></CopyObjectResult>"
+pub copied_written : (root tag : List ℕ) (made : ℕ) → list_all is_tag_character tag ≡ true → list_all is_plain (timestamp made) ≡ true
+    → xml_text root namespace (fields_events plain (copied_fields tag made))
+    ≡ (((((((([] ++ XML_FRONT.now) ++ root) ++ XML_TO_TAG.now) ++ tag) ++ codes "&quot;</ETag><LastModified>") ++ timestamp made)
+    ++ codes "</LastModified></") ++ root) ++ codes ">"
 unfolding xml_text
-copied_written tag made characters plain =
-    ap framed (elements_text tag made characters plain) ∙ ap (λ t. XML_FRONT.now ++ t) (regroup_written tag (timestamp made))
+copied_written root tag made characters plain =
+    ap (framed root) (elements_text tag made characters plain)
+    ∙ regroup_written root tag (timestamp made)
+    XML_FRONT.now (namespace_text namespace) (codes ">") (codes "<ETag>") (codes "&quot;") (codes "&quot;") (codes "</ETag>")
+    (codes "<LastModified>") (codes "</LastModified>") (codes "</") (codes ">")
 
 -- ---- a tag is a text
 

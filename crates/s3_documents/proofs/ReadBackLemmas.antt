@@ -1,29 +1,34 @@
 -- Documents in XML are read back.
-use Rattle.std.proofs.Common.{◌≡◌, refl, ◌≤◌, Bool, true, false, if◌then◌else◌, ℕ, List, [], ◌∷◌, ◌++◌, codes, is_none, Option, Some, None, option_map, arith}
+use Rattle.std.proofs.Common.{◌≡◌, refl, ◌≤◌, Bool, true, false, if◌then◌else◌, ℕ, suc, length, List, [], ◌∷◌, ◌++◌, codes, is_none, Option, Some, None, option_map, arith}
 use Rattle.std.specs.List.{flat_map, list_all}
-use Rattle.std.proofs.lemmas.Bool.{and_parts}
+use Rattle.std.proofs.lemmas.Bool.{and_parts, lt-ltb}
 use Rattle.s3_versions.specs.declared.version.Versioning.TheVariants.{Unversioned, Enabled, Suspended}
 use Rattle.s3_versions.specs.declared.version.Versioning.{Versioning}
 use Rattle.s3_names.specs.Ids.{upload_id_text, version_id_text}
 use Rattle.s3_records.specs.declared.rows.VersionRow.{VersionRow}
 use Rattle.s3_listings.specs.Pages.{next_of}
-use Rattle.s3_xml.specs.Events.{Event, leaf, element}
-use Rattle.s3_xml.specs.Laws.{is_name, is_namespace, Fits, ContentsFit}
-use Rattle.s3_documents.specs.Document.{Document, buckets, objects, versions, uploads, parts, begun, completed, copied, versioning, error}
+use Rattle.s3_xml.specs.Documents.{goes_on, is_document, document_of}
+use Rattle.s3_xml.specs.Events.{Event, leaf, element, text_in}
+use Rattle.s3_xml.specs.Events as xml
+use Rattle.s3_xml.specs.Laws.{is_name, is_namespace, is_plain, Fits, ContentsFit, DocumentsAreReadBack}
+use Rattle.s3_documents.specs.Document.{Document, buckets, objects, versions, uploads, parts, begun, completed, copied, part_copied, versioning, location, error}
 use Rattle.s3_documents.specs.Laws.{XmlIsReadBack}
+use Rattle.s3_documents.specs.Location.{constraint_told}
 use Rattle.s3_documents.specs.Printed.{told}
 use Rattle.s3_documents.specs.Buckets.{bucket_row}
 use Rattle.s3_documents.specs.Copied.{copied_fields}
 use Rattle.s3_documents.specs.Error.{error_elements}
 use Rattle.s3_documents.specs.ObjectList.{prefix_row, key_count, token_told, delimiter_told}
 use Rattle.s3_documents.specs.PartList.{part_fields, number_of_part}
+use Rattle.s3_documents.specs.Spelling.{document_text}
 use Rattle.s3_documents.specs.Tree.{Value, text, encodable, number, truth, moment, Fields}
 use Rattle.s3_documents.specs.Upload.{begun_fields}
 use Rattle.s3_documents.specs.UploadList.{upload_marker_told, key_of_upload, id_of_upload}
 use Rattle.s3_documents.specs.VersionList.{key_of_row, id_of_row, tag_of_facts, size_of_facts}
 use Rattle.s3_documents.specs.Versioning.{versioning_fields}
-use Rattle.s3_documents.specs.Xml.{standard, encoding_told, completed_elements, plain, objects_manner, owned_manner, content_of, fields_events, element_of, owner, owner_fields, owner_in, owned, listed, bucket_events, object_before, object_behind, object_events, prefix_events, version_name, version_before, version_behind, version_events, begun_before, begun_behind, upload_events, part_events, objects_before, objects_between, objects_behind, versions_before, versions_behind, uploads_before, uploads_behind, parts_before, parts_behind, root_of, namespace_of, events_of}
+use Rattle.s3_documents.specs.Xml.{in_first, in_second, marker_asked, next_marker, standard, encoding_told, completed_elements, plain, objects_manner, owned_manner, content_of, fields_events, element_of, owner, owner_fields, owner_in, owned, listed, bucket_events, object_before, object_behind, object_events, prefix_events, version_name, version_before, version_behind, version_events, begun_before, begun_behind, upload_events, part_events, objects_before, objects_between, objects_behind, versions_before, versions_behind, uploads_before, uploads_behind, parts_before, parts_behind, root_of, namespace, namespace_of, events_of}
 use Rattle.s3_documents.specs.declared.xml.Manner.{Manner}
+use Rattle.s3_terms.specs.declared.dialect.Dialect.TheVariants.{S3}
 
 -- ---- fields whose names are names
 
@@ -70,20 +75,21 @@ between_named name prefix most (Some delimiter) = refl
 two_named : (one two : List ℕ) (x y : Option Value) → is_name one ≡ true → is_name two ≡ true → IsNamed (told one x ++ told two y)
 two_named one two x y first second = joined (told one x) (told two y) (told_named one x first) (told_named two y second)
 
-objects_behind_named : (encoding token next start : Option Value) (count : Value)
+objects_behind_named : (encoding count token next start : Option Value)
     → IsNamed (
     told (codes "EncodingType") encoding
-    ++ (codes "KeyCount", count)
-    ∷ told (codes "ContinuationToken") token
+    ++ told (codes "KeyCount") count
+    ++ told (codes "ContinuationToken") token
     ++ told (codes "NextContinuationToken") next
     ++ told (codes "StartAfter") start
     )
-objects_behind_named encoding token next start count =
-    let first = told (codes "EncodingType") encoding ++ (codes "KeyCount", count) ∷ told (codes "ContinuationToken") token in
-    joined (first ++ told (codes "NextContinuationToken") next) (told (codes "StartAfter") start)
-    (joined first (told (codes "NextContinuationToken") next)
-    (joined (told (codes "EncodingType") encoding) ((codes "KeyCount", count) ∷ told (codes "ContinuationToken") token)
-    (told_named (codes "EncodingType") encoding refl) (told_named (codes "ContinuationToken") token refl))
+objects_behind_named encoding count token next start =
+    let first = told (codes "EncodingType") encoding ++ told (codes "KeyCount") count in
+    let second = first ++ told (codes "ContinuationToken") token in
+    joined (second ++ told (codes "NextContinuationToken") next) (told (codes "StartAfter") start)
+    (joined second (told (codes "NextContinuationToken") next)
+    (joined first (told (codes "ContinuationToken") token)
+    (two_named (codes "EncodingType") (codes "KeyCount") encoding count refl refl) (told_named (codes "ContinuationToken") token refl))
     (told_named (codes "NextContinuationToken") next refl))
     (told_named (codes "StartAfter") start refl)
 
@@ -177,16 +183,19 @@ module _ (law : ContentsFit) where
   objects_fit name asked page =
       let manner = objects_manner asked in
       law.several 3
-      (fields_events manner (objects_before page) ++ flat_map (object_events manner) page.contents)
+      (fields_events manner (objects_before asked page) ++ flat_map (object_events manner) page.contents)
       (listed manner (objects_between name asked) (flat_map (prefix_events manner) page.prefixes) (objects_behind asked page))
-      (law.several 3 (fields_events manner (objects_before page)) (flat_map (object_events manner) page.contents)
-      (fields_within manner 3 (objects_before page) (omega arith) refl)
+      (law.several 3 (fields_events manner (objects_before asked page)) (flat_map (object_events manner) page.contents)
+      (fields_within manner 3 (objects_before asked page) (omega arith)
+      (two_named (codes "Marker") (codes "NextMarker") (in_first asked.version (Some (marker_asked asked.token)))
+      (in_first asked.version (next_marker asked.delimiter page.next)) refl refl))
       (rows_fit 3 (object_events manner) (λ object. owned_fits manner (codes "Contents") (object_before object) (object_behind object) refl refl refl) page.contents))
       (listed_fits manner (objects_between name asked) (objects_behind asked page) (flat_map (prefix_events manner) page.prefixes)
       (between_named (text name) (encodable asked.prefix) (number asked.max_keys) (delimiter_told asked.delimiter))
       (rows_fit 3 (prefix_events manner) (λ prefix. law.deeper 2 3 (prefix_events manner prefix) (omega arith) (element_fits manner (codes "CommonPrefixes") (prefix_row prefix) refl refl)) page.prefixes)
-      (objects_behind_named (encoding_told asked.is_url_encoded) (option_map token_told asked.token) (option_map token_told page.next)
-      (option_map encodable asked.start_after) (number (key_count page))))
+      (objects_behind_named (encoding_told asked.is_url_encoded) (in_second asked.version (Some (number (key_count page))))
+      (in_second asked.version (option_map token_told asked.token)) (in_second asked.version (option_map token_told page.next))
+      (in_second asked.version (option_map encodable asked.start_after))))
 
   versions_fit : (name : List ℕ) (asked : _) (page : _) → Fits 3 (events_of (versions name asked page))
   versions_fit name asked page =
@@ -219,18 +228,6 @@ module _ (law : ContentsFit) where
       (law.deeper 2 3 owner (omega arith) owner_fits))
       (fields_within plain 3 parts_behind (omega arith) refl)
 
-  document_fits : (document : Document) → Fits 3 (events_of document)
-  document_fits (buckets list) = buckets_fit list
-  document_fits (objects name asked page) = objects_fit name asked page
-  document_fits (versions name asked page) = versions_fit name asked page
-  document_fits (uploads name asked page) = uploads_fit name asked page
-  document_fits (parts bucket key id asked page) = parts_fit bucket key id asked page
-  document_fits (begun bucket key id) = fields_within plain 3 (begun_fields bucket key id) (omega arith) refl
-  document_fits (completed bucket key tag) = fields_within plain 3 (completed_elements bucket key tag) (omega arith) refl
-  document_fits (copied tag made) = fields_within plain 3 (copied_fields tag made) (omega arith) refl
-  document_fits (versioning state) = fields_within plain 3 (versioning_fields state) (omega arith) (versioning_named state)
-  document_fits (error code answer) = fields_within plain 3 (error_elements code answer) (omega arith) refl
-
 root_named : (document : Document) → is_name (root_of document) ≡ true
 root_named (buckets list) = refl
 root_named (objects name asked page) = refl
@@ -240,7 +237,9 @@ root_named (parts bucket key id asked page) = refl
 root_named (begun bucket key id) = refl
 root_named (completed bucket key tag) = refl
 root_named (copied tag made) = refl
+root_named (part_copied tag made) = refl
 root_named (versioning state) = refl
+root_named (location region) = refl
 root_named (error code answer) = refl
 
 namespace_fits : (document : Document) → is_namespace (namespace_of document) ≡ true
@@ -252,10 +251,47 @@ namespace_fits (parts bucket key id asked page) = refl
 namespace_fits (begun bucket key id) = refl
 namespace_fits (completed bucket key tag) = refl
 namespace_fits (copied tag made) = refl
+namespace_fits (part_copied tag made) = refl
 namespace_fits (versioning state) = refl
+namespace_fits (location region) = refl
 namespace_fits (error code answer) = refl
 
-pub xml_read_back : ContentsFit → XmlIsReadBack
-xml_read_back law document =
+-- a text alone fits in a root, though not in front of another one
+text_plain : (s : List ℕ) → is_plain false (text_in s) ≡ true
+text_plain [] = refl
+text_plain (b ∷ s) = rw (lt-ltb 0 (suc (length s)) (omega arith)) refl
+
+text_closed : (region : List ℕ) → is_document (element (codes "LocationConstraint") (text_in region)) ≡ true
+unfolding goes_on
+text_closed [] = refl
+text_closed (b ∷ region) = refl
+
+-- ---- documents
+
+abbrev IsReadBack : Document → Type 0
+IsReadBack document = document_of (document_text S3 document) ≡ Some (xml.text (10 ∷ []) ∷ element (root_of document) (events_of document))
+
+fitting : ContentsFit → (document : Document) → Fits 3 (events_of document) → IsReadBack document
+fitting law document fits =
     law.documents (root_of document) (namespace_of document) (events_of document) (root_named document) (namespace_fits document)
-    (law.deeper 3 15 (events_of document) (omega arith) (document_fits law document))
+    (law.deeper 3 15 (events_of document) (omega arith) fits)
+
+fields_read_back : ContentsFit → (document : Document) (fields : Fields) → events_of document ≡ fields_events plain fields → IsNamed fields → IsReadBack document
+fields_read_back law document fields are named =
+    fitting law document (rw are (fields_within law plain 3 fields (omega arith) named))
+
+pub xml_read_back : DocumentsAreReadBack → ContentsFit → XmlIsReadBack
+xml_read_back read law (buckets list) = fitting law (buckets list) (buckets_fit law list)
+xml_read_back read law (objects name asked page) = fitting law (objects name asked page) (objects_fit law name asked page)
+xml_read_back read law (versions name asked page) = fitting law (versions name asked page) (versions_fit law name asked page)
+xml_read_back read law (uploads name asked page) = fitting law (uploads name asked page) (uploads_fit law name asked page)
+xml_read_back read law (parts bucket key id asked page) = fitting law (parts bucket key id asked page) (parts_fit law bucket key id asked page)
+xml_read_back read law (begun bucket key id) = fields_read_back law (begun bucket key id) (begun_fields bucket key id) refl refl
+xml_read_back read law (completed bucket key tag) = fields_read_back law (completed bucket key tag) (completed_elements bucket key tag) refl refl
+xml_read_back read law (copied tag made) = fields_read_back law (copied tag made) (copied_fields tag made) refl refl
+xml_read_back read law (part_copied tag made) = fields_read_back law (part_copied tag made) (copied_fields tag made) refl refl
+xml_read_back read law (versioning state) = fields_read_back law (versioning state) (versioning_fields state) refl (versioning_named state)
+xml_read_back read law (location region) =
+    read (codes "LocationConstraint") namespace (text_in (constraint_told region)) refl refl (text_plain (constraint_told region))
+    (text_closed (constraint_told region))
+xml_read_back read law (error code answer) = fields_read_back law (error code answer) (error_elements code answer) refl refl

@@ -106,6 +106,10 @@ fields_room manner name value fields =
       leaf_room name (content_of manner value),
     )
 
+-- a text alone takes no more than in an element
+pub text_alone : (manner : Manner) (name s : List ℕ) → length (markup (text_in s)) ≤ length (markup (fields_events manner ((name, text s) ∷ [])))
+text_alone manner name s = omega (arith, text_in_markup s, fields_room manner name (text s) [])
+
 -- contents
 pub key_content : (is_url_encoded : Bool) (key : List ℕ) → length (escaped (key_told is_url_encoded key)) ≤ 6 * length key
 key_content true key = omega (arith, ap length (encoded_as_it_is key), encoded_room key)

@@ -15,6 +15,7 @@ use Rattle.s3_listings.specs.Pages.{Page}
 use Rattle.s3_documents.specs.Buckets.{buckets_tree}
 use Rattle.s3_documents.specs.Copied.{copied_fields}
 use Rattle.s3_documents.specs.Error.{error_fields}
+use Rattle.s3_documents.specs.Location.{location_fields}
 use Rattle.s3_documents.specs.ObjectList.{objects_tree}
 use Rattle.s3_documents.specs.PartList.{parts_tree}
 use Rattle.s3_documents.specs.Tree.{Tree, leaves}
@@ -26,7 +27,7 @@ use Rattle.s3_documents.specs.Versioning.{versioning_fields}
 pub data Document : Type 0 where
   -- ListBuckets: the buckets
   buckets : List ListedBucket → Document
-  -- ListObjectsV2, ListObjectVersions and ListMultipartUploads: the bucket, what was asked, and the page
+  -- ListObjects and ListObjectsV2, ListObjectVersions and ListMultipartUploads: the bucket, what was asked, and the page
   objects : List ℕ → ObjectsAsked → ObjectsTold → Document
   versions : List ℕ → VersionsAsked → Page VersionRow → Document
   uploads : List ℕ → UploadsAsked → Page UploadRow → Document
@@ -38,8 +39,12 @@ pub data Document : Type 0 where
   completed : (bucket key tag : List ℕ) → Document
   -- CopyObject: the tag of the version that was made, and its moment
   copied : List ℕ → ℕ → Document
+  -- UploadPartCopy: the tag of the part that was made, and its moment
+  part_copied : List ℕ → ℕ → Document
   -- GetBucketVersioning
   versioning : Versioning → Document
+  -- GetBucketLocation: the region
+  location : List ℕ → Document
   -- of a refusal: its code, and the number of the answer
   error : Code → ℕ → Document
 
@@ -53,5 +58,7 @@ tree_of (parts bucket key id asked page) = parts_tree bucket key id asked page
 tree_of (begun bucket key id) = leaves (begun_fields bucket key id)
 tree_of (completed bucket key tag) = leaves (completed_fields bucket key tag)
 tree_of (copied tag made) = leaves (copied_fields tag made)
+tree_of (part_copied tag made) = leaves (copied_fields tag made)
 tree_of (versioning state) = leaves (versioning_fields state)
+tree_of (location region) = leaves (location_fields region)
 tree_of (error code number) = leaves (error_fields code)

@@ -5,6 +5,7 @@ pub mod Error
 pub mod Json
 pub mod Laws
 pub mod Listed
+pub mod Location
 pub mod ObjectList
 pub mod PartList
 pub mod Printed

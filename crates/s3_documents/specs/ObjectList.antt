@@ -1,4 +1,5 @@
--- The list of a bucket's objects (Amazon S3 API Reference, ListObjectsV2).
+-- The list of a bucket's objects (Amazon S3 API Reference, ListObjectsV2). The tree is the same for both versions of the
+-- list: the first one, ListObjects, is never told as JSON.
 use Rattle.std.specs.Prelude.{ℕ, ◌+◌, ◌==◌, if◌then◌else◌, List, [], ◌∷◌, ◌++◌, map, length, codes, Option, Some, None, option_map, is_some}
 use Rattle.hex.specs.Hex.{encode_lower}
 use Rattle.s3_prefixes.specs.declared.asked.ObjectsAsked.{ObjectsAsked}

@@ -1,10 +1,13 @@
 -- What documents tell in XML, element by element in the order of the Amazon S3 API Reference; what it names beside that
 -- is left out. One owner has all: whoever runs the server. Where `encoding-type=url` is asked, keys and what keys are
 -- compared with are told UriEncoded; where `fetch-owner=true` is, objects are told with their owner.
-use Rattle.std.specs.Prelude.{ℕ, Bool, true, false, not, if◌then◌else◌, List, [], ◌∷◌, ◌++◌, codes, decimal, Option, Some, None, option_map, is_some, is_none}
+use Rattle.std.specs.Prelude.{ℕ, ◌==◌, Bool, true, false, not, if◌then◌else◌, List, [], ◌∷◌, ◌++◌, length, codes, decimal, Option, Some, None, option_map, is_some, is_none}
 use Rattle.std.specs.List.{flat_map}
+use Rattle.std.specs.Option.{unwrap_or}
 use Rattle.s3_canonical.specs.Encoding.{encode_path}
 use Rattle.s3_names.specs.Ids.{upload_id_text, version_id_text}
+use Rattle.s3_prefixes.specs.declared.asked.ListVersion.{ListVersion}
+use Rattle.s3_prefixes.specs.declared.asked.ListVersion.TheVariants.{First, Second}
 use Rattle.s3_prefixes.specs.declared.asked.ObjectsAsked.{ObjectsAsked}
 use Rattle.s3_uploads.specs.declared.part.PartRow.{PartRow}
 use Rattle.s3_records.specs.declared.records.ListedBucket.{ListedBucket}
@@ -18,8 +21,9 @@ use Rattle.s3_listings.specs.Objects.{ObjectsTold}
 use Rattle.s3_listings.specs.Pages.{Page, next_of}
 use Rattle.s3_documents.specs.Buckets.{bucket_row}
 use Rattle.s3_documents.specs.Copied.{tag_told, copied_fields}
-use Rattle.s3_documents.specs.Document.{Document, buckets, objects, versions, uploads, parts, begun, completed, copied, versioning, error}
+use Rattle.s3_documents.specs.Document.{Document, buckets, objects, versions, uploads, parts, begun, completed, copied, part_copied, versioning, location, error}
 use Rattle.s3_documents.specs.Error.{error_elements}
+use Rattle.s3_documents.specs.Location.{constraint_told}
 use Rattle.s3_documents.specs.ObjectList.{prefix_row, key_count, token_told, delimiter_told}
 use Rattle.s3_documents.specs.PartList.{part_fields, number_of_part}
 use Rattle.s3_documents.specs.Printed.{told}
@@ -44,7 +48,7 @@ is_plain b = not (is_special b)
 abbrev pub plain : Manner
 plain = record { is_url_encoded = false; tells_owner = false }
 
--- of ListObjectsV2; and of ListObjectVersions and ListMultipartUploads, whose rows have an owner always
+-- of ListObjects and ListObjectsV2; and of ListObjectVersions and ListMultipartUploads, whose rows have an owner always
 abbrev pub objects_manner : ObjectsAsked → Manner
 objects_manner asked = record { is_url_encoded = asked.is_url_encoded; tells_owner = asked.tells_owner }
 
@@ -99,7 +103,7 @@ standard = text (codes "STANDARD")
 abbrev pub bucket_events : Manner → ListedBucket → List Event
 bucket_events manner bucket = element_of manner (codes "Bucket") (bucket_row bucket)
 
--- rows of ListObjectsV2: an object's, and a common prefix's
+-- rows of ListObjects and ListObjectsV2: an object's, and a common prefix's
 abbrev pub object_before : ListedObject → Fields
 object_before object =
     (codes "ETag", text (tag_told object.facts.tag))
@@ -154,9 +158,29 @@ part_events manner row = element_of manner (codes "Part") (part_fields row)
 
 -- ---- what stands beside the rows
 
--- of ListObjectsV2: in front of the objects, between them and the common prefixes, and behind these
-abbrev pub objects_before : ObjectsTold → Fields
-objects_before page = (codes "IsTruncated", truth (is_some page.next)) ∷ []
+-- what only the first version of a list of objects tells, and what only the second one does
+abbrev pub in_first : ListVersion → Option Value → Option Value
+in_first First value = value
+in_first Second value = None
+
+abbrev pub in_second : ListVersion → Option Value → Option Value
+in_second First value = None
+in_second Second value = value
+
+-- the marker behind which a list goes on; empty where none was asked for
+abbrev pub marker_asked : Option (List ℕ) → Value
+marker_asked marker = encodable (unwrap_or marker [])
+
+-- the marker of the next page, if there is one: told only where a delimiter was asked for
+abbrev pub next_marker : List ℕ → Option (List ℕ) → Option Value
+next_marker delimiter next = if length delimiter == 0 then None else option_map encodable next
+
+-- of ListObjects and ListObjectsV2: in front of the objects, between them and the common prefixes, and behind these
+abbrev pub objects_before : ObjectsAsked → ObjectsTold → Fields
+objects_before asked page =
+    (codes "IsTruncated", truth (is_some page.next))
+    ∷ told (codes "Marker") (in_first asked.version (Some (marker_asked asked.token)))
+    ++ told (codes "NextMarker") (in_first asked.version (next_marker asked.delimiter page.next))
 
 abbrev pub objects_between : List ℕ → ObjectsAsked → Fields
 objects_between name asked =
@@ -169,10 +193,10 @@ objects_between name asked =
 abbrev pub objects_behind : ObjectsAsked → ObjectsTold → Fields
 objects_behind asked page =
     told (codes "EncodingType") (encoding_told asked.is_url_encoded)
-    ++ (codes "KeyCount", number (key_count page))
-    ∷ told (codes "ContinuationToken") (option_map token_told asked.token)
-    ++ told (codes "NextContinuationToken") (option_map token_told page.next)
-    ++ told (codes "StartAfter") (option_map encodable asked.start_after)
+    ++ told (codes "KeyCount") (in_second asked.version (Some (number (key_count page))))
+    ++ told (codes "ContinuationToken") (in_second asked.version (option_map token_told asked.token))
+    ++ told (codes "NextContinuationToken") (in_second asked.version (option_map token_told page.next))
+    ++ told (codes "StartAfter") (in_second asked.version (option_map encodable asked.start_after))
 
 -- of ListObjectVersions: in front of the rows, and behind them
 abbrev pub versions_before : VersionsAsked → Page VersionRow → Fields
@@ -246,7 +270,9 @@ root_of (parts bucket key id asked page) = codes "ListPartsResult"
 root_of (begun bucket key id) = codes "InitiateMultipartUploadResult"
 root_of (completed bucket key tag) = codes "CompleteMultipartUploadResult"
 root_of (copied tag made) = codes "CopyObjectResult"
+root_of (part_copied tag made) = codes "CopyPartResult"
 root_of (versioning state) = codes "VersioningConfiguration"
+root_of (location region) = codes "LocationConstraint"
 root_of (error code answer) = codes "Error"
 
 -- the namespace of S3
@@ -263,7 +289,9 @@ namespace_of (parts bucket key id asked page) = namespace
 namespace_of (begun bucket key id) = namespace
 namespace_of (completed bucket key tag) = namespace
 namespace_of (copied tag made) = namespace
+namespace_of (part_copied tag made) = namespace
 namespace_of (versioning state) = namespace
+namespace_of (location region) = namespace
 namespace_of (error code answer) = []
 
 -- rows, with fields in front of them and behind them
@@ -279,7 +307,7 @@ abbrev pub events_of : Document → List Event
 events_of (buckets list) = element (codes "Buckets") (flat_map (bucket_events plain) list) ++ owner
 events_of (objects name asked page) =
     let manner = objects_manner asked in
-    fields_events manner (objects_before page)
+    fields_events manner (objects_before asked page)
     ++ flat_map (object_events manner) page.contents
     ++ listed manner (objects_between name asked) (flat_map (prefix_events manner) page.prefixes) (objects_behind asked page)
 events_of (versions name asked page) =
@@ -293,5 +321,7 @@ events_of (parts bucket key id asked page) =
 events_of (begun bucket key id) = fields_events plain (begun_fields bucket key id)
 events_of (completed bucket key tag) = fields_events plain (completed_elements bucket key tag)
 events_of (copied tag made) = fields_events plain (copied_fields tag made)
+events_of (part_copied tag made) = fields_events plain (copied_fields tag made)
 events_of (versioning state) = fields_events plain (versioning_fields state)
+events_of (location region) = xml.text_in (constraint_told region)
 events_of (error code answer) = fields_events plain (error_elements code answer)

@@ -8,6 +8,7 @@ mod encoded;
 mod laws;
 mod list;
 mod listed;
+mod location;
 mod object_list;
 mod part_list;
 mod printer;
@@ -20,7 +21,7 @@ mod upload_list;
 mod version_list;
 mod xml;
 
-pub use copied::copied_document;
+pub use copied::{copied_document, part_copied_document};
 pub use laws::{documents_are_one, xml_is_read_back};
 pub use listed::Document;
 pub use printer::{Field, Leaf, Printer, Row, text_of};

@@ -1,10 +1,11 @@
 //! The documents of replies. The text of one is printed when it is wanted.
 ghost use Rattle.std.specs.Prelude.{◌≡◌, IfOk};
-ghost use Rattle.s3_documents.specs.Document.{buckets, objects, versions, uploads, parts, begun, completed};
+ghost use Rattle.s3_documents.specs.Document.{buckets, objects, versions, uploads, parts, begun, completed, location};
 ghost use Rattle.s3_documents.specs.Listed.{reserved_document};
 ghost use Rattle.s3_documents.specs.Spelling.{document_text};
 
 use crate::buckets::BucketsList;
+use crate::location::BucketLocation;
 use crate::object_list::ObjectsList;
 use crate::part_list::PartsList;
 use crate::reserved::Reserved;
@@ -16,7 +17,7 @@ use s3_listings::{
     ObjectPage, PartPage, PartsAsked, UploadPage, UploadsAsked, VersionPage, VersionsAsked,
 };
 use s3_names::{BucketName, Key, Tag, UploadId};
-use s3_prefixes::ObjectsAsked;
+use s3_prefixes::{ObjectsAsked, Text};
 use s3_records::ListedBucket;
 use s3_terms::{Dialect, NoMemory};
 use std::alloc::Global;
@@ -39,6 +40,7 @@ enum Reservation {
     Parts(Reserved<PartsList>),
     Begun(Reserved<UploadBegun>),
     Completed(Reserved<UploadCompleted>),
+    Location(Reserved<BucketLocation>),
 }
 
 impl Model for Document {
@@ -59,7 +61,8 @@ impl Document {
         pending(alloc, Reservation::Buckets(reserved))
     }
 
-    /// The document of a ListObjectsV2: what was asked, and the page that is told, of the bucket of this name.
+    /// The document of a ListObjects or a ListObjectsV2: what was asked, and the page that is told, of the bucket of this
+    /// name.
     pub fn of_objects(
         alloc: Global,
         name: BucketName,
@@ -148,6 +151,14 @@ impl Document {
         pending(alloc, Reservation::Parts(reserved))
     }
 
+    /// The document of a GetBucketLocation: the region.
+    pub fn of_location(alloc: Global, region: Text) -> Result<Document, NoMemory>
+        ensures { IfOk result (λ document. document ≡ location region) }
+    {
+        let reserved = Reserved::of(alloc, BucketLocation { region })?;
+        pending(alloc, Reservation::Location(reserved))
+    }
+
     /// The text, as a body, so spelled. It takes no memory.
     pub fn into_body(self, dialect: Dialect) -> Body
         ensures { result ≡ document_text dialect self }
@@ -175,5 +186,6 @@ fn printed(reservation: Reservation, dialect: Dialect) -> Vec<u8>
         Reservation::Parts(reserved) => reserved.text(dialect),
         Reservation::Begun(reserved) => reserved.text(dialect),
         Reservation::Completed(reserved) => reserved.text(dialect),
+        Reservation::Location(reserved) => reserved.text(dialect),
     }
 }

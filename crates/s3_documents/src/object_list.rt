@@ -1,12 +1,12 @@
 //! The list of a bucket's objects, as a document.
-ghost use Rattle.std.specs.Prelude.{◌≡◌, ◌+◌, ◌*◌, [], length, IfOk, OnOk, option_map};
+ghost use Rattle.std.specs.Prelude.{◌≡◌, ◌+◌, ◌*◌, [], length, Some, IfOk, OnOk, option_map};
 ghost use Rattle.std.specs.Option.{option_copied};
 ghost use Rattle.s3_documents.specs.Copied.{tag_told};
 ghost use Rattle.s3_documents.specs.ObjectList.{object_row, prefix_row, key_count, token_told, delimiter_told, objects_fields, page_tree};
-ghost use Rattle.s3_documents.specs.Xml.{objects_manner, object_events, object_before, object_behind, prefix_events, objects_before, objects_between, objects_behind};
+ghost use Rattle.s3_documents.specs.Xml.{objects_manner, object_events, object_before, object_behind, prefix_events, in_first, in_second, marker_asked, next_marker, objects_before, objects_between, objects_behind};
 ghost use Rattle.s3_documents.specs.Document.{objects};
 ghost use Rattle.s3_documents.specs.Printed.{branches_tokens, begun, fields_of, text_kept, value_of, room_of, TakesRoom, IsRoomFor};
-ghost use Rattle.s3_documents.specs.Tree.{encodable};
+ghost use Rattle.s3_documents.specs.Tree.{encodable, number};
 
 use crate::printer::{Field, Leaf, Printer, Row, text_of};
 use crate::reserved::Told;
@@ -15,7 +15,7 @@ use crate::texts::{key_told, name_told, quoted, text_told};
 use crate::xml::{Entry, Manner, encoding_leaf, put_element, put_lists, put_owned, room_of_lists};
 use s3_listings::{ListedObject, ObjectPage};
 use s3_names::BucketName;
-use s3_prefixes::{ObjectsAsked, Text};
+use s3_prefixes::{ListVersion, ObjectsAsked, Text};
 use s3_terms::NoMemory;
 use s3_xml::Writer;
 use std::alloc::{AllocError, Global};
@@ -26,8 +26,8 @@ const ROW_MAX: usize = 706;
 /// Nor does one of a common prefix, beside that.
 const PREFIX_ROW_MAX: usize = 46;
 
-/// The document of a ListObjectsV2, for later: what was asked, and the page that is told, of the bucket of this name. A
-/// token stands in it in hexadecimal digits.
+/// The document of a ListObjects or a ListObjectsV2, for later: what was asked, and the page that is told, of the bucket
+/// of this name. A token stands in it in hexadecimal digits; a marker, the first version's token, as it is.
 #[derive(Drop)]
 pub(crate) struct ObjectsList {
     name: BucketName,
@@ -73,7 +73,7 @@ impl Told for ObjectsList {
     }
 
     fn write(&self, writer: &mut Writer) -> Result<(), AllocError> {
-        let before = before(&self.page);
+        let before = before(&self.asked, &self.page);
         let between = between(&self.name, &self.asked);
         let behind = behind(&self.asked, &self.page, &self.token, &self.next);
         let (contents, prefixes) = (self.page.contents(), self.page.prefixes());
@@ -86,7 +86,7 @@ impl Told for ObjectsList {
     fn room(&self) -> usize {
         let fields = fields_told(&self.name, &self.asked, &self.page, &self.token, &self.next);
         let json = room_for(self.page.prefixes(), self.page.contents(), &fields);
-        let before = before(&self.page);
+        let before = before(&self.asked, &self.page);
         let between = between(&self.name, &self.asked);
         let behind = behind(&self.asked, &self.page, &self.token, &self.next);
         let (contents, prefixes) = (self.page.contents(), self.page.prefixes());
@@ -187,13 +187,23 @@ fn manner_of(asked: &ObjectsAsked) -> Manner
 }
 
 // What stands in front of the objects in XML.
-fn before(page: &ObjectPage) -> [Field<'_>; 1]
-    ensures { fields_of result ≡ objects_before page.now }
+fn before<'a>(asked: &'a ObjectsAsked, page: &'a ObjectPage) -> [Field<'a>; 3]
+    ensures { fields_of result ≡ objects_before asked.now page.now }
 {
-    [Field {
-        name: "IsTruncated",
-        value: Leaf::Truth(page.next().is_some()),
-    }]
+    [
+        Field {
+            name: "IsTruncated",
+            value: Leaf::Truth(page.next().is_some()),
+        },
+        Field {
+            name: "Marker",
+            value: marker_leaf(asked.version, &asked.token),
+        },
+        Field {
+            name: "NextMarker",
+            value: next_marker_leaf(asked.version, &asked.delimiter, page),
+        },
+    ]
 }
 
 // What stands between them and the common prefixes.
@@ -238,19 +248,19 @@ fn behind<'a>(
         },
         Field {
             name: "KeyCount",
-            value: Leaf::Number(count_of(page)),
+            value: count_leaf(asked.version, page),
         },
         Field {
             name: "ContinuationToken",
-            value: digits_told(token),
+            value: token_leaf(asked.version, token),
         },
         Field {
             name: "NextContinuationToken",
-            value: digits_told(next),
+            value: token_leaf(asked.version, next),
         },
         Field {
             name: "StartAfter",
-            value: start_leaf(&asked.start_after),
+            value: start_after_leaf(asked.version, &asked.start_after),
         },
     ]
 }
@@ -443,6 +453,78 @@ fn start_leaf(start: &Option<Text>) -> Leaf<'_>
     match start {
         Some(start) => Leaf::Encodable(text_told(start)),
         None => Leaf::Absent,
+    }
+}
+
+// The marker that was asked for, empty where there is none: in the first version of the list.
+fn marker_leaf(version: ListVersion, marker: &Option<Text>) -> Leaf<'_>
+    ensures { value_of result ≡ in_first version (Some (marker_asked marker.now)) }
+{
+    match version {
+        ListVersion::First => Leaf::Encodable(marker_text(marker)),
+        ListVersion::Second => Leaf::Absent,
+    }
+}
+
+fn marker_text(marker: &Option<Text>) -> &str
+    ensures { encodable result.now ≡ marker_asked marker.now }
+{
+    match marker {
+        Some(marker) => text_told(marker),
+        None => "",
+    }
+}
+
+// The marker of the next page, in the first version.
+fn next_marker_leaf<'a>(version: ListVersion, delimiter: &Text, page: &'a ObjectPage) -> Leaf<'a>
+    ensures { value_of result ≡ in_first version (next_marker delimiter.now page.now.next) }
+{
+    match version {
+        ListVersion::First => next_leaf(delimiter, page),
+        ListVersion::Second => Leaf::Absent,
+    }
+}
+
+// The same, where there is one and a delimiter was asked for.
+fn next_leaf<'a>(delimiter: &Text, page: &'a ObjectPage) -> Leaf<'a>
+    ensures { value_of result ≡ next_marker delimiter.now page.now.next }
+{
+    if delimiter.as_bytes().is_empty() {
+        return Leaf::Absent;
+    }
+    match page.next() {
+        Some(next) => Leaf::Encodable(text_told(next)),
+        None => Leaf::Absent,
+    }
+}
+
+// How many items the page has, in the second version of the list.
+fn count_leaf(version: ListVersion, page: &ObjectPage) -> Leaf<'static>
+    ensures { value_of result ≡ in_second version (Some (number (key_count page.now))) }
+{
+    match version {
+        ListVersion::First => Leaf::Absent,
+        ListVersion::Second => Leaf::Number(count_of(page)),
+    }
+}
+
+// A token, in the second version.
+fn token_leaf(version: ListVersion, token: &Option<String>) -> Leaf<'_>
+    ensures { value_of result ≡ in_second version (option_map text_kept token.now) }
+{
+    match version {
+        ListVersion::First => Leaf::Absent,
+        ListVersion::Second => digits_told(token),
+    }
+}
+
+// Where the list starts, in the second version.
+fn start_after_leaf(version: ListVersion, start: &Option<Text>) -> Leaf<'_>
+    ensures { value_of result ≡ in_second version (option_map encodable start.now) }
+{
+    match version {
+        ListVersion::First => Leaf::Absent,
+        ListVersion::Second => start_leaf(start),
     }
 }
 

@@ -1,32 +1,16 @@
 -- What comes of a message, as its line tells it: the status that its reply has, and why that is a refusal.
-use Rattle.std.specs.Prelude.{◌≡◌, ℕ, List, Option, Some, None, Result, MatchResult}
+use Rattle.std.specs.Prelude.{◌≡◌, Option, Some, None, Result, MatchResult}
 use Rattle.s3_terms.specs.Code.{status_of}
 use Rattle.s3_terms.specs.declared.code.Code.{Code}
 use Rattle.s3_terms.specs.declared.code.Code.TheVariants.{InternalError, InvalidRange}
 use Rattle.s3_terms.specs.declared.memory.NoMemory.{NoMemory}
-use Rattle.s3_terms.specs.declared.status.Status.{Status}
 use Rattle.s3_terms.specs.declared.status.Status.TheVariants as statuses
-use Rattle.s3_conditions.specs.declared.conditions.Selection.{Selection}
-use Rattle.s3_conditions.specs.declared.conditions.Selection.TheVariants.{Whole, Part, Unchanged, Outside}
+use Rattle.s3_conditions.specs.declared.conditions.Selection.TheVariants.{Outside}
 use Rattle.s3_machine.specs.declared.command.Answer.{Answer}
 use Rattle.s3_machine.specs.declared.command.Outcome.{Outcome}
 use Rattle.s3_machine.specs.declared.command.Outcome.TheVariants as outcomes
-use Rattle.s3_replies.specs.Replies.{Reply, alone, behind, beside, opening_of, reply_to}
-use Rattle.s3_replies.specs.declared.context.Context.{Context}
+use Rattle.s3_replies.specs.Replies.{HasStatus}
 use Rattle.s3_log.specs.declared.result.Told.{Told}
-
--- the status of a reply
-abbrev pub status_in : Reply → Status
-status_in (alone head) = head.status
-status_in (beside head text) = head.status
-status_in (behind head body) = head.status
-
--- of one that shows this of a version
-abbrev pub status_with : Selection → Status
-status_with Whole = statuses.Ok
-status_with (Part first last) = statuses.PartialContent
-status_with Unchanged = statuses.NotModified
-status_with Outside = statuses.RangeNotSatisfiable
 
 -- why the reply refuses, if it does: the machine did, or no byte of what was read is in the range that was asked for
 abbrev pub code_in : Outcome → Option Code
@@ -42,12 +26,6 @@ refused_with code = record { status = status_of code; code = Some code }
 -- it was answered with all that it asked for
 abbrev pub answered : Told
 answered = record { status = statuses.Ok; code = None }
-
--- every reply to what came of a command has this status
-abbrev pub HasStatus : Outcome → Status → Type 0
-HasStatus outcome status =
-    (number : ℕ) (context : Context) (date : List ℕ) (modified : Option (List ℕ))
-    → status_in (reply_to (opening_of number context date) modified outcome) ≡ status
 
 -- the status of the reply to this answer, and why it refuses, if it does
 pub record IsTold (answer : Answer) (t : Told) : Type 0 where

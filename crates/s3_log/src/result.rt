@@ -5,6 +5,7 @@ ghost use Rattle.s3_log.specs.Result as rules;
 
 use s3_conditions::Selection;
 use s3_machine::{Answer, Outcome};
+use s3_replies::reply_status;
 use s3_terms::{Code, NoMemory, Status};
 
 /// What comes of a message.
@@ -47,45 +48,10 @@ pub fn told_of(answered: &Result<Answer, NoMemory>) -> Told
 {
     match answered {
         Ok(answer) => Told {
-            status: status_of(&answer.outcome),
+            status: reply_status(&answer.outcome),
             code: code_of(&answer.outcome),
         },
         Err(NoMemory) => Told::refused(Code::InternalError),
-    }
-}
-
-// The status of the reply to what came of a command.
-fn status_of(outcome: &Outcome) -> Status
-    ensures { rules.HasStatus outcome.now result }
-{
-    match outcome {
-        Outcome::Told { .. }
-        | Outcome::BucketMade { .. }
-        | Outcome::BucketFound
-        | Outcome::VersioningSet
-        | Outcome::BucketVersioning { .. }
-        | Outcome::Put { .. }
-        | Outcome::Copied { .. }
-        | Outcome::PartPut { .. }
-        | Outcome::Completed { .. } => Status::Ok,
-        Outcome::BucketDropped | Outcome::UploadDropped | Outcome::Deleted { .. } => {
-            Status::NoContent
-        }
-        Outcome::Got { selection, .. } => status_with(*selection),
-        Outcome::OutOfRange { .. } => Status::RangeNotSatisfiable,
-        Outcome::Refused { code, .. } => code.status(),
-    }
-}
-
-// The status of the reply that shows this of a version.
-fn status_with(selection: Selection) -> Status
-    ensures { result ≡ rules.status_with selection }
-{
-    match selection {
-        Selection::Whole => Status::Ok,
-        Selection::Part { .. } => Status::PartialContent,
-        Selection::Unchanged => Status::NotModified,
-        Selection::Outside => Status::RangeNotSatisfiable,
     }
 }
 

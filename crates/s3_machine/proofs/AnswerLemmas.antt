@@ -1,13 +1,16 @@
 -- What right answers say, and how a delete marker hides.
 use Rattle.std.proofs.Common.{◌≡◌, refl, sym, ap, subst, ◌∙◌, Bool, true, false, not, ℕ, ⊎_elim, inl, inr, List, ◌∷◌, ◌++◌, append_assoc, Option, Some, None, option_map, is_some, Result, Ok, Err}
+use Rattle.std.proofs.lemmas.Bool.{false≢true}
 use Rattle.std.proofs.lemmas.Option.{same_Some}
 use Rattle.std.specs.Result.{result_ok}
-use Rattle.s3_terms.specs.declared.code.Code.TheVariants.{NoSuchBucket, NoSuchKey}
+use Rattle.s3_terms.specs.declared.code.Code.{Code}
+use Rattle.s3_terms.specs.declared.code.Code.TheVariants.{NoSuchBucket, NoSuchKey, PreconditionFailed}
 use Rattle.s3_names.specs.declared.ids.VersionId.{VersionId}
 use Rattle.s3_bodies.specs.Payload.{tag_of}
 use Rattle.s3_conditions.specs.declared.conditions.Conditions.{Conditions}
 use Rattle.s3_conditions.specs.declared.conditions.Selection.{Selection}
-use Rattle.s3_conditions.specs.Conditions.{plain}
+use Rattle.s3_conditions.specs.declared.conditions.Selection.TheVariants.{Whole}
+use Rattle.s3_conditions.specs.Conditions.{plain, judged as judged_by}
 use Rattle.s3_versions.specs.declared.picking.Refusal.{Refusal}
 use Rattle.s3_versions.specs.declared.version.Content.TheVariants.{DeleteMarker}
 use Rattle.s3_versions.specs.declared.version.Data.{Data}
@@ -26,18 +29,21 @@ use Rattle.s3_machine.specs.declared.command.Command.{Command}
 use Rattle.s3_machine.specs.declared.command.Command.TheVariants as commands
 use Rattle.s3_machine.specs.declared.command.KeyCommand.TheVariants as key_commands
 use Rattle.s3_machine.specs.declared.command.UploadCommand.TheVariants as upload_commands
+use Rattle.s3_machine.specs.declared.command.Description.{Description}
+use Rattle.s3_machine.specs.declared.command.Found.{Found}
+use Rattle.s3_machine.specs.declared.command.ObjectCopy.{ObjectCopy}
 use Rattle.s3_machine.specs.declared.command.Source.{Source as CopySource}
 use Rattle.s3_machine.specs.declared.command.Outcome.TheVariants as outcomes
 use Rattle.s3_terms.specs.Fault.{◌>>◌, ◌>>=◌}
-use Rattle.s3_machine.specs.Fault.{refuse}
+use Rattle.s3_machine.specs.Fault.{refuse, as_refusal}
 use Rattle.s3_machine.specs.Effects.{Address, Object, UploadPlace, Read, place_of, open_at, upload_stored, joined_at, writes, copies, completes, source_read, brought, brings, object_of, stored_by, whole, read_at, reads, given_whole, is_refused, succeeds, shown_as, by_conditions}
 use Rattle.s3_machine.specs.History.{Entry, IsAnswer, after, after_entry}
 use Rattle.s3_machine.specs.Kept.{SparesVersion, ReadsVersion, Stores, Copies, WouldGive, WouldMake, Source, Put, Copy, Completion, Marks, EveryHistory, StoredIsKept, VersionsAreKept, StoredIsTold, ReadsGiveOrFail, MarkersHide, QuietEntriesChangeNothing, PutsAreKept, PutVersionsAreKept, CopiesAreKept, CopyVersionsAreKept, BodiesAreTagged, PutsStoreTheirContents, CopiesStoreTheirSource, CompletionsStoreTheirParts, StoredHasSource}
 use Rattle.s3_machine.specs.Laws.{QuietStepsChangeNothing, ConditionsJudgeReads}
-use Rattle.s3_machine.specs.Step.{State, Stepped, copied, data_of, data_read, shown_in, makes_marker, found_in, outcome_shown, shown_by, key_done, done, stepped, step}
+use Rattle.s3_machine.specs.Step.{State, Stepped, read_for_copy, shows_all, may_be_copied, source_found, described, copied, data_of, shown_in, makes_marker, found_in, outcome_shown, shown_by, key_done, done, stepped, step}
 use Rattle.s3_machine.proofs.EffectLemmas.{Rules, shown, after_line, copy_done, not_false}
 use Rattle.s3_machine.proofs.HistoryLemmas.{after-push, parts_of, right_at}
-use Rattle.s3_machine.proofs.KeptLemmas.{versions_at, outcome_is, picked, got, plain_shown, whole_given, step_reads, stored_there, key_left}
+use Rattle.s3_machine.proofs.KeptLemmas.{versions_at, outcome_is, picked, got, plain_shown, step_reads, stored_there, key_left}
 
 -- a plain read hands out all of a version, or refuses
 abbrev GivesOrRefuses : Stepped → Type 0
@@ -111,13 +117,32 @@ puts_store_their_contents s e address what puts =
 
 -- ---- copies
 
--- what is read of a version, behind a line that may refuse
-read_behind : (fault : Bool) (read : Result (Version (List ℕ) × Data (List ℕ)) Refusal) (what : Data (List ℕ))
-    → (refuse fault NoSuchBucket >> data_read read) ≡ Ok what
-    → (picks : Version (List ℕ) × Data (List ℕ)) × (read ≡ Ok picks) × (picks.1 ≡ what)
-read_behind true read what is = absurd (cc)
-read_behind false (Ok picks) what is = (picks, refl, cc)
-read_behind false (Err refusal) what is = absurd (cc)
+-- what is found of a version that was read, where the conditions of a copy are met
+abbrev source_shown : State → CopySource → Version (List ℕ) × Data (List ℕ) → Result (Found (List ℕ)) Refusal
+source_shown s source read = do
+  refuse (not (may_be_copied source.conditions (facts_of read))) PreconditionFailed
+  Ok (found_in (versioning_of s source.bucket) read)
+
+-- what is let pass by a line that may refuse
+passes : {A : Type 0} (meets : Bool) (here found : A) → (refuse (not meets) PreconditionFailed >> Ok here) ≡ Ok found
+    → (meets ≡ true) × (here ≡ found)
+passes true here found is = (refl, cc)
+passes false here found is = absurd (cc)
+
+-- the version that a copy is from is one that a read picks, and it meets the conditions
+record IsFoundBy (s : State) (source : CopySource) (read : Result (Version (List ℕ) × Data (List ℕ)) Refusal) (found : Found (List ℕ)) : Type 0 where
+  picks : Version (List ℕ) × Data (List ℕ)
+  is : read ≡ Ok picks
+  meets : may_be_copied source.conditions (facts_of picks) ≡ true
+  holds : found_in (versioning_of s source.bucket) picks ≡ found
+
+found_behind : (s : State) (source : CopySource) (fault : Bool) (read : Result (Version (List ℕ) × Data (List ℕ)) Refusal) (found : Found (List ℕ))
+    → (refuse fault NoSuchBucket >> (read_for_copy read >>= source_shown s source)) ≡ Ok found → IsFoundBy s source read found
+found_behind s source true read found is = absurd (cc)
+found_behind s source false (Ok picks) found is =
+    let both = passes (may_be_copied source.conditions (facts_of picks)) (found_in (versioning_of s source.bucket) picks) found is in
+    record { picks = picks; is = refl; meets = both.0; holds = both.1 }
+found_behind s source false (Err refusal) found is = absurd (cc)
 
 -- a version that is picked was found
 found_first : (asked : Option VersionId) (found : Option (Version (List ℕ))) (read : Version (List ℕ) × Data (List ℕ))
@@ -126,21 +151,57 @@ found_first None None read is = absurd (cc)
 found_first (Some id) None read is = absurd (cc)
 found_first asked (Some v) read is = (v, refl)
 
--- what a copy takes from its source is what a read of that is given
-would_give : (s : State) (source : CopySource) (what : Data (List ℕ)) → copied s source ≡ Ok what → WouldGive s (source_read source) what
-unfolding copied
-would_give s source what is =
-    let at : Address = record { bucket = source.bucket; key = source.key } in
-    let read = read_behind (not (has_bucket s source.bucket)) (pick source.version (versions_of s source.bucket source.key)) what is in
-    let found = found_first source.version (asked_for source.version (versions_of s source.bucket source.key)) read.0 read.1 in
+-- conditions by which all is shown judge so
+all_shown : (judgement : Result Selection Code) → shows_all judgement ≡ true → ◌≡◌ {A = Result Selection Refusal} (as_refusal judgement) (Ok Whole)
+all_shown (Ok Whole) is = refl
+all_shown (Ok other) is = absurd (false≢true is)
+all_shown (Err code) is = absurd (false≢true is)
+
+-- what a copy takes from its source is what a read of that, by the same conditions, is given
+pub would_give : (s : State) (source : CopySource) (found : Found (List ℕ)) → source_found s source ≡ Ok found
+    → WouldGive s (source_read source) found.stored
+unfolding source_found
+would_give s source found is =
+    let by = found_behind s source (not (has_bucket s source.bucket)) (pick source.version (versions_of s source.bucket source.key)) found is in
+    let first = found_first source.version (asked_for source.version (versions_of s source.bucket source.key)) by.picks by.is in
+    let facts = facts_of by.picks in
+    let shown : ◌≡◌ {A = Result Selection Refusal} (shown_by source.conditions facts) (Ok Whole) =
+    all_shown (judged_by source.conditions facts.moment facts.tag facts.size) by.meets in
     record {
-      found = found_in (versioning_of s source.bucket) read.0;
+      found = found;
       gives = λ least n t command reading.
-          ap given_whole (step_reads least s n t command (whole at source.version) found.0 reading found.1)
-          ∙ ap (λ (r : Result (Version (List ℕ) × Data (List ℕ)) Refusal). given_whole (picked s source.bucket plain r)) read.1
-          ∙ whole_given (found_in (versioning_of s source.bucket) read.0) (facts_of read.0);
-      holds = read.2;
+          ap given_whole (step_reads least s n t command (source_read source) first.0 reading first.1)
+          ∙ ap (λ (r : Result (Version (List ℕ) × Data (List ℕ)) Refusal). given_whole (picked s source.bucket source.conditions r)) by.is
+          ∙ ap (λ (r : Result Selection Refusal). given_whole (shown_as (found_in (versioning_of s source.bucket) by.picks) r)) shown
+          ∙ ap Some by.holds;
+      holds = refl;
     }
+
+-- and what is told of it is what that read is told
+pub would_find : (s : State) (source : CopySource) (found : Found (List ℕ)) → source_found s source ≡ Ok found
+    → (gives : WouldGive s (source_read source) found.stored) × (gives.found ≡ found)
+unfolding would_give
+would_find s source found is = (would_give s source found is, refl)
+
+-- what a copy stores is what it says of what it found
+copied_from : (copy : ObjectCopy) (source : Result (Found (List ℕ)) Refusal) (what : Data (List ℕ))
+    → (source >>= (λ (found : Found (List ℕ)). Ok (described copy.description found.stored))) ≡ Ok what
+    → (found : Found (List ℕ)) × (source ≡ Ok found) × (what ≡ described copy.description found.stored)
+copied_from copy (Ok found) what is = (found, refl, cc)
+copied_from copy (Err refusal) what is = absurd (cc)
+
+-- what a read of a source is given, and what is stored of it
+pub record IsCopied (s : State) (asked : Read) (said : Option Description) (what : Data (List ℕ)) : Type 0 where
+  pub source : Data (List ℕ)
+  pub gives : WouldGive s asked source
+  pub is : what ≡ described said source
+
+copied_is : (s : State) (copy : ObjectCopy) (what : Data (List ℕ)) → copied s copy ≡ Ok what
+    → IsCopied s (source_read copy.source) copy.description what
+unfolding copied
+copied_is s copy what is =
+    let from = copied_from copy (source_found s copy.source) what is in
+    record { source = from.0.stored; gives = would_give s copy.source from.0 from.1; is = from.2 }
 
 source_known : (s : State) (n t : ℕ) (a : Address) (source : Result (Data (List ℕ)) Refusal) (object : Object)
     → option_map (object_of s n t a) (result_ok source) ≡ Some object → source ≡ Ok object.stored
@@ -149,21 +210,23 @@ source_known s n t a (Ok what) object is =
     ap (λ (o : Object). Ok o.stored) same
 source_known s n t a (Err refusal) object is = absurd (cc)
 
-source_gives : (s : State) (n t : ℕ) (a : Address) (source : CopySource) (object : Object)
-    → option_map (object_of s n t a) (result_ok (copied s source)) ≡ Some object → WouldGive s (source_read source) object.stored
-source_gives s n t a source object is = would_give s source object.stored (source_known s n t a (copied s source) object is)
+source_gives : (s : State) (n t : ℕ) (a : Address) (copy : ObjectCopy) (object : Object)
+    → option_map (object_of s n t a) (result_ok (copied s copy)) ≡ Some object
+    → IsCopied s (source_read copy.source) copy.description object.stored
+source_gives s n t a copy object is = copied_is s copy object.stored (source_known s n t a (copied s copy) object is)
 
-source_stored : (s : State) (n t : ℕ) (command : Command) (asked : Read) (object : Object) → copies command ≡ Some asked
-    → stored_by s n t command ≡ Some object → WouldGive s asked object.stored
-source_stored s n t (commands.Key bucket key (key_commands.Copy copy)) asked object from is =
-    let same : source_read copy.source ≡ asked = cc in
-    subst (λ (r : Read). WouldGive s r object.stored) same
-    (source_gives s n t (record { bucket = bucket; key = key }) copy.source object is)
-source_stored s n t _ asked object from is = absurd (cc)
+source_stored : (s : State) (n t : ℕ) (command : Command) (asked : Read) (said : Option Description) (object : Object)
+    → copies command ≡ Some (asked, said) → stored_by s n t command ≡ Some object → IsCopied s asked said object.stored
+source_stored s n t (commands.Key bucket key (key_commands.Copy copy)) asked said object from is =
+    let same = same_Some (source_read copy.source, copy.description) (asked, said) from in
+    subst (λ (p : Read × Option Description). IsCopied s p.0 p.1 object.stored) same
+    (source_gives s n t (record { bucket = bucket; key = key }) copy object is)
+source_stored s n t _ asked said object from is = absurd (cc)
 
 pub copies_store_their_source : CopiesStoreTheirSource
-copies_store_their_source s e asked object from stores =
-    source_stored s e.answer.number e.moment e.command asked object from stores.by
+copies_store_their_source s e asked said object from stores =
+    let copied = source_stored s e.answer.number e.moment e.command asked said object from stores.by in
+    (copied.source, copied.gives, copied.is)
 
 -- a copy that succeeds stores something
 abbrev StoresSome : State → ℕ → ℕ → Address → Command → Type 0
@@ -176,48 +239,51 @@ source_there s n t name key true source accepted = absurd (cc)
 source_there s n t name key false (Ok what) accepted = (what, refl)
 source_there s n t name key false (Err refusal) accepted = absurd (cc)
 
-copy_stores : (least : ℕ) (s : State) (n t : ℕ) (command : Command) (a : Address) (asked : Read) → writes command ≡ Some a
-    → copies command ≡ Some asked → succeeds (step least s n t command).1 ≡ true → StoresSome s n t a command
+copy_stores : (least : ℕ) (s : State) (n t : ℕ) (command : Command) (a : Address) (asked : Read) (said : Option Description)
+    → writes command ≡ Some a → copies command ≡ Some (asked, said) → succeeds (step least s n t command).1 ≡ true
+    → StoresSome s n t a command
 unfolding done key_done copy_done
-copy_stores least s n t (commands.Key bucket key (key_commands.Copy copy)) a asked written from accepted =
+copy_stores least s n t (commands.Key bucket key (key_commands.Copy copy)) a asked said written from accepted =
     let same : record { bucket = bucket; key = key } ≡ a = cc in
-    let known = source_there s n t bucket key (not (has_bucket s bucket)) (copied s copy.source) accepted in (
+    let known = source_there s n t bucket key (not (has_bucket s bucket)) (copied s copy) accepted in (
       known.0,
       ap (λ (r : Result (Data (List ℕ)) Refusal). option_map (object_of s n t (record { bucket = bucket; key = key })) (result_ok r)) known.1
           ∙ ap (λ (b : Address). Some (object_of s n t b known.0)) same,
     )
-copy_stores least s n t _ a asked written from accepted = absurd (cc)
+copy_stores least s n t _ a asked said written from accepted = absurd (cc)
 
--- what an accepted copy stores, as an object
-pub record Copied (s : State) (e : Entry) (address : Address) (asked : Read) : Type 0 where
-  pub what : Data (List ℕ)
-  pub stores : Stores s e (object_of s e.answer.number e.moment address what)
-  pub gives : WouldGive s asked what
+-- what an accepted copy stores, as an object, is what it says of its source
+pub record Copied (s : State) (e : Entry) (address : Address) (asked : Read) (said : Option Description) : Type 0 where
+  pub source : Data (List ℕ)
+  pub gives : WouldGive s asked source
+  pub stores : Stores s e (object_of s e.answer.number e.moment address (described said source))
 
-entry_copies : (least : ℕ) (s : State) (n : ℕ) (e : Entry) (address : Address) (asked : Read) → IsAnswer least s n e
-    → Copies address asked e → Copied s e address asked
-entry_copies least s n e address asked answer copy =
-    let some = copy_stores least s e.answer.number e.moment e.command address asked copy.written copy.from
+entry_copies : (least : ℕ) (s : State) (n : ℕ) (e : Entry) (address : Address) (asked : Read) (said : Option Description) → IsAnswer least s n e
+    → Copies address asked said e → Copied s e address asked said
+entry_copies least s n e address asked said answer copy =
+    let some = copy_stores least s e.answer.number e.moment e.command address asked said copy.written copy.from
     (sym (ap succeeds (outcome_is least s n e answer)) ∙ copy.accepted) in
-    let stores : Stores s e (object_of s e.answer.number e.moment address some.0) = record { by = some.1; accepted = copy.accepted } in
-    record { what = some.0; stores = stores; gives = copies_store_their_source s e asked _ copy.from stores }
+    let object = object_of s e.answer.number e.moment address in
+    let stores : Stores s e (object some.0) = record { by = some.1; accepted = copy.accepted } in
+    let from = source_stored s e.answer.number e.moment e.command asked said (object some.0) copy.from some.1 in
+    record { source = from.source; gives = from.gives; stores = subst (λ (d : Data (List ℕ)). Stores s e (object d)) from.is stores }
 
 pub copies_are_kept : EveryHistory StoredIsKept → EveryHistory CopiesAreKept
-copies_are_kept law least s n entries legal before between later copy read address asked parts is leaves reading =
+copies_are_kept law least s n entries legal before between later copy read address asked said parts is leaves reading =
     let here = after least s before in
     let there = right_at least s n entries before (between ++ read ∷ later) copy legal (parts ∙ append_assoc before (copy ∷ between) (read ∷ later)) in
-    let stored = entry_copies least here _ copy address asked there is in
-    (stored.what, stored.gives, law least s n entries legal before between later copy read _ parts stored.stores leaves reading)
+    let stored = entry_copies least here _ copy address asked said there is in
+    (stored.source, stored.gives, law least s n entries legal before between later copy read _ parts stored.stores leaves reading)
 
 pub copy_versions_are_kept : EveryHistory StoredIsTold → EveryHistory VersionsAreKept → EveryHistory CopyVersionsAreKept
-copy_versions_are_kept tells law least s n entries legal before between later copy read address asked id parts is touches spares reading =
+copy_versions_are_kept tells law least s n entries legal before between later copy read address asked said id parts is touches spares reading =
     let here = after least s before in
     let split = parts ∙ append_assoc before (copy ∷ between) (read ∷ later) in
-    let stored = entry_copies least here _ copy address asked (right_at least s n entries before (between ++ read ∷ later) copy legal split) is in
-    let object = object_of here copy.answer.number copy.moment address stored.what in
+    let stored = entry_copies least here _ copy address asked said (right_at least s n entries before (between ++ read ∷ later) copy legal split) is in
+    let object = object_of here copy.answer.number copy.moment address (described said stored.source) in
     let told = tells least s n entries legal before (between ++ read ∷ later) copy object split stored.stores in
     let same : id ≡ object.id = cc (touches, told.under) in (
-      stored.what,
+      stored.source,
       stored.gives,
       law least s n entries legal before between later copy read object parts stored.stores
           (subst (λ (i : VersionId). SparesVersion address i between) same spares)
@@ -269,10 +335,11 @@ source_of s e (commands.Key bucket key (key_commands.Put put)) object same is ac
     })
 source_of s e (commands.Key bucket key (key_commands.Copy copy)) object same is accepted =
     let address : record { bucket = bucket; key = key } ≡ object.address =
-    stored_there s e.answer.number e.moment (record { bucket = bucket; key = key }) (result_ok (copied s copy.source)) object is in
-    Copy (source_read copy.source)
+    stored_there s e.answer.number e.moment (record { bucket = bucket; key = key }) (result_ok (copied s copy)) object is in
+    let from = source_gives s e.answer.number e.moment (record { bucket = bucket; key = key }) copy object is in
+    Copy (source_read copy.source) copy.description from.source
     (record { written = ap writes same ∙ ap Some address; from = ap copies same; accepted = accepted })
-    (source_gives s e.answer.number e.moment (record { bucket = bucket; key = key }) copy.source object is)
+    from.gives from.is
 source_of s e (commands.Upload bucket key id (upload_commands.Complete listed if_absent)) object same is accepted =
     let upload = place_of bucket key id in
     let made = parts_made s e.answer.number e.moment upload listed if_absent object is in

@@ -1,5 +1,5 @@
--- What is stored was put once, or joined once by a completion, however often it was copied.
-use Rattle.std.proofs.Common.{◌≡◌, refl, sym, ap, subst, ◌∙◌, arith, ◌⊎◌, inl, inr, ℕ, zero, suc, ◌≤◌, ◌+◌, List, ◌∷◌, ◌++◌, append_assoc, length, length-append, Some}
+-- What is stored was put once, or joined once by a completion, however often it was copied; but for what a copy said of it.
+use Rattle.std.proofs.Common.{◌≡◌, refl, sym, ap, subst, ◌∙◌, arith, ◌⊎◌, ⊎_elim, inl, inr, ℕ, zero, suc, ◌≤◌, ◌+◌, List, ◌∷◌, ◌++◌, append_assoc, length, length-append, Option, Some, None}
 use Rattle.std.proofs.lemmas.Option.{same_Some}
 use Rattle.s3_versions.specs.Laws.{IdsAreTold}
 use Rattle.s3_versions.specs.declared.version.Data.{Data}
@@ -9,14 +9,15 @@ use Rattle.s3_records.specs.Places.{ChangesAreByPlace}
 use Rattle.s3_machine.specs.declared.command.Command.{Command}
 use Rattle.s3_machine.specs.declared.command.Command.TheVariants as commands
 use Rattle.s3_machine.specs.declared.command.KeyCommand.TheVariants as key_commands
+use Rattle.s3_machine.specs.declared.command.Description.{Description}
 use Rattle.s3_machine.specs.declared.command.Found.{Found}
 use Rattle.s3_machine.specs.declared.command.Outcome.{Outcome}
 use Rattle.s3_machine.specs.declared.command.Outcome.TheVariants as outcomes
 use Rattle.s3_conditions.specs.declared.conditions.Selection.TheVariants.{Whole}
 use Rattle.s3_machine.specs.Effects.{Address, Object, Read, object_of, reads, given, given_whole, found_object}
 use Rattle.s3_machine.specs.History.{Entry, Legal, after}
-use Rattle.s3_machine.specs.Kept.{Stores, WasStored, WasPut, Source, Put, Copy, Completion, EveryHistory, StoredWasBrought}
-use Rattle.s3_machine.specs.Step.{State}
+use Rattle.s3_machine.specs.Kept.{Stores, WasStored, Copies, WasPut, WasDescribed, Source, Put, Copy, Completion, EveryHistory, StoredWasBrought}
+use Rattle.s3_machine.specs.Step.{State, described}
 use Rattle.s3_machine.specs.Uploads.{AreJoined, WasJoined}
 use Rattle.s3_machine.specs.UploadsKept.{CompletionsJoinWhatWasSent}
 use Rattle.s3_machine.proofs.AnswerLemmas.{stored_has_source}
@@ -49,8 +50,9 @@ put_before entries before more what parts was = record {
 }
 
 -- and so is what was joined before
-joined_before : (entries before more : List Entry) (what : Data (List ℕ)) → entries ≡ before ++ more → WasJoined before what → WasJoined entries what
-joined_before entries before more what parts was = record {
+joined_before : (least : ℕ) (s : State) (entries before more : List Entry) (what : Data (List ℕ)) → entries ≡ before ++ more
+    → WasJoined least s before what → WasJoined least s entries what
+joined_before least s entries before more what parts was = record {
   before = was.before;
   complete = was.complete;
   later = was.later ++ more;
@@ -61,13 +63,41 @@ joined_before entries before more what parts was = record {
   joined = was.joined;
 }
 
--- these data were put or joined
-abbrev WasBrought : List Entry → Data (List ℕ) → Type 0
-WasBrought entries what = WasPut entries what ⊎ WasJoined entries what
+-- and what a copy said before
+described_before : (entries before more : List Entry) (origin what : Data (List ℕ)) → entries ≡ before ++ more
+    → WasDescribed before origin what → WasDescribed entries origin what
+described_before entries before more origin what parts was = record {
+  before = was.before;
+  copy = was.copy;
+  later = was.later ++ more;
+  parts = parts ∙ ap (λ (es : List Entry). es ++ more) was.parts ∙ append_assoc was.before (was.copy ∷ was.later) more;
+  address = was.address;
+  asked = was.asked;
+  said = was.said;
+  copies = was.copies;
+  is = was.is;
+}
 
-brought_before : (entries before more : List Entry) (what : Data (List ℕ)) → entries ≡ before ++ more → WasBrought before what → WasBrought entries what
-brought_before entries before more what parts (inl was) = inl (put_before entries before more what parts was)
-brought_before entries before more what parts (inr was) = inr (joined_before entries before more what parts was)
+-- these data have an origin that was put or joined: they are it, or it as a copy said of it
+pub record WasBrought (least : ℕ) (s : State) (entries : List Entry) (what : Data (List ℕ)) : Type 0 where
+  pub origin : Data (List ℕ)
+  pub brought : WasPut entries origin ⊎ WasJoined least s entries origin
+  pub since : (what ≡ origin) ⊎ WasDescribed entries origin what
+
+brought_before : (least : ℕ) (s : State) (entries before more : List Entry) (what : Data (List ℕ)) → entries ≡ before ++ more
+    → WasBrought least s before what → WasBrought least s entries what
+brought_before least s entries before more what parts was = record {
+  origin = was.origin;
+  brought = ⊎_elim (λ put. inl (put_before entries before more was.origin parts put))
+      (λ joined. inr (joined_before least s entries before more was.origin parts joined)) was.brought;
+  since = ⊎_elim (λ is. inl is) (λ said. inr (described_before entries before more was.origin what parts said)) was.since;
+}
+
+-- what is said again replaces what was said before
+said_again : (entries : List Entry) (origin source : Data (List ℕ)) (said : Description)
+    → (source ≡ origin) ⊎ WasDescribed entries origin source → described (Some said) source ≡ described (Some said) origin
+said_again entries origin source said (inl same) = ap (described (Some said)) same
+said_again entries origin source said (inr was) = ap (described (Some said)) was.is
 
 -- what an entry stores is one object
 same_stored : (s : State) (e : Entry) (n t : ℕ) (address : Address) (what : Data (List ℕ)) (object : Object) → Stores s e object
@@ -77,16 +107,40 @@ same_stored s e n t address what object stores others =
 
 module _ (places : ChangesAreByPlace (List ℕ)) (rules : Rules) (empty : OpeningIsEmpty (List ℕ))
     (ids : IdsAreTold (List ℕ)) (joins : EveryHistory CompletionsJoinWhatWasSent) (least : ℕ) (s : State) (n : ℕ) (names : List (List ℕ)) (opens : s ≡ opening names) where
+  -- what a copy stores has the origin of its source
+  by_copy : (earlier : List Entry) (object : Object) (was : WasStored least s earlier object) (asked : Read) (said : Option Description)
+      (source : Data (List ℕ))
+      → Copies object.address asked said was.write → object.stored ≡ described said source → WasBrought least s earlier source
+      → WasBrought least s earlier object.stored
+  by_copy earlier object was asked None source copies is old = subst (WasBrought least s earlier) (sym is) old
+  by_copy earlier object was asked (Some said) source copies is old =
+      let copied : WasDescribed earlier old.origin object.stored =
+      record {
+        before = was.before;
+        copy = was.write;
+        later = was.between;
+        parts = was.parts;
+        address = object.address;
+        asked = asked;
+        said = said;
+        copies = copies;
+        is = is ∙ said_again earlier old.origin source said old.since;
+      } in
+      record { origin = old.origin; brought = old.brought; since = inr copied }
+
   -- what an entry stored was put or joined, if all that was stored before it was
   from_source : (earlier : List Entry) (object : Object) (was : WasStored least s earlier object) → Legal least s n earlier → Legal least s n was.before
-      → ((o : Object) → WasStored least s was.before o → WasBrought was.before o.stored)
-      → Source (after least s was.before) was.write object → WasBrought earlier object.stored
+      → ((o : Object) → WasStored least s was.before o → WasBrought least s was.before o.stored)
+      → Source (after least s was.before) was.write object → WasBrought least s earlier object.stored
   from_source earlier object was all legal known (Put puts) =
-      inl (record { before = was.before; put = was.write; later = was.between; parts = was.parts; address = object.address; puts = puts })
+      let put : WasPut earlier object.stored =
+      record { before = was.before; put = was.write; later = was.between; parts = was.parts; address = object.address; puts = puts } in
+      record { origin = object.stored; brought = inl put; since = inl refl }
   from_source earlier object was all legal known (Completion upload listed at completes makes) =
       let made = joins least s n earlier all names was.before was.between was.write upload listed opens was.parts completes in
       let same = same_stored (after least s was.before) was.write was.write.answer.number was.write.moment upload.address made.0 object was.stores made.2 in
-      inr (record {
+      let joined : WasJoined least s earlier object.stored =
+      record {
         before = was.before;
         complete = was.write;
         later = was.between;
@@ -94,19 +148,21 @@ module _ (places : ChangesAreByPlace (List ℕ)) (rules : Rules) (empty : Openin
         upload = upload;
         listed = listed;
         completes = completes;
-        joined = subst (AreJoined was.before upload listed) same made.1;
-      })
-  from_source earlier object was all legal known (Copy asked copy gives) =
+        joined = subst (AreJoined least s was.before upload listed) same made.1;
+      } in
+      record { origin = object.stored; brought = inr joined; since = inl refl }
+  from_source earlier object was all legal known (Copy asked said source copies gives is) =
       let here = after least s was.before in
       let read = reads_found ids least here 0 0 (read_of asked) asked gives.found (reads_it asked)
       (whole_given _ gives.found (gives.gives least 0 0 (read_of asked) (reads_it asked))) in
       let from = found_object asked.address read.0 gives.found in
       let stored = only_stored_stands places rules empty least s n was.before legal names from opens read.2 in
-      brought_before earlier was.before (was.write ∷ was.between) object.stored was.parts
-      (subst (WasBrought was.before) gives.holds (known from stored))
+      by_copy earlier object was asked said source copies is
+      (brought_before least s earlier was.before (was.write ∷ was.between) source was.parts
+      (subst (WasBrought least s was.before) gives.holds (known from stored)))
 
   brought_within : (k : ℕ) (earlier : List Entry) (object : Object) → length earlier ≤ k → Legal least s n earlier
-      → WasStored least s earlier object → WasBrought earlier object.stored
+      → WasStored least s earlier object → WasBrought least s earlier object.stored
   brought_within zero earlier object within legal was =
       let size : length earlier ≡ length was.before + suc (length was.between) = ap length was.parts ∙ length-append was.before (was.write ∷ was.between) in
       absurd (omega arith)
@@ -121,5 +177,6 @@ module _ (places : ChangesAreByPlace (List ℕ)) (rules : Rules) (empty : Openin
 pub stored_was_brought : ChangesAreByPlace (List ℕ) → Rules → OpeningIsEmpty (List ℕ) → IdsAreTold (List ℕ)
     → EveryHistory CompletionsJoinWhatWasSent → EveryHistory StoredWasBrought
 stored_was_brought places rules empty ids joins least s n entries legal names earlier later object opens parts was =
-    brought_within places rules empty ids joins least s n names opens (length earlier) earlier object (omega arith)
-    (Legal-append least s n earlier later (subst (Legal least s n) parts legal)).0 was
+    let brought = brought_within places rules empty ids joins least s n names opens (length earlier) earlier object (omega arith)
+    (Legal-append least s n earlier later (subst (Legal least s n) parts legal)).0 was in
+    (brought.origin, brought.brought, brought.since)

@@ -1,10 +1,10 @@
--- An upload that is open was begun by an entry of the history, and its parts were sent by entries behind that one.
+-- An upload that is open was begun by an entry of the history, and its parts were put by entries behind that one.
 use Rattle.std.proofs.Common.{◌≡◌, ◌≢◌, refl, sym, ap, subst, ◌∙◌, ℕ, suc, inl, inr, List, [], ◌∷◌, ◌++◌, append_assoc, append-nil, Some, None}
 use Rattle.std.proofs.lemmas.Bool.Decides.{eqb_tells}
 use Rattle.std.proofs.lemmas.Option.{same_Some}
 use Rattle.std.specs.List.{AllByRecursion}
 use Rattle.s3_uploads.specs.Laws.{PutsAreUnderOneNumber}
-use Rattle.s3_uploads.specs.Parts.{part_at, part_put, part_sent}
+use Rattle.s3_uploads.specs.Parts.{part_at, part_put}
 use Rattle.s3_uploads.specs.Uploads.{with_part}
 use Rattle.s3_uploads.specs.declared.part.Part.{Part}
 use Rattle.s3_uploads.specs.declared.upload.Upload.{Upload}
@@ -14,36 +14,40 @@ use Rattle.s3_records.specs.Places.{ChangesAreByUpload}
 use Rattle.s3_machine.specs.declared.command.Command.{Command}
 use Rattle.s3_machine.specs.declared.command.Command.TheVariants as commands
 use Rattle.s3_machine.specs.declared.command.KeyCommand.TheVariants as key_commands
-use Rattle.s3_machine.specs.declared.command.UploadBegin.{UploadBegin}
+use Rattle.s3_machine.specs.declared.command.Description.{Description}
 use Rattle.s3_machine.specs.declared.command.UploadCommand.TheVariants as upload_commands
-use Rattle.s3_machine.specs.Effects.{Address, UploadPlace, PartPlace, open_at, begins, sends, ends, succeeds}
+use Rattle.s3_machine.specs.Effects.{Address, UploadPlace, PartPlace, open_at, begins, sends, puts_part, ends, succeeds}
 use Rattle.s3_machine.specs.History.{Entry, IsAnswer, Legal, after, after_entry}
 use Rattle.s3_machine.specs.Step.{State, upload_begun, step}
-use Rattle.s3_machine.specs.Uploads.{Sends, KeepsOpen, KeepsPart, WasBegun, WasSent}
-use Rattle.s3_machine.proofs.HistoryLemmas.{after-push}
+use Rattle.s3_machine.specs.Uploads.{Sends, KeepsOpen, KeepsPart, WasBegun, WasSent, begun_state}
+use Rattle.s3_machine.proofs.HistoryLemmas.{after-push, after-append}
 use Rattle.s3_machine.proofs.KeptLemmas.{outcome_is}
 use Rattle.s3_machine.proofs.UploadLemmas.{IsLeft, Fate, Left, Begun, Sent, Ended, step_fate}
 
 -- what an upload was begun with
-abbrev pub asked_of : Upload (List ℕ) → UploadBegin
+abbrev pub asked_of : Upload (List ℕ) → Description
 asked_of u = record { content_type = u.content_type; metadata = u.metadata }
 
 -- a part of an upload
 abbrev pub part_of : UploadPlace → ℕ → PartPlace
 part_of upload number = record { upload = upload; number = number }
 
--- a part that stands was sent so
-pub record SentSo (entries : List Entry) (part : PartPlace) (p : Part (List ℕ)) : Type 0 where
-  pub was : WasSent entries part p.moment p.body
-  pub is : p ≡ part_sent p.moment p.body
-
--- an upload that is open was begun, and its parts were sent since
-pub record Course (past : List Entry) (upload : UploadPlace) (u : Upload (List ℕ)) : Type 0 where
+-- an upload that is open was begun, and its parts were put since
+pub record Course (least : ℕ) (s : State) (past : List Entry) (upload : UploadPlace) (u : Upload (List ℕ)) : Type 0 where
   pub begun : WasBegun past upload u.moment (asked_of u)
-  pub sent : (number : ℕ) (p : Part (List ℕ)) → part_at number u.parts ≡ Some p → SentSo begun.since (part_of upload number) p
+  pub sent : (number : ℕ) (p : Part (List ℕ)) → part_at number u.parts ≡ Some p
+      → WasSent least (begun_state least s begun) begun.since (part_of upload number) p
 
 abbrev pub AllCourses : ℕ → State → List Entry → Type 0
-AllCourses least s past = (upload : UploadPlace) (u : Upload (List ℕ)) → open_at (after least s past) upload ≡ Some u → Course past upload u
+AllCourses least s past =
+    (upload : UploadPlace) (u : Upload (List ℕ)) → open_at (after least s past) upload ≡ Some u → Course least s past upload u
+
+-- what the entries leave is what those behind the beginning leave
+since_begun : (least : ℕ) (s : State) (past : List Entry) (upload : UploadPlace) (t : ℕ) (asked : Description)
+    (begun : WasBegun past upload t asked) → after least s past ≡ after least (begun_state least s begun) begun.since
+since_begun least s past upload t asked begun =
+    ap (after least s) (begun.parts ∙ sym (append_assoc begun.before (begun.begin ∷ []) begun.since))
+    ∙ after-append least s (begun.before ++ begun.begin ∷ []) begun.since
 
 -- ---- one more entry
 
@@ -51,7 +55,7 @@ all_push : (P : Entry → Type 0) (es : List Entry) (e : Entry) → AllByRecursi
 all_push P [] e all last = (last, tt)
 all_push P (x ∷ es) e all last = (all.0, all_push P es e all.1 last)
 
-begun_push : (past : List Entry) (e : Entry) (upload : UploadPlace) (t : ℕ) (asked : UploadBegin) → WasBegun past upload t asked
+begun_push : (past : List Entry) (e : Entry) (upload : UploadPlace) (t : ℕ) (asked : Description) → WasBegun past upload t asked
     → KeepsOpen upload e → WasBegun (past ++ e ∷ []) upload t asked
 begun_push past e upload t asked was keeps = record {
   before = was.before;
@@ -63,29 +67,26 @@ begun_push past e upload t asked was keeps = record {
   stays = all_push (KeepsOpen upload) was.since e was.stays keeps;
 }
 
-sent_push : (past : List Entry) (e : Entry) (part : PartPlace) (p : Part (List ℕ)) → SentSo past part p
-    → KeepsPart part e → KeepsOpen part.upload e → SentSo (past ++ e ∷ []) part p
-sent_push past e part p so keeps stays = record {
-  was = record {
-    before = so.was.before;
-    send = so.was.send;
-    later = so.was.later ++ e ∷ [];
-    parts = ap (λ (es : List Entry). es ++ e ∷ []) so.was.parts ∙ append_assoc so.was.before (so.was.send ∷ so.was.later) (e ∷ []);
-    sends = so.was.sends;
-    moment = so.was.moment;
-    last = all_push (KeepsPart part) so.was.later e so.was.last keeps;
-    stays = all_push (KeepsOpen part.upload) so.was.later e so.was.stays stays;
-  };
-  is = so.is;
+sent_push : (least : ℕ) (s : State) (past : List Entry) (e : Entry) (part : PartPlace) (what : Part (List ℕ)) → WasSent least s past part what
+    → KeepsPart part e → KeepsOpen part.upload e → WasSent least s (past ++ e ∷ []) part what
+sent_push least s past e part what was keeps stays = record {
+  before = was.before;
+  send = was.send;
+  later = was.later ++ e ∷ [];
+  parts = ap (λ (es : List Entry). es ++ e ∷ []) was.parts ∙ append_assoc was.before (was.send ∷ was.later) (e ∷ []);
+  sends = was.sends;
+  last = all_push (KeepsPart part) was.later e was.last keeps;
+  stays = all_push (KeepsOpen part.upload) was.later e was.stays stays;
 }
 
--- a command that begins an upload neither sends a part nor ends one, and one that sends a part ends none
-pub begins_alone : (command : Command) (what : Address × UploadBegin) → begins command ≡ Some what → (sends command ≡ None) × (ends command ≡ None)
+-- a command that begins an upload neither puts a part nor ends one, and one that puts a part ends none
+pub begins_alone : (command : Command) (what : Address × Description) → begins command ≡ Some what → (sends command ≡ None) × (ends command ≡ None)
 begins_alone (commands.Key bucket key (key_commands.Begin begin)) what is = (refl, refl)
 begins_alone _ what is = absurd (cc)
 
 pub sends_alone : (command : Command) (part : PartPlace) → sends command ≡ Some part → ends command ≡ None
 sends_alone (commands.Upload bucket key id (upload_commands.PutPart number payload)) part is = refl
+sends_alone (commands.Upload bucket key id (upload_commands.CopyPart number copy)) part is = refl
 sends_alone _ part is = absurd (cc)
 
 -- nothing is at a number that no part has
@@ -115,34 +116,29 @@ module _ (law : ChangesAreByUpload (List ℕ)) (puts : PutsAreUnderOneNumber (Li
       let same = same_Some (part_of upload m) (part_of upload number) (sym sends_m ∙ at) in
       absurd (other (ap (λ (p : PartPlace). p.number) same))
 
-  -- the part that an entry puts was sent by it, and the others before
-  sent_parts : (past : List Entry) (e : Entry) (upload : UploadPlace) (number : ℕ) (bytes : List ℕ) (found : Upload (List ℕ))
-      → Sends (part_of upload number) bytes e
-      → ((m : ℕ) (p : Part (List ℕ)) → part_at m found.parts ≡ Some p → SentSo past (part_of upload m) p)
-      → (m : ℕ) (p : Part (List ℕ)) → part_at m (part_put number (part_sent e.moment bytes) found.parts) ≡ Some p
-      → SentSo (past ++ e ∷ []) (part_of upload m) p
-  sent_parts past e upload number bytes found sends known m p is =
+  -- the part that an entry puts was put by it, and the others before
+  sent_parts : (s : State) (past : List Entry) (e : Entry) (upload : UploadPlace) (number : ℕ) (what : Part (List ℕ)) (found : Upload (List ℕ))
+      → Sends (after least s past) (part_of upload number) what e
+      → ((m : ℕ) (p : Part (List ℕ)) → part_at m found.parts ≡ Some p → WasSent least s past (part_of upload m) p)
+      → (m : ℕ) (p : Part (List ℕ)) → part_at m (part_put number what found.parts) ≡ Some p
+      → WasSent least s (past ++ e ∷ []) (part_of upload m) p
+  sent_parts s past e upload number what found sends known m p is =
       elim (eqb_tells m number) [
         | inl same ↦
-            let part = part_sent e.moment bytes in
-            let there = (puts number part found.parts).0 in
-            let what = same_Some part p (sym there ∙ sym (ap (λ (k : ℕ). part_at k (part_put number part found.parts)) same.1) ∙ is) in
-            subst (SentSo (past ++ e ∷ []) (part_of upload m)) what (record {
-              was = record {
-                before = past;
-                send = e;
-                later = [];
-                parts = refl;
-                sends = subst (λ (k : ℕ). Sends (part_of upload k) bytes e) (sym same.1) sends;
-                moment = refl;
-                last = tt;
-                stays = tt;
-              };
-              is = refl;
+            let there = (puts number what found.parts).0 in
+            let part = same_Some what p (sym there ∙ sym (ap (λ (k : ℕ). part_at k (part_put number what found.parts)) same.1) ∙ is) in
+            subst (WasSent least s (past ++ e ∷ []) (part_of upload m)) part (record {
+              before = past;
+              send = e;
+              later = [];
+              parts = refl;
+              sends = subst (λ (k : ℕ). Sends (after least s past) (part_of upload k) what e) (sym same.1) sends;
+              last = tt;
+              stays = tt;
             })
         | inr other ↦
-            sent_push past e (part_of upload m) p
-            (known m p (sym ((puts number (part_sent e.moment bytes) found.parts).1 m other.1) ∙ is))
+            sent_push least s past e (part_of upload m) p
+            (known m p (sym ((puts number what found.parts).1 m other.1) ∙ is))
             (sent_keeps_others e upload number m sends.at other.1)
             (sent_keeps_open e upload number sends.at)
       ]
@@ -161,11 +157,13 @@ module _ (law : ChangesAreByUpload (List ℕ)) (puts : PutsAreUnderOneNumber (Li
             let keeps = left_keeps here n e upload answer left in
             record {
               begun = begun_push past e upload u.moment (asked_of u) course.begun keeps.0;
-              sent = λ number p at. sent_push course.begun.since e (part_of upload number) p (course.sent number p at) (keeps.1 number) keeps.0;
+              sent = λ number p at.
+                  sent_push least (begun_state least s course.begun) course.begun.since e (part_of upload number) p
+                  (course.sent number p at) (keeps.1 number) keeps.0;
             }
         | Begun begun ↦
             let what = same_Some (upload_begun e.moment begun.asked) u (sym begun.now ∙ now) in
-            subst (Course (past ++ e ∷ []) upload) what (record {
+            subst (Course least s (past ++ e ∷ []) upload) what (record {
               begun = record {
                 before = past;
                 begin = e;
@@ -178,13 +176,19 @@ module _ (law : ChangesAreByUpload (List ℕ)) (puts : PutsAreUnderOneNumber (Li
               sent = λ number p at. absurd (no_part number p at);
             })
         | Sent send ↦
-            let what = same_Some (with_part send.number (part_sent e.moment send.bytes) send.found) u (sym send.now ∙ now) in
+            let what = same_Some (with_part send.number send.part send.found) u (sym send.now ∙ now) in
             let course = known upload send.found send.there in
-            let sends : Sends (part_of upload send.number) send.bytes e =
-            record { at = send.at; brings = send.brings; accepted = outcome ∙ send.accepted } in
-            subst (Course (past ++ e ∷ []) upload) what (record {
+            let start = begun_state least s course.begun in
+            let state = since_begun least s past upload send.found.moment (asked_of send.found) course.begun in
+            let sends : Sends (after least start course.begun.since) (part_of upload send.number) send.part e =
+            record {
+              at = send.at;
+              puts = sym (ap (λ (before : State). puts_part before e.moment e.command) state) ∙ send.puts;
+              accepted = outcome ∙ send.accepted;
+            } in
+            subst (Course least s (past ++ e ∷ []) upload) what (record {
               begun = begun_push past e upload send.found.moment (asked_of send.found) course.begun (sent_keeps_open e upload send.number send.at);
-              sent = sent_parts course.begun.since e upload send.number send.bytes send.found sends course.sent;
+              sent = sent_parts start course.begun.since e upload send.number send.part send.found sends course.sent;
             })
         | Ended ended ↦ let none = ended.now in absurd (cc)
       ]

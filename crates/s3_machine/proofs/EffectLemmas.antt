@@ -4,7 +4,7 @@ use Rattle.std.proofs.lemmas.Bool.{false≢true}
 use Rattle.std.specs.List.{list_all, list_any}
 use Rattle.std.specs.Result.{result_ok}
 use Rattle.s3_terms.specs.declared.code.Code.{Code}
-use Rattle.s3_terms.specs.declared.code.Code.TheVariants.{NoSuchBucket, BucketAlreadyOwnedByYou, BucketNotEmpty, NoSuchUpload, PreconditionFailed, InvalidPartOrder, InvalidPart, EntityTooSmall}
+use Rattle.s3_terms.specs.declared.code.Code.TheVariants.{NoSuchBucket, BucketAlreadyOwnedByYou, BucketNotEmpty, InvalidArgument, NoSuchUpload, PreconditionFailed, InvalidPartOrder, InvalidPart, EntityTooSmall}
 use Rattle.s3_names.specs.declared.ids.VersionId.{VersionId}
 use Rattle.s3_conditions.specs.declared.conditions.Conditions.{Conditions}
 use Rattle.s3_conditions.specs.declared.conditions.Selection.{Selection}
@@ -17,7 +17,7 @@ use Rattle.s3_versions.specs.declared.version.Versioning.TheVariants.{Unversione
 use Rattle.s3_versions.specs.Rules.{made, new_id, stored, pick, facts_of, is_new_number, KeyChange, VersionPut, KeyDeleted, VersionDropped, after_change}
 use Rattle.s3_versions.specs.Laws.{id_changed, marker_made, version_made}
 use Rattle.s3_uploads.specs.Completion.{numbers_listed, is_sent, is_small, front_of, parts_listed, completed_parts, joined_data, completed}
-use Rattle.s3_uploads.specs.Parts.{PartList, rises, part_sent}
+use Rattle.s3_uploads.specs.Parts.{PartList, rises, part_sent, part_tag}
 use Rattle.s3_uploads.specs.declared.listed.ListedPart.{ListedPart}
 use Rattle.s3_uploads.specs.declared.part.Part.{Part}
 use Rattle.s3_uploads.specs.declared.upload.Upload.{Upload}
@@ -33,7 +33,9 @@ use Rattle.s3_machine.specs.declared.command.Command.{Command}
 use Rattle.s3_machine.specs.declared.command.Command.TheVariants as commands
 use Rattle.s3_machine.specs.declared.command.KeyCommand.{KeyCommand}
 use Rattle.s3_machine.specs.declared.command.KeyCommand.TheVariants as key_commands
+use Rattle.s3_machine.specs.declared.command.Found.{Found}
 use Rattle.s3_machine.specs.declared.command.ObjectCopy.{ObjectCopy}
+use Rattle.s3_machine.specs.declared.command.PartCopy.{PartCopy}
 use Rattle.s3_machine.specs.declared.command.UploadCommand.{UploadCommand}
 use Rattle.s3_machine.specs.declared.command.UploadCommand.TheVariants as upload_commands
 use Rattle.s3_machine.specs.declared.command.Outcome.{Outcome}
@@ -42,7 +44,7 @@ use Rattle.s3_terms.specs.Fault as faults
 use Rattle.s3_terms.specs.Fault.{◌>>◌, ◌>>=◌}
 use Rattle.s3_machine.specs.Fault.{refuse, as_refusal}
 use Rattle.s3_machine.specs.Effects.{Address, writes, object_of, upload_stored, stored_by, acknowledged, touched, told, is_refused, succeeds, only_reads}
-use Rattle.s3_machine.specs.Step.{State, Stepped, is_taken, copied, data_of, shown_in, found_in, outcome_shown, shown_by, upload_begun, open_upload, bucket_done, key_done, upload_done, done, stepped, step}
+use Rattle.s3_machine.specs.Step.{State, Stepped, is_taken, copied, source_found, lies_in, part_copied, data_of, shown_in, found_in, outcome_shown, shown_by, upload_begun, open_upload, bucket_done, key_done, upload_done, done, stepped, step}
 use Rattle.s3_machine.specs.Laws.{QuietStepsChangeNothing, StepsStayBelow}
 
 -- the command was refused, or only reads
@@ -144,6 +146,15 @@ copy_done s n t name key what =
       outcomes.Copied what.tag t (shown_in (versioning_of s name) (new_id (versioning_of s name) n)),
     )
 
+-- what a copy to a part does once its source is found
+abbrev pub part_copying : State → ℕ → (name key : List ℕ) → (id number : ℕ) → PartCopy → Found (List ℕ) → Result Stepped Refusal
+part_copying s t name key id number copy found = do
+  refuse (not (lies_in copy.range found.stored.size)) InvalidArgument
+  Ok (
+    changed s name (PartPut key id number (part_copied t copy.range found.stored)),
+    outcomes.PartCopied (part_tag (part_copied t copy.range found.stored)) t found.shown,
+  )
+
 -- what is done with a version that was read
 abbrev pub shown : State → List ℕ → Conditions → Version (List ℕ) × Data (List ℕ) → Result Stepped Refusal
 shown s name conditions read = shown_by conditions (facts_of read) >>= (λ selection. Ok (s, outcome_shown (found_in (versioning_of s name) read) selection))
@@ -207,6 +218,10 @@ module _ (places : ChangesAreByPlace (List ℕ)) (rules : Rules) where
       next_line s n t _ (not (has_bucket s name)) NoSuchBucket _ refl
       (λ there. same_versions s (changed s name (VersioningSet status)) n t _ refl refl refl (places s name (VersioningSet status) refl))
   bucket_does s n t name bucket_commands.GetVersioning =
+      next_line s n t _ (not (has_bucket s name)) NoSuchBucket _ refl (λ there. unwritten s n t _ refl)
+  bucket_does s n t name (bucket_commands.GetLocation region) =
+      next_line s n t _ (not (has_bucket s name)) NoSuchBucket _ refl (λ there. unwritten s n t _ refl)
+  bucket_does s n t name (bucket_commands.GetConfiguration which) =
       next_line s n t _ (not (has_bucket s name)) NoSuchBucket _ refl (λ there. unwritten s n t _ refl)
   bucket_does s n t name (bucket_commands.ListObjects asked) =
       next_line s n t _ (not (has_bucket s name)) NoSuchBucket _ refl (λ there. unwritten s n t _ refl)
@@ -282,7 +297,7 @@ module _ (places : ChangesAreByPlace (List ℕ)) (rules : Rules) where
 
   -- a copy stores what its source has, or is refused
   key_copies : (s : State) (n t : ℕ) (name key : List ℕ) (copy : ObjectCopy) (source : Result (Data (List ℕ)) Refusal)
-      → copied s copy.source ≡ source → IsTrue (has_bucket s name)
+      → copied s copy ≡ source → IsTrue (has_bucket s name)
       → Does s n t (commands.Key name key (key_commands.Copy copy)) (stepped s (source >>= copy_done s n t name key))
   unfolding copy_done
   key_copies s n t name key copy (Ok what) is there =
@@ -294,7 +309,7 @@ module _ (places : ChangesAreByPlace (List ℕ)) (rules : Rules) where
   key_does : (s : State) (n t : ℕ) (name key : List ℕ) (asked : KeyCommand (List ℕ)) → IsTrue (has_bucket s name)
       → Does s n t (commands.Key name key asked) (stepped s (key_done s n t name key asked))
   unfolding key_done copy_done
-  key_does s n t name key (key_commands.Copy copy) there = key_copies s n t name key copy (copied s copy.source) refl there
+  key_does s n t name key (key_commands.Copy copy) there = key_copies s n t name key copy (copied s copy) refl there
   key_does s n t name key (key_commands.Put put) there =
       after_line (Does s n t (commands.Key name key (key_commands.Put put))) s (put.if_absent && is_taken s name key) PreconditionFailed _
       (untouched s n t (commands.Key name key (key_commands.Put put)) _ (λ a written. refl))
@@ -340,6 +355,19 @@ module _ (places : ChangesAreByPlace (List ℕ)) (rules : Rules) where
   upload_completes least s n t name key id listed if_absent u (Err code) is found there =
       untouched s n t (commands.Upload name key id (upload_commands.Complete listed if_absent)) _ (λ a written. refl)
 
+  -- a part that is copied changes no versions
+  part_copies : (s : State) (n t : ℕ) (name key : List ℕ) (id number : ℕ) (copy : PartCopy) (source : Result (Found (List ℕ)) Refusal)
+      → IsTrue (has_bucket s name)
+      → Does s n t (commands.Upload name key id (upload_commands.CopyPart number copy))
+      (stepped s (source >>= part_copying s t name key id number copy))
+  part_copies s n t name key id number copy (Ok found) there =
+      let part = part_copied t copy.range found.stored in
+      after_line (Does s n t (commands.Upload name key id (upload_commands.CopyPart number copy)))
+      s (not (lies_in copy.range found.stored.size)) InvalidArgument _ (unwritten s n t _ refl)
+      (λ within. same_versions s (changed s name (PartPut key id number part)) n t _ refl refl refl
+      (places s name (PartPut key id number part) there))
+  part_copies s n t name key id number copy (Err refusal) there = unwritten s n t _ refl
+
   upload_does : (least : ℕ) (s : State) (n t : ℕ) (name key : List ℕ) (id : ℕ) (asked : UploadCommand) → IsTrue (has_bucket s name)
       → Does s n t (commands.Upload name key id asked) (stepped s (upload_done least s n t name key id asked))
   unfolding upload_done
@@ -347,6 +375,9 @@ module _ (places : ChangesAreByPlace (List ℕ)) (rules : Rules) where
       opened s n t name key id (upload_commands.PutPart number payload) _
       (λ u is. same_versions s (changed s name (PartPut key id number (part_sent t payload))) n t _ refl refl refl
       (places s name (PartPut key id number (part_sent t payload)) there))
+  upload_does least s n t name key id (upload_commands.CopyPart number copy) there =
+      opened s n t name key id (upload_commands.CopyPart number copy) _
+      (λ u is. part_copies s n t name key id number copy (source_found s copy.source) there)
   upload_does least s n t name key id (upload_commands.Complete listed if_absent) there =
       opened s n t name key id (upload_commands.Complete listed if_absent) _
       (λ u is. after_line (Does s n t (commands.Upload name key id (upload_commands.Complete listed if_absent)))

@@ -1,5 +1,5 @@
--- What a completion joins are the bytes that were sent last under each listed number.
-use Rattle.std.proofs.Common.{◌≡◌, refl, sym, ap, subst, ◌∙◌, Bool, true, false, not, ◌&&◌, ℕ, List, [], ◌∷◌, ◌++◌, append_assoc, length, Option, Some, None, option_map, unwrap_or, Result, Ok, Err, ok_or, map as each}
+-- What a completion joins are the parts that were put last under each listed number.
+use Rattle.std.proofs.Common.{◌≡◌, refl, sym, ap, ap₂, subst, ◌∙◌, Bool, true, false, not, ◌&&◌, ℕ, List, [], ◌∷◌, ◌++◌, append_assoc, length, Option, Some, None, option_map, unwrap_or, Result, Ok, Err, ok_or, map as each}
 use Rattle.std.proofs.lemmas.Bool.{false≢true, and_parts}
 use Rattle.std.proofs.lemmas.List.Concat.{concat_is}
 use Rattle.std.proofs.lemmas.List.Folds.{flat_map-map}
@@ -33,9 +33,9 @@ use Rattle.s3_machine.specs.Fault.{refuse, as_refusal}
 use Rattle.s3_machine.specs.History.{Entry, Legal, after}
 use Rattle.s3_machine.specs.Kept.{SparesVersion, ReadsVersion, EveryHistory, StoredIsKept, VersionsAreKept, StoredIsTold}
 use Rattle.s3_machine.specs.Step.{State, is_taken, upload_done, done, stepped, step}
-use Rattle.s3_machine.specs.Uploads.{IsListedPart, AreJoined}
+use Rattle.s3_machine.specs.Uploads.{WasSent, begun_state, IsListedPart, AreJoined}
 use Rattle.s3_machine.specs.UploadsKept.{CompletionsJoinWhatWasSent, CompletionsAreKept, CompletionVersionsAreKept}
-use Rattle.s3_machine.proofs.CourseLemmas.{asked_of, part_of, SentSo, Course, courses}
+use Rattle.s3_machine.proofs.CourseLemmas.{asked_of, part_of, Course, courses}
 use Rattle.s3_machine.proofs.EffectLemmas.{after_line, completed_is, completing}
 use Rattle.s3_machine.proofs.HistoryLemmas.{Legal-append}
 use Rattle.s3_machine.proofs.KeptLemmas.{outcome_is}
@@ -49,73 +49,88 @@ is_part : (found : Option (Part (List ℕ))) (listed : ListedPart)
 is_part None listed is = absurd (false≢true is)
 is_part (Some p) listed is = (p, refl, is)
 
-module _ (since : List Entry) (upload : UploadPlace) (parts : PartList (List ℕ))
-    (known : (number : ℕ) (p : Part (List ℕ)) → part_at number parts ≡ Some p → SentSo since (part_of upload number) p) where
-  -- the bytes of the listed parts
-  abbrev bodies_of : List ListedPart → List (List ℕ)
-  bodies_of listed = each (λ (part : ListedPart). bytes_at parts part.number) listed
+-- the part that was found, or one that has nothing
+abbrev part_or_none : Option (Part (List ℕ)) → Part (List ℕ)
+part_or_none None = record { digest = []; moment = 0; size = 0; body = [] }
+part_or_none (Some p) = p
 
-  -- these of one part were sent so
-  part_listed : (listed : ListedPart) → is_sent parts listed ≡ true → IsListedPart since upload listed (bytes_at parts listed.number)
+body_found : (found : Option (Part (List ℕ)))
+    → (part_or_none found).body ≡ unwrap_or (option_map (λ (part : Part (List ℕ)). part.body) found) []
+body_found None = refl
+body_found (Some p) = refl
+
+digest_found : (found : Option (Part (List ℕ)))
+    → (part_or_none found).digest ≡ unwrap_or (option_map (λ (part : Part (List ℕ)). part.digest) found) []
+digest_found None = refl
+digest_found (Some p) = refl
+
+-- what is joined of the same pieces is the same
+same_pieces : {X : Type 0} (f g : X → List ℕ) → ((x : X) → f x ≡ g x) → (xs : List X) → flat_map f xs ≡ flat_map g xs
+same_pieces f g same [] = refl
+same_pieces f g same (x ∷ xs) = ap₂ (λ (piece rest : List ℕ). piece ++ rest) (same x) (same_pieces f g same xs)
+
+-- the parts of the listed numbers, in the order in which they are listed
+abbrev parts_made : PartList (List ℕ) → List ListedPart → List (Part (List ℕ))
+parts_made parts listed = each (λ (part : ListedPart). part_or_none (part_at part.number parts)) listed
+
+-- what they have of one kind, one part behind another
+pieces_joined : (f : Part (List ℕ) → List ℕ) (g : ListedPart → List ℕ) (parts : PartList (List ℕ)) (listed : List ListedPart)
+    → ((part : ListedPart) → f (part_or_none (part_at part.number parts)) ≡ g part)
+    → concat (each f (parts_made parts listed)) ≡ flat_map g listed
+pieces_joined f g parts listed same =
+    let pick = λ (part : ListedPart). part_or_none (part_at part.number parts) in
+    concat_is (each f (parts_made parts listed))
+    ∙ flat_map-map (λ (b : List ℕ). b) f (parts_made parts listed)
+    ∙ flat_map-map f pick listed
+    ∙ same_pieces (λ (part : ListedPart). f (pick part)) g same listed
+
+module _ (least : ℕ) (s : State) (since : List Entry) (upload : UploadPlace) (parts : PartList (List ℕ))
+    (known : (number : ℕ) (p : Part (List ℕ)) → part_at number parts ≡ Some p → WasSent least s since (part_of upload number) p) where
+  -- a listed part was put last under its number
+  part_listed : (listed : ListedPart) → is_sent parts listed ≡ true
+      → IsListedPart least s since upload listed (part_or_none (part_at listed.number parts))
   part_listed listed is =
       let there = is_part (part_at listed.number parts) listed is in
-      let so = known listed.number there.0 there.1 in
-      let body : bytes_at parts listed.number ≡ there.0.body =
-      ap (λ (found : Option (Part (List ℕ))). unwrap_or (option_map (λ (part : Part (List ℕ)). part.body) found) []) there.1 in
-      subst (IsListedPart since upload listed) (sym body) (record {
-        moment = there.0.moment;
-        last = so.was;
-        tag = sym ((bytes_eq-Decides (part_tag there.0) listed.tag).0 there.2) ∙ ap part_tag so.is;
+      subst (IsListedPart least s since upload listed) (sym (ap part_or_none there.1)) (record {
+        last = known listed.number there.0 there.1;
+        tag = sym ((bytes_eq-Decides (part_tag there.0) listed.tag).0 there.2);
       })
 
-  all_listed : (listed : List ListedPart) → list_all (is_sent parts) listed ≡ true → AllZip (IsListedPart since upload) listed (bodies_of listed)
+  all_listed : (listed : List ListedPart) → list_all (is_sent parts) listed ≡ true
+      → AllZip (IsListedPart least s since upload) listed (parts_made parts listed)
   all_listed [] is = tt
   all_listed (part ∷ rest) is =
       let both = and_parts (is_sent parts part) (list_all (is_sent parts) rest) is in
       (part_listed part both.0, all_listed rest both.1)
 
-  -- the digest of a listed part is that of its bytes
-  digest_listed : (listed : ListedPart) → is_sent parts listed ≡ true → digest_at parts listed.number ≡ md5 (bytes_at parts listed.number)
-  digest_listed listed is =
-      let there = is_part (part_at listed.number parts) listed is in
-      let so = known listed.number there.0 there.1 in
-      ap (λ (found : Option (Part (List ℕ))). unwrap_or (option_map (λ (part : Part (List ℕ)). part.digest) found) []) there.1
-      ∙ ap (λ (p : Part (List ℕ)). p.digest) so.is
-      ∙ sym (ap (λ (found : Option (Part (List ℕ))). md5 (unwrap_or (option_map (λ (part : Part (List ℕ)). part.body) found) [])) there.1)
-
-  digests_listed : (listed : List ListedPart) → list_all (is_sent parts) listed ≡ true
-      → flat_map (λ (part : ListedPart). digest_at parts part.number) listed ≡ flat_map (λ (part : ListedPart). md5 (bytes_at parts part.number)) listed
-  digests_listed [] is = refl
-  digests_listed (part ∷ rest) is =
-      let both = and_parts (is_sent parts part) (list_all (is_sent parts) rest) is in
-      ap (λ (d : List ℕ). d ++ flat_map (λ (p : ListedPart). digest_at parts p.number) rest) (digest_listed part both.0)
-      ∙ ap (λ (ds : List ℕ). md5 (bytes_at parts part.number) ++ ds) (digests_listed rest both.1)
-
 -- what is joined of the parts of an upload that takes this course
-joined_of : (past : List Entry) (upload : UploadPlace) (u : Upload (List ℕ)) (listed : List ListedPart) (what : Data (List ℕ))
-    → Course past upload u → Joins listed u what → AreJoined past upload listed what
-joined_of past upload u listed what course joins =
+joined_of : (least : ℕ) (s : State) (past : List Entry) (upload : UploadPlace) (u : Upload (List ℕ)) (listed : List ListedPart)
+    (what : Data (List ℕ))
+    → Course least s past upload u → Joins listed u what → AreJoined least s past upload listed what
+joined_of least s past upload u listed what course joins =
+    let start = begun_state least s course.begun in
     let since = course.begun.since in
-    let bodies = bodies_of since upload u.parts course.sent listed in
-    let zip = all_listed since upload u.parts course.sent listed joins.sent in
-    let joined : concat bodies ≡ flat_map (λ (part : ListedPart). bytes_at u.parts part.number) listed =
-    concat_is bodies ∙ flat_map-map (λ (b : List ℕ). b) (λ (part : ListedPart). bytes_at u.parts part.number) listed in
-    let digests : concat (each md5 bodies) ≡ flat_map (λ (part : ListedPart). digest_at u.parts part.number) listed =
-    concat_is (each md5 bodies)
-    ∙ flat_map-map (λ (b : List ℕ). b) md5 bodies
-    ∙ flat_map-map md5 (λ (part : ListedPart). bytes_at u.parts part.number) listed
-    ∙ sym (digests_listed since upload u.parts course.sent listed joins.sent) in
-    let size : length bodies ≡ length listed = AllZip-long (IsListedPart since upload) listed bodies zip in
+    let made = parts_made u.parts listed in
+    let zip = all_listed least start since upload u.parts course.sent listed joins.sent in
+    let body = λ (part : Part (List ℕ)). part.body in
+    let digest = λ (part : Part (List ℕ)). part.digest in
+    let bodies : concat (each body made) ≡ flat_map (λ (part : ListedPart). bytes_at u.parts part.number) listed =
+    pieces_joined body (λ (part : ListedPart). bytes_at u.parts part.number) u.parts listed
+    (λ (part : ListedPart). body_found (part_at part.number u.parts)) in
+    let digests : concat (each digest made) ≡ flat_map (λ (part : ListedPart). digest_at u.parts part.number) listed =
+    pieces_joined digest (λ (part : ListedPart). digest_at u.parts part.number) u.parts listed
+    (λ (part : ListedPart). digest_found (part_at part.number u.parts)) in
+    let size : length made ≡ length listed = AllZip-long (IsListedPart least start since upload) listed made zip in
     record {
       moment = u.moment;
       asked = asked_of u;
       begun = course.begun;
-      bodies = bodies;
+      made = made;
       sent = zip;
-      body = joins.bytes ∙ sym joined;
+      body = joins.bytes ∙ sym bodies;
       size = joins.size;
       tag = joins.tag ∙ ap (λ (d : List ℕ). joined_text (md5 d) (length listed)) (sym digests)
-          ∙ ap (joined_text (md5 (concat (each md5 bodies)))) (sym size);
+          ∙ ap (joined_text (md5 (concat (each digest made)))) (sym size);
       content_type = joins.content_type;
       metadata = joins.metadata;
     }
@@ -197,7 +212,7 @@ module _ (law : ChangesAreByUpload (List ℕ)) (puts : PutsAreUnderOneNumber (Li
       (sym outcome ∙ completes.accepted) in
       let course = courses law puts least empty s n names before opens joined.0 upload done.found done.there in (
         done.what,
-        joined_of before upload done.found listed done.what course (joins least listed done.found done.what done.rule),
+        joined_of least s before upload done.found listed done.what course (joins least listed done.found done.what done.rule),
         record { by = done.by; accepted = completes.accepted },
       )
 

@@ -9,6 +9,7 @@ pub mod KeptLemmas
 pub mod ListLemmas
 pub mod OpenLemmas
 pub mod OriginLemmas
+pub mod PartLemmas
 pub mod RowLemmas
 pub mod ShownLemmas
 pub mod StayLemmas

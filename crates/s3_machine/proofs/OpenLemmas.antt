@@ -1,39 +1,38 @@
 -- The laws of uploads and of their parts.
 use Rattle.std.proofs.Common.{◌≡◌, refl, sym, ap, subst, ◌∙◌, ℕ, ◌+◌, suc, ◌<◌, arith, List, [], ◌∷◌, ◌++◌, append_assoc, length, Option, Some, None}
 use Rattle.s3_uploads.specs.Laws.{PutsAreUnderOneNumber}
-use Rattle.s3_uploads.specs.Parts.{part_at, part_sent}
+use Rattle.s3_uploads.specs.Parts.{part_at}
 use Rattle.s3_uploads.specs.declared.part.Part.{Part}
 use Rattle.s3_uploads.specs.declared.upload.Upload.{Upload}
 use Rattle.s3_records.specs.Laws.{OpeningIsEmpty}
 use Rattle.s3_records.specs.OpenUploads.{parts_sent}
 use Rattle.s3_records.specs.Places.{ChangesAreByUpload}
-use Rattle.s3_machine.specs.declared.command.UploadBegin.{UploadBegin}
+use Rattle.s3_machine.specs.declared.command.Description.{Description}
 use Rattle.s3_machine.specs.Effects.{PartPlace, open_at}
 use Rattle.s3_machine.specs.History.{Entry, Legal, after, after_entry}
 use Rattle.s3_machine.specs.Kept.{EveryHistory}
 use Rattle.s3_machine.specs.Step.{State}
-use Rattle.s3_machine.specs.Uploads.{WasBegun, WasSent, IsOpen}
+use Rattle.s3_machine.specs.Uploads.{Sends, WasBegun, WasSent, IsOpen}
 use Rattle.s3_machine.specs.UploadsKept.{UploadsAreOpenUntilEnded, PartsAreKept, OnlySentStands}
 use Rattle.s3_machine.proofs.CourseLemmas.{asked_of, courses}
 use Rattle.s3_machine.proofs.HistoryLemmas.{Legal-append, after-append}
 use Rattle.s3_machine.proofs.StayLemmas.{begun_below, begun_is_open, part_through, sends_it}
 
 -- what an upload has that was begun so
-same_asked : (u : Upload (List ℕ)) (asked : UploadBegin) → u.content_type ≡ asked.content_type → u.metadata ≡ asked.metadata → asked_of u ≡ asked
+same_asked : (u : Upload (List ℕ)) (asked : Description) → u.content_type ≡ asked.content_type → u.metadata ≡ asked.metadata → asked_of u ≡ asked
 same_asked u asked content_type metadata =
-    let built = λ (c : _) (m : _). ◌≡◌ {A = UploadBegin} (record { content_type = c; metadata = m }) asked in
+    let built = λ (c : _) (m : _). ◌≡◌ {A = Description} (record { content_type = c; metadata = m }) asked in
     subst (λ c. built c u.metadata) (sym content_type) (subst (λ m. built asked.content_type m) (sym metadata) refl)
 
--- what was sent in the end of a history was sent in it
-sent_in : (entries front back : List Entry) (part : PartPlace) (t : ℕ) (bytes : List ℕ) → entries ≡ front ++ back → WasSent back part t bytes
-    → WasSent entries part t bytes
-sent_in entries front back part t bytes parts was = record {
+-- what was put in the end of a history was put in it
+sent_in : (least : ℕ) (s : State) (entries front back : List Entry) (part : PartPlace) (what : Part (List ℕ)) → entries ≡ front ++ back
+    → WasSent least (after least s front) back part what → WasSent least s entries part what
+sent_in least s entries front back part what parts was = record {
   before = front ++ was.before;
   send = was.send;
   later = was.later;
   parts = parts ∙ ap (λ (es : List Entry). front ++ es) was.parts ∙ sym (append_assoc front was.before (was.send ∷ was.later));
-  sends = was.sends;
-  moment = was.moment;
+  sends = subst (λ (state : State). Sends state part what was.send) (sym (after-append least s front was.before)) was.sends;
   last = was.last;
   stays = was.stays;
 }
@@ -43,25 +42,25 @@ module _ (law : ChangesAreByUpload (List ℕ)) (puts : PutsAreUnderOneNumber (Li
   uploads_are_open_until_ended least s n entries legal names upload t asked opens = (
     λ (is : IsOpen (after least s entries) upload t asked).
         subst (λ (k : ℕ). WasBegun entries upload k asked) is.moment
-        (subst (λ (a : UploadBegin). WasBegun entries upload is.found.moment a) (same_asked is.found asked is.content_type is.metadata)
+        (subst (λ (a : Description). WasBegun entries upload is.found.moment a) (same_asked is.found asked is.content_type is.metadata)
         (courses law puts least empty s n names entries opens legal upload is.found is.there).begun),
     λ was. begun_is_open law puts least s n entries upload t asked legal was,
   )
 
   pub parts_are_kept : EveryHistory PartsAreKept
-  parts_are_kept least s n entries legal names part t bytes opens was =
+  parts_are_kept least s n entries legal names part what opens was =
       let here = after least s was.before in
       let m = n + length was.before in
       let joined = Legal-append least s n was.before (was.send ∷ was.later) (subst (Legal least s n) was.parts legal) in
-      let put = sends_it law puts least here m was.send part bytes joined.1.0 was.sends in
+      let put = sends_it law puts least here m was.send part what joined.1.0 was.sends in
       let course = courses law puts least empty s n names was.before opens joined.0 part.upload put.found put.there in
       let before = begun_below least s n was.before part.upload put.found.moment (asked_of put.found) joined.0 course.begun in
       let below : part.upload.id < suc m = omega arith in
-      let last = part_through law puts least (after_entry least here was.send) (suc m) was.later part (part_sent was.send.moment bytes)
+      let last = part_through law puts least (after_entry least here was.send) (suc m) was.later part what
       joined.1.1 below was.stays was.last put.now in
       ap (λ (state : State). part_at part.number (parts_sent (open_at state part.upload)))
       (ap (after least s) was.parts ∙ after-append least s was.before (was.send ∷ was.later))
-      ∙ last ∙ ap (λ (k : ℕ). Some (part_sent k bytes)) was.moment
+      ∙ last
 
   -- a part that stands is of an upload that is open
   standing : (s : State) (part : PartPlace) (found : Option (Upload (List ℕ))) (p : Part (List ℕ)) → open_at s part.upload ≡ found
@@ -74,6 +73,6 @@ module _ (law : ChangesAreByUpload (List ℕ)) (puts : PutsAreUnderOneNumber (Li
   only_sent_stands least s n entries legal names part p opens is =
       let stands = standing (after least s entries) part (open_at (after least s entries) part.upload) p refl is in
       let course = courses law puts least empty s n names entries opens legal part.upload stands.0 stands.1 in
-      let so = course.sent part.number p stands.2 in
       let front = course.begun.parts ∙ sym (append_assoc course.begun.before (course.begun.begin ∷ []) course.begun.since) in
-      (sent_in entries (course.begun.before ++ course.begun.begin ∷ []) course.begun.since part p.moment p.body front so.was, so.is)
+      sent_in least s entries (course.begun.before ++ course.begun.begin ∷ []) course.begun.since part p front
+      (course.sent part.number p stands.2)

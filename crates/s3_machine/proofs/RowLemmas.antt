@@ -5,7 +5,7 @@ use Rattle.std.proofs.lemmas.Bool.Decides.{nat_tests}
 use Rattle.std.proofs.lemmas.Option.{same_Some}
 use Rattle.std.specs.List.{list_all}
 use Rattle.s3_uploads.specs.Laws.{PutsAreUnderOneNumber, PutsKeepTheOrder}
-use Rattle.s3_uploads.specs.Parts.{PartList, rises, numbers_of, part_at, part_tag, part_row, part_rows, part_sent}
+use Rattle.s3_uploads.specs.Parts.{PartList, rises, numbers_of, part_at, part_row, part_rows}
 use Rattle.s3_uploads.specs.declared.part.Part.{Part}
 use Rattle.s3_uploads.specs.declared.part.PartRow.{PartRow}
 use Rattle.s3_uploads.specs.declared.upload.Upload.{Upload}
@@ -19,6 +19,7 @@ use Rattle.s3_machine.specs.Kept.{EveryHistory}
 use Rattle.s3_machine.specs.Step.{State, upload_begun}
 use Rattle.s3_machine.specs.UploadsKept.{IsPartListed, TellsOfSent, PartsAreKept, OnlySentStands, PartsAreListedWhileStanding}
 use Rattle.s3_machine.proofs.CourseLemmas.{part_of, fate_of}
+use Rattle.s3_machine.proofs.PartLemmas.{part_sized}
 use Rattle.s3_machine.proofs.TellingLemmas.{contains_later, kept_by, was_there}
 use Rattle.s3_machine.proofs.UploadLemmas.{Left, Begun, Sent, Ended}
 
@@ -106,7 +107,7 @@ module _ (law : ChangesAreByUpload (List ℕ)) (puts : PutsAreUnderOneNumber (Li
             none_rises
         | Sent send ↦
             subst (λ (x : Upload (List ℕ)). IsTrue (rises (numbers_of x.parts))) (same_Some _ u (sym send.now ∙ is))
-            (order send.number (part_sent e.moment send.bytes) send.found.parts (rise upload send.found send.there))
+            (order send.number send.part send.found.parts (rise upload send.found send.there))
         | Ended ended ↦ let none = ended.now in absurd (cc)
       ]
 
@@ -135,16 +136,18 @@ module _ (law : ChangesAreByUpload (List ℕ)) (puts : PutsAreUnderOneNumber (Li
             let number : found.0.0 ≡ row.number = ap (λ (r : PartRow). r.number) found.2 in
             let stands = is_at parts found.0.0 found.0.1 rise found.1 in
             let was = only least s n entries legal names (part_of upload found.0.0) found.0.1 opens stands in
-            subst (TellsOfSent entries upload) found.2 (record {
-              bytes = found.0.1.body;
-              was = was.0;
-              tag = ap part_tag was.1;
-              size = ap (λ (p : Part (List ℕ)). p.size) was.1;
+            subst (TellsOfSent least s entries upload) found.2 (record {
+              what = found.0.1;
+              was = was;
+              moment = refl;
+              tag = refl;
+              size = part_sized (after least s was.before) was.send.moment was.send.command found.0.1 was.sends.puts;
             }),
-        λ (tells : TellsOfSent entries upload row).
-            let stands = kept least s n entries legal names (part_of upload row.number) row.moment tells.bytes opens tells.was in
-            let entry : ℕ × Part (List ℕ) = (row.number, part_sent row.moment tells.bytes) in
-            let same : part_row entry ≡ row = same_row (part_row entry) row refl refl (sym tells.tag) (sym tells.size) in
+        λ (tells : TellsOfSent least s entries upload row).
+            let stands = kept least s n entries legal names (part_of upload row.number) tells.what opens tells.was in
+            let entry : ℕ × Part (List ℕ) = (row.number, tells.what) in
+            let sized = part_sized (after least s tells.was.before) tells.was.send.moment tells.was.send.command tells.what tells.was.sends.puts in
+            let same : part_row entry ≡ row = same_row (part_row entry) row refl (sym tells.moment) (sym tells.tag) (sized ∙ sym tells.size) in
             kept_by (λ (r : PartRow). nat_lt 0 r.number) (part_rows parts) row passes
-            (subst (Contains (part_rows parts)) same (row_of parts entry (is_in parts row.number (part_sent row.moment tells.bytes) stands))),
+            (subst (Contains (part_rows parts)) same (row_of parts entry (is_in parts row.number tells.what stands))),
       )

@@ -1,15 +1,15 @@
--- An upload that was begun goes on to be open, and a part that was sent to stand in it.
+-- An upload that was begun goes on to be open, and a part that was put to stand in it.
 use Rattle.std.proofs.Common.{◌≡◌, ◌≢◌, refl, sym, ap, subst, ◌∙◌, arith, ℕ, ◌+◌, suc, ◌<◌, List, [], ◌∷◌, length, length-append, Option, Some}
 use Rattle.std.proofs.lemmas.Bool.{false≢true}
 use Rattle.std.proofs.lemmas.Option.{same_Some}
 use Rattle.s3_uploads.specs.Laws.{PutsAreUnderOneNumber}
-use Rattle.s3_uploads.specs.Parts.{part_at, part_put, part_sent}
+use Rattle.s3_uploads.specs.Parts.{part_at, part_put}
 use Rattle.s3_uploads.specs.Uploads.{with_part}
 use Rattle.s3_uploads.specs.declared.part.Part.{Part}
 use Rattle.s3_uploads.specs.declared.upload.Upload.{Upload}
 use Rattle.s3_records.specs.OpenUploads.{parts_sent}
 use Rattle.s3_records.specs.Places.{ChangesAreByUpload}
-use Rattle.s3_machine.specs.declared.command.UploadBegin.{UploadBegin}
+use Rattle.s3_machine.specs.declared.command.Description.{Description}
 use Rattle.s3_machine.specs.Effects.{Address, UploadPlace, PartPlace, open_at, part_in, succeeds}
 use Rattle.s3_machine.specs.History.{Entry, IsAnswer, Legal, after, after_entry}
 use Rattle.s3_machine.specs.Step.{State, upload_begun, step}
@@ -20,11 +20,11 @@ use Rattle.s3_machine.proofs.KeptLemmas.{outcome_is}
 use Rattle.s3_machine.proofs.UploadLemmas.{IsEnded, Left, Begun, Sent, Ended}
 
 -- an upload that was begun has what it was begun with, and goes on to
-opened : (s : State) (upload : UploadPlace) (t : ℕ) (asked : UploadBegin) → open_at s upload ≡ Some (upload_begun t asked) → IsOpen s upload t asked
+opened : (s : State) (upload : UploadPlace) (t : ℕ) (asked : Description) → open_at s upload ≡ Some (upload_begun t asked) → IsOpen s upload t asked
 opened s upload t asked is =
     record { found = upload_begun t asked; there = is; moment = refl; content_type = refl; metadata = refl }
 
-still_open : (s after : State) (upload : UploadPlace) (t : ℕ) (asked : UploadBegin) → IsOpen s upload t asked
+still_open : (s after : State) (upload : UploadPlace) (t : ℕ) (asked : Description) → IsOpen s upload t asked
     → open_at after upload ≡ open_at s upload → IsOpen after upload t asked
 still_open s after upload t asked is same =
     record { found = is.found; there = same ∙ is.there; moment = is.moment; content_type = is.content_type; metadata = is.metadata }
@@ -34,7 +34,7 @@ numbered_by : (least : ℕ) (s : State) (n : ℕ) (e : Entry) → IsAnswer least
 numbered_by least s n e answer = ap (λ a. a.number) answer
 
 -- the id of an upload that was begun is below the number of the next entry
-pub begun_below : (least : ℕ) (s : State) (n : ℕ) (past : List Entry) (upload : UploadPlace) (t : ℕ) (asked : UploadBegin) → Legal least s n past
+pub begun_below : (least : ℕ) (s : State) (n : ℕ) (past : List Entry) (upload : UploadPlace) (t : ℕ) (asked : Description) → Legal least s n past
     → WasBegun past upload t asked → upload.id < n + length past
 begun_below least s n past upload t asked legal was =
     let joined = Legal-append least s n was.before (was.begin ∷ was.since) (subst (Legal least s n) was.parts legal) in
@@ -55,7 +55,7 @@ module _ (law : ChangesAreByUpload (List ℕ)) (puts : PutsAreUnderOneNumber (Li
   not_ended s n e upload answer keeps ended =
       false≢true (sym (keeps ended.at) ∙ ap succeeds (outcome_is least s n e answer) ∙ ended.accepted)
 
-  open_step : (s : State) (n : ℕ) (e : Entry) (upload : UploadPlace) (t : ℕ) (asked : UploadBegin) → IsAnswer least s n e → upload.id < n
+  open_step : (s : State) (n : ℕ) (e : Entry) (upload : UploadPlace) (t : ℕ) (asked : Description) → IsAnswer least s n e → upload.id < n
       → KeepsOpen upload e → IsOpen s upload t asked → IsOpen (after_entry least s e) upload t asked
   open_step s n e upload t asked answer below keeps is =
       elim (fate_of law puts least s e upload) [
@@ -64,7 +64,7 @@ module _ (law : ChangesAreByUpload (List ℕ)) (puts : PutsAreUnderOneNumber (Li
         | Sent send ↦
             let same = same_Some is.found send.found (sym is.there ∙ send.there) in
             record {
-              found = with_part send.number (part_sent e.moment send.bytes) send.found;
+              found = with_part send.number send.part send.found;
               there = send.now;
               moment = sym (ap (λ (u : Upload (List ℕ)). u.moment) same) ∙ is.moment;
               content_type = sym (ap (λ (u : Upload (List ℕ)). u.content_type) same) ∙ is.content_type;
@@ -73,7 +73,7 @@ module _ (law : ChangesAreByUpload (List ℕ)) (puts : PutsAreUnderOneNumber (Li
         | Ended ended ↦ absurd (not_ended s n e upload answer keeps ended)
       ]
 
-  open_through : (s : State) (n : ℕ) (es : List Entry) (upload : UploadPlace) (t : ℕ) (asked : UploadBegin) → Legal least s n es
+  open_through : (s : State) (n : ℕ) (es : List Entry) (upload : UploadPlace) (t : ℕ) (asked : Description) → Legal least s n es
       → upload.id < n → StaysOpen upload es → IsOpen s upload t asked → IsOpen (after least s es) upload t asked
   open_through s n [] upload t asked legal below stays is = is
   open_through s n (e ∷ es) upload t asked legal below stays is =
@@ -82,7 +82,7 @@ module _ (law : ChangesAreByUpload (List ℕ)) (puts : PutsAreUnderOneNumber (Li
       (open_step s n e upload t asked legal.0 below stays.0 is)
 
   -- the entry that begins an upload begins it
-  pub begins_it : (s : State) (n : ℕ) (e : Entry) (upload : UploadPlace) (asked : UploadBegin) → IsAnswer least s n e → Begins upload asked e
+  pub begins_it : (s : State) (n : ℕ) (e : Entry) (upload : UploadPlace) (asked : Description) → IsAnswer least s n e → Begins upload asked e
       → open_at (after_entry least s e) upload ≡ Some (upload_begun e.moment asked)
   begins_it s n e upload asked answer begins =
       let outcome = ap succeeds (outcome_is least s n e answer) in
@@ -91,13 +91,13 @@ module _ (law : ChangesAreByUpload (List ℕ)) (puts : PutsAreUnderOneNumber (Li
         | Left left ↦ absurd (false≢true (sym (left.unbegun asked begins.at begins.numbered) ∙ sym outcome ∙ begins.accepted))
         | Begun begun ↦
             let same = same_Some (upload.address, begun.asked) (upload.address, asked) (sym begun.at ∙ begins.at) in
-            begun.now ∙ ap (λ (p : Address × UploadBegin). Some (upload_begun e.moment p.1)) same
+            begun.now ∙ ap (λ (p : Address × Description). Some (upload_begun e.moment p.1)) same
         | Sent send ↦ absurd (cc (alone.0, send.at))
         | Ended ended ↦ absurd (cc (alone.1, ended.at))
       ]
 
   -- where an upload was begun, it is open
-  pub begun_is_open : (s : State) (n : ℕ) (entries : List Entry) (upload : UploadPlace) (t : ℕ) (asked : UploadBegin) → Legal least s n entries
+  pub begun_is_open : (s : State) (n : ℕ) (entries : List Entry) (upload : UploadPlace) (t : ℕ) (asked : Description) → Legal least s n entries
       → WasBegun entries upload t asked → IsOpen (after least s entries) upload t asked
   begun_is_open s n entries upload t asked legal was =
       let here = after least s was.before in
@@ -128,7 +128,7 @@ module _ (law : ChangesAreByUpload (List ℕ)) (puts : PutsAreUnderOneNumber (Li
             let other : part.number ≢ send.number = λ same.
             false≢true (sym (keeps (send.at ∙ ap (λ (k : ℕ). Some (part_of part.upload k)) (sym same))) ∙ outcome ∙ send.accepted) in
             ap (λ (u : Option (Upload (List ℕ))). part_at part.number (parts_sent u)) send.now
-            ∙ (puts send.number (part_sent e.moment send.bytes) send.found.parts).1 part.number other
+            ∙ (puts send.number send.part send.found.parts).1 part.number other
             ∙ ap (λ (u : Option (Upload (List ℕ))). part_at part.number (parts_sent u)) (sym send.there) ∙ is
         | Ended ended ↦ absurd (not_ended s n e part.upload answer stays ended)
       ]
@@ -141,14 +141,15 @@ module _ (law : ChangesAreByUpload (List ℕ)) (puts : PutsAreUnderOneNumber (Li
       part_through (after_entry least s e) (suc n) es part p legal.1 later stays.1 keeps.1
       (part_step s n e part p legal.0 below stays.0 keeps.0 is)
 
-  -- the entry that sends a part puts it, to an upload that is open
-  pub record IsPut (s : State) (e : Entry) (part : PartPlace) (bytes : List ℕ) : Type 0 where
+  -- the entry that puts a part puts it, to an upload that is open
+  pub record IsPut (s : State) (e : Entry) (part : PartPlace) (what : Part (List ℕ)) : Type 0 where
     pub found : Upload (List ℕ)
     pub there : open_at s part.upload ≡ Some found
-    pub now : part_in (after_entry least s e) part ≡ Some (part_sent e.moment bytes)
+    pub now : part_in (after_entry least s e) part ≡ Some what
 
-  pub sends_it : (s : State) (n : ℕ) (e : Entry) (part : PartPlace) (bytes : List ℕ) → IsAnswer least s n e → Sends part bytes e → IsPut s e part bytes
-  sends_it s n e part bytes answer sends =
+  pub sends_it : (s : State) (n : ℕ) (e : Entry) (part : PartPlace) (what : Part (List ℕ)) → IsAnswer least s n e → Sends s part what e
+      → IsPut s e part what
+  sends_it s n e part what answer sends =
       let outcome = ap succeeds (outcome_is least s n e answer) in
       elim (fate_of law puts least s e part.upload) [
         | Left left ↦ absurd (false≢true (sym (left.unsent part.number sends.at) ∙ sym outcome ∙ sends.accepted))
@@ -156,15 +157,14 @@ module _ (law : ChangesAreByUpload (List ℕ)) (puts : PutsAreUnderOneNumber (Li
         | Sent send ↦
             let place = same_Some (part_of part.upload send.number) part (sym send.at ∙ sends.at) in
             let number : send.number ≡ part.number = ap (λ (q : PartPlace). q.number) place in
-            let same = same_Some send.bytes bytes (sym send.brings ∙ sends.brings) in
-            let sent_part = part_sent e.moment send.bytes in
+            let same = same_Some send.part what (sym send.puts ∙ sends.puts) in
             record {
               found = send.found;
               there = send.there;
               now = ap (λ (u : Option (Upload (List ℕ))). part_at part.number (parts_sent u)) send.now
-                  ∙ sym (ap (λ (k : ℕ). part_at k (part_put send.number sent_part send.found.parts)) number)
-                  ∙ (puts send.number sent_part send.found.parts).0
-                  ∙ ap (λ (b : List ℕ). Some (part_sent e.moment b)) same;
+                  ∙ sym (ap (λ (k : ℕ). part_at k (part_put send.number send.part send.found.parts)) number)
+                  ∙ (puts send.number send.part send.found.parts).0
+                  ∙ ap Some same;
             }
         | Ended ended ↦ absurd (cc (sends_alone e.command part sends.at, ended.at))
       ]

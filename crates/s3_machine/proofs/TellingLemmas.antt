@@ -4,8 +4,9 @@ use Rattle.std.proofs.lemmas.Bool.{false≢true}
 use Rattle.std.proofs.lemmas.List.Elements.{All-filter, All-contains, All-contains_itself}
 use Rattle.std.proofs.lemmas.Option.{same_Some}
 use Rattle.std.specs.List.{starts_with}
+use Rattle.std.specs.Result.{result_ok}
 use Rattle.s3_terms.specs.declared.code.Code.{Code}
-use Rattle.s3_terms.specs.declared.code.Code.TheVariants.{NoSuchBucket, NoSuchUpload, PreconditionFailed}
+use Rattle.s3_terms.specs.declared.code.Code.TheVariants.{NoSuchBucket, InvalidArgument, NoSuchUpload, PreconditionFailed}
 use Rattle.s3_terms.specs.Fault as faults
 use Rattle.s3_terms.specs.Fault.{◌>>◌, ◌>>=◌}
 use Rattle.s3_names.specs.declared.ids.VersionId.{VersionId}
@@ -13,7 +14,9 @@ use Rattle.s3_bodies.specs.Payload.{tag_of}
 use Rattle.s3_versions.specs.declared.picking.Refusal.{Refusal}
 use Rattle.s3_versions.specs.declared.version.Data.{Data}
 use Rattle.s3_uploads.specs.Completion.{completed}
+use Rattle.s3_uploads.specs.Parts.{part_tag}
 use Rattle.s3_uploads.specs.declared.listed.ListedPart.{ListedPart}
+use Rattle.s3_uploads.specs.declared.part.Part.{Part}
 use Rattle.s3_uploads.specs.declared.upload.Upload.{Upload}
 use Rattle.s3_records.specs.Catalogue.{has_bucket}
 use Rattle.s3_records.specs.Laws.{UploadsAreListed}
@@ -34,18 +37,22 @@ use Rattle.s3_machine.specs.declared.command.Command.TheVariants as commands
 use Rattle.s3_machine.specs.declared.command.KeyCommand.TheVariants as key_commands
 use Rattle.s3_machine.specs.declared.command.Outcome.{Outcome}
 use Rattle.s3_machine.specs.declared.command.Outcome.TheVariants as outcomes
-use Rattle.s3_machine.specs.declared.command.UploadBegin.{UploadBegin}
+use Rattle.s3_machine.specs.declared.command.CopyRange.{CopyRange}
+use Rattle.s3_machine.specs.declared.command.Description.{Description}
+use Rattle.s3_machine.specs.declared.command.Found.{Found}
+use Rattle.s3_machine.specs.declared.command.PartCopy.{PartCopy}
 use Rattle.s3_machine.specs.declared.command.UploadCommand.{UploadCommand}
 use Rattle.s3_machine.specs.declared.command.UploadCommand.TheVariants as upload_commands
-use Rattle.s3_machine.specs.Effects.{Address, UploadPlace, PartPlace, place_of, open_at, begins, sends, sent, completes, succeeds}
+use Rattle.s3_machine.specs.Effects.{Address, UploadPlace, Read, place_of, open_at, begins, sent, copied_part, puts_part, source_read, copies_part, completes, succeeds}
 use Rattle.s3_machine.specs.Fault.{refuse, as_refusal}
 use Rattle.s3_machine.specs.History.{after}
-use Rattle.s3_machine.specs.Kept.{EveryHistory}
+use Rattle.s3_machine.specs.Kept.{WouldGive, EveryHistory}
 use Rattle.s3_machine.specs.Laws.{asking, UploadListsAreTold, PartListsAreTold, ClosedUploadsAreRefused, IsByRule, completion_rule, CompletionsGoByTheRule}
-use Rattle.s3_machine.specs.Step.{State, Stepped, is_taken, bucket_done, key_done, upload_done, done, stepped, step}
-use Rattle.s3_machine.specs.UploadsKept.{all_uploads, UploadsAreOpenUntilEnded, BegunIsTold, SentIsTold, CompletedIsTold, UploadListsTellWhatIsThere, PartListsTellWhatIsThere, UploadsAreListedWhileOpen, OnlyWritesChangeVersions}
+use Rattle.s3_machine.specs.Step.{State, Stepped, is_taken, source_found, lies_in, part_copied, bucket_done, key_done, upload_done, done, stepped, step}
+use Rattle.s3_machine.specs.UploadsKept.{all_uploads, UploadsAreOpenUntilEnded, BegunIsTold, SentIsTold, CopiedPartIsTold, CompletedIsTold, UploadListsTellWhatIsThere, PartListsTellWhatIsThere, UploadsAreListedWhileOpen, OnlyWritesChangeVersions}
+use Rattle.s3_machine.proofs.AnswerLemmas.{would_find}
 use Rattle.s3_machine.proofs.CourseLemmas.{asked_of}
-use Rattle.s3_machine.proofs.EffectLemmas.{Rules, after_line, step_does, completing}
+use Rattle.s3_machine.proofs.EffectLemmas.{Rules, after_line, step_does, part_copying, completing}
 use Rattle.s3_machine.proofs.HistoryLemmas.{after-push, right_at}
 use Rattle.s3_machine.proofs.KeptLemmas.{outcome_is, past_line}
 use Rattle.s3_machine.proofs.ListLemmas.{page_told, command_outcome}
@@ -69,14 +76,14 @@ told_open : (P : Outcome → Type 0) (s : State) (found : Option (Upload (List �
 told_open P s None next tells success = absurd (false≢true success)
 told_open P s (Some u) next tells success = tells u refl success
 
-begin_told : (least : ℕ) (s : State) (n t : ℕ) (command : Command) (a : Address) (asked : UploadBegin) → begins command ≡ Some (a, asked)
+begin_told : (least : ℕ) (s : State) (n t : ℕ) (command : Command) (a : Address) (asked : Description) → begins command ≡ Some (a, asked)
     → TellsWhere (λ o. o ≡ outcomes.Told (documents.begun a.bucket a.key n)) (step least s n t command)
 unfolding done key_done
 begin_told least s n t (commands.Key bucket key (key_commands.Begin begin)) a asked is =
     let both = same_Some ((record { bucket = bucket; key = key }), begin) (a, asked) is in
     told_line (λ o. o ≡ outcomes.Told (documents.begun a.bucket a.key n)) s (not (has_bucket s bucket)) NoSuchBucket
     (key_done s n t bucket key (key_commands.Begin begin))
-    (λ success. ap (λ (p : Address × UploadBegin). outcomes.Told (documents.begun p.0.bucket p.0.key n)) both)
+    (λ success. ap (λ (p : Address × Description). outcomes.Told (documents.begun p.0.bucket p.0.key n)) both)
 begin_told least s n t _ a asked is = absurd (cc)
 
 pub begun_is_told : EveryHistory BegunIsTold
@@ -87,22 +94,66 @@ begun_is_told least s n entries legal before later begin upload asked parts begi
     (sym (ap succeeds outcome) ∙ begins.accepted)
     ∙ ap (λ (id : ℕ). outcomes.Told (documents.begun upload.address.bucket upload.address.key id)) (sym begins.numbered)
 
-send_told : (least : ℕ) (s : State) (n t : ℕ) (command : Command) (part : PartPlace) (bytes : List ℕ) → sends command ≡ Some part
-    → sent command ≡ Some bytes → TellsWhere (λ o. o ≡ outcomes.PartPut (tag_of bytes)) (step least s n t command)
+send_told : (least : ℕ) (s : State) (n t : ℕ) (command : Command) (bytes : List ℕ) → sent command ≡ Some bytes
+    → TellsWhere (λ o. o ≡ outcomes.PartPut (tag_of bytes)) (step least s n t command)
 unfolding done upload_done
-send_told least s n t (commands.Upload name key id (upload_commands.PutPart number payload)) part bytes at brings =
+send_told least s n t (commands.Upload name key id (upload_commands.PutPart number payload)) bytes brings =
     let same = same_Some payload bytes brings in
     let P : Outcome → Type 0 = λ o. o ≡ outcomes.PartPut (tag_of bytes) in
     told_line P s (not (has_bucket s name)) NoSuchBucket (upload_done least s n t name key id (upload_commands.PutPart number payload))
     (told_open P s (upload_at s name key id) _ (λ u is success. ap (λ (b : List ℕ). outcomes.PartPut (tag_of b)) same))
-send_told least s n t _ part bytes at brings = absurd (cc)
+send_told least s n t _ bytes brings = absurd (cc)
 
 pub sent_is_told : EveryHistory SentIsTold
-sent_is_told least s n entries legal before later send part bytes parts sends =
+sent_is_told least s n entries legal before later send bytes parts brings accepted =
     let outcome = outcome_is least (after least s before) _ send (right_at least s n entries before later send legal parts) in
     outcome
-    ∙ send_told least (after least s before) send.answer.number send.moment send.command part bytes sends.at sends.brings
-    (sym (ap succeeds outcome) ∙ sends.accepted)
+    ∙ send_told least (after least s before) send.answer.number send.moment send.command bytes brings
+    (sym (ap succeeds outcome) ∙ accepted)
+
+-- of a part that is copied it is told what it is, and what a read of its source would be told
+abbrev TellsCopied : State → ℕ → Part (List ℕ) → Read → Option CopyRange → Outcome → Type 0
+TellsCopied s t what asked range outcome =
+    (source : Data (List ℕ)) × (gives : WouldGive s asked source) × (what ≡ part_copied t range source)
+    × (outcome ≡ outcomes.PartCopied (part_tag what) t gives.found.shown)
+
+copying_told : (s : State) (t : ℕ) (name key : List ℕ) (id number : ℕ) (copy : PartCopy) (source : Result (Found (List ℕ)) Refusal)
+    (what : Part (List ℕ))
+    → source_found s copy.source ≡ source → option_map (copied_part t copy) (result_ok source) ≡ Some what
+    → TellsWhere (TellsCopied s t what (source_read copy.source) copy.range)
+    (stepped s (source >>= part_copying s t name key id number copy))
+copying_told s t name key id number copy (Ok found) what is puts =
+    let same = same_Some (copied_part t copy found) what puts in
+    let gives = would_find s copy.source found is in
+    told_line (TellsCopied s t what (source_read copy.source) copy.range) s (not (lies_in copy.range found.stored.size)) InvalidArgument _
+    (λ success. (
+      found.stored,
+      gives.0,
+      sym same,
+      ap (λ (p : Part (List ℕ)). outcomes.PartCopied (part_tag p) t found.shown) same
+          ∙ ap (λ (f : Found (List ℕ)). outcomes.PartCopied (part_tag what) t f.shown) (sym gives.1),
+    ))
+copying_told s t name key id number copy (Err refusal) what is puts = λ success. absurd (false≢true success)
+
+copy_told : (least : ℕ) (s : State) (n t : ℕ) (command : Command) (what : Part (List ℕ)) (asked : Read) (range : Option CopyRange)
+    → copies_part command ≡ Some (asked, range) → puts_part s t command ≡ Some what
+    → TellsWhere (TellsCopied s t what asked range) (step least s n t command)
+unfolding done upload_done
+copy_told least s n t (commands.Upload name key id (upload_commands.CopyPart number copy)) what asked range from puts =
+    let same = same_Some (source_read copy.source, copy.range) (asked, range) from in
+    let P = TellsCopied s t what (source_read copy.source) copy.range in
+    subst (λ (p : Read × Option CopyRange). TellsWhere (TellsCopied s t what p.0 p.1) (step least s n t (commands.Upload name key id (upload_commands.CopyPart number copy)))) same
+    (told_line P s (not (has_bucket s name)) NoSuchBucket (upload_done least s n t name key id (upload_commands.CopyPart number copy))
+    (told_open P s (upload_at s name key id) _
+    (λ u is. copying_told s t name key id number copy (source_found s copy.source) what refl puts)))
+copy_told least s n t _ what asked range from puts = absurd (cc)
+
+pub copied_part_is_told : EveryHistory CopiedPartIsTold
+copied_part_is_told least s n entries legal before later copy part what asked range parts sends from =
+    let outcome = outcome_is least (after least s before) _ copy (right_at least s n entries before later copy legal parts) in
+    subst (TellsCopied (after least s before) copy.moment what asked range) (sym outcome)
+    (copy_told least (after least s before) copy.answer.number copy.moment copy.command what asked range from sends.puts
+    (sym (ap succeeds outcome) ∙ sends.accepted))
 
 -- a tag is told of a completion
 abbrev TellsTag : Address → Outcome → Type 0
@@ -144,8 +195,8 @@ past_bucket least s n t upload asked there = past_line s (not (has_bucket s uplo
 closed_done : (least : ℕ) (s : State) (n t : ℕ) (name key : List ℕ) (id : ℕ) (asked : UploadCommand) → upload_at s name key id ≡ None
     → (stepped s (upload_done least s n t name key id asked)).1 ≡ outcomes.Refused NoSuchUpload false
 unfolding upload_done
-closed_done least s n t name key id (upload_commands.PutPart number payload) none =
-    rw none refl
+closed_done least s n t name key id (upload_commands.PutPart number payload) none = rw none refl
+closed_done least s n t name key id (upload_commands.CopyPart number copy) none = rw none refl
 closed_done least s n t name key id (upload_commands.Complete listed if_absent) none = rw none refl
 closed_done least s n t name key id upload_commands.Abort none = rw none refl
 closed_done least s n t name key id (upload_commands.ListParts asked) none = rw none refl

@@ -2,9 +2,10 @@
 use Rattle.std.proofs.Common.{◌≡◌, refl, sym, ap, ap₂, ◌∙◌, Bool, true, false, not, ◌&&◌, ℕ, ◌⊎◌, inl, inr, IsTrue, List, Option, Some, None, option_map, Result, Ok, Err, ok_or}
 use Rattle.std.proofs.lemmas.Bool.Decides.{eqb_tells}
 use Rattle.std.proofs.lemmas.Option.{same_Some}
+use Rattle.std.specs.Result.{result_ok}
 use Rattle.s3_text.proofs.MapLemmas.{same_or}
 use Rattle.s3_terms.specs.declared.code.Code.{Code}
-use Rattle.s3_terms.specs.declared.code.Code.TheVariants.{NoSuchBucket, BucketAlreadyOwnedByYou, BucketNotEmpty, NoSuchUpload, PreconditionFailed}
+use Rattle.s3_terms.specs.declared.code.Code.TheVariants.{NoSuchBucket, BucketAlreadyOwnedByYou, BucketNotEmpty, InvalidArgument, NoSuchUpload, PreconditionFailed}
 use Rattle.s3_terms.specs.Fault.{◌>>◌, ◌>>=◌}
 use Rattle.s3_conditions.specs.declared.conditions.Conditions.{Conditions}
 use Rattle.s3_conditions.specs.declared.conditions.Selection.{Selection}
@@ -15,6 +16,7 @@ use Rattle.s3_versions.specs.Rules.{pick, facts_of, KeyChange, VersionPut, KeyDe
 use Rattle.s3_uploads.specs.Completion.{completed}
 use Rattle.s3_uploads.specs.Parts.{part_sent}
 use Rattle.s3_uploads.specs.Uploads.{with_part}
+use Rattle.s3_uploads.specs.declared.part.Part.{Part}
 use Rattle.s3_uploads.specs.declared.upload.Upload.{Upload}
 use Rattle.s3_records.specs.Catalogue.{has_bucket, is_empty_bucket, versions_of, versioning_of}
 use Rattle.s3_records.specs.Changes.{Change, BucketAdded, BucketDropped, VersioningSet, KeyChanged, UploadAdded, PartPut, UploadDropped, UploadCompleted, changed}
@@ -26,26 +28,28 @@ use Rattle.s3_machine.specs.declared.command.Command.{Command}
 use Rattle.s3_machine.specs.declared.command.Command.TheVariants as commands
 use Rattle.s3_machine.specs.declared.command.KeyCommand.{KeyCommand}
 use Rattle.s3_machine.specs.declared.command.KeyCommand.TheVariants as key_commands
+use Rattle.s3_machine.specs.declared.command.Description.{Description}
+use Rattle.s3_machine.specs.declared.command.Found.{Found}
 use Rattle.s3_machine.specs.declared.command.ObjectCopy.{ObjectCopy}
-use Rattle.s3_machine.specs.declared.command.UploadBegin.{UploadBegin}
+use Rattle.s3_machine.specs.declared.command.PartCopy.{PartCopy}
 use Rattle.s3_machine.specs.declared.command.UploadCommand.{UploadCommand}
 use Rattle.s3_machine.specs.declared.command.UploadCommand.TheVariants as upload_commands
 use Rattle.s3_machine.specs.declared.command.Outcome.{Outcome}
 use Rattle.s3_machine.specs.Fault.{refuse, as_refusal}
-use Rattle.s3_machine.specs.Effects.{Address, UploadPlace, PartPlace, place_of, open_at, begins, sends, sent, ends, succeeds}
-use Rattle.s3_machine.specs.Step.{State, Stepped, is_taken, copied, data_of, outcome_shown, shown_by, found_in, upload_begun, open_upload, bucket_done, key_done, upload_done, done, stepped, step}
-use Rattle.s3_machine.proofs.EffectLemmas.{after_line, not_false, copy_done, shown, completing}
+use Rattle.s3_machine.specs.Effects.{Address, UploadPlace, PartPlace, place_of, open_at, begins, sends, copied_part, puts_part, ends, succeeds}
+use Rattle.s3_machine.specs.Step.{State, Stepped, is_taken, copied, source_found, lies_in, part_copied, data_of, outcome_shown, shown_by, found_in, upload_begun, open_upload, bucket_done, key_done, upload_done, done, stepped, step}
+use Rattle.s3_machine.proofs.EffectLemmas.{after_line, not_false, copy_done, part_copying, shown, completing}
 
 -- a step leaves an upload, or the place of one: what the command may be to do there it doesn't do
 pub record IsLeft (s : State) (n : ℕ) (command : Command) (st : Stepped) (upload : UploadPlace) : Type 0 where
   pub same : open_at st.0 upload ≡ open_at s upload
-  pub unbegun : (asked : UploadBegin) → begins command ≡ Some (upload.address, asked) → upload.id ≡ n → succeeds st.1 ≡ false
+  pub unbegun : (asked : Description) → begins command ≡ Some (upload.address, asked) → upload.id ≡ n → succeeds st.1 ≡ false
   pub unsent : (number : ℕ) → sends command ≡ Some (record { upload = upload; number = number }) → succeeds st.1 ≡ false
   pub unended : ends command ≡ Some upload → succeeds st.1 ≡ false
 
 -- it begins it
 pub record IsBegun (n t : ℕ) (command : Command) (st : Stepped) (upload : UploadPlace) : Type 0 where
-  pub asked : UploadBegin
+  pub asked : Description
   pub at : begins command ≡ Some (upload.address, asked)
   pub numbered : upload.id ≡ n
   pub accepted : succeeds st.1 ≡ true
@@ -54,13 +58,13 @@ pub record IsBegun (n t : ℕ) (command : Command) (st : Stepped) (upload : Uplo
 -- it puts a part to it
 pub record IsSent (s : State) (t : ℕ) (command : Command) (st : Stepped) (upload : UploadPlace) : Type 0 where
   pub number : ℕ
-  pub bytes : List ℕ
+  pub part : Part (List ℕ)
   pub at : sends command ≡ Some (record { upload = upload; number = number })
-  pub brings : sent command ≡ Some bytes
+  pub puts : puts_part s t command ≡ Some part
   pub accepted : succeeds st.1 ≡ true
   pub found : Upload (List ℕ)
   pub there : open_at s upload ≡ Some found
-  pub now : open_at st.0 upload ≡ Some (with_part number (part_sent t bytes) found)
+  pub now : open_at st.0 upload ≡ Some (with_part number part found)
 
 -- or it ends it
 pub record IsEnded (command : Command) (st : Stepped) (upload : UploadPlace) : Type 0 where
@@ -134,6 +138,9 @@ sent_there : (name key : List ℕ) (id : ℕ) (asked : UploadCommand) (upload : 
 sent_there name key id (upload_commands.PutPart m payload) upload number at =
     let same : record { upload = place_of name key id; number = m } ≡ record { upload = upload; number = number } = cc in
     parts_place name key id upload (ap (λ (p : PartPlace). p.upload) same)
+sent_there name key id (upload_commands.CopyPart m copy) upload number at =
+    let same : record { upload = place_of name key id; number = m } ≡ record { upload = upload; number = number } = cc in
+    parts_place name key id upload (ap (λ (p : PartPlace). p.upload) same)
 sent_there name key id _ upload number at = absurd (cc)
 
 ended_there : (name key : List ℕ) (id : ℕ) (asked : UploadCommand) (upload : UploadPlace)
@@ -170,6 +177,10 @@ module _ (law : ChangesAreByUpload (List ℕ)) where
       (law s name (VersioningSet status) refl upload.address.bucket upload.address.key upload.id) refl refl refl)
   bucket_fate s n t name bucket_commands.GetVersioning upload =
       fate_line s n t _ upload (not (has_bucket s name)) NoSuchBucket _ (λ there. idle s n t _ _ upload refl refl refl)
+  bucket_fate s n t name (bucket_commands.GetLocation region) upload =
+      fate_line s n t _ upload (not (has_bucket s name)) NoSuchBucket _ (λ there. idle s n t _ _ upload refl refl refl)
+  bucket_fate s n t name (bucket_commands.GetConfiguration which) upload =
+      fate_line s n t _ upload (not (has_bucket s name)) NoSuchBucket _ (λ there. left_refused s n t _ _ upload refl)
   bucket_fate s n t name (bucket_commands.ListObjects asked) upload =
       fate_line s n t _ upload (not (has_bucket s name)) NoSuchBucket _ (λ there. idle s n t _ _ upload refl refl refl)
   bucket_fate s n t name (bucket_commands.ListVersions asked) upload =
@@ -207,7 +218,7 @@ module _ (law : ChangesAreByUpload (List ℕ)) where
   read_fate s n t command (Err refusal) name conditions upload = idle s n t command _ upload
 
   -- an upload begins at its place, and every other stays
-  begin_fate : (s : State) (n t : ℕ) (name key : List ℕ) (begin : UploadBegin) (outcome : Outcome) (upload : UploadPlace)
+  begin_fate : (s : State) (n t : ℕ) (name key : List ℕ) (begin : Description) (outcome : Outcome) (upload : UploadPlace)
       → IsTrue (has_bucket s name) → succeeds outcome ≡ true
       → Fate s n t (commands.Key name key (key_commands.Begin begin)) (changed s name (UploadAdded key n (upload_begun t begin)), outcome) upload
   begin_fate s n t name key begin outcome upload there accepted =
@@ -226,7 +237,7 @@ module _ (law : ChangesAreByUpload (List ℕ)) where
               same = after.others upload.address.bucket upload.address.key upload.id other;
               unbegun = λ asked at numbered.
                   let both = same_Some ((record { bucket = name; key = key }), begin) (upload.address, asked) at in
-                  let same = ap (λ (p : Address × UploadBegin). p.0) both in
+                  let same = ap (λ (p : Address × Description). p.0) both in
                   absurd (other (sym (ap (λ (a : Address). a.bucket) same), (sym (ap (λ (a : Address). a.key) same), numbered)));
               unsent = λ number at. absurd (cc);
               unended = λ at. absurd (cc);
@@ -239,7 +250,7 @@ module _ (law : ChangesAreByUpload (List ℕ)) where
   key_fate s n t name key (key_commands.Put put) upload there =
       fate_line s n t _ upload (put.if_absent && is_taken s name key) PreconditionFailed _
       (λ free. key_changed s n t name key _ (VersionPut n t (data_of put)) _ upload there refl refl refl)
-  key_fate s n t name key (key_commands.Copy copy) upload there = copy_fate s n t name key copy (copied s copy.source) upload there
+  key_fate s n t name key (key_commands.Copy copy) upload there = copy_fate s n t name key copy (copied s copy) upload there
   key_fate s n t name key (key_commands.Read asked) upload there =
       read_fate s n t _ (pick asked.version (versions_of s name key)) name asked.conditions upload refl refl refl
   key_fate s n t name key (key_commands.Delete None) upload there = key_changed s n t name key _ (KeyDeleted n t) _ upload there refl refl refl
@@ -273,28 +284,43 @@ module _ (law : ChangesAreByUpload (List ℕ)) where
         unended = λ at. absurd (other (ended_there name key id asked upload at));
       })
 
-  part_fate : (s : State) (n t : ℕ) (name key : List ℕ) (id number : ℕ) (bytes : List ℕ) (outcome : Outcome) (upload : UploadPlace)
-      (u : Upload (List ℕ))
+  -- a part is put to an upload, by a command that is to put it there
+  part_fate : (s : State) (n t : ℕ) (name key : List ℕ) (id number : ℕ) (asked : UploadCommand) (part : Part (List ℕ)) (outcome : Outcome)
+      (upload : UploadPlace) (u : Upload (List ℕ))
+      → sends (commands.Upload name key id asked) ≡ part_of number (place_of name key id)
+      → puts_part s t (commands.Upload name key id asked) ≡ Some part
       → upload_at s name key id ≡ Some u → IsTrue (has_bucket s name) → succeeds outcome ≡ true
-      → Fate s n t (commands.Upload name key id (upload_commands.PutPart number bytes))
-      (changed s name (PartPut key id number (part_sent t bytes)), outcome) upload
-  part_fate s n t name key id number bytes outcome upload u is there accepted =
-      let change = PartPut key id number (part_sent t bytes) in
+      → Fate s n t (commands.Upload name key id asked) (changed s name (PartPut key id number part), outcome) upload
+  part_fate s n t name key id number asked part outcome upload u at puts is there accepted =
+      let change = PartPut key id number part in
       let after = law s name change there in
       elim (same_place upload name key id) [
         | inl here ↦
             Sent (record {
               number = number;
-              bytes = bytes;
-              at = ap (part_of number) (sym here);
-              brings = refl;
+              part = part;
+              at = at ∙ ap (part_of number) (sym here);
+              puts = puts;
               accepted = accepted;
               found = u;
               there = ap (open_at s) here ∙ is;
-              now = ap (open_at (changed s name change)) here ∙ after.here ∙ ap (option_map (with_part number (part_sent t bytes))) is;
+              now = ap (open_at (changed s name change)) here ∙ after.here ∙ ap (option_map (with_part number part)) is;
             })
-        | inr other ↦ left_other s (changed s name change) n t name key id _ outcome upload _ after other
+        | inr other ↦ left_other s (changed s name change) n t name key id asked outcome upload _ after other
       ]
+
+  -- so is one that is copied, or the copy is refused
+  copied_fate : (s : State) (n t : ℕ) (name key : List ℕ) (id number : ℕ) (copy : PartCopy) (source : Result (Found (List ℕ)) Refusal)
+      (upload : UploadPlace) (u : Upload (List ℕ))
+      → source_found s copy.source ≡ source → upload_at s name key id ≡ Some u → IsTrue (has_bucket s name)
+      → Fate s n t (commands.Upload name key id (upload_commands.CopyPart number copy))
+      (stepped s (source >>= part_copying s t name key id number copy)) upload
+  copied_fate s n t name key id number copy (Ok found) upload u is here there =
+      fate_line s n t _ upload (not (lies_in copy.range found.stored.size)) InvalidArgument _
+      (λ within. part_fate s n t name key id number (upload_commands.CopyPart number copy) (part_copied t copy.range found.stored) _
+      upload u refl
+      (ap (λ (r : Result (Found (List ℕ)) Refusal). option_map (copied_part t copy) (result_ok r)) is) here there refl)
+  copied_fate s n t name key id number copy (Err refusal) upload u is here there = left_refused s n t _ _ upload refl
 
   -- an upload is dropped, by a change that leaves every other
   end_fate : (s : State) (n t : ℕ) (name key : List ℕ) (id : ℕ) (asked : UploadCommand) (change : Change (List ℕ)) (outcome : Outcome)
@@ -328,7 +354,11 @@ module _ (law : ChangesAreByUpload (List ℕ)) where
   unfolding upload_done
   upload_fate least s n t name key id (upload_commands.PutPart number payload) upload there =
       opened_fate s n t name key id (upload_commands.PutPart number payload) _ upload
-      (λ u is. part_fate s n t name key id number payload _ upload u is there refl)
+      (λ u is. part_fate s n t name key id number (upload_commands.PutPart number payload) (part_sent t payload) _
+      upload u refl refl is there refl)
+  upload_fate least s n t name key id (upload_commands.CopyPart number copy) upload there =
+      opened_fate s n t name key id (upload_commands.CopyPart number copy) _ upload
+      (λ u is. copied_fate s n t name key id number copy (source_found s copy.source) upload u refl is there)
   upload_fate least s n t name key id (upload_commands.Complete listed if_absent) upload there =
       opened_fate s n t name key id (upload_commands.Complete listed if_absent) _ upload
       (λ u is. fate_line s n t _ upload (if_absent && is_taken s name key) PreconditionFailed _

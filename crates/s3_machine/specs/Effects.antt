@@ -14,7 +14,7 @@ use Rattle.s3_versions.specs.declared.version.Data.{Data}
 use Rattle.s3_versions.specs.declared.version.Versioning.{Versioning}
 use Rattle.s3_versions.specs.Rules.{new_id}
 use Rattle.s3_uploads.specs.Completion.{parts_listed, joined_data}
-use Rattle.s3_uploads.specs.Parts.{part_at}
+use Rattle.s3_uploads.specs.Parts.{part_at, part_sent}
 use Rattle.s3_uploads.specs.declared.listed.ListedPart.{ListedPart}
 use Rattle.s3_uploads.specs.declared.part.Part.{Part}
 use Rattle.s3_uploads.specs.declared.upload.Upload.{Upload}
@@ -26,15 +26,17 @@ use Rattle.s3_machine.specs.declared.command.Command.{Command}
 use Rattle.s3_machine.specs.declared.command.Command.TheVariants as commands
 use Rattle.s3_machine.specs.declared.command.KeyCommand.{KeyCommand}
 use Rattle.s3_machine.specs.declared.command.KeyCommand.TheVariants as key_commands
+use Rattle.s3_machine.specs.declared.command.CopyRange.{CopyRange}
+use Rattle.s3_machine.specs.declared.command.PartCopy.{PartCopy}
 use Rattle.s3_machine.specs.declared.command.Source.{Source}
 use Rattle.s3_machine.specs.declared.command.ObjectRead.{ObjectRead}
 use Rattle.s3_machine.specs.declared.command.Found.{Found}
 use Rattle.s3_machine.specs.declared.command.Outcome.{Outcome}
 use Rattle.s3_machine.specs.declared.command.Outcome.TheVariants as outcomes
-use Rattle.s3_machine.specs.declared.command.UploadBegin.{UploadBegin}
+use Rattle.s3_machine.specs.declared.command.Description.{Description}
 use Rattle.s3_machine.specs.declared.command.UploadCommand.{UploadCommand}
 use Rattle.s3_machine.specs.declared.command.UploadCommand.TheVariants as upload_commands
-use Rattle.s3_machine.specs.Step.{State, copied, data_of, makes_marker, outcome_shown, shown_by}
+use Rattle.s3_machine.specs.Step.{State, copied, data_of, makes_marker, outcome_shown, part_copied, shown_by, source_found}
 
 -- a key of a bucket
 pub record Address : Type 0 where
@@ -124,7 +126,7 @@ object_of s n t address stored =
 -- the data that a command stores under its key, where it isn't refused in this state
 abbrev pub key_stored : State → Address → KeyCommand (List ℕ) → Option (Data (List ℕ))
 key_stored s address (key_commands.Put put) = Some (data_of put)
-key_stored s address (key_commands.Copy copy) = result_ok (copied s copy.source)
+key_stored s address (key_commands.Copy copy) = result_ok (copied s copy)
 key_stored s address other = None
 
 -- the same of a command on this upload, if it is open
@@ -146,17 +148,18 @@ stored_by s n t (commands.Upload bucket key id asked) = joined_at s n t (place_o
 stored_by s n t other = None
 
 -- where a command begins an upload, and with what; the upload's id is the number of the entry
-abbrev pub key_begins : Address → KeyCommand (List ℕ) → Option (Address × UploadBegin)
+abbrev pub key_begins : Address → KeyCommand (List ℕ) → Option (Address × Description)
 key_begins address (key_commands.Begin begin) = Some (address, begin)
 key_begins address other = None
 
-abbrev pub begins : Command → Option (Address × UploadBegin)
+abbrev pub begins : Command → Option (Address × Description)
 begins (commands.Key bucket key asked) = key_begins (record { bucket = bucket; key = key }) asked
 begins other = None
 
--- as which part of an upload a command sends bytes
+-- as which part of an upload a command puts bytes: those that it sends, or those of a source
 abbrev pub upload_sends : UploadPlace → UploadCommand → Option PartPlace
 upload_sends upload (upload_commands.PutPart number payload) = Some (record { upload = upload; number = number })
+upload_sends upload (upload_commands.CopyPart number copy) = Some (record { upload = upload; number = number })
 upload_sends upload other = None
 
 abbrev pub sends : Command → Option PartPlace
@@ -171,6 +174,20 @@ upload_sent other = None
 abbrev pub sent : Command → Option (List ℕ)
 sent (commands.Upload bucket key id asked) = upload_sent asked
 sent other = None
+
+-- the part that a copy makes at moment t, of a version that was found
+abbrev pub copied_part : ℕ → PartCopy → Found (List ℕ) → Part (List ℕ)
+copied_part t copy found = part_copied t copy.range found.stored
+
+-- the part that it puts at moment t, where it isn't refused in this state
+abbrev pub upload_puts : State → ℕ → UploadCommand → Option (Part (List ℕ))
+upload_puts s t (upload_commands.PutPart number payload) = Some (part_sent t payload)
+upload_puts s t (upload_commands.CopyPart number copy) = option_map (copied_part t copy) (result_ok (source_found s copy.source))
+upload_puts s t other = None
+
+abbrev pub puts_part : State → ℕ → Command → Option (Part (List ℕ))
+puts_part s t (commands.Upload bucket key id asked) = upload_puts s t asked
+puts_part s t other = None
 
 -- the upload that a command completes, and the parts that it lists
 abbrev pub upload_completes : UploadPlace → UploadCommand → Option (UploadPlace × List ListedPart)
@@ -213,22 +230,39 @@ abbrev pub reads : Command → Option Read
 reads (commands.Key bucket key asked) = key_read (record { bucket = bucket; key = key }) asked
 reads other = None
 
--- what a command copies: all of a version
+-- what a copy is from: what a read by its conditions is shown
 abbrev pub source_read : Source → Read
-source_read source = whole (record { bucket = source.bucket; key = source.key }) source.version
+source_read source =
+    record {
+      address = record { bucket = source.bucket; key = source.key };
+      version = source.version;
+      conditions = source.conditions;
+    }
 
-abbrev pub key_copies : KeyCommand (List ℕ) → Option Read
-key_copies (key_commands.Copy copy) = Some (source_read copy.source)
+-- what a command copies to a key, and what it says of it
+abbrev pub key_copies : KeyCommand (List ℕ) → Option (Read × Option Description)
+key_copies (key_commands.Copy copy) = Some (source_read copy.source, copy.description)
 key_copies other = None
 
-abbrev pub copies : Command → Option Read
+abbrev pub copies : Command → Option (Read × Option Description)
 copies (commands.Key bucket key asked) = key_copies asked
 copies other = None
+
+-- what a command copies to a part, and which bytes of it
+abbrev pub upload_copies : UploadCommand → Option (Read × Option CopyRange)
+upload_copies (upload_commands.CopyPart number copy) = Some (source_read copy.source, copy.range)
+upload_copies other = None
+
+abbrev pub copies_part : Command → Option (Read × Option CopyRange)
+copies_part (commands.Upload bucket key id asked) = upload_copies asked
+copies_part other = None
 
 -- the command only reads
 abbrev pub only_reads_bucket : BucketCommand → Bool
 only_reads_bucket bucket_commands.Head = true
 only_reads_bucket bucket_commands.GetVersioning = true
+only_reads_bucket (bucket_commands.GetLocation region) = true
+only_reads_bucket (bucket_commands.GetConfiguration which) = true
 only_reads_bucket (bucket_commands.ListObjects asked) = true
 only_reads_bucket (bucket_commands.ListVersions asked) = true
 only_reads_bucket (bucket_commands.ListUploads asked) = true
@@ -252,6 +286,7 @@ only_reads (commands.Upload name key id asked) = only_reads_upload asked
 -- tells of it in a list
 abbrev pub takes_room_in_bucket : BucketCommand → Bool
 takes_room_in_bucket bucket_commands.Create = true
+takes_room_in_bucket (bucket_commands.GetLocation region) = true
 takes_room_in_bucket (bucket_commands.ListObjects asked) = true
 takes_room_in_bucket (bucket_commands.ListVersions asked) = true
 takes_room_in_bucket (bucket_commands.ListUploads asked) = true

@@ -27,10 +27,11 @@ use Rattle.s3_machine.specs.declared.command.BucketCommand.TheVariants as bucket
 use Rattle.s3_machine.specs.declared.command.Command.{Command}
 use Rattle.s3_machine.specs.declared.command.Command.TheVariants as commands
 use Rattle.s3_machine.specs.declared.command.KeyCommand.TheVariants as key_commands
+use Rattle.s3_machine.specs.declared.command.Description.{Description}
 use Rattle.s3_machine.specs.declared.command.Found.{Found}
 use Rattle.s3_machine.specs.declared.command.Outcome.{Outcome}
 use Rattle.s3_machine.specs.declared.command.Outcome.TheVariants as outcomes
-use Rattle.s3_machine.specs.Step.{State, step}
+use Rattle.s3_machine.specs.Step.{State, described, step}
 use Rattle.s3_machine.specs.Effects.{Address, Object, UploadPlace, Read, open_at, writes, copies, completes, brought, brings, object_of, stored_by, whole, reads, given, given_whole, found_object, acknowledged, touched, is_refused, succeeds, only_reads}
 use Rattle.s3_machine.specs.History.{Entry, Legal, after}
 use Rattle.s3_machine.specs.Laws.{IsListed}
@@ -129,13 +130,13 @@ pub record Puts (address : Address) (what : Data (List ℕ)) (e : Entry) : Type 
   pub brings : brought e.command ≡ Some what
   pub accepted : succeeds e.answer.outcome ≡ true
 
--- the entry copies this version to the address, and succeeds
-pub record Copies (address : Address) (asked : Read) (e : Entry) : Type 0 where
+-- the entry copies this version to the address by these conditions, says this of it, and succeeds
+pub record Copies (address : Address) (asked : Read) (said : Option Description) (e : Entry) : Type 0 where
   pub written : writes e.command ≡ Some address
-  pub from : copies e.command ≡ Some asked
+  pub from : copies e.command ≡ Some (asked, said)
   pub accepted : succeeds e.answer.outcome ≡ true
 
--- in this state each read of that version is given all of these data, and could be the next entry
+-- in this state each read of that version by these conditions is given all of these data, and could be the next entry
 pub record WouldGive (s : State) (asked : Read) (what : Data (List ℕ)) : Type 0 where
   pub found : Found (List ℕ)
   pub gives : (least n t : ℕ) (read : Command) → reads read ≡ Some asked → given_whole (step least s n t read).1 ≡ Some found
@@ -148,10 +149,11 @@ pub record WouldMake (s : State) (upload : UploadPlace) (listed : List ListedPar
   pub makes : what ≡ joined_data found (parts_listed listed found.parts)
 
 -- How an entry comes to store an object in a state. Each operation that stores one has a case: a put stores what it
--- brings, a copy what its source has, and a completion what the listed parts of its upload make.
+-- brings, a copy what its source has, as it says of it, and a completion what the listed parts of its upload make.
 pub data Source (s : State) (e : Entry) (object : Object) : Type 0 where
   Put : Puts object.address object.stored e → Source s e object
-  Copy : (asked : Read) → Copies object.address asked e → WouldGive s asked object.stored → Source s e object
+  Copy : (asked : Read) → (said : Option Description) → (source : Data (List ℕ)) → Copies object.address asked said e
+      → WouldGive s asked source → object.stored ≡ described said source → Source s e object
   Completion : (upload : UploadPlace) → (listed : List ListedPart) → upload.address ≡ object.address
       → Completes upload listed e → WouldMake s upload listed object.stored → Source s e object
 
@@ -163,6 +165,18 @@ pub record WasPut (entries : List Entry) (what : Data (List ℕ)) : Type 0 where
   pub parts : entries ≡ before ++ put ∷ later
   pub address : Address
   pub puts : Puts address what put
+
+-- these are those data, as one of the entries said of a copy
+pub record WasDescribed (entries : List Entry) (origin what : Data (List ℕ)) : Type 0 where
+  pub before : List Entry
+  pub copy : Entry
+  pub later : List Entry
+  pub parts : entries ≡ before ++ copy ∷ later
+  pub address : Address
+  pub asked : Read
+  pub said : Description
+  pub copies : Copies address asked (Some said) copy
+  pub is : what ≡ described (Some said) origin
 
 -- the entry deletes the key, names no version, and makes a delete marker
 pub record Marks (address : Address) (e : Entry) : Type 0 where
@@ -258,14 +272,16 @@ module _ (least : ℕ) (s : State) (entries : List Entry) where
       → succeeds list.answer.outcome ≡ true
       → list.answer.outcome ≡ outcomes.Told (documents.versions name asked (versions_page asked (after least s before) name))
 
-  -- However often data were copied since, a put brought them once, or a completion joined them once.
+  -- However often data were copied since, a put brought them once, or a completion joined them once; but for the type and the
+  -- metadata that a copy said of them.
   abbrev pub StoredWasBrought : Type 0
   StoredWasBrought =
       (names : List (List ℕ)) (earlier later : List Entry) (object : Object)
       → s ≡ opening names
       → entries ≡ earlier ++ later
       → WasStored least s earlier object
-      → (WasPut earlier object.stored ⊎ WasJoined earlier object.stored)
+      → (origin : Data (List ℕ)) × (WasPut earlier origin ⊎ WasJoined least s earlier origin)
+      × ((object.stored ≡ origin) ⊎ WasDescribed earlier origin object.stored)
 
   -- A read without conditions hands out all of a version, or doesn't succeed.
   abbrev pub ReadsGiveOrFail : Type 0
@@ -324,26 +340,27 @@ module _ (least : ℕ) (s : State) (entries : List Entry) where
       → ReadsVersion address id read
       → IsGiven put.moment what read
 
-  -- What a copy finds at its source comes back just so, by key,
+  -- What a copy finds at its source comes back as it says of it, by key,
   abbrev pub CopiesAreKept : Type 0
   CopiesAreKept =
-      (before between later : List Entry) (copy read : Entry) (address : Address) (asked : Read)
+      (before between later : List Entry) (copy read : Entry) (address : Address) (asked : Read) (said : Option Description)
       → entries ≡ before ++ copy ∷ between ++ read ∷ later
-      → Copies address asked copy
+      → Copies address asked said copy
       → LeavesKey address between
       → ReadsKey address read
-      → (what : Data (List ℕ)) × WouldGive (after least s before) asked what × IsGiven copy.moment what read
+      → (what : Data (List ℕ)) × WouldGive (after least s before) asked what × IsGiven copy.moment (described said what) read
 
   -- and by version.
   abbrev pub CopyVersionsAreKept : Type 0
   CopyVersionsAreKept =
-      (before between later : List Entry) (copy read : Entry) (address : Address) (asked : Read) (id : VersionId)
+      (before between later : List Entry) (copy read : Entry) (address : Address) (asked : Read) (said : Option Description)
+      (id : VersionId)
       → entries ≡ before ++ copy ∷ between ++ read ∷ later
-      → Copies address asked copy
+      → Copies address asked said copy
       → touched copy.command copy.answer.outcome ≡ Some id
       → SparesVersion address id between
       → ReadsVersion address id read
-      → (what : Data (List ℕ)) × WouldGive (after least s before) asked what × IsGiven copy.moment what read
+      → (what : Data (List ℕ)) × WouldGive (after least s before) asked what × IsGiven copy.moment (described said what) read
 
   -- What a put is told is the tag of its bytes.
   abbrev pub BodiesAreTagged : Type 0
@@ -361,13 +378,13 @@ PutsStoreTheirContents =
     → Puts address what e
     → Stores s e (object_of s e.answer.number e.moment address what)
 
--- What a copy stores is what a read of all of its source would be given.
+-- What a copy stores is what a read of its source by its conditions would be given, all of it, as the copy says of it.
 abbrev pub CopiesStoreTheirSource : Type 0
 CopiesStoreTheirSource =
-    (s : State) (e : Entry) (asked : Read) (object : Object)
-    → copies e.command ≡ Some asked
+    (s : State) (e : Entry) (asked : Read) (said : Option Description) (object : Object)
+    → copies e.command ≡ Some (asked, said)
     → Stores s e object
-    → WouldGive s asked object.stored
+    → (what : Data (List ℕ)) × WouldGive s asked what × (object.stored ≡ described said what)
 
 -- What a completion stores is what the listed parts of its upload make.
 abbrev pub CompletionsStoreTheirParts : Type 0

@@ -15,6 +15,7 @@ use Rattle.s3_uploads.specs.declared.upload.Upload.{Upload}
 use Rattle.s3_records.specs.Catalogue.{has_bucket}
 use Rattle.s3_records.specs.Places.{AreBelow}
 use Rattle.s3_records.specs.Rows.{key_rows}
+use Rattle.s3_prefixes.specs.declared.asked.ListVersion.TheVariants.{Second}
 use Rattle.s3_prefixes.specs.declared.asked.ObjectsAsked.{ObjectsAsked}
 use Rattle.s3_listings.specs.declared.asked.PartsAsked.{PartsAsked}
 use Rattle.s3_listings.specs.declared.asked.UploadsAsked.{UploadsAsked}
@@ -62,6 +63,7 @@ ConditionsJudgeReads =
 abbrev pub all_keys : ObjectsAsked
 all_keys =
     record {
+      version = Second;
       prefix = [];
       delimiter = [];
       start_after = None;

@@ -1,4 +1,5 @@
 pub mod Conditional
+pub mod Configuration
 pub mod Effects
 pub mod Fault
 pub mod History

@@ -1,14 +1,15 @@
 -- The state of a server, and one step of it (Amazon S3 API Reference, the operations that are named; Amazon S3 User
 -- Guide, "Using versioning in S3 buckets" and "Uploading and copying objects using multipart upload").
-use Rattle.std.specs.Prelude.{ℕ, Bool, true, false, not, ◌&&◌, List, [], length, Option, Some, None, is_some, option_and_then, find, Result, Ok, Err, ok_or}
+use Rattle.std.specs.Prelude.{ℕ, ◌+◌, Bool, true, false, not, ◌&&◌, nat_le, nat_lt, List, [], ◌++◌, length, take, drop, codes, decimal, Option, Some, None, is_some, option_and_then, find, Result, Ok, Err, ok_or}
 use Rattle.std.specs.Option.{option_map, unwrap_or}
+use Rattle.md5.specs.Md5.{md5}
 use Rattle.s3_bodies.specs.Payload.{tag_of}
 use Rattle.s3_terms.specs.declared.code.Code.{Code}
-use Rattle.s3_terms.specs.declared.code.Code.TheVariants.{NoSuchBucket, BucketAlreadyOwnedByYou, BucketNotEmpty, InvalidRequest, MethodNotAllowed, NoSuchUpload, PreconditionFailed}
+use Rattle.s3_terms.specs.declared.code.Code.TheVariants.{NoSuchBucket, BucketAlreadyOwnedByYou, BucketNotEmpty, InvalidArgument, InvalidRequest, MethodNotAllowed, NoSuchUpload, PreconditionFailed}
 use Rattle.s3_names.specs.declared.ids.VersionId.{VersionId}
 use Rattle.s3_conditions.specs.declared.conditions.Conditions.{Conditions}
 use Rattle.s3_conditions.specs.declared.conditions.Selection.{Selection}
-use Rattle.s3_conditions.specs.declared.conditions.Selection.TheVariants.{Outside}
+use Rattle.s3_conditions.specs.declared.conditions.Selection.TheVariants.{Whole, Outside}
 use Rattle.s3_conditions.specs.Conditions.{judged}
 use Rattle.s3_versions.specs.declared.picking.Facts.{Facts}
 use Rattle.s3_versions.specs.declared.picking.Refusal.{Refusal}
@@ -18,7 +19,8 @@ use Rattle.s3_versions.specs.declared.version.Versioning.{Versioning}
 use Rattle.s3_versions.specs.declared.version.Versioning.TheVariants.{Unversioned, Enabled, Suspended}
 use Rattle.s3_versions.specs.Rules.{id_of, is_under, stored, is_delete_marker, current, pick, facts_of, new_id, VersionPut, KeyDeleted, VersionDropped}
 use Rattle.s3_uploads.specs.Completion.{completed}
-use Rattle.s3_uploads.specs.Parts.{part_sent}
+use Rattle.s3_uploads.specs.Parts.{part_sent, part_tag}
+use Rattle.s3_uploads.specs.declared.part.Part.{Part}
 use Rattle.s3_uploads.specs.declared.upload.Upload.{Upload}
 use Rattle.s3_records.specs.Catalogue.{Catalogue, has_bucket, listed_buckets, is_empty_bucket, versions_of, versioning_of}
 use Rattle.s3_records.specs.Rows.{key_rows}
@@ -35,15 +37,18 @@ use Rattle.s3_machine.specs.declared.command.Command.{Command}
 use Rattle.s3_machine.specs.declared.command.Command.TheVariants as commands
 use Rattle.s3_machine.specs.declared.command.KeyCommand.{KeyCommand}
 use Rattle.s3_machine.specs.declared.command.KeyCommand.TheVariants as key_commands
+use Rattle.s3_machine.specs.declared.command.CopyRange.{CopyRange}
+use Rattle.s3_machine.specs.declared.command.Description.{Description}
+use Rattle.s3_machine.specs.declared.command.ObjectCopy.{ObjectCopy}
 use Rattle.s3_machine.specs.declared.command.ObjectPut.{ObjectPut}
 use Rattle.s3_machine.specs.declared.command.Source.{Source}
-use Rattle.s3_machine.specs.declared.command.UploadBegin.{UploadBegin}
 use Rattle.s3_machine.specs.declared.command.UploadCommand.{UploadCommand}
 use Rattle.s3_machine.specs.declared.command.UploadCommand.TheVariants as upload_commands
 use Rattle.s3_machine.specs.declared.command.Found.{Found}
 use Rattle.s3_machine.specs.declared.command.Outcome.{Outcome}
 use Rattle.s3_machine.specs.declared.command.Outcome.TheVariants as outcomes
 use Rattle.s3_terms.specs.Fault.{◌>>◌, ◌>>=◌}
+use Rattle.s3_machine.specs.Configuration.{absence_of}
 use Rattle.s3_machine.specs.Fault.{refuse, as_refusal}
 
 -- the buckets, with their keys and the versions under these, and with the uploads that are open, with their bytes
@@ -96,15 +101,64 @@ abbrev pub source_code : Code → Code
 source_code MethodNotAllowed = InvalidRequest
 source_code other = other
 
-abbrev pub data_read : {B : Type 0} → Result (Version B × Data B) Refusal → Result (Data B) Refusal
-data_read (Ok read) = Ok read.1
-data_read (Err refusal) = Err (record { code = source_code refusal.code; is_delete_marker = false })
+abbrev pub read_for_copy : {B : Type 0} → Result (Version B × Data B) Refusal → Result (Version B × Data B) Refusal
+read_for_copy (Ok read) = Ok read
+read_for_copy (Err refusal) = Err (record { code = source_code refusal.code; is_delete_marker = false })
 
--- what a copy stores: what its source stores, which is the version that a read of it picks
-unfoldable pub copied : State → Source → Result (Data (List ℕ)) Refusal
-copied s source = do
+-- all of a version is shown
+abbrev pub shows_all : Result Selection Code → Bool
+shows_all (Ok Whole) = true
+shows_all (Ok other) = false
+shows_all (Err code) = false
+
+-- a version may be copied where a read by the same conditions would show all of it (Amazon S3 API Reference, CopyObject,
+-- `x-amz-copy-source-if-match` and its like)
+abbrev pub may_be_copied : Conditions → Facts → Bool
+may_be_copied conditions facts = shows_all (judged conditions facts.moment facts.tag facts.size)
+
+-- the version that a copy is from: the one that a read of the source picks, where that meets the conditions
+unfoldable pub source_found : State → Source → Result (Found (List ℕ)) Refusal
+source_found s source = do
   refuse (not (has_bucket s source.bucket)) NoSuchBucket
-  data_read (pick source.version (versions_of s source.bucket source.key))
+  read ← read_for_copy (pick source.version (versions_of s source.bucket source.key))
+  refuse (not (may_be_copied source.conditions (facts_of read))) PreconditionFailed
+  Ok (found_in (versioning_of s source.bucket) read)
+
+-- what is stored of a source, by what is said of the copy: where nothing is, all that its source has
+abbrev pub described : {B : Type 0} → Option Description → Data B → Data B
+described None what = what
+described (Some said) what = record what { content_type = said.content_type; metadata = said.metadata }
+
+-- what a copy stores
+unfoldable pub copied : State → ObjectCopy → Result (Data (List ℕ)) Refusal
+copied s copy = do
+  found ← source_found s copy.source
+  Ok (described copy.description found.stored)
+
+-- the range lies in so many bytes; where none is named, all do
+abbrev pub lies_in : Option CopyRange → ℕ → Bool
+lies_in None size = true
+lies_in (Some range) size = nat_le range.first range.last && nat_lt range.last size
+
+-- the bytes of the range
+abbrev pub cut : Option CopyRange → List ℕ → List ℕ
+cut None bytes = bytes
+cut (Some range) bytes = drop range.first (take (range.last + 1) bytes)
+
+-- the range, as a request spells it
+abbrev pub range_text : Option CopyRange → List ℕ
+range_text None = []
+range_text (Some range) = codes "bytes=" ++ decimal range.first ++ codes "-" ++ decimal range.last
+
+-- the part that is copied at moment t: its digest is the MD5 of its source's tag and of the range, so that no byte is hashed again
+abbrev pub part_copied : ℕ → Option CopyRange → Data (List ℕ) → Part (List ℕ)
+part_copied t range what =
+    record {
+      digest = md5 (what.tag ++ range_text range);
+      moment = t;
+      size = length (cut range what.body);
+      body = cut range what.body;
+    }
 
 -- what comes of a read by what is shown of the version: where no byte of it is in the range, how many bytes it has
 abbrev pub outcome_shown : Found (List ℕ) → Selection → Outcome
@@ -133,6 +187,12 @@ bucket_done s t name (bucket_commands.PutVersioning status) = do
 bucket_done s t name bucket_commands.GetVersioning = do
   refuse (not (has_bucket s name)) NoSuchBucket
   Ok (s, outcomes.BucketVersioning (versioning_of s name))
+bucket_done s t name (bucket_commands.GetLocation region) = do
+  refuse (not (has_bucket s name)) NoSuchBucket
+  Ok (s, outcomes.Told (documents.location region))
+bucket_done s t name (bucket_commands.GetConfiguration which) = do
+  refuse (not (has_bucket s name)) NoSuchBucket
+  as_refusal (Err (absence_of which))
 bucket_done s t name (bucket_commands.ListObjects asked) = do
   refuse (not (has_bucket s name)) NoSuchBucket
   Ok (s, outcomes.Told (documents.objects name asked (objects_told asked (key_rows s name))))
@@ -144,7 +204,7 @@ bucket_done s t name (bucket_commands.ListUploads asked) = do
   Ok (s, outcomes.Told (documents.uploads name asked (uploads_page asked s name)))
 
 -- the upload that begins at moment t
-abbrev pub upload_begun : ℕ → UploadBegin → Upload (List ℕ)
+abbrev pub upload_begun : ℕ → Description → Upload (List ℕ)
 upload_begun t begin =
     record { moment = t; content_type = begin.content_type; metadata = begin.metadata; parts = [] }
 
@@ -157,7 +217,7 @@ key_done s n t name key (key_commands.Put put) = do
     outcomes.Put (tag_of put.payload) (shown_in (versioning_of s name) (new_id (versioning_of s name) n)),
   )
 key_done s n t name key (key_commands.Copy copy) = do
-  stored ← copied s copy.source
+  stored ← copied s copy
   Ok (
     changed s name (KeyChanged key (VersionPut n t stored)),
     outcomes.Copied stored.tag t (shown_in (versioning_of s name) (new_id (versioning_of s name) n)),
@@ -188,6 +248,14 @@ unfoldable pub upload_done : ℕ → State → ℕ → ℕ → List ℕ → List
 upload_done least s n t name key id (upload_commands.PutPart number payload) = do
   _ ← open_upload s name key id
   Ok (changed s name (PartPut key id number (part_sent t payload)), outcomes.PartPut (tag_of payload))
+upload_done least s n t name key id (upload_commands.CopyPart number copy) = do
+  _ ← open_upload s name key id
+  found ← source_found s copy.source
+  refuse (not (lies_in copy.range found.stored.size)) InvalidArgument
+  Ok (
+    changed s name (PartPut key id number (part_copied t copy.range found.stored)),
+    outcomes.PartCopied (part_tag (part_copied t copy.range found.stored)) t found.shown,
+  )
 upload_done least s n t name key id (upload_commands.Complete listed if_absent) = do
   upload ← open_upload s name key id
   refuse (if_absent && is_taken s name key) PreconditionFailed

@@ -1,27 +1,28 @@
--- What becomes of an upload in a history: an entry begins it, others send parts to it, and one completes or aborts it.
-use Rattle.std.specs.Prelude.{◌≡◌, ℕ, true, false, List, ◌∷◌, ◌++◌, length, map as each, Some}
+-- What becomes of an upload in a history: an entry begins it, others put parts to it, and one completes or aborts it.
+use Rattle.std.specs.Prelude.{◌≡◌, ℕ, true, false, List, [], ◌∷◌, ◌++◌, length, map as each, Some}
 use Rattle.std.specs.List.{AllByRecursion, AllZip, concat}
 use Rattle.md5.specs.Md5.{md5}
 use Rattle.s3_names.specs.Tags.{joined_text}
-use Rattle.s3_bodies.specs.Payload.{tag_of}
 use Rattle.s3_versions.specs.declared.version.Data.{Data}
+use Rattle.s3_uploads.specs.Parts.{part_tag}
 use Rattle.s3_uploads.specs.declared.listed.ListedPart.{ListedPart}
+use Rattle.s3_uploads.specs.declared.part.Part.{Part}
 use Rattle.s3_uploads.specs.declared.upload.Upload.{Upload}
-use Rattle.s3_machine.specs.declared.command.UploadBegin.{UploadBegin}
+use Rattle.s3_machine.specs.declared.command.Description.{Description}
 use Rattle.s3_machine.specs.Step.{State}
-use Rattle.s3_machine.specs.Effects.{UploadPlace, PartPlace, open_at, begins, sends, sent, completes, ends, succeeds}
-use Rattle.s3_machine.specs.History.{Entry}
+use Rattle.s3_machine.specs.Effects.{UploadPlace, PartPlace, open_at, begins, sends, puts_part, completes, ends, succeeds}
+use Rattle.s3_machine.specs.History.{Entry, after}
 
 -- the entry begins this upload with these, and succeeds: the upload's id is the entry's number
-pub record Begins (upload : UploadPlace) (asked : UploadBegin) (e : Entry) : Type 0 where
+pub record Begins (upload : UploadPlace) (asked : Description) (e : Entry) : Type 0 where
   pub at : begins e.command ≡ Some (upload.address, asked)
   pub numbered : upload.id ≡ e.answer.number
   pub accepted : succeeds e.answer.outcome ≡ true
 
--- the entry sends these bytes as this part, and succeeds
-pub record Sends (part : PartPlace) (bytes : List ℕ) (e : Entry) : Type 0 where
+-- in this state the entry puts this part, of bytes that it sends or of a version that it copies, and succeeds
+pub record Sends (s : State) (part : PartPlace) (what : Part (List ℕ)) (e : Entry) : Type 0 where
   pub at : sends e.command ≡ Some part
-  pub brings : sent e.command ≡ Some bytes
+  pub puts : puts_part s e.moment e.command ≡ Some what
   pub accepted : succeeds e.answer.outcome ≡ true
 
 -- the entry completes this upload with these parts, and succeeds
@@ -37,7 +38,7 @@ KeepsOpen upload e = ends e.command ≡ Some upload → succeeds e.answer.outcom
 abbrev pub StaysOpen : UploadPlace → List Entry → Type 0
 StaysOpen upload entries = AllByRecursion (KeepsOpen upload) entries
 
--- the entry, if it is to send bytes as this part, doesn't succeed
+-- the entry, if it is to put this part, doesn't succeed
 abbrev pub KeepsPart : PartPlace → Entry → Type 0
 KeepsPart part e = sends e.command ≡ Some part → succeeds e.answer.outcome ≡ false
 
@@ -46,7 +47,7 @@ abbrev pub StaysPart : PartPlace → List Entry → Type 0
 StaysPart part entries = AllByRecursion (KeepsPart part) entries
 
 -- the upload was begun with these at moment t by one of the entries, and none behind that one ended it
-pub record WasBegun (entries : List Entry) (upload : UploadPlace) (t : ℕ) (asked : UploadBegin) : Type 0 where
+pub record WasBegun (entries : List Entry) (upload : UploadPlace) (t : ℕ) (asked : Description) : Type 0 where
   pub before : List Entry
   pub begin : Entry
   pub since : List Entry
@@ -55,48 +56,50 @@ pub record WasBegun (entries : List Entry) (upload : UploadPlace) (t : ℕ) (ask
   pub moment : begin.moment ≡ t
   pub stays : StaysOpen upload since
 
--- these bytes were sent as the part at moment t by one of the entries, and none behind that one replaced it or ended its upload
-pub record WasSent (entries : List Entry) (part : PartPlace) (t : ℕ) (bytes : List ℕ) : Type 0 where
+-- the part was put so by one of the entries, which begin at a state, and none behind that one replaced it or ended its upload
+pub record WasSent (least : ℕ) (s : State) (entries : List Entry) (part : PartPlace) (what : Part (List ℕ)) : Type 0 where
   pub before : List Entry
   pub send : Entry
   pub later : List Entry
   pub parts : entries ≡ before ++ send ∷ later
-  pub sends : Sends part bytes send
-  pub moment : send.moment ≡ t
+  pub sends : Sends (after least s before) part what send
   pub last : StaysPart part later
   pub stays : StaysOpen part.upload later
 
 -- the upload is open in this state, and was begun with these at moment t
-pub record IsOpen (s : State) (upload : UploadPlace) (t : ℕ) (asked : UploadBegin) : Type 0 where
+pub record IsOpen (s : State) (upload : UploadPlace) (t : ℕ) (asked : Description) : Type 0 where
   pub found : Upload (List ℕ)
   pub there : open_at s upload ≡ Some found
   pub moment : found.moment ≡ t
   pub content_type : found.content_type ≡ asked.content_type
   pub metadata : found.metadata ≡ asked.metadata
 
--- these bytes are the last that the entries sent to the upload under a listed number, and the listed tag is theirs
-pub record IsListedPart (entries : List Entry) (upload : UploadPlace) (listed : ListedPart) (bytes : List ℕ) : Type 0 where
-  pub moment : ℕ
-  pub last : WasSent entries (record { upload = upload; number = listed.number }) moment bytes
-  pub tag : listed.tag ≡ tag_of bytes
+-- this part is the last that the entries put to the upload under a listed number, and the listed tag is its own
+pub record IsListedPart (least : ℕ) (s : State) (entries : List Entry) (upload : UploadPlace) (listed : ListedPart) (what : Part (List ℕ)) : Type 0 where
+  pub last : WasSent least s entries (record { upload = upload; number = listed.number }) what
+  pub tag : listed.tag ≡ part_tag what
 
--- These data are what a completion of the upload with these parts stores behind the entries: the bytes that were sent last
--- under each listed number since the upload was begun, in the order in which they are listed, with the tag of their MD5s and
--- their count, and with the type and the metadata that the upload was begun with.
-pub record AreJoined (entries : List Entry) (upload : UploadPlace) (listed : List ListedPart) (what : Data (List ℕ)) : Type 0 where
+-- the state behind the entry that begins an upload
+abbrev pub begun_state : ℕ → State → {entries : List Entry} {upload : UploadPlace} {t : ℕ} {asked : Description} → WasBegun entries upload t asked → State
+begun_state least s begun = after least s (begun.before ++ begun.begin ∷ [])
+
+-- These data are what a completion of the upload with these parts stores behind the entries, which begin at a state: the bytes
+-- of the parts that were put last under each listed number since the upload was begun, in the order in which they are listed,
+-- with the tag of their digests and their count, and with the type and the metadata that the upload was begun with.
+pub record AreJoined (least : ℕ) (s : State) (entries : List Entry) (upload : UploadPlace) (listed : List ListedPart) (what : Data (List ℕ)) : Type 0 where
   pub moment : ℕ
-  pub asked : UploadBegin
+  pub asked : Description
   pub begun : WasBegun entries upload moment asked
-  pub bodies : List (List ℕ)
-  pub sent : AllZip (IsListedPart begun.since upload) listed bodies
-  pub body : what.body ≡ concat bodies
+  pub made : List (Part (List ℕ))
+  pub sent : AllZip (IsListedPart least (begun_state least s begun) begun.since upload) listed made
+  pub body : what.body ≡ concat (each (λ (part : Part (List ℕ)). part.body) made)
   pub size : what.size ≡ length what.body
-  pub tag : what.tag ≡ joined_text (md5 (concat (each md5 bodies))) (length bodies)
+  pub tag : what.tag ≡ joined_text (md5 (concat (each (λ (part : Part (List ℕ)). part.digest) made))) (length made)
   pub content_type : what.content_type ≡ asked.content_type
   pub metadata : what.metadata ≡ asked.metadata
 
 -- these data were joined so by one of the entries
-pub record WasJoined (entries : List Entry) (what : Data (List ℕ)) : Type 0 where
+pub record WasJoined (least : ℕ) (s : State) (entries : List Entry) (what : Data (List ℕ)) : Type 0 where
   pub before : List Entry
   pub complete : Entry
   pub later : List Entry
@@ -104,4 +107,4 @@ pub record WasJoined (entries : List Entry) (what : Data (List ℕ)) : Type 0 wh
   pub upload : UploadPlace
   pub listed : List ListedPart
   pub completes : Completes upload listed complete
-  pub joined : AreJoined before upload listed what
+  pub joined : AreJoined least s before upload listed what

@@ -1,10 +1,10 @@
--- What the machine keeps of uploads: one is open from the entry that begins it to the one that ends it, the parts that are sent
+-- What the machine keeps of uploads: one is open from the entry that begins it to the one that ends it, the parts that are put
 -- to it stand in it and no others do, and what a completion stores are these, which come back as an object.
 use Rattle.std.specs.Prelude.{◌≡◌, ◌≢◌, ◌↔◌, ℕ, ◌<◌, true, false, List, [], ◌∷◌, ◌++◌, length, Contains, Option, Some, None}
 use Rattle.s3_names.specs.declared.ids.VersionId.{VersionId}
 use Rattle.s3_bodies.specs.Payload.{tag_of}
 use Rattle.s3_versions.specs.declared.version.Data.{Data}
-use Rattle.s3_uploads.specs.Parts.{part_sent}
+use Rattle.s3_uploads.specs.Parts.{part_sent, part_tag}
 use Rattle.s3_uploads.specs.declared.listed.ListedPart.{ListedPart}
 use Rattle.s3_uploads.specs.declared.part.Part.{Part}
 use Rattle.s3_uploads.specs.declared.part.PartRow.{PartRow}
@@ -19,12 +19,13 @@ use Rattle.s3_documents.specs.Document as documents
 use Rattle.s3_machine.specs.declared.command.BucketCommand.TheVariants as bucket_commands
 use Rattle.s3_machine.specs.declared.command.Command.TheVariants as commands
 use Rattle.s3_machine.specs.declared.command.Outcome.TheVariants as outcomes
-use Rattle.s3_machine.specs.declared.command.UploadBegin.{UploadBegin}
+use Rattle.s3_machine.specs.declared.command.CopyRange.{CopyRange}
+use Rattle.s3_machine.specs.declared.command.Description.{Description}
 use Rattle.s3_machine.specs.declared.command.UploadCommand.TheVariants as upload_commands
-use Rattle.s3_machine.specs.Step.{State}
-use Rattle.s3_machine.specs.Effects.{UploadPlace, PartPlace, part_in, writes, object_of, touched, succeeds}
+use Rattle.s3_machine.specs.Step.{State, part_copied}
+use Rattle.s3_machine.specs.Effects.{UploadPlace, PartPlace, Read, part_in, writes, copies_part, sends, sent, object_of, touched, succeeds}
 use Rattle.s3_machine.specs.History.{Entry, after}
-use Rattle.s3_machine.specs.Kept.{LeavesKey, SparesVersion, Stores, ReadsKey, ReadsVersion, IsGiven}
+use Rattle.s3_machine.specs.Kept.{LeavesKey, SparesVersion, Stores, ReadsKey, ReadsVersion, IsGiven, WouldGive}
 use Rattle.s3_machine.specs.Uploads.{Begins, Sends, Completes, WasBegun, WasSent, IsOpen, AreJoined}
 
 -- a list of all uploads of a bucket
@@ -45,12 +46,32 @@ abbrev pub IsPartListed : State → UploadPlace → PartRow → Type 0
 IsPartListed s upload row =
     Contains (parts_asked all_parts (parts_at s upload.address.bucket upload.address.key upload.id)) row
 
--- the row tells of bytes that were sent as the upload's part of its number: their moment, their tag and how many they are
-pub record TellsOfSent (entries : List Entry) (upload : UploadPlace) (row : PartRow) : Type 0 where
-  pub bytes : List ℕ
-  pub was : WasSent entries (record { upload = upload; number = row.number }) row.moment bytes
-  pub tag : row.tag ≡ tag_of bytes
-  pub size : row.size ≡ length bytes
+-- the row tells of what was put as the upload's part of its number: its moment, its tag and how many bytes it has
+pub record TellsOfSent (least : ℕ) (s : State) (entries : List Entry) (upload : UploadPlace) (row : PartRow) : Type 0 where
+  pub what : Part (List ℕ)
+  pub was : WasSent least s entries (record { upload = upload; number = row.number }) what
+  pub moment : row.moment ≡ what.moment
+  pub tag : row.tag ≡ part_tag what
+  pub size : row.size ≡ length what.body
+
+-- the entry sends these bytes as the part, and succeeds
+pub record SendsBytes (part : PartPlace) (bytes : List ℕ) (e : Entry) : Type 0 where
+  pub at : sends e.command ≡ Some part
+  pub brings : sent e.command ≡ Some bytes
+  pub accepted : succeeds e.answer.outcome ≡ true
+
+-- the entry copies this range of this version to the part, and succeeds
+pub record CopiesPart (part : PartPlace) (asked : Read) (range : Option CopyRange) (e : Entry) : Type 0 where
+  pub at : sends e.command ≡ Some part
+  pub from : copies_part e.command ≡ Some (asked, range)
+  pub accepted : succeeds e.answer.outcome ≡ true
+
+-- How an entry comes to put a part in a state. Each operation that puts one has a case: one that sends its bytes puts these,
+-- and a copy the range of what its source has.
+pub data PartSource (s : State) (e : Entry) (part : PartPlace) (what : Part (List ℕ)) : Type 0 where
+  Sent : (bytes : List ℕ) → SendsBytes part bytes e → what ≡ part_sent e.moment bytes → PartSource s e part what
+  Copied : (asked : Read) → (range : Option CopyRange) → (source : Data (List ℕ)) → CopiesPart part asked range e
+      → WouldGive s asked source → what ≡ part_copied e.moment range source → PartSource s e part what
 
 -- The laws, of a history that begins at a state.
 module _ (least : ℕ) (s : State) (entries : List Entry) where
@@ -58,31 +79,30 @@ module _ (least : ℕ) (s : State) (entries : List Entry) where
   -- the moment, the type and the metadata that it was begun with.
   abbrev pub UploadsAreOpenUntilEnded : Type 0
   UploadsAreOpenUntilEnded =
-      (names : List (List ℕ)) (upload : UploadPlace) (t : ℕ) (asked : UploadBegin)
+      (names : List (List ℕ)) (upload : UploadPlace) (t : ℕ) (asked : Description)
       → s ≡ opening names
       → (IsOpen (after least s entries) upload t asked ↔ WasBegun entries upload t asked)
 
-  -- A part that was sent with success stands in its upload, with its bytes and its moment, until one is sent in its place or
-  -- the upload ends,
+  -- A part that was put with success stands in its upload until one is put in its place or the upload ends,
   abbrev pub PartsAreKept : Type 0
   PartsAreKept =
-      (names : List (List ℕ)) (part : PartPlace) (t : ℕ) (bytes : List ℕ)
+      (names : List (List ℕ)) (part : PartPlace) (what : Part (List ℕ))
       → s ≡ opening names
-      → WasSent entries part t bytes
-      → part_in (after least s entries) part ≡ Some (part_sent t bytes)
+      → WasSent least s entries part what
+      → part_in (after least s entries) part ≡ Some what
 
-  -- and nothing else stands there: each part that does was sent, and none was sent in its place since.
+  -- and nothing else stands there: each part that does was put, and none was put in its place since.
   abbrev pub OnlySentStands : Type 0
   OnlySentStands =
       (names : List (List ℕ)) (part : PartPlace) (found : Part (List ℕ))
       → s ≡ opening names
       → part_in (after least s entries) part ≡ Some found
-      → (WasSent entries part found.moment found.body × (found ≡ part_sent found.moment found.body))
+      → WasSent least s entries part found
 
   -- Who begins an upload is told its id,
   abbrev pub BegunIsTold : Type 0
   BegunIsTold =
-      (before later : List Entry) (begin : Entry) (upload : UploadPlace) (asked : UploadBegin)
+      (before later : List Entry) (begin : Entry) (upload : UploadPlace) (asked : Description)
       → entries ≡ before ++ begin ∷ later
       → Begins upload asked begin
       → begin.answer.outcome ≡ outcomes.Told (documents.begun upload.address.bucket upload.address.key upload.id)
@@ -90,10 +110,22 @@ module _ (least : ℕ) (s : State) (entries : List Entry) where
   -- who sends a part the tag of its bytes,
   abbrev pub SentIsTold : Type 0
   SentIsTold =
-      (before later : List Entry) (send : Entry) (part : PartPlace) (bytes : List ℕ)
+      (before later : List Entry) (send : Entry) (bytes : List ℕ)
       → entries ≡ before ++ send ∷ later
-      → Sends part bytes send
+      → sent send.command ≡ Some bytes
+      → succeeds send.answer.outcome ≡ true
       → send.answer.outcome ≡ outcomes.PartPut (tag_of bytes)
+
+  -- who copies one its tag, its moment and the id of its source, as a read of that would be told it,
+  abbrev pub CopiedPartIsTold : Type 0
+  CopiedPartIsTold =
+      (before later : List Entry) (copy : Entry) (part : PartPlace) (what : Part (List ℕ)) (asked : Read) (range : Option CopyRange)
+      → entries ≡ before ++ copy ∷ later
+      → Sends (after least s before) part what copy
+      → copies_part copy.command ≡ Some (asked, range)
+      → (source : Data (List ℕ)) × (gives : WouldGive (after least s before) asked source)
+      × (what ≡ part_copied copy.moment range source)
+      × (copy.answer.outcome ≡ outcomes.PartCopied (part_tag what) copy.moment gives.found.shown)
 
   -- and who completes it a tag, in a document, too; it is that of what is stored (`StoredIsTold`).
   abbrev pub CompletedIsTold : Type 0
@@ -105,7 +137,7 @@ module _ (least : ℕ) (s : State) (entries : List Entry) where
       × (complete.answer.outcome
       ≡ outcomes.Completed (documents.completed upload.address.bucket upload.address.key tag) tag shown)
 
-  -- A completion that succeeds stores, as an object under its key, the bytes that were sent last under each listed number since
+  -- A completion that succeeds stores, as an object under its key, the parts that were put last under each listed number since
   -- the upload was begun, joined in the order in which they are listed, with the type and the metadata of the beginning.
   abbrev pub CompletionsJoinWhatWasSent : Type 0
   CompletionsJoinWhatWasSent =
@@ -113,7 +145,7 @@ module _ (least : ℕ) (s : State) (entries : List Entry) where
       → s ≡ opening names
       → entries ≡ before ++ complete ∷ later
       → Completes upload listed complete
-      → (what : Data (List ℕ)) × AreJoined before upload listed what
+      → (what : Data (List ℕ)) × AreJoined least s before upload listed what
       × Stores (after least s before) complete
       (object_of (after least s before) complete.answer.number complete.moment upload.address what)
 
@@ -127,7 +159,7 @@ module _ (least : ℕ) (s : State) (entries : List Entry) where
       → Completes upload listed complete
       → LeavesKey upload.address between
       → ReadsKey upload.address read
-      → (what : Data (List ℕ)) × AreJoined before upload listed what × IsGiven complete.moment what read
+      → (what : Data (List ℕ)) × AreJoined least s before upload listed what × IsGiven complete.moment what read
 
   -- and by the version that it is told.
   abbrev pub CompletionVersionsAreKept : Type 0
@@ -140,7 +172,7 @@ module _ (least : ℕ) (s : State) (entries : List Entry) where
       → touched complete.command complete.answer.outcome ≡ Some id
       → SparesVersion upload.address id between
       → ReadsVersion upload.address id read
-      → (what : Data (List ℕ)) × AreJoined before upload listed what × IsGiven complete.moment what read
+      → (what : Data (List ℕ)) × AreJoined least s before upload listed what × IsGiven complete.moment what read
 
   -- A list of the uploads of a bucket tells the page of those that the entries before it leave, or doesn't succeed,
   abbrev pub UploadListsTellWhatIsThere : Type 0
@@ -168,7 +200,7 @@ module _ (least : ℕ) (s : State) (entries : List Entry) where
       (names : List (List ℕ)) (upload : UploadPlace) (t : ℕ)
       → s ≡ opening names
       → upload.address.key ≢ []
-      → (IsUploadListed (after least s entries) upload t ↔ ((asked : UploadBegin) × WasBegun entries upload t asked))
+      → (IsUploadListed (after least s entries) upload t ↔ ((asked : Description) × WasBegun entries upload t asked))
 
   -- So is a part while it stands, and nothing else is (no number is 0).
   abbrev pub PartsAreListedWhileStanding : Type 0
@@ -176,7 +208,7 @@ module _ (least : ℕ) (s : State) (entries : List Entry) where
       (names : List (List ℕ)) (upload : UploadPlace) (row : PartRow)
       → s ≡ opening names
       → 0 < row.number
-      → (IsPartListed (after least s entries) upload row ↔ TellsOfSent entries upload row)
+      → (IsPartListed (after least s entries) upload row ↔ TellsOfSent least s entries upload row)
 
   -- No object shows of an upload before it is completed: what writes under no key leaves all versions.
   abbrev pub OnlyWritesChangeVersions : Type 0
@@ -185,3 +217,23 @@ module _ (least : ℕ) (s : State) (entries : List Entry) where
       → entries ≡ before ++ e ∷ later
       → writes e.command ≡ None
       → SameVersions (after least s before) (after least s (before ++ e ∷ []))
+
+-- A part that is sent has the bytes that were sent, and their MD5 as its digest.
+abbrev pub PartsHaveTheirBytes : Type 0
+PartsHaveTheirBytes =
+    (s : State) (e : Entry) (part : PartPlace) (what : Part (List ℕ)) (bytes : List ℕ)
+    → Sends s part what e
+    → sent e.command ≡ Some bytes
+    → what ≡ part_sent e.moment bytes
+
+-- A part that is copied has the bytes of the range of what a read of its source, by the conditions of the copy, would be given.
+abbrev pub CopiedPartsAreOfTheirSource : Type 0
+CopiedPartsAreOfTheirSource =
+    (s : State) (e : Entry) (part : PartPlace) (what : Part (List ℕ)) (asked : Read) (range : Option CopyRange)
+    → Sends s part what e
+    → copies_part e.command ≡ Some (asked, range)
+    → (source : Data (List ℕ)) × WouldGive s asked source × (what ≡ part_copied e.moment range source)
+
+-- A part that an entry puts has a source.
+abbrev pub PartsHaveASource : Type 0
+PartsHaveASource = (s : State) (e : Entry) (part : PartPlace) (what : Part (List ℕ)) → Sends s part what e → PartSource s e part what

@@ -1,12 +1,13 @@
 //! What takes a turn at the machine, and what it is answered.
 
+use crate::Configuration;
 use s3_bodies::{Body, Payload};
 use s3_calendar::Moment;
 use s3_conditions::{Conditions, Selection};
 use s3_documents::Document;
 use s3_listings::{PartsAsked, UploadsAsked, VersionsAsked};
 use s3_names::{BucketName, Key, PartNumber, Tag, UploadId, VersionId};
-use s3_prefixes::ObjectsAsked;
+use s3_prefixes::{ObjectsAsked, Text};
 use s3_terms::Code;
 use s3_uploads::ListedParts;
 use s3_versions::{ContentType, Data, Metadata, Versioning, VersioningStatus};
@@ -49,7 +50,11 @@ pub enum BucketCommand {
     PutVersioning { status: VersioningStatus },
     /// Asks for its versioning (GetBucketVersioning).
     GetVersioning,
-    /// Lists its objects (ListObjectsV2).
+    /// Asks where it is (GetBucketLocation): in the region of this name, as all buckets of a server.
+    GetLocation { region: Text },
+    /// Asks for one of its configurations, which no bucket has (GetBucketPolicy and its like).
+    GetConfiguration(Configuration),
+    /// Lists its objects (ListObjects and ListObjectsV2).
     ListObjects(ObjectsAsked),
     /// Lists its versions (ListObjectVersions).
     ListVersions(VersionsAsked),
@@ -69,7 +74,7 @@ pub enum KeyCommand<B> {
     /// Deletes it, or its version of this id (DeleteObject).
     Delete { version: Option<VersionId> },
     /// Begins an upload to it (CreateMultipartUpload).
-    Begin(UploadBegin),
+    Begin(Description),
 }
 
 /// What is asked of an upload.
@@ -79,6 +84,11 @@ pub enum UploadCommand {
     PutPart {
         number: PartNumber,
         payload: Payload,
+    },
+    /// Puts what a version has under a number, as a part of it (UploadPartCopy).
+    CopyPart {
+        number: PartNumber,
+        copy: PartCopy,
     },
     /// Stores under its key the parts that are listed, joined in this order, and ends it (CompleteMultipartUpload).
     Complete {
@@ -102,25 +112,44 @@ pub struct ObjectPut<B> {
     pub payload: B,
 }
 
-/// What is to be stored once the upload that begins is completed.
+/// What is said of an object beside its bytes.
 #[derive(Drop)]
-pub struct UploadBegin {
+pub struct Description {
     pub content_type: ContentType,
     pub metadata: Metadata,
 }
 
-/// What is to be copied.
+/// What is to be copied to a key.
 #[derive(Drop)]
 pub struct ObjectCopy {
     pub source: Source,
+    /// What is said of the copy; where nothing is, what is said of its source.
+    pub description: Option<Description>,
 }
 
-/// Where a copy is from: the version of this id, or the current one.
+/// What is to be copied to a part of an upload.
+#[derive(Drop)]
+pub struct PartCopy {
+    pub source: Source,
+    /// Which bytes of the source; where none are named, all.
+    pub range: Option<CopyRange>,
+}
+
+/// The bytes from the first position to the last one, from 0 on (Amazon S3 API Reference, UploadPartCopy,
+/// `x-amz-copy-source-range`).
+#[derive(Clone, Copy)]
+pub struct CopyRange {
+    pub first: u64,
+    pub last: u64,
+}
+
+/// Where a copy is from: the version of this id, or the current one, where that meets the conditions.
 #[derive(Drop)]
 pub struct Source {
     pub bucket: BucketName,
     pub key: Key,
     pub version: Option<VersionId>,
+    pub conditions: Conditions,
 }
 
 /// What is to be read: the version of this id, or the current one, and what is asked of it.
@@ -174,6 +203,12 @@ pub enum Outcome {
     /// The part is put, under this tag.
     PartPut {
         tag: Tag,
+    },
+    /// What a version has is put as a part: under its tag, at this moment. It was the version of this id.
+    PartCopied {
+        tag: Tag,
+        moment: Moment,
+        source: Option<VersionId>,
     },
     /// The parts are stored, joined, under this tag and as a version of this id; the document tells it.
     Completed {

@@ -4,7 +4,7 @@ ghost use Rattle.s3_machine.specs.Step.{State};
 ghost use Rattle.s3_machine.specs.History.{Entry, IsAnswer, Legal, after, after_entry};
 ghost use Rattle.s3_machine.specs.Kept.{EveryHistory, StoredIsKept, VersionsAreKept, StoredIsTold, StoredIsListed, OnlyStoredStands, OnlyStoredIsGiven, ListedIsStored, ListsTellWhatIsThere, VersionListsTellWhatIsThere, StoredWasBrought, ReadsGiveOrFail, ReadsAreJudged, PutsStoreTheirContents, StoredHasSource, PutsAreKept, PutVersionsAreKept, CopiesStoreTheirSource, CopiesAreKept, CopyVersionsAreKept, BodiesAreTagged, CompletionsStoreTheirParts, MarkersHide, QuietEntriesChangeNothing};
 ghost use Rattle.s3_machine.specs.Conditional.{AcceptedFindsNone, RefusedFindsOne, StoredKeepsOthersOut, OneIsAccepted};
-ghost use Rattle.s3_machine.specs.UploadsKept.{UploadsAreOpenUntilEnded, PartsAreKept, OnlySentStands, BegunIsTold, SentIsTold, CompletedIsTold, CompletionsJoinWhatWasSent, CompletionsAreKept, CompletionVersionsAreKept, UploadListsTellWhatIsThere, PartListsTellWhatIsThere, UploadsAreListedWhileOpen, PartsAreListedWhileStanding, OnlyWritesChangeVersions};
+ghost use Rattle.s3_machine.specs.UploadsKept.{UploadsAreOpenUntilEnded, PartsAreKept, OnlySentStands, BegunIsTold, SentIsTold, CopiedPartIsTold, CompletedIsTold, CompletionsJoinWhatWasSent, CompletionsAreKept, CompletionVersionsAreKept, UploadListsTellWhatIsThere, PartListsTellWhatIsThere, UploadsAreListedWhileOpen, PartsAreListedWhileStanding, OnlyWritesChangeVersions, PartsHaveTheirBytes, CopiedPartsAreOfTheirSource, PartsHaveASource};
 
 use crate::laws::steps_keep;
 use s3_bodies::Body;
@@ -41,8 +41,9 @@ pub fn stored_is_kept()
 
 /// A law, with nothing to run: in a legal history from the opening state, what stands was stored by an entry, and so was
 /// what a read is given, and no entry behind that one replaced or deleted it. What was stored was put once, or joined once by a
-/// completion, and may have been copied since. A read of all of a version is given one, or doesn't succeed; one by conditions
-/// is shown what they select, or doesn't succeed.
+/// completion, and may have been copied since: then it has its bytes, and the media type and the metadata that it had or that a
+/// copy said. A read of all of a version is given one, or doesn't succeed; one by conditions is shown what they select, or
+/// doesn't succeed.
 pub fn only_stored_is_given()
     ensures stands { EveryHistory OnlyStoredStands }
     ensures given { EveryHistory OnlyStoredIsGiven }
@@ -82,8 +83,9 @@ pub fn lists_tell_what_is_there()
 {}
 
 /// A law, with nothing to run: which data an entry stores, one clause an operation: a put stores what it brings, a copy what a
-/// read of all of its source would be given, and a completion what the listed parts of its upload make. An entry that stores
-/// something is of one of these operations.
+/// read of its source by its conditions would be given, all of it, with the media type and the metadata that the copy says, if it
+/// says them, and a completion what the listed parts of its upload make. An entry that stores something is of one of these
+/// operations.
 pub fn stored_has_a_source()
     ensures put { PutsStoreTheirContents }
     ensures copied { CopiesStoreTheirSource }
@@ -102,7 +104,7 @@ pub fn puts_are_kept()
 }
 
 /// A law, with nothing to run: and what a copy that was acknowledged found at its source comes back as if it had been put, with
-/// the moment of the copy.
+/// the moment of the copy, and with the media type and the metadata that the copy says, if it says them.
 pub fn copies_are_kept()
     ensures by_key { EveryHistory CopiesAreKept }
     ensures by_version { EveryHistory CopyVersionsAreKept }
@@ -123,9 +125,9 @@ pub fn uploads_are_open_until_ended()
     uploads_are_listed::<Body>();
 }
 
-/// A law, with nothing to run: in a legal history from the opening state a part that was sent with success stands in its upload,
-/// with its bytes and its moment, until one is sent in its place or the upload ends, and nothing else stands there. The list of
-/// all parts of the upload shows it exactly so long.
+/// A law, with nothing to run: in a legal history from the opening state a part that was put with success, sent or copied,
+/// stands in its upload as it was put until one is put in its place or the upload ends, and nothing else stands there. The list
+/// of all parts of the upload shows it exactly so long, with its moment, its tag and its size.
 pub fn parts_are_kept()
     ensures kept { EveryHistory PartsAreKept }
     ensures nothing_else { EveryHistory OnlySentStands }
@@ -136,17 +138,28 @@ pub fn parts_are_kept()
     versions_stay_in_order::<Body>();
 }
 
-/// A law, with nothing to run: who begins an upload is told its id, who sends a part the tag of its bytes, and who completes an
-/// upload the tag of what is stored.
+/// A law, with nothing to run: what a part is that an entry puts, with the entry's moment: one that is sent has the bytes that
+/// were sent, and their MD5 as its digest. One that is copied has the bytes of the range of what a read of its source by the
+/// conditions of the copy would be given, all of them where no range is named, and as its digest the MD5 of the source's tag and
+/// of the range. A part that is put is either sent or copied.
+pub fn parts_have_a_source()
+    ensures sent { PartsHaveTheirBytes }
+    ensures copied { CopiedPartsAreOfTheirSource }
+    ensures sources { PartsHaveASource }
+{}
+
+/// A law, with nothing to run: who begins an upload is told its id, who sends a part the tag of its bytes, who copies one its tag,
+/// its moment and the id of the version that it was, and who completes an upload the tag of what is stored.
 pub fn uploads_are_told()
     ensures begun { EveryHistory BegunIsTold }
     ensures sent { EveryHistory SentIsTold }
+    ensures copied { EveryHistory CopiedPartIsTold }
     ensures completed { EveryHistory CompletedIsTold }
 {}
 
-/// A law, with nothing to run: in a legal history from the opening state a completion that succeeds stores the bytes that were
-/// sent last under each listed number since the upload was begun, in the order in which they are listed, with the tag that is
-/// joined of theirs, and with the type and the metadata of the beginning.
+/// A law, with nothing to run: in a legal history from the opening state a completion that succeeds stores the bytes of the parts
+/// that were put last under each listed number since the upload was begun, sent or copied, in the order in which they are listed,
+/// with the tag of their digests and their count, and with the type and the metadata of the beginning.
 pub fn completions_join_what_was_sent()
     ensures { EveryHistory CompletionsJoinWhatWasSent }
 {

@@ -4,19 +4,21 @@
 #![tactic(auto)]
 
 mod command;
+mod configuration;
 mod history;
 mod laws;
 mod turn;
 
 pub use command::{
-    Answer, BucketCommand, Command, Found, KeyCommand, ObjectCopy, ObjectPut, ObjectRead, Outcome,
-    Source, UploadBegin, UploadCommand,
+    Answer, BucketCommand, Command, CopyRange, Description, Found, KeyCommand, ObjectCopy,
+    ObjectPut, ObjectRead, Outcome, PartCopy, Source, UploadCommand,
 };
+pub use configuration::Configuration;
 pub use history::{
     absent_puts_succeed_once, completions_are_kept, completions_join_what_was_sent,
     copies_are_kept, delete_markers_hide, entries_change_nothing, lists_tell_what_is_there,
     one_more_entry, only_stored_is_given, only_writes_change_versions, parts_are_kept,
-    puts_are_kept, stored_has_a_source, stored_is_kept, stored_is_listed,
+    parts_have_a_source, puts_are_kept, stored_has_a_source, stored_is_kept, stored_is_listed,
     uploads_are_open_until_ended, uploads_are_told,
 };
 pub use laws::{

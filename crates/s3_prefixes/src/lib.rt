@@ -6,6 +6,6 @@ mod asked;
 mod rolling;
 mod text;
 
-pub use asked::ObjectsAsked;
+pub use asked::{ListVersion, ObjectsAsked};
 pub use rolling::{Telling, is_before, is_behind_token, is_last, prefix_len, told_as};
 pub use text::Text;

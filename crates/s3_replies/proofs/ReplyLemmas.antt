@@ -25,7 +25,8 @@ use Rattle.s3_replies.specs.declared.head.Opening.{Opening}
 use Rattle.s3_replies.specs.Lines.{Line, status_line, print_line, print_lines, flag, optional, metadata_line, quoted}
 use Rattle.s3_replies.specs.Date.{IsHttpDate, IsDateShown}
 use Rattle.s3_replies.specs.Head.{bare, opening_lines, version_lines, print_head}
-use Rattle.s3_replies.specs.Replies.{Reply, alone, beside, behind, front, back, reply_to, shown_at, opening_of, Prints, content_range, got_fields, part, part_fields, sent_body, sized, shown_text}
+use Rattle.s3_replies.specs.Replies.{Reply, alone, beside, behind, front, back, reply_to, shown_at, opening_of, Prints, content_range, got_fields, part, part_fields, sent_body, sized, shown_text, status_in}
+use Rattle.s3_replies.specs.Statuses.{reply_status}
 use Rattle.s3_replies.specs.Laws.{Carries, CarriesPart, IsUnbroken, is_unbroken, is_whole_line, tells_success, SuccessIsShown, ObjectsAreCarried, PartsAreCarried, HeadsTellOfReplies}
 use Rattle.s3_replies.proofs.UnbrokenLemmas.{joined, lines_joined, number_unbroken, id_unbroken, date_unbroken, range_unbroken}
 use Rattle.httpdate.specs.Text.{imf_fixdate}
@@ -46,7 +47,7 @@ IsDateShown_unique (Some t) a None h k = absurd k
 -- the printed text
 abbrev text_of : Answer → Context → List ℕ → Option (List ℕ) → List ℕ
 text_of answer context date modified =
-    let reply = reply_to (opening_of answer.number context date) modified answer.outcome in
+    let reply = reply_to (opening_of answer.number context date answer.outcome) modified answer.outcome in
     front context.head_only reply ++ back context.head_only reply
 
 pub Prints_unique : (answer : Answer) (context : Context) (t u : List ℕ) → Prints answer context t → Prints answer context u → t ≡ u
@@ -78,13 +79,7 @@ behind_status : (status : Status) (lines end body : List ℕ) → status_line st
 behind_status status lines end body =
     ap (λ r. r ++ body) (append_assoc (status_line status) lines end) ∙ append_assoc (status_line status) (lines ++ end) body
 
--- what the status of a reply is
-abbrev status_in : Reply → Status
-status_in (alone head) = head.status
-status_in (beside head text) = head.status
-status_in (behind head body) = head.status
-
--- what it shows, all of the reply shows
+-- what its status shows, all of a reply shows
 reply_shows : (head_only : Bool) (reply : Reply) → tells_success (front head_only reply ++ back head_only reply) ≡ succeeds (status_in reply)
 unfolding print_head
 reply_shows head_only (alone head) = ap tells_success (behind_status head.status _ crlf []) ∙ status_shows head.status _
@@ -92,21 +87,30 @@ reply_shows head_only (beside head text) =
     ap tells_success (append-nil (front head_only (beside head text)) ∙ behind_status head.status _ crlf (sent_body head_only text)) ∙ status_shows head.status _
 reply_shows head_only (behind head body) = ap tells_success (behind_status head.status _ crlf (sent_body head_only body)) ∙ status_shows head.status _
 
+-- it is the one that its opening says
+opening_shows : (opening : Opening) (modified : Option (List ℕ)) (outcome : Outcome) → status_in (reply_to opening modified outcome) ≡ opening.status
+opening_shows opening modified (Got found Whole) = refl
+opening_shows opening modified (Got found (Part first last)) = refl
+opening_shows opening modified (Got found Unchanged) = refl
+opening_shows opening modified (Got found Outside) = refl
+opening_shows opening modified _ = refl
+
 -- which tells of success where the command succeeds
-status_tells : (opening : Opening) (modified : Option (List ℕ)) (outcome : Outcome) → succeeds (status_in (reply_to opening modified outcome)) ≡ command_succeeds outcome
-status_tells opening modified (Refused code is_delete_marker) = refusal_fails code
-status_tells opening modified (Got found Whole) = refl
-status_tells opening modified (Got found (Part first last)) = refl
-status_tells opening modified (Got found Unchanged) = refl
-status_tells opening modified (Got found Outside) = refl
-status_tells opening modified _ = refl
+status_tells : (outcome : Outcome) → succeeds (reply_status outcome) ≡ command_succeeds outcome
+status_tells (Refused code is_delete_marker) = refusal_fails code
+status_tells (Got found Whole) = refl
+status_tells (Got found (Part first last)) = refl
+status_tells (Got found Unchanged) = refl
+status_tells (Got found Outside) = refl
+status_tells _ = refl
 
 pub success_is_shown : SuccessIsShown
 success_is_shown answer context text prints =
-    let opening = opening_of answer.number context prints.date in
+    let opening = opening_of answer.number context prints.date answer.outcome in
     ap tells_success prints.printed
     ∙ reply_shows context.head_only (reply_to opening prints.modified answer.outcome)
-    ∙ status_tells opening prints.modified answer.outcome
+    ∙ ap succeeds (opening_shows opening prints.modified answer.outcome)
+    ∙ status_tells answer.outcome
 
 last_line : (lines : List Line) (line : Line) → print_lines (lines ++ line ∷ []) ≡ print_lines lines ++ print_line line
 unfolding print_lines
@@ -141,8 +145,8 @@ range_line_unbroken None are = refl
 range_line_unbroken (Some range) are = rw are refl
 
 -- the lines that tell who answers, and when
-opening_unbroken : (status : Status) (opening : Opening) → is_unbroken opening.date ≡ true → list_all is_whole_line (opening_lines (bare status opening)) ≡ true
-opening_unbroken status opening at =
+opening_unbroken : (opening : Opening) → is_unbroken opening.date ≡ true → list_all is_whole_line (opening_lines (bare opening)) ≡ true
+opening_unbroken opening at =
     let first : List Line = (codes "Date", opening.date) ∷ [] in
     let keeps = flag (codes "Connection") (codes "close") opening.closes in
     let id : List Line = (codes "x-amz-request-id", number_digits opening.number) ∷ [] in
@@ -156,9 +160,10 @@ version_unbroken opening found modified unbroken since =
     let tag : List Line = (codes "ETag", quoted found.stored.tag) ∷ [] in
     let made : List Line = (codes "Last-Modified", modified) ∷ [] in
     let quotes : is_unbroken (quoted found.stored.tag) ≡ true = joined found.stored.tag (34 ∷ []) unbroken.tag refl in
-    let no_marker = lines_joined id [] (id_line_unbroken found.shown) refl in
-    let no_place = lines_joined (id ++ []) [] no_marker refl in
-    lines_joined (id ++ [] ++ [] ++ tag) made (lines_joined (id ++ [] ++ []) tag no_place (rw quotes refl)) (rw since refl)
+    let no_source = lines_joined id [] (id_line_unbroken found.shown) refl in
+    let no_marker = lines_joined (id ++ []) [] no_source refl in
+    let no_place = lines_joined (id ++ [] ++ []) [] no_marker refl in
+    lines_joined (id ++ [] ++ [] ++ [] ++ tag) made (lines_joined (id ++ [] ++ [] ++ []) tag no_place (rw quotes refl)) (rw since refl)
 
 -- the lines that tell of its body
 told_unbroken : (stored : Data (List ℕ)) (range : Option (List ℕ)) → IsUnbroken stored → all_unbroken range ≡ true → list_all is_whole_line (told stored range) ≡ true
@@ -178,51 +183,57 @@ front_unbroken : (opening : Opening) (found : Found (List ℕ)) (modified : List
 front_unbroken opening found modified range at since unbroken are =
     let head = got_fields opening found (Some modified) in
     lines_joined (opening_lines head ++ version_lines head) (told found.stored range)
-    (lines_joined (opening_lines head) (version_lines head) (opening_unbroken statuses.Ok opening at) (version_unbroken opening found modified unbroken since))
+    (lines_joined (opening_lines head) (version_lines head) (opening_unbroken opening at) (version_unbroken opening found modified unbroken since))
     (told_unbroken found.stored range unbroken are)
 
 -- the head of a reply that carries bytes of a version, and these bytes behind it
-object_printed : (status : Status) (opening : Opening) (found : Found (List ℕ)) (modified : List ℕ) (range : Option (List ℕ)) (size : ℕ) (body : List ℕ) → tells_size status ≡ true
-    → print_head (record (got_fields opening found (Some modified)) { status = status; content_range = range; size = size }) ++ body
-    ≡ status_line status ++ print_lines (lines_in_front opening found modified range) ++ print_line (codes "Content-Length", decimal size) ++ crlf ++ body
+object_printed : (opening : Opening) (found : Found (List ℕ)) (modified : List ℕ) (range : Option (List ℕ)) (size : ℕ) (body : List ℕ) → tells_size opening.status ≡ true
+    → print_head (record (got_fields opening found (Some modified)) { content_range = range; size = size }) ++ body
+    ≡ status_line opening.status ++ print_lines (lines_in_front opening found modified range) ++ print_line (codes "Content-Length", decimal size) ++ crlf ++ body
 unfolding print_head
-object_printed status opening found modified range size body tells =
+object_printed opening found modified range size body tells =
     let head = got_fields opening found (Some modified) in
     let told_size : Line = (codes "Content-Length", decimal size) in
     let front = opening_lines head ++ version_lines head in
     let whole = front ++ told found.stored range in
-    ap (λ b. status_line status ++ print_lines (front ++ (told found.stored range ++ flag told_size.0 told_size.1 b)) ++ crlf ++ body) tells
-    ∙ ap (λ l. status_line status ++ l ++ crlf ++ body) (ap print_lines (sym (append_assoc front (told found.stored range) (told_size ∷ []))) ∙ last_line whole told_size)
-    ∙ ap (λ r. r ++ crlf ++ body) (sym (append_assoc (status_line status) (print_lines whole) (print_line told_size)))
+    ap (λ b. status_line opening.status ++ print_lines (front ++ (told found.stored range ++ flag told_size.0 told_size.1 b)) ++ crlf ++ body) tells
+    ∙ ap (λ l. status_line opening.status ++ l ++ crlf ++ body) (ap print_lines (sym (append_assoc front (told found.stored range) (told_size ∷ []))) ∙ last_line whole told_size)
+    ∙ ap (λ r. r ++ crlf ++ body) (sym (append_assoc (status_line opening.status) (print_lines whole) (print_line told_size)))
 
 -- the date of the version that is shown
 modified_of : (t : ℕ) (modified : Option (List ℕ)) → IsDateShown (Some t) modified → (date : List ℕ) × IsHttpDate t date × (modified ≡ Some date)
 modified_of t (Some date) is = (date, is, refl)
 modified_of t None is = absurd is
 
-got_carries : (opening : Opening) (found : Found (List ℕ)) (modified text : List ℕ) → is_unbroken opening.date ≡ true → is_unbroken modified ≡ true → IsUnbroken found.stored
+got_carries : (opening : Opening) (found : Found (List ℕ)) (modified text : List ℕ) → opening.status ≡ statuses.Ok → is_unbroken opening.date ≡ true → is_unbroken modified ≡ true → IsUnbroken found.stored
     → text ≡ print_head (sized (got_fields opening found (Some modified)) found.stored.body) ++ found.stored.body → Carries found.stored.body text
 unfolding status_line digits
-got_carries opening found modified text at since unbroken is =
+got_carries opening found modified text status at since unbroken is =
+    let lines = lines_in_front opening found modified None in
     record {
-      lines = lines_in_front opening found modified None;
+      lines = lines;
       whole = front_unbroken opening found modified None at since unbroken refl;
-      printed = is ∙ object_printed statuses.Ok opening found modified None (length found.stored.body) found.stored.body refl;
+      printed = is
+          ∙ object_printed opening found modified None (length found.stored.body) found.stored.body (ap tells_size status)
+          ∙ ap (λ s. status_line s ++ print_lines lines ++ print_line (codes "Content-Length", decimal (length found.stored.body)) ++ crlf ++ found.stored.body) status;
     }
 
-part_carries : (opening : Opening) (found : Found (List ℕ)) (modified : List ℕ) (first last : ℕ) (text : List ℕ) → is_unbroken opening.date ≡ true → is_unbroken modified ≡ true → IsUnbroken found.stored
+part_carries : (opening : Opening) (found : Found (List ℕ)) (modified : List ℕ) (first last : ℕ) (text : List ℕ) → opening.status ≡ statuses.PartialContent → is_unbroken opening.date ≡ true → is_unbroken modified ≡ true → IsUnbroken found.stored
     → text ≡ print_head (sized (part_fields opening found (Some modified) first last) (part first last found.stored.body)) ++ part first last found.stored.body
     → CarriesPart first last found.stored.body text
 unfolding status_line digits
-part_carries opening found modified first last text at since unbroken is =
+part_carries opening found modified first last text status at since unbroken is =
     let range = content_range first last (length found.stored.body) in
     let head = got_fields opening found (Some modified) in
     let bytes = part first last found.stored.body in
+    let lines = lines_in_front opening found modified (Some range) in
     record {
-      lines = lines_in_front opening found modified (Some range);
+      lines = lines;
       whole = front_unbroken opening found modified (Some range) at since unbroken (range_unbroken first last (length found.stored.body));
       told = Contains-append_right (opening_lines head ++ version_lines head) (told found.stored (Some range)) (codes "Content-Range", range) (1, omega arith, refl);
-      printed = is ∙ object_printed statuses.PartialContent opening found modified (Some range) (length bytes) bytes refl;
+      printed = is
+          ∙ object_printed opening found modified (Some range) (length bytes) bytes (ap tells_size status)
+          ∙ ap (λ s. status_line s ++ print_lines lines ++ print_line (codes "Content-Length", decimal (length bytes)) ++ crlf ++ bytes) status;
     }
 
 -- what is printed of an answer that came out so
@@ -233,11 +244,11 @@ printed_as answer context text outcome prints is = subst (λ o. Prints (record {
 pub objects_are_carried : ObjectsAreCarried
 objects_are_carried answer context text found prints gives unbroken whole =
     let got = printed_as answer context text (Got found Whole) prints gives in
-    let opening = opening_of answer.number context got.date in
+    let opening = opening_of answer.number context got.date (Got found Whole) in
     let made = modified_of found.moment got.modified got.shown in
     let bytes = found.stored.body in
     let sent : sent_body context.head_only bytes ≡ bytes = rw whole refl in
-    got_carries opening found made.0 text (date_is_unbroken context.moment got.date got.dated) (date_is_unbroken found.moment made.0 made.1) unbroken
+    got_carries opening found made.0 text refl (date_is_unbroken context.moment got.date got.dated) (date_is_unbroken found.moment made.0 made.1) unbroken
     (got.printed
     ∙ ap (λ b. print_head (sized (got_fields opening found got.modified) bytes) ++ b) sent
     ∙ ap (λ m. print_head (sized (got_fields opening found m) bytes) ++ bytes) made.2)
@@ -245,11 +256,11 @@ objects_are_carried answer context text found prints gives unbroken whole =
 pub parts_are_carried : PartsAreCarried
 parts_are_carried answer context text found first last prints gives unbroken whole =
     let got = printed_as answer context text (Got found (Part first last)) prints gives in
-    let opening = opening_of answer.number context got.date in
+    let opening = opening_of answer.number context got.date (Got found (Part first last)) in
     let made = modified_of found.moment got.modified got.shown in
     let bytes = part first last found.stored.body in
     let sent : sent_body context.head_only bytes ≡ bytes = rw whole refl in
-    part_carries opening found made.0 first last text (date_is_unbroken context.moment got.date got.dated) (date_is_unbroken found.moment made.0 made.1) unbroken
+    part_carries opening found made.0 first last text refl (date_is_unbroken context.moment got.date got.dated) (date_is_unbroken found.moment made.0 made.1) unbroken
     (got.printed
     ∙ ap (λ b. print_head (sized (part_fields opening found got.modified first last) bytes) ++ b) sent
     ∙ ap (λ m. print_head (sized (part_fields opening found m first last) bytes) ++ bytes) made.2)
@@ -267,7 +278,7 @@ heads_tell (behind head body) = simp append-nil
 
 pub heads_tell_of_replies : HeadsTellOfReplies
 heads_tell_of_replies answer context text prints whole =
-    let reply = reply_to (opening_of answer.number context prints.date) prints.modified answer.outcome in
+    let reply = reply_to (opening_of answer.number context prints.date answer.outcome) prints.modified answer.outcome in
     let asked : Context = record context { head_only = true } in
     let told : Prints answer asked (front true reply ++ back true reply) =
     record { date = prints.date; modified = prints.modified; dated = prints.dated; shown = prints.shown; printed = refl } in

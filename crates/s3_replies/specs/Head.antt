@@ -21,6 +21,8 @@ pub record Fields : Type 0 where
   -- the number of the entry, 0 where there is none
   pub number : ℕ
   pub version_id : Option (List ℕ)
+  -- the id of the version that was copied
+  pub source_version_id : Option (List ℕ)
   pub is_delete_marker : Bool
   pub location : Option (List ℕ)
   -- the tag, without its double quotes
@@ -43,6 +45,7 @@ fields_of head = record {
   closes = head.closes;
   number = head.number;
   version_id = value_of head.version_id;
+  source_version_id = value_of head.source_version_id;
   is_delete_marker = head.is_delete_marker;
   location = value_of head.location;
   tag = value_of head.tag;
@@ -55,13 +58,14 @@ fields_of head = record {
 }
 
 -- a head that says what every head has to say, of an empty body
-abbrev pub bare : Status → Opening → Fields
-bare status opening = record {
-  status = status;
+abbrev pub bare : Opening → Fields
+bare opening = record {
+  status = opening.status;
   date = opening.date;
   closes = opening.closes;
   number = opening.number;
   version_id = None;
+  source_version_id = None;
   is_delete_marker = false;
   location = None;
   tag = None;
@@ -86,6 +90,7 @@ opening_lines head =
 abbrev pub version_lines : Fields → List Line
 version_lines head =
     optional (codes "x-amz-version-id") head.version_id
+    ++ optional (codes "x-amz-copy-source-version-id") head.source_version_id
     ++ flag (codes "x-amz-delete-marker") (codes "true") head.is_delete_marker
     ++ optional (codes "Location") head.location
     ++ optional (codes "ETag") (option_map quoted head.tag)
@@ -112,6 +117,7 @@ print_head head = print_with_lines head.status (opening_lines head ++ version_li
 pub record HasRoomFor (head : Fields) : Type 0 where
   pub date : length head.date ≤ 29
   pub version_id : value_length head.version_id ≤ 17
+  pub source_version_id : value_length head.source_version_id ≤ 17
   pub location : value_length head.location ≤ 64
   pub tag : value_length head.tag ≤ 40
   pub modified : value_length head.modified ≤ 29
@@ -120,11 +126,12 @@ pub record HasRoomFor (head : Fields) : Type 0 where
   pub metadata : metadata_size head.metadata ≤ 2048
   pub metadata_count : length head.metadata ≤ 64
 
--- how many bytes the lines that tell of a bucket, an object or its version take at most: 20, 12, 10 and 17 beside the values of
--- `x-amz-version-id`, `Location`, `ETag` and `Last-Modified`, where these are there, and 27 for `x-amz-delete-marker`
+-- how many bytes the lines that tell of a bucket, an object or its version take at most: 20, 32, 12, 10 and 17 beside the values of
+-- `x-amz-version-id`, `x-amz-copy-source-version-id`, `Location`, `ETag` and `Last-Modified`, where these are there, and 27 for
+-- `x-amz-delete-marker`
 abbrev pub version_room : Fields → ℕ
 version_room head =
-    room_with 20 head.version_id + 27 + room_with 12 head.location + room_with 10 head.tag + room_with 17 head.modified
+    room_with 20 head.version_id + room_with 32 head.source_version_id + 27 + room_with 12 head.location + room_with 10 head.tag + room_with 17 head.modified
 
 -- how many bytes the lines that tell of a body take at most: 22 for `Accept-Ranges`, 17 and 16 beside the values of
 -- `Content-Range` and `Content-Type`, where these are there, 15 beside the name and the value of an entry of metadata, 38 for `Content-Length`

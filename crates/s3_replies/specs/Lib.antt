@@ -2,6 +2,7 @@ pub mod Date
 pub mod Lines
 pub mod Head
 pub mod Document
+pub mod Statuses
 pub mod Replies
 pub mod Laws
 pub use Rattle.s3_documents.specs.Copied

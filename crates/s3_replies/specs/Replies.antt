@@ -1,7 +1,6 @@
 -- What is printed for an answer of the machine and for a refusal (Amazon S3 API Reference, "Common
 -- response headers" and "Error responses").
 use Rattle.std.specs.Prelude.{◌≡◌, ℕ, ◌+◌, Bool, true, false, if◌then◌else◌, List, [], ◌∷◌, ◌++◌, length, take, drop, codes, decimal, Option, Some, None, option_map}
-use Rattle.s3_terms.specs.Code.{status_of}
 use Rattle.s3_terms.specs.declared.code.Code.{Code}
 use Rattle.s3_terms.specs.declared.code.Code.TheVariants.{InvalidRange}
 use Rattle.s3_terms.specs.declared.dialect.Dialect.{Dialect}
@@ -20,10 +19,12 @@ use Rattle.s3_machine.specs.declared.command.Outcome.{Outcome}
 use Rattle.s3_machine.specs.declared.command.Outcome.TheVariants as outcomes
 use Rattle.s3_replies.specs.declared.context.Context.{Context}
 use Rattle.s3_replies.specs.declared.head.Opening.{Opening}
+use Rattle.s3_terms.specs.declared.status.Status.{Status}
 use Rattle.s3_terms.specs.declared.status.Status.TheVariants as statuses
 use Rattle.s3_replies.specs.Date.{IsHttpDate, IsDateShown}
 use Rattle.s3_replies.specs.Document.{content_type_in, error_document}
 use Rattle.s3_replies.specs.Head.{Fields, bare, print_head, print_with_lines}
+use Rattle.s3_replies.specs.Statuses.{reply_status}
 
 -- what is sent of a body: a reply to HEAD has none (RFC 9110, section 9.3.2)
 abbrev pub sent_body : Bool → List ℕ → List ℕ
@@ -57,20 +58,20 @@ shown_text shown = option_map version_id_text shown
 
 -- CreateBucket: where the bucket is
 abbrev pub made_fields : Opening → List ℕ → Fields
-made_fields opening name = let base = bare statuses.Ok opening in record base { location = Some (codes "/" ++ name) }
+made_fields opening name = let base = bare opening in record base { location = Some (codes "/" ++ name) }
 
 -- the lists, GetBucketVersioning and CreateMultipartUpload: a document
 abbrev pub document_fields : Opening → Fields
-document_fields opening = let base = bare statuses.Ok opening in record base { content_type = Some (content_type_in opening.dialect) }
+document_fields opening = let base = bare opening in record base { content_type = Some (content_type_in opening.dialect) }
 
 -- PutObject and UploadPart: the tag of what is stored, and the id of its version; a part has none
 abbrev pub put_fields : Opening → List ℕ → Option VersionId → Fields
-put_fields opening tag shown = let base = bare statuses.Ok opening in record base { version_id = shown_text shown; tag = Some tag }
+put_fields opening tag shown = let base = bare opening in record base { version_id = shown_text shown; tag = Some tag }
 
 -- GetObject and HeadObject: what is known of the version, and the date at which it was made
 abbrev pub got_fields : Opening → Found (List ℕ) → Option (List ℕ) → Fields
 got_fields opening found modified =
-    let base = bare statuses.Ok opening in
+    let base = bare opening in
     record base {
       version_id = shown_text found.shown;
       tag = Some found.stored.tag;
@@ -92,29 +93,33 @@ part first last bytes = drop first (take (last + 1) bytes)
 abbrev pub part_fields : Opening → Found (List ℕ) → Option (List ℕ) → ℕ → ℕ → Fields
 part_fields opening found modified first last =
     let whole = got_fields opening found modified in
-    record whole { status = statuses.PartialContent; content_range = Some (content_range first last (length found.stored.body)) }
+    record whole { content_range = Some (content_range first last (length found.stored.body)) }
 
 -- the same of a version that is as the reader knows it (RFC 9110, section 15.4.5): nothing of its bytes
 abbrev pub unchanged_fields : Opening → Found (List ℕ) → Option (List ℕ) → Fields
 unchanged_fields opening found modified =
-    let base = bare statuses.NotModified opening in
+    let base = bare opening in
     record base { version_id = shown_text found.shown; tag = Some found.stored.tag; modified = modified }
 
 -- CopyObject and CompleteMultipartUpload: a document, and the id of the version that was made
 abbrev pub stored_fields : Opening → Option VersionId → Fields
 stored_fields opening shown = let base = document_fields opening in record base { version_id = shown_text shown }
 
+-- UploadPartCopy: a document, and the id of the version that was copied
+abbrev pub part_copied_fields : Opening → Option VersionId → Fields
+part_copied_fields opening source = let base = document_fields opening in record base { source_version_id = shown_text source }
+
 -- DeleteObject: the id of the delete marker that was made or of the version that is gone, and whether it is
 -- that of a delete marker
 abbrev pub deleted_fields : Opening → Option VersionId → Bool → Fields
 deleted_fields opening shown is_delete_marker =
-    let base = bare statuses.NoContent opening in
+    let base = bare opening in
     record base { version_id = shown_text shown; is_delete_marker = is_delete_marker }
 
--- a refusal: the status of its code, whether it is about a delete marker, and the type of its document
-abbrev pub error_fields : Opening → Code → Bool → Fields
-error_fields opening code is_delete_marker =
-    let base = bare (status_of code) opening in
+-- a refusal: whether it is about a delete marker, and the type of its document
+abbrev pub error_fields : Opening → Bool → Fields
+error_fields opening is_delete_marker =
+    let base = bare opening in
     record base { is_delete_marker = is_delete_marker; content_type = Some (content_type_in opening.dialect) }
 
 -- what is told of a range that has no byte of an object: in the dialect of S3 how many bytes the object has (RFC 9110,
@@ -126,7 +131,7 @@ range_told S3 size = Some (codes "bytes */" ++ decimal size)
 -- GetObject and HeadObject of such a range: the refusal, and what is told of the range
 abbrev pub outside_fields : Opening → ℕ → Fields
 outside_fields opening size =
-    let base = error_fields opening InvalidRange false in record base { content_range = range_told opening.dialect size }
+    let base = error_fields opening false in record base { content_range = range_told opening.dialect size }
 
 abbrev pub outside_reply : Opening → ℕ → Reply
 outside_reply opening size = beside (outside_fields opening size) (error_document opening.dialect InvalidRange opening.number)
@@ -154,23 +159,43 @@ reply_with opening modified found Outside = outside_reply opening found.stored.s
 abbrev pub reply_to : Opening → Option (List ℕ) → Outcome → Reply
 reply_to opening modified (outcomes.Told document) = behind (document_fields opening) (document_text opening.dialect document)
 reply_to opening modified (outcomes.BucketMade name) = alone (made_fields opening name)
-reply_to opening modified outcomes.BucketFound = alone (bare statuses.Ok opening)
-reply_to opening modified outcomes.BucketDropped = alone (bare statuses.NoContent opening)
-reply_to opening modified outcomes.VersioningSet = alone (bare statuses.Ok opening)
+reply_to opening modified outcomes.BucketFound = alone (bare opening)
+reply_to opening modified outcomes.BucketDropped = alone (bare opening)
+reply_to opening modified outcomes.VersioningSet = alone (bare opening)
 reply_to opening modified (outcomes.BucketVersioning versioning) = beside (document_fields opening) (document_text opening.dialect (documents.versioning versioning))
 reply_to opening modified (outcomes.Put tag shown) = alone (put_fields opening tag shown)
 reply_to opening modified (outcomes.Got found selection) = reply_with opening modified found selection
 reply_to opening modified (outcomes.OutOfRange size) = outside_reply opening size
 reply_to opening modified (outcomes.Copied tag moment shown) = beside (stored_fields opening shown) (document_text opening.dialect (documents.copied tag moment))
 reply_to opening modified (outcomes.PartPut tag) = alone (put_fields opening tag None)
+reply_to opening modified (outcomes.PartCopied tag moment source) = beside (part_copied_fields opening source) (document_text opening.dialect (documents.part_copied tag moment))
 reply_to opening modified (outcomes.Completed document tag shown) = behind (stored_fields opening shown) (document_text opening.dialect document)
-reply_to opening modified outcomes.UploadDropped = alone (bare statuses.NoContent opening)
+reply_to opening modified outcomes.UploadDropped = alone (bare opening)
 reply_to opening modified (outcomes.Deleted shown is_delete_marker) = alone (deleted_fields opening shown is_delete_marker)
-reply_to opening modified (outcomes.Refused code is_delete_marker) = beside (error_fields opening code is_delete_marker) (error_document opening.dialect code opening.number)
+reply_to opening modified (outcomes.Refused code is_delete_marker) = beside (error_fields opening is_delete_marker) (error_document opening.dialect code opening.number)
 
--- who answers a message, when, and in which dialect
-abbrev pub opening_of : ℕ → Context → List ℕ → Opening
-opening_of number context date = record { number = number; closes = context.closes; date = date; dialect = context.dialect }
+-- how a message fared, by what came of it; who answers it, when, and in which dialect
+abbrev pub opening_of : ℕ → Context → List ℕ → Outcome → Opening
+opening_of number context date outcome =
+    record {
+      status = reply_status outcome;
+      number = number;
+      closes = context.closes;
+      date = date;
+      dialect = context.dialect;
+    }
+
+-- the status of a reply
+abbrev pub status_in : Reply → Status
+status_in (alone head) = head.status
+status_in (beside head text) = head.status
+status_in (behind head body) = head.status
+
+-- every reply to what came of a command has this status
+abbrev pub HasStatus : Outcome → Status → Type 0
+HasStatus outcome status =
+    (number : ℕ) (context : Context) (date : List ℕ) (modified : Option (List ℕ))
+    → status_in (reply_to (opening_of number context date outcome) modified outcome) ≡ status
 
 -- the text is the printed reply to a message: what the machine answered, dated by the moment of the message
 pub record Prints (answer : Answer) (context : Context) (text : List ℕ) : Type 0 where
@@ -179,8 +204,8 @@ pub record Prints (answer : Answer) (context : Context) (text : List ℕ) : Type
   pub dated : IsHttpDate context.moment date
   pub shown : IsDateShown (shown_at answer.outcome) modified
   pub printed : text
-      ≡ front context.head_only (reply_to (opening_of answer.number context date) modified answer.outcome)
-      ++ back context.head_only (reply_to (opening_of answer.number context date) modified answer.outcome)
+      ≡ front context.head_only (reply_to (opening_of answer.number context date answer.outcome) modified answer.outcome)
+      ++ back context.head_only (reply_to (opening_of answer.number context date answer.outcome) modified answer.outcome)
 
 -- what a refusal takes from its connection and its message: the dialect, the moment, and whether it is a HEAD. It ends the
 -- connection

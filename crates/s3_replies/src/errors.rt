@@ -24,7 +24,7 @@ fn refused_reply<R: Room>(
 )
     requires { R.size out.old + 4096 ≤ R.capacity out.old }
     ensures written { R.written out.new ≡ R.written out.old ++ front head_only
-        (beside (record (error_fields opening code is_delete_marker) { content_range = range }) (error_document opening.dialect code opening.number)) }
+        (beside (record (error_fields opening is_delete_marker) { content_range = range }) (error_document opening.dialect code opening.number)) }
     ensures short { R.size out.new ≤ R.size out.old + 482 + room_with 17 range }
     ensures capacity { R.capacity out.old ≤ R.capacity out.new }
 {
@@ -34,7 +34,7 @@ fn refused_reply<R: Room>(
         content_range: range_bytes(&range),
         content_type: Some(content_type_of(opening.dialect)),
         size: document.len() as u64,
-        ..Head::bare(code.status(), &opening)
+        ..Head::bare(&opening)
     };
     head.print(out);
     write_body(out, head_only, document.as_slice());
@@ -51,7 +51,7 @@ pub(crate) fn error_reply<R: Room>(
 )
     requires { R.size out.old + 4096 ≤ R.capacity out.old }
     ensures written { R.written out.new ≡ R.written out.old
-        ++ front head_only (beside (error_fields opening code is_delete_marker) (error_document opening.dialect code opening.number)) }
+        ++ front head_only (beside (error_fields opening is_delete_marker) (error_document opening.dialect code opening.number)) }
     ensures short { R.size out.new ≤ R.size out.old + 512 }
     ensures capacity { R.capacity out.old ≤ R.capacity out.new }
 {

@@ -15,11 +15,12 @@ use s3_text::number_digits;
 use s3_versions::MetadataEntry;
 
 /// No head is longer.
-pub(crate) const HEAD_MAX: usize = 3840;
+pub(crate) const HEAD_MAX: usize = 3848;
 
-/// Who answers a message, and when: what each head has to say; and how a document behind it is spelled.
+/// How a message fared, who answers it, and when: what each head has to say; and how a document behind it is spelled.
 #[derive(Clone, Copy)]
 pub(crate) struct Opening {
+    pub status: Status,
     /// The number of the entry, 0 where there is none.
     pub number: u64,
     /// The connection ends with the reply.
@@ -41,6 +42,8 @@ pub(crate) struct Head<'a> {
     /// The number of the entry, 0 where there is none.
     pub number: u64,
     pub version_id: Option<&'a [u8]>,
+    /// The id of the version that was copied.
+    pub source_version_id: Option<&'a [u8]>,
     pub is_delete_marker: bool,
     pub location: Option<&'a [u8]>,
     /// The tag, without its double quotes.
@@ -58,15 +61,16 @@ pub(crate) struct Head<'a> {
 
 impl<'a> Head<'a> {
     /// A head that says what every head has to say, of an empty body.
-    pub(crate) fn bare(status: Status, opening: &'a Opening) -> Head<'a>
-        ensures { fields_of result ≡ bare status opening.now }
+    pub(crate) fn bare(opening: &'a Opening) -> Head<'a>
+        ensures { fields_of result ≡ bare opening.now }
     {
         Head {
-            status,
+            status: opening.status,
             date: opening.date.as_bytes(),
             closes: opening.closes,
             number: opening.number,
             version_id: None,
+            source_version_id: None,
             is_delete_marker: false,
             location: None,
             tag: None,
@@ -109,17 +113,18 @@ impl<'a> Head<'a> {
         write_line(out, "x-amz-request-id", &number_digits(self.number));
     }
 
-    /// Appends the lines that tell of a bucket, an object or its version: 236 bytes at most, and no more than what they say needs.
+    /// Appends the lines that tell of a bucket, an object or its version: 285 bytes at most, and no more than what they say needs.
     fn write_version<R: Room>(&self, out: &mut R)
         requires fits { HasRoomFor (fields_of self.now) }
-        requires room { R.size out.old + 236 ≤ R.capacity out.old }
+        requires room { R.size out.old + 285 ≤ R.capacity out.old }
         ensures items { R.written out.new
             ≡ R.written out.old ++ print_lines (version_lines (fields_of self.now)) }
-        ensures bound { R.size out.new ≤ R.size out.old + 236 }
+        ensures bound { R.size out.new ≤ R.size out.old + 285 }
         ensures short { R.size out.new ≤ R.size out.old + version_room (fields_of self.now) }
         ensures capacity { R.capacity out.old ≤ R.capacity out.new }
     {
         write_optional(out, "x-amz-version-id", self.version_id);
+        write_optional(out, "x-amz-copy-source-version-id", self.source_version_id);
         write_flag(out, "x-amz-delete-marker", "true", self.is_delete_marker);
         write_optional(out, "Location", self.location);
         write_quoted(out, "ETag", self.tag);

@@ -13,6 +13,7 @@ mod lines;
 mod objects;
 mod replies;
 mod room;
+mod statuses;
 mod told;
 mod values;
 
@@ -22,3 +23,4 @@ pub use replies::{
     CONTINUE, INTERNAL_ERROR, continue_reply, internal_error_reply, print_reply, refusal,
 };
 pub use room::Room;
+pub use statuses::reply_status;

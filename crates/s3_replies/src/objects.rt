@@ -1,27 +1,26 @@
 //! The replies that tell of an object or a part of one: to a put, a copy, a read and a delete.
 
 ghost use Rattle.std.specs.Prelude.{◌≡◌, ◌+◌, ◌≤◌, [], ◌++◌, List, ℕ, Option, unwrap_or};
-ghost use Rattle.s3_documents.specs.Document.{copied};
+ghost use Rattle.s3_documents.specs.Document.{copied, part_copied};
 ghost use Rattle.s3_documents.specs.Spelling.{document_text};
 ghost use Rattle.s3_machine.specs.declared.command.Found.{Found as FoundAs};
 ghost use Rattle.s3_replies.specs.declared.head.Opening.{Opening as Opens};
 ghost use Rattle.s3_replies.specs.Head.{print_head};
-ghost use Rattle.s3_replies.specs.Replies.{back, beside, front, reply_with, put_fields, got_fields, unchanged_fields, stored_fields, deleted_fields};
+ghost use Rattle.s3_replies.specs.Replies.{back, beside, front, reply_with, put_fields, got_fields, unchanged_fields, stored_fields, part_copied_fields, deleted_fields};
 
-use crate::body::{part_of, place_of, sent, write_body};
+use crate::body::{part_of, place_of, sent};
 use crate::date::DateText;
 use crate::errors::outside_reply;
 use crate::head::{Head, Opening};
 use crate::room::Room;
-use crate::told::document_head;
+use crate::told::short_reply;
 use crate::values::{RangeText, date_bytes, id_bytes, id_text, range_bytes};
 use s3_bodies::Body;
 use s3_calendar::Moment;
 use s3_conditions::Selection;
-use s3_documents::copied_document;
+use s3_documents::{copied_document, part_copied_document};
 use s3_machine::Found;
 use s3_names::{Tag, VersionId};
-use s3_terms::Status;
 
 /// Appends all of the reply to a put, or to that of a part, which shows no version.
 pub(crate) fn put_reply<R: Room>(out: &mut R, opening: Opening, tag: &Tag, shown: Option<VersionId>)
@@ -34,7 +33,7 @@ pub(crate) fn put_reply<R: Room>(out: &mut R, opening: Opening, tag: &Tag, shown
     let head = Head {
         version_id: id_bytes(&id),
         tag: Some(text.as_bytes()),
-        ..Head::bare(Status::Ok, &opening)
+        ..Head::bare(&opening)
     };
     head.print(out);
 }
@@ -43,7 +42,6 @@ pub(crate) fn put_reply<R: Room>(out: &mut R, opening: Opening, tag: &Tag, shown
 fn object_head<R: Room>(
     out: &mut R,
     opening: Opening,
-    status: Status,
     found: &Found<Body>,
     modified: Option<DateText>,
     range: Option<RangeText>,
@@ -52,7 +50,6 @@ fn object_head<R: Room>(
     requires { R.size out.old + 4096 ≤ R.capacity out.old }
     ensures written { R.written out.new ≡ R.written out.old
         ++ print_head (record (got_fields opening found.now modified) {
-          status = status;
           content_range = range;
           size = size;
         }) }
@@ -69,7 +66,7 @@ fn object_head<R: Room>(
         content_type: Some(found.stored.content_type.as_bytes()),
         metadata: found.stored.metadata.entries(),
         size,
-        ..Head::bare(status, &opening)
+        ..Head::bare(&opening)
     };
     head.print(out);
 }
@@ -91,7 +88,7 @@ fn unchanged_reply<R: Room>(
         version_id: id_bytes(&id),
         tag: Some(tag.as_bytes()),
         modified: date_bytes(&modified),
-        ..Head::bare(Status::NotModified, &opening)
+        ..Head::bare(&opening)
     };
     head.print(out);
 }
@@ -112,19 +109,11 @@ pub(crate) fn got_reply<R: Room>(
 {
     let size = found.stored.body.size();
     match selection {
-        Selection::Whole => object_head(out, opening, Status::Ok, found, modified, None, size),
+        Selection::Whole => object_head(out, opening, found, modified, None, size),
         Selection::Part { first, last } => {
             let (_, count) = place_of(first, last, size);
             let range = RangeText::of(first, last, size);
-            object_head(
-                out,
-                opening,
-                Status::PartialContent,
-                found,
-                modified,
-                Some(range),
-                count,
-            );
+            object_head(out, opening, found, modified, Some(range), count);
         }
         Selection::Unchanged => unchanged_reply(out, opening, found, modified),
         Selection::Outside => outside_reply(out, opening, found.stored.size, head_only),
@@ -146,8 +135,25 @@ pub(crate) fn copied_reply<R: Room>(
     ensures capacity { R.capacity out.old ≤ R.capacity out.new }
 {
     let document = copied_document(tag, moment, opening.dialect);
-    document_head(out, opening, shown, document.len() as u64);
-    write_body(out, head_only, document.as_slice());
+    short_reply(out, opening, document.as_slice(), shown, None, head_only);
+}
+
+/// Appends the whole reply to a copy to a part, which was made at this moment of a version with this id.
+pub(crate) fn part_copied_reply<R: Room>(
+    out: &mut R,
+    opening: Opening,
+    tag: &Tag,
+    moment: Moment,
+    source: Option<VersionId>,
+    head_only: bool,
+)
+    requires { R.size out.old + 4096 ≤ R.capacity out.old }
+    ensures written { R.written out.new ≡ R.written out.old
+        ++ front head_only (beside (part_copied_fields opening source) (document_text opening.dialect (part_copied tag.now moment))) }
+    ensures capacity { R.capacity out.old ≤ R.capacity out.new }
+{
+    let document = part_copied_document(tag, moment, opening.dialect);
+    short_reply(out, opening, document.as_slice(), None, source, head_only);
 }
 
 /// Appends the whole reply to a delete.
@@ -166,7 +172,7 @@ pub(crate) fn deleted_reply<R: Room>(
     let head = Head {
         version_id: id_bytes(&id),
         is_delete_marker,
-        ..Head::bare(Status::NoContent, &opening)
+        ..Head::bare(&opening)
     };
     head.print(out);
 }

@@ -9,8 +9,11 @@ use crate::Context;
 use crate::date::DateText;
 use crate::errors::{error_reply, outside_reply};
 use crate::head::{Head, Opening};
-use crate::objects::{copied_reply, deleted_reply, got_reply, put_reply, shown_body};
+use crate::objects::{
+    copied_reply, deleted_reply, got_reply, part_copied_reply, put_reply, shown_body,
+};
 use crate::room::Room;
+use crate::statuses::reply_status;
 use crate::told::{told_reply, versioning_reply};
 use crate::values::location_of;
 use arrayvec::ArrayVec;
@@ -18,15 +21,15 @@ use s3_bodies::Body;
 use s3_calendar::Moment;
 use s3_machine::{Answer, Outcome};
 use s3_names::BucketName;
-use s3_terms::{Code, Dialect, Status};
+use s3_terms::{Code, Dialect};
 
 /// Appends the whole reply that tells of nothing but its status.
-fn bare_reply<R: Room>(out: &mut R, opening: Opening, status: Status)
+fn bare_reply<R: Room>(out: &mut R, opening: Opening)
     requires { R.size out.old + 4096 ≤ R.capacity out.old }
-    ensures written { R.written out.new ≡ R.written out.old ++ print_head (bare status opening) }
+    ensures written { R.written out.new ≡ R.written out.old ++ print_head (bare opening) }
     ensures capacity { R.capacity out.old ≤ R.capacity out.new }
 {
-    let head = Head::bare(status, &opening);
+    let head = Head::bare(&opening);
     head.print(out);
 }
 
@@ -39,7 +42,7 @@ fn made_reply<R: Room>(out: &mut R, opening: Opening, name: &BucketName)
     let location = location_of(name);
     let head = Head {
         location: Some(location.as_slice()),
-        ..Head::bare(Status::Ok, &opening)
+        ..Head::bare(&opening)
     };
     head.print(out);
 }
@@ -54,10 +57,10 @@ fn whole_reply<R: Room>(out: &mut R, opening: Opening, outcome: Outcome, head_on
 {
     match outcome {
         Outcome::BucketMade { name } => made_reply(out, opening, &name),
-        Outcome::BucketFound | Outcome::VersioningSet => bare_reply(out, opening, Status::Ok),
-        Outcome::BucketDropped | Outcome::UploadDropped => {
-            bare_reply(out, opening, Status::NoContent);
-        }
+        Outcome::BucketFound
+        | Outcome::VersioningSet
+        | Outcome::BucketDropped
+        | Outcome::UploadDropped => bare_reply(out, opening),
         Outcome::BucketVersioning { versioning } => {
             versioning_reply(out, opening, versioning, head_only);
         }
@@ -66,6 +69,11 @@ fn whole_reply<R: Room>(out: &mut R, opening: Opening, outcome: Outcome, head_on
         Outcome::Copied { tag, moment, shown } => {
             copied_reply(out, opening, &tag, moment, shown, head_only);
         }
+        Outcome::PartCopied {
+            tag,
+            moment,
+            source,
+        } => part_copied_reply(out, opening, &tag, moment, source, head_only),
         Outcome::Deleted {
             shown,
             is_delete_marker,
@@ -162,6 +170,7 @@ pub fn print_reply<R: Room>(answer: Answer, context: &Context, out: &mut R) -> O
     ensures capacity { R.capacity out.old ≤ R.capacity out.new }
 {
     let opening = Opening {
+        status: reply_status(&answer.outcome),
         number: answer.number,
         closes: context.closes,
         date: DateText::of(context.moment),
@@ -179,6 +188,7 @@ pub fn refusal(code: Code, moment: Moment, head_only: bool, dialect: Dialect) ->
     ensures short { length result.items ≤ 512 }
 {
     let opening = Opening {
+        status: code.status(),
         number: 0,
         closes: true,
         date: DateText::of(moment),

@@ -1,10 +1,10 @@
 //! The replies whose body is a document.
 
-ghost use Rattle.std.specs.Prelude.{◌≡◌, ◌+◌, ◌≤◌, [], ◌++◌, unwrap_or};
+ghost use Rattle.std.specs.Prelude.{◌≡◌, ◌+◌, ◌≤◌, [], ◌++◌, length, unwrap_or};
 ghost use Rattle.s3_documents.specs.Document as documents;
 ghost use Rattle.s3_documents.specs.Spelling.{document_text};
 ghost use Rattle.s3_replies.specs.Head.{print_head};
-ghost use Rattle.s3_replies.specs.Replies.{back, behind, beside, front, document_fields, stored_fields};
+ghost use Rattle.s3_replies.specs.Replies.{back, behind, beside, front, document_fields, shown_text, stored_fields};
 
 use crate::body::{sent, write_body};
 use crate::document::{content_type_of, versioning_document};
@@ -14,31 +14,53 @@ use crate::values::{id_bytes, id_text};
 use s3_bodies::Body;
 use s3_documents::Document;
 use s3_names::VersionId;
-use s3_terms::Status;
 use s3_versions::Versioning;
 
-/// Appends the reply that is a document of this size, and shows the version that was made, if it shows one, without the
-/// document.
-pub(crate) fn document_head<R: Room>(
+/// Appends the reply that is a document of this size, without the document, and shows the version that was made and the one
+/// that was copied, where it shows them: 512 bytes at most.
+fn document_head<R: Room>(
     out: &mut R,
     opening: Opening,
     shown: Option<VersionId>,
+    source: Option<VersionId>,
     size: u64,
 )
     requires { R.size out.old + 4096 ≤ R.capacity out.old }
-    ensures written { R.written out.new
-        ≡ R.written out.old ++ print_head (record (stored_fields opening shown) { size = size }) }
-    ensures bound { R.size out.new ≤ R.size out.old + 3840 }
+    ensures written { R.written out.new ≡ R.written out.old
+        ++ print_head (record (stored_fields opening shown) { source_version_id = shown_text source; size = size }) }
+    ensures bound { R.size out.new ≤ R.size out.old + 512 }
     ensures capacity { R.capacity out.old ≤ R.capacity out.new }
 {
-    let id = id_text(shown);
+    let made = id_text(shown);
+    let copied = id_text(source);
     let head = Head {
-        version_id: id_bytes(&id),
+        version_id: id_bytes(&made),
+        source_version_id: id_bytes(&copied),
         content_type: Some(content_type_of(opening.dialect)),
         size,
-        ..Head::bare(Status::Ok, &opening)
+        ..Head::bare(&opening)
     };
     head.print(out);
+}
+
+/// Appends the whole reply that is this document, and shows the version that was made and the one that was copied, where it
+/// shows them.
+pub(crate) fn short_reply<R: Room>(
+    out: &mut R,
+    opening: Opening,
+    document: &[u8],
+    shown: Option<VersionId>,
+    source: Option<VersionId>,
+    head_only: bool,
+)
+    requires room { R.size out.old + 4096 ≤ R.capacity out.old }
+    requires short { length document.now ≤ 256 }
+    ensures written { R.written out.new ≡ R.written out.old
+        ++ front head_only (beside (record (stored_fields opening shown) { source_version_id = shown_text source }) document.now) }
+    ensures capacity { R.capacity out.old ≤ R.capacity out.new }
+{
+    document_head(out, opening, shown, source, document.len() as u64);
+    write_body(out, head_only, document);
 }
 
 /// Appends the reply that is a document, which is printed here, without it, and gives it, unless the reply is to a HEAD.
@@ -56,7 +78,7 @@ pub(crate) fn told_reply<R: Room>(
     ensures capacity { R.capacity out.old ≤ R.capacity out.new }
 {
     let body = document.into_body(opening.dialect);
-    document_head(out, opening, shown, body.size());
+    document_head(out, opening, shown, None, body.size());
     sent(head_only, body)
 }
 
@@ -73,6 +95,5 @@ pub(crate) fn versioning_reply<R: Room>(
     ensures capacity { R.capacity out.old ≤ R.capacity out.new }
 {
     let document = versioning_document(versioning, opening.dialect);
-    document_head(out, opening, None, document.len() as u64);
-    write_body(out, head_only, document);
+    short_reply(out, opening, document, None, None, head_only);
 }

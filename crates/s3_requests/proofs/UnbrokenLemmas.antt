@@ -1,6 +1,6 @@
 -- What a head asks to be stored beside a body has no carriage return in it.
 use Rattle.std.proofs.Common.{◌≡◌, inl, inr, ℕ, ◌+◌, Bool, true, false, not, ◌&&◌, List, [], ◌∷◌, ◌++◌, map, filter, take, drop, refl, sym, ap, subst, ◌∙◌, arith, Option, Some, None, Result, Ok, Err, if◌then◌else◌, slice_get, take-append-drop}
-use Rattle.std.specs.Prelude.{◌==◌, nat_lt, length, not, ok_or, codes}
+use Rattle.std.specs.Prelude.{◌==◌, nat_lt, length, not, codes}
 use Rattle.std.specs.Char.{to_ascii_lowercase}
 use Rattle.std.specs.List.{list_all, cons_option, filter_map, dedup, dedup_from, join_with_byte}
 use Rattle.std.specs.Str.{bytes_eq, str_to_ascii_lowercase}
@@ -12,7 +12,6 @@ use Rattle.s3_text.specs.Order.{byte_order}
 use Rattle.s3_text.specs.Sorting.{insert_by, sorted_by}
 use Rattle.s3_terms.specs.Fault.{refuse, ◌>>◌, ◌>>=◌}
 use Rattle.s3_terms.specs.declared.code.Code.{Code}
-use Rattle.s3_terms.specs.declared.code.Code.TheVariants.{MethodNotAllowed}
 use Rattle.s3_terms.specs.declared.dialect.Dialect.{Dialect}
 use Rattle.s3_config.specs.Settings.{Settings}
 use Rattle.s3_http_heads.specs.Method.{method_of}
@@ -28,8 +27,12 @@ use Rattle.s3_requests.specs.declared.routing.KeyAsked.TheVariants as key_asked
 use Rattle.s3_requests.specs.declared.routing.UploadPlan.TheVariants as upload_plans
 use Rattle.s3_listings.specs.declared.asked.PartsAsked.{PartsAsked}
 use Rattle.s3_machine.specs.declared.command.KeyCommand.TheVariants as key_commands
-use Rattle.s3_machine.specs.declared.command.UploadBegin.{UploadBegin}
+use Rattle.s3_machine.specs.declared.command.Description.{Description}
+use Rattle.s3_machine.specs.declared.command.ObjectCopy.{ObjectCopy}
+use Rattle.s3_machine.specs.declared.command.PartCopy.{PartCopy}
 use Rattle.s3_machine.specs.declared.command.Source.{Source}
+use Rattle.s3_requests.specs.declared.copies.Directive.{Directive}
+use Rattle.s3_requests.specs.declared.copies.Directive.TheVariants as directives
 use Rattle.s3_requests.specs.declared.operations.Operation.{Operation}
 use Rattle.s3_requests.specs.declared.operations.Operation.TheVariants as operations
 use Rattle.s3_names.specs.Names.{object_key}
@@ -38,12 +41,13 @@ use Rattle.s3_requests.specs.Arguments.{version_argument}
 use Rattle.s3_requests.specs.ReadConditions.{conditions_of}
 use Rattle.s3_requests.specs.WriteCondition.{absence_of}
 use Rattle.s3_requests.specs.Operations.{service_operation, key_operation}
-use Rattle.s3_requests.specs.CopySource.{source_of}
+use Rattle.s3_requests.specs.Addresses.{is_service, address_at}
+use Rattle.s3_requests.specs.Copies.{directive_of, description_by, source_for, object_copy_of, part_copy_of}
 use Rattle.s3_requests.specs.Description.{type_sent, content_type_of, front, name_in, names_of, entry_of, metadata_of, description_of}
 use Rattle.s3_requests.specs.ListArguments.{parts_asked_of}
 use Rattle.s3_requests.specs.UploadArguments.{upload_argument, part_argument}
-use Rattle.s3_requests.specs.Routing.{KeyPlan, is_service, address_at, service_plan_for, service_plan, bucket_named, bucket_plan, putting, put_plan, read_plan, delete_plan, key_plan_for, complete_plan, upload_plan, parts_plan, asked_for, key_plan, plan_of_bucket, plan_under, plan_of_key, named_plan, route_of}
-use Rattle.s3_requests.specs.Laws.{is_unbroken_entry, AreUnbroken, IsUnbrokenAsk, IsUnbrokenPlan, PlansAreUnbroken}
+use Rattle.s3_requests.specs.Routing.{KeyPlan, served, service_plan_for, service_plan, bucket_named, bucket_plan, putting, put_plan, read_plan, delete_plan, key_plan_for, complete_plan, upload_plan, part_copy_plan, parts_plan, asked_for, key_plan, plan_of_bucket, plan_under, plan_of_key, named_plan, route_of}
+use Rattle.s3_requests.specs.Laws.{is_unbroken_entry, AreUnbroken, IsUnbrokenSaid, IsUnbrokenAsk, IsUnbrokenPlan, PlansAreUnbroken}
 
 both : (a b : Bool) → (a && b) ≡ true → (a ≡ true) × (b ≡ true)
 both true b is = (refl, is)
@@ -196,13 +200,6 @@ delete_unbroken : (target : TargetParts) (asked : KeyPlan) → delete_plan targe
 unfolding delete_plan
 delete_unbroken target asked is = no_put (version_argument (codes "versionId") target) (λ (v : Option VersionId). key_commands.Delete v) asked (λ v. tt) is
 
--- a copy stores what is stored already, and nothing that its head says
-copy_unbroken : (source : Result Source Code) (asked : KeyPlan) → (source >>= (λ (from : Source). Ok (key_commands.Copy (record { source = from })))) ≡ Ok asked → IsUnbrokenAsk asked
-copy_unbroken (Ok from) asked is =
-    let same : key_commands.Copy (record { source = from }) ≡ asked = cc in
-    subst IsUnbrokenAsk same tt
-copy_unbroken (Err code) asked is = absurd (cc)
-
 -- what is asked under a key stores nothing with one beside a body
 abbrev IsUnbrokenUnder : KeyAsked → Type 0
 IsUnbrokenUnder (key_asked.Key asked) = IsUnbrokenAsk asked
@@ -220,8 +217,15 @@ of_upload (Ok a) with asked unbroken is =
     subst IsUnbrokenUnder same (unbroken a)
 of_upload (Err code) with asked unbroken is = absurd (cc)
 
+-- a copy of this source, of which this is said
+abbrev copying : Source → Option Description → ObjectCopy
+copying source said = record { source = source; description = said }
+
+copied : (source : Source) (said : Option Description) (asked : KeyPlan) → key_commands.Copy (copying source said) ≡ asked → IsUnbrokenSaid said → IsUnbrokenAsk asked
+copied source said asked same unbroken = subst IsUnbrokenAsk same unbroken
+
 -- an object with this type and this metadata
-abbrev describing : List ℕ → List Entry → UploadBegin
+abbrev describing : List ℕ → List Entry → Description
 describing kind entries = record { content_type = kind; metadata = entries }
 
 type_unbroken : (values : List (List ℕ)) → list_all is_unbroken values ≡ true → is_unbroken (type_sent (slice_get values 0)) ≡ true
@@ -242,44 +246,69 @@ module _ (head : HeadParts) (lines : list_all is_whole_line head.headers ≡ tru
       let all = map (entry_of head) (names_of head) in
       ap (list_all is_unbroken_entry) (sym (passed (nat_lt 2_048 (metadata_size all)) _ all entries is)) ∙ entries_unbroken head (names_of head) lines (names_unbroken head lines)
 
-  description_unbroken : (said : UploadBegin) → description_of head ≡ Ok said → AreUnbroken said.content_type said.metadata
+  description_unbroken : (said : Description) → description_of head ≡ Ok said → AreUnbroken said.content_type said.metadata
   unfolding description_of
   description_unbroken said is =
       let one = bound (content_type_of head) (λ (kind : List ℕ). metadata_of head >>= (λ (entries : List Entry). Ok (describing kind entries))) said is in
       let two = bound (metadata_of head) (λ (entries : List Entry). Ok (describing one.0 entries)) said one.2 in
       let same : describing one.0 two.0 ≡ said = cc in
-      subst (λ (s : UploadBegin). AreUnbroken s.content_type s.metadata) same (content_type_unbroken one.0 one.1, metadata_unbroken two.0 two.1)
+      subst (λ (s : Description). AreUnbroken s.content_type s.metadata) same (content_type_unbroken one.0 one.1, metadata_unbroken two.0 two.1)
 
   -- what is asked with what the head says has none where that has none
-  described : (with : UploadBegin → KeyPlan) (asked : KeyPlan) → ((said : UploadBegin) → AreUnbroken said.content_type said.metadata → IsUnbrokenAsk (with said))
-      → (description_of head >>= (λ (said : UploadBegin). Ok (with said))) ≡ Ok asked → IsUnbrokenAsk asked
+  described : (with : Description → KeyPlan) (asked : KeyPlan) → ((said : Description) → AreUnbroken said.content_type said.metadata → IsUnbrokenAsk (with said))
+      → (description_of head >>= (λ (said : Description). Ok (with said))) ≡ Ok asked → IsUnbrokenAsk asked
   described with asked unbroken is =
-      let one = bound (description_of head) (λ (said : UploadBegin). Ok (with said)) asked is in
+      let one = bound (description_of head) (λ (said : Description). Ok (with said)) asked is in
       let same : with one.0 ≡ asked = cc in
       subst IsUnbrokenAsk same (unbroken one.0 (description_unbroken one.0 one.1))
+
+  -- what is said of a copy is what its head says, or nothing
+  said_unbroken : (directive : Directive) (said : Option Description) → description_by directive head ≡ Ok said → IsUnbrokenSaid said
+  said_unbroken directives.Keep said is =
+      let same : None ≡ said = cc in
+      subst IsUnbrokenSaid same tt
+  said_unbroken directives.Replace said is =
+      let one = bound (description_of head) (λ (new : Description). Ok (Some new)) said is in
+      let same : Some one.0 ≡ said = cc in
+      subst IsUnbrokenSaid same (description_unbroken one.0 one.1)
+
+  copy_unbroken : (dialect : Dialect) (target : TargetParts) (asked : KeyPlan)
+      → (object_copy_of dialect head target >>= (λ (copy : ObjectCopy). Ok (key_commands.Copy copy))) ≡ Ok asked → IsUnbrokenAsk asked
+  unfolding object_copy_of
+  copy_unbroken dialect target asked is =
+      let described = λ (directive : Directive) (source : Source). description_by directive head >>= (λ (said : Option Description). Ok (copying source said)) in
+      let copy = bound (object_copy_of dialect head target) (λ (copy : ObjectCopy). Ok (key_commands.Copy copy)) asked is in
+      let directive = bound (directive_of dialect head) (λ (directive : Directive). source_for dialect directive head target >>= described directive) copy.0 copy.1 in
+      let source = bound (source_for dialect directive.0 head target) (described directive.0) copy.0 directive.2 in
+      let said = bound (description_by directive.0 head) (λ (said : Option Description). Ok (copying source.0 said)) copy.0 source.2 in
+      copied source.0 said.0 asked (cc) (said_unbroken directive.0 said.0 said.1)
 
   put_unbroken : (asked : KeyPlan) → put_plan head ≡ Ok asked → IsUnbrokenAsk asked
   unfolding put_plan
   put_unbroken asked is =
-      let one = bound (description_of head) (λ (said : UploadBegin). absence_of head >>= (λ (if_absent : Bool). Ok (putting said if_absent))) asked is in
+      let one = bound (description_of head) (λ (said : Description). absence_of head >>= (λ (if_absent : Bool). Ok (putting said if_absent))) asked is in
       let two = bound (absence_of head) (λ (if_absent : Bool). Ok (putting one.0 if_absent)) asked one.2 in
       let same : putting one.0 two.0 ≡ asked = cc in
       subst IsUnbrokenAsk same (description_unbroken one.0 one.1)
 
-  planned_unbroken : (operation : Operation) (target : TargetParts) (asked : KeyPlan) → key_plan_for operation head target ≡ Ok asked → IsUnbrokenAsk asked
+  planned_unbroken : (dialect : Dialect) (operation : Operation) (target : TargetParts) (asked : KeyPlan) → key_plan_for dialect operation head target ≡ Ok asked → IsUnbrokenAsk asked
   unfolding key_plan_for
-  planned_unbroken operations.PutObject target asked is = put_unbroken asked is
-  planned_unbroken operations.CopyObject target asked is = copy_unbroken (source_of head) asked is
-  planned_unbroken operations.GetObject target asked is = read_unbroken head target asked is
-  planned_unbroken operations.HeadObject target asked is = read_unbroken head target asked is
-  planned_unbroken operations.DeleteObject target asked is = delete_unbroken target asked is
-  planned_unbroken operations.CreateMultipartUpload target asked is = described key_commands.Begin asked (λ said unbroken. unbroken) is
-  planned_unbroken _ target asked is = absurd (cc)
+  planned_unbroken dialect operations.PutObject target asked is = put_unbroken asked is
+  planned_unbroken dialect operations.CopyObject target asked is = copy_unbroken dialect target asked is
+  planned_unbroken dialect operations.GetObject target asked is = read_unbroken head target asked is
+  planned_unbroken dialect operations.HeadObject target asked is = read_unbroken head target asked is
+  planned_unbroken dialect operations.DeleteObject target asked is = delete_unbroken target asked is
+  planned_unbroken dialect operations.CreateMultipartUpload target asked is = described key_commands.Begin asked (λ said unbroken. unbroken) is
+  planned_unbroken dialect _ target asked is = absurd (cc)
 
   asked_unbroken_for : (dialect : Dialect) (operation : Operation) (target : TargetParts) (asked : KeyAsked) → asked_for dialect operation head target ≡ Ok asked → IsUnbrokenUnder asked
-  unfolding parts_plan complete_plan
+  unfolding parts_plan complete_plan part_copy_plan
   asked_unbroken_for dialect operations.UploadPart target asked is =
       of_upload (part_argument target) (λ (part : ℕ × ℕ). key_asked.Upload part.0 (upload_plans.PutPart part.1)) asked (λ part. tt) is
+  asked_unbroken_for dialect operations.UploadPartCopy target asked is =
+      let part = bound (part_argument target)
+      (λ (part : ℕ × ℕ). part_copy_of dialect head >>= (λ (copy : PartCopy). Ok (key_asked.Upload part.0 (upload_plans.CopyPart part.1 copy)))) asked is in
+      of_upload (part_copy_of dialect head) (λ (copy : PartCopy). key_asked.Upload part.0.0 (upload_plans.CopyPart part.0.1 copy)) asked (λ copy. tt) part.2
   asked_unbroken_for dialect operations.ListParts target asked is =
       let one = bound (parts_asked_of target) (λ (listed : PartsAsked). upload_plan (upload_plans.ListParts listed) target) asked is in
       of_upload (upload_argument target) (λ (id : ℕ). key_asked.Upload id (upload_plans.ListParts one.0)) asked (λ id. tt) one.2
@@ -290,20 +319,20 @@ module _ (head : HeadParts) (lines : list_all is_whole_line head.headers ≡ tru
   asked_unbroken_for dialect operations.AbortMultipartUpload target asked is =
       of_upload (upload_argument target) (λ (id : ℕ). key_asked.Upload id upload_plans.Abort) asked (λ id. tt) is
   asked_unbroken_for dialect operation target asked is =
-      let one = bound (key_plan_for operation head target) (λ (a : KeyPlan). Ok (key_asked.Key a)) asked is in
+      let one = bound (key_plan_for dialect operation head target) (λ (a : KeyPlan). Ok (key_asked.Key a)) asked is in
       let same : key_asked.Key one.0 ≡ asked = cc in
-      subst IsUnbrokenUnder same (planned_unbroken operation target one.0 one.1)
+      subst IsUnbrokenUnder same (planned_unbroken dialect operation target one.0 one.1)
 
   asked_unbroken : (dialect : Dialect) (target : TargetParts) (asked : KeyAsked) → key_plan dialect head target ≡ Ok asked → IsUnbrokenUnder asked
   unfolding key_plan
   asked_unbroken dialect target asked is =
-      let one = bound (ok_or (key_operation (method_of head.method) head target) MethodNotAllowed) (λ (operation : Operation). asked_for dialect operation head target) asked is in
+      let one = bound (served dialect (key_operation (method_of head.method) head target)) (λ (operation : Operation). asked_for dialect operation head target) asked is in
       asked_unbroken_for dialect one.0 target asked one.2
 
-  service_unbroken : (plan : Plan) → service_plan head ≡ Ok plan → IsUnbrokenPlan plan
+  service_unbroken : (dialect : Dialect) (plan : Plan) → service_plan dialect head ≡ Ok plan → IsUnbrokenPlan plan
   unfolding service_plan
-  service_unbroken plan is =
-      let one = bound (ok_or (service_operation (method_of head.method)) MethodNotAllowed) service_plan_for plan is in
+  service_unbroken dialect plan is =
+      let one = bound (served dialect (service_operation (method_of head.method))) service_plan_for plan is in
       service_planned one.0 plan one.2
 
   bucket_unbroken : (settings : Settings) (name : List ℕ) (target : TargetParts) (plan : Plan) → plan_of_bucket settings name head target ≡ Ok plan → IsUnbrokenPlan plan
@@ -329,8 +358,9 @@ module _ (head : HeadParts) (lines : list_all is_whole_line head.headers ≡ tru
   route_unbroken : (settings : Settings) (plan : Plan) → route_of settings head ≡ Ok plan → IsUnbrokenPlan plan
   unfolding route_of
   route_unbroken settings plan is =
-      let target = bound (address_at head) (λ (t : TargetParts). if is_service t then service_plan head else named_plan settings head t) plan is in
-      either (is_service target.0) (service_plan head) (named_plan settings head target.0) plan target.2 (service_unbroken plan) (named_unbroken settings target.0 plan)
+      let target = bound (address_at settings.dialect head) (λ (t : TargetParts). if is_service t then service_plan settings.dialect head else named_plan settings head t) plan is in
+      either (is_service target.0) (service_plan settings.dialect head) (named_plan settings head target.0) plan target.2
+      (service_unbroken settings.dialect plan) (named_unbroken settings target.0 plan)
 
 pub plans_are_unbroken : LinesAreWhole → PlansAreUnbroken
 plans_are_unbroken whole settings text head plan says is = route_unbroken head (whole text head says) settings plan is

@@ -43,6 +43,8 @@ bucket_command_of bucket_plans.Head body = Ok bucket_commands.Head
 bucket_command_of bucket_plans.Delete body = Ok bucket_commands.Delete
 bucket_command_of (bucket_plans.PutVersioning dialect) body = versioning_command_of dialect body
 bucket_command_of bucket_plans.GetVersioning body = Ok bucket_commands.GetVersioning
+bucket_command_of (bucket_plans.GetLocation region) body = Ok (bucket_commands.GetLocation region)
+bucket_command_of (bucket_plans.GetConfiguration which) body = Ok (bucket_commands.GetConfiguration which)
 bucket_command_of (bucket_plans.ListObjects asked) body = Ok (bucket_commands.ListObjects asked)
 bucket_command_of (bucket_plans.ListVersions asked) body = Ok (bucket_commands.ListVersions asked)
 bucket_command_of (bucket_plans.ListUploads asked) body = Ok (bucket_commands.ListUploads asked)
@@ -69,6 +71,7 @@ completion_command_of dialect if_absent body = do
 -- the same of an upload
 abbrev pub upload_command_of : UploadPlan → List ℕ → Result UploadCommand Code
 upload_command_of (upload_plans.PutPart number) body = Ok (upload_commands.PutPart number body)
+upload_command_of (upload_plans.CopyPart number copy) body = Ok (upload_commands.CopyPart number copy)
 upload_command_of (upload_plans.Complete dialect if_absent) body = completion_command_of dialect if_absent body
 upload_command_of upload_plans.Abort body = Ok upload_commands.Abort
 upload_command_of (upload_plans.ListParts asked) body = Ok (upload_commands.ListParts asked)

@@ -1,21 +1,26 @@
--- What a CopyObject copies (Amazon S3 API Reference, CopyObject): the value of `x-amz-copy-source` is an optional slash,
--- a bucket, a slash and a key, and then may name a version behind `?`. It is cut at its first `?`, and what stands before
--- that at the first slash behind the optional one; then the bucket and the key are percent-decoded.
-use Rattle.std.specs.Prelude.{ℕ, Bool, false, not, ◌==◌, if◌then◌else◌, List, [], ◌∷◌, take, codes, Option, None, ok_or, Result, Ok}
+-- What a copy is from (Amazon S3 API Reference, CopyObject and UploadPartCopy): the value of `x-amz-copy-source` is an
+-- optional slash, a bucket, a slash and a key, and then may name a version behind `?`. It is cut at its first `?`, and what
+-- stands before that at the first slash behind the optional one; then the bucket and the key are percent-decoded.
+use Rattle.std.specs.Prelude.{ℕ, Bool, not, ◌&&◌, ◌==◌, if◌then◌else◌, List, [], ◌∷◌, take, codes, Option, None, ok_or, Result, Ok}
 use Rattle.std.specs.List.{list_any, before_first, after_first}
-use Rattle.std.specs.Option.{option_map_or}
 use Rattle.std.specs.Str.{bytes_eq, str_to_ascii_lowercase}
 use Rattle.percent_encoding.specs.Percent.{percent_decode}
 use Rattle.s3_text.specs.Characters.{slash, equals_sign, question_mark}
 use Rattle.s3_terms.specs.Fault.{refuse, ◌>>◌, ◌>>=◌}
 use Rattle.s3_terms.specs.declared.code.Code.{Code}
 use Rattle.s3_terms.specs.declared.code.Code.TheVariants.{InvalidArgument, InternalError, NotImplemented}
+use Rattle.s3_terms.specs.declared.dialect.Dialect.{Dialect}
+use Rattle.s3_terms.specs.declared.dialect.Dialect.TheVariants.{Json, S3}
+use Rattle.s3_conditions.specs.Conditions.{plain}
+use Rattle.s3_conditions.specs.declared.conditions.Conditions.{Conditions}
 use Rattle.s3_names.specs.Names.{bucket_name, object_key}
 use Rattle.s3_names.specs.declared.ids.VersionId.{VersionId}
 use Rattle.s3_http_heads.specs.Head.{HeadParts, first_value}
 use Rattle.s3_http_heads.specs.Target.{has_bad_escape}
 use Rattle.s3_machine.specs.declared.command.Source.{Source}
 use Rattle.s3_requests.specs.Arguments.{as_argument, id_read}
+use Rattle.s3_requests.specs.Operations.{is_xml}
+use Rattle.s3_requests.specs.ReadConditions.{source_conditions_of}
 
 -- whatever is wrong with the source, its argument is invalid; of a refusal, which may say that memory ran out
 abbrev pub argument_code : Code → Code
@@ -49,19 +54,14 @@ bucket_in path = as_argument (bucket_name (percent_decode (before_first (λ b. b
 abbrev pub key_in : List ℕ → Result (List ℕ) Code
 key_in path = as_argument (object_key (percent_decode (after_first (λ b. b == slash) path)))
 
--- what a value names
-unfoldable pub source_in : List ℕ → Result Source Code
-source_in value = do
+-- what a value names, on these conditions
+unfoldable pub source_in : Conditions → List ℕ → Result Source Code
+source_in conditions value = do
   version ← version_in value
   refuse (has_bad_escape (path_in value)) InvalidArgument
   bucket ← bucket_in (path_in value)
   key ← key_in (path_in value)
-  Ok (record { bucket = bucket; key = key; version = version })
-
--- the copy is to have metadata of its own: what isn't the directive COPY, whose case counts
-abbrev pub has_own_metadata : HeadParts → Bool
-has_own_metadata head =
-    option_map_or (λ directive. not (bytes_eq directive (codes "COPY"))) (first_value (codes "x-amz-metadata-directive") head) false
+  Ok (record { bucket = bucket; key = key; version = version; conditions = conditions })
 
 -- lines of this name set a condition for the source: it begins with these 21 bytes, in capitals or not
 abbrev pub is_condition : List ℕ → Bool
@@ -70,10 +70,14 @@ is_condition name = bytes_eq (str_to_ascii_lowercase (take 21 name)) (codes "x-a
 abbrev pub has_source_condition : HeadParts → Bool
 has_source_condition head = list_any (λ (line : List ℕ × List ℕ). is_condition line.0) head.headers
 
+-- the conditions for the source, which a copy has where documents are XML alone
+abbrev pub conditions_for_source : Dialect → HeadParts → Conditions
+conditions_for_source Json head = plain
+conditions_for_source S3 head = source_conditions_of head
+
 -- the source of a copy that this server makes
-unfoldable pub source_of : HeadParts → Result Source Code
-source_of head = do
-  refuse (has_own_metadata head) NotImplemented
-  refuse (has_source_condition head) NotImplemented
+unfoldable pub source_of : Dialect → HeadParts → Result Source Code
+source_of dialect head = do
+  refuse (not (is_xml dialect) && has_source_condition head) NotImplemented
   value ← ok_or (first_value (codes "x-amz-copy-source") head) InvalidArgument
-  source_in value
+  source_in (conditions_for_source dialect head) value

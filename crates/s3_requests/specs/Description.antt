@@ -9,7 +9,7 @@ use Rattle.s3_text.specs.Sorting.{sorted_by}
 use Rattle.s3_terms.specs.Fault.{◌>>=◌}
 use Rattle.s3_terms.specs.declared.code.Code.{Code}
 use Rattle.s3_http_heads.specs.Head.{HeadParts, first_value, values_of}
-use Rattle.s3_machine.specs.declared.command.UploadBegin.{UploadBegin}
+use Rattle.s3_machine.specs.declared.command.Description.{Description}
 use Rattle.s3_versions.specs.ContentType.{content_type}
 use Rattle.s3_versions.specs.Metadata.{Entry, metadata}
 
@@ -49,7 +49,7 @@ unfoldable pub metadata_of : HeadParts → Result (List Entry) Code
 metadata_of head = metadata (map (entry_of head) (names_of head))
 
 -- what is said of the object
-unfoldable pub description_of : HeadParts → Result UploadBegin Code
+unfoldable pub description_of : HeadParts → Result Description Code
 description_of head = do
   content_type ← content_type_of head
   metadata ← metadata_of head

@@ -1,6 +1,6 @@
 -- What is known of all plans: what they store beside a body may stand in the lines of a reply, and what a list tells to go
 -- on by is read back.
-use Rattle.std.specs.Prelude.{◌≡◌, ℕ, Bool, true, ◌&&◌, List, Some, Ok, IsUtf8}
+use Rattle.std.specs.Prelude.{◌≡◌, ℕ, Bool, true, ◌&&◌, List, Option, Some, None, Ok, IsUtf8}
 use Rattle.std.specs.List.{list_all}
 use Rattle.hex.specs.Hex.{encode_lower}
 use Rattle.s3_config.specs.Settings.{Settings}
@@ -8,6 +8,7 @@ use Rattle.s3_http_heads.specs.Head.{HeadParts, Says, is_unbroken}
 use Rattle.s3_versions.specs.Metadata.{Entry}
 use Rattle.s3_requests.specs.declared.routing.Plan.{Plan}
 use Rattle.s3_requests.specs.declared.routing.Plan.TheVariants as plans
+use Rattle.s3_machine.specs.declared.command.Description.{Description}
 use Rattle.s3_machine.specs.declared.command.KeyCommand.TheVariants as key_commands
 use Rattle.s3_requests.specs.ListArguments.{token_named}
 use Rattle.s3_requests.specs.Routing.{KeyPlan, route_of}
@@ -20,8 +21,14 @@ is_unbroken_entry entry = is_unbroken entry.name && is_unbroken entry.value
 abbrev pub AreUnbroken : List ℕ → List Entry → Type 0
 AreUnbroken content_type metadata = (is_unbroken content_type ≡ true) × (list_all is_unbroken_entry metadata ≡ true)
 
+-- nor in what is said of a copy, if something is
+abbrev pub IsUnbrokenSaid : Option Description → Type 0
+IsUnbrokenSaid None = Unit {0}
+IsUnbrokenSaid (Some said) = AreUnbroken said.content_type said.metadata
+
 -- nor in what is to be stored under a key beside a body, now or when an upload is complete
 abbrev pub IsUnbrokenAsk : KeyPlan → Type 0
+IsUnbrokenAsk (key_commands.Copy copy) = IsUnbrokenSaid copy.description
 IsUnbrokenAsk (key_commands.Put put) = AreUnbroken put.content_type put.metadata
 IsUnbrokenAsk (key_commands.Begin begin) = AreUnbroken begin.content_type begin.metadata
 IsUnbrokenAsk other = Unit {0}

@@ -1,5 +1,7 @@
+pub mod Addresses
 pub mod Arguments
 pub mod Commands
+pub mod Copies
 pub mod CopySource
 pub mod Description
 pub mod Laws

@@ -1,6 +1,6 @@
--- The arguments of lists: of ListObjectsV2, ListObjectVersions, ListMultipartUploads and ListParts (Amazon S3 API Reference,
--- "URI Request Parameters" of each): of a parameter the first occurrence counts, and one that is there with an empty value is
--- there.
+-- The arguments of lists: of ListObjects, ListObjectsV2, ListObjectVersions, ListMultipartUploads and ListParts (Amazon S3 API
+-- Reference, "URI Request Parameters" of each): of a parameter the first occurrence counts, and one that is there with an empty
+-- value is there.
 use Rattle.std.specs.Prelude.{ℕ, Bool, true, false, not, ◌&&◌, ◌==◌, min, List, [], length, codes, Option, Some, None, option_map, ok_or, Result, Ok}
 use Rattle.std.specs.List.{list_all}
 use Rattle.std.specs.Option.{unwrap_or}
@@ -17,12 +17,15 @@ use Rattle.s3_names.specs.Ids.{upload_id}
 use Rattle.s3_names.specs.declared.ids.VersionId.{VersionId}
 use Rattle.s3_http_heads.specs.Target.{TargetParts, first_parameter, has_parameter}
 use Rattle.s3_prefixes.specs.Text.{text_read}
+use Rattle.s3_prefixes.specs.declared.asked.ListVersion.{ListVersion}
+use Rattle.s3_prefixes.specs.declared.asked.ListVersion.TheVariants.{First, Second}
 use Rattle.s3_prefixes.specs.declared.asked.ObjectsAsked.{ObjectsAsked}
 use Rattle.s3_listings.specs.declared.asked.PartsAsked.{PartsAsked}
 use Rattle.s3_listings.specs.declared.asked.UploadsAsked.{UploadsAsked}
 use Rattle.s3_listings.specs.declared.asked.VersionsAsked.{VersionsAsked}
 use Rattle.s3_requests.specs.declared.list_arguments.KeysAsked.{KeysAsked}
 use Rattle.s3_requests.specs.Arguments.{as_argument, version_argument}
+use Rattle.s3_requests.specs.Operations.{is_xml}
 
 -- the value of a parameter; an absent one has the empty value
 abbrev pub value_of : List ℕ → TargetParts → List ℕ
@@ -102,28 +105,40 @@ abbrev pub encoding_asked : Dialect → TargetParts → Result Bool Code
 encoding_asked Json target = Ok false
 encoding_asked S3 target = encoding_named (first_parameter (codes "encoding-type") target)
 
--- the owners of objects are to be told; JSON has none
-abbrev pub owner_asked : Dialect → TargetParts → Bool
-owner_asked Json target = false
-owner_asked S3 target = bytes_eq (value_of (codes "fetch-owner") target) (codes "true")
+-- the owners of objects are to be told: always in a list of the first version, and in one of the second where documents are XML
+-- and the request asks for them
+abbrev pub owner_asked : Dialect → ListVersion → TargetParts → Bool
+owner_asked dialect First target = true
+owner_asked dialect Second target = is_xml dialect && bytes_eq (value_of (codes "fetch-owner") target) (codes "true")
+
+-- the key and the item behind which a list of objects goes on, if they are there: the first version names an item by its text,
+-- the second a key by its text and an item by its token
+unfoldable pub places_of : ListVersion → TargetParts → Result (Option (List ℕ) × Option (List ℕ)) Code
+places_of First target = do
+  marker ← text_named (first_parameter (codes "marker") target)
+  Ok (None, marker)
+places_of Second target = do
+  start_after ← text_named (first_parameter (codes "start-after") target)
+  token ← token_named (first_parameter (codes "continuation-token") target)
+  Ok (start_after, token)
 
 -- what is asked of a list of objects
-unfoldable pub objects_asked_of : Dialect → TargetParts → Result ObjectsAsked Code
-objects_asked_of dialect target = do
+unfoldable pub objects_asked_of : Dialect → ListVersion → TargetParts → Result ObjectsAsked Code
+objects_asked_of dialect version target = do
   max_keys ← count_named (first_parameter (codes "max-keys") target)
   prefix ← text_argument (codes "prefix") target
   delimiter ← text_argument (codes "delimiter") target
-  start_after ← text_named (first_parameter (codes "start-after") target)
-  token ← token_named (first_parameter (codes "continuation-token") target)
+  places ← places_of version target
   is_url_encoded ← encoding_asked dialect target
   Ok (record {
+    version = version;
     prefix = prefix;
     delimiter = delimiter;
-    start_after = start_after;
-    token = token;
+    start_after = places.0;
+    token = places.1;
     max_keys = max_keys;
     is_url_encoded = is_url_encoded;
-    tells_owner = owner_asked dialect target;
+    tells_owner = owner_asked dialect version target;
   })
 
 -- common prefixes are asked for; an empty delimiter counts as absent

@@ -1,15 +1,19 @@
 -- The table of S3's operations (Amazon S3 API Reference, "Actions", and POST Object): which one a request asks
--- for, by its method, by what its address names, and by the parameters and lines that tell operations apart. Of
--- several rows that apply the first one counts.
-use Rattle.std.specs.Prelude.{Bool, false, ◌&&◌, ◌||◌, if◌then◌else◌, List, [], ◌∷◌, codes, Option, Some, None}
+-- for, by its method, by what its address names, and by the parameters and lines that tell operations apart; and
+-- which of them this server has. Of several rows that apply the first one counts.
+use Rattle.std.specs.Prelude.{Bool, true, false, ◌&&◌, ◌||◌, if◌then◌else◌, List, [], ◌∷◌, codes, Option, Some, None}
 use Rattle.std.specs.Option.{option_map_or}
 use Rattle.std.specs.Str.{bytes_eq}
 use Rattle.s3_http_heads.specs.Head.{HeadParts, is_sent}
 use Rattle.s3_http_heads.specs.Target.{TargetParts, has_parameter, first_parameter}
 use Rattle.s3_http_heads.specs.declared.method.Method.{Method}
 use Rattle.s3_http_heads.specs.declared.method.Method.TheVariants.{Get, Head, Put, Post, Delete, Other}
+use Rattle.s3_terms.specs.declared.dialect.Dialect.{Dialect}
+use Rattle.s3_terms.specs.declared.dialect.Dialect.TheVariants.{Json, S3}
+use Rattle.s3_machine.specs.declared.configuration.Configuration.{Configuration}
+use Rattle.s3_machine.specs.declared.configuration.Configuration.TheVariants as configurations
 use Rattle.s3_requests.specs.declared.operations.Operation.{Operation}
-use Rattle.s3_requests.specs.declared.operations.Operation.TheVariants.{ListBuckets, CreateBucket, HeadBucket, DeleteBucket, PutBucketVersioning, GetBucketVersioning, ListObjects, ListObjectsV2, ListObjectVersions, ListMultipartUploads, PostObject, PutObject, CopyObject, GetObject, HeadObject, GetObjectPart, HeadObjectPart, DeleteObject, CreateMultipartUpload, UploadPart, UploadPartCopy, ListParts, CompleteMultipartUpload, AbortMultipartUpload}
+use Rattle.s3_requests.specs.declared.operations.Operation.TheVariants.{ListBuckets, CreateBucket, HeadBucket, DeleteBucket, PutBucketVersioning, GetBucketVersioning, GetBucketLocation, GetBucketConfiguration, ListObjects, ListObjectsV2, ListObjectVersions, ListMultipartUploads, PostObject, PutObject, CopyObject, GetObject, HeadObject, GetObjectPart, HeadObjectPart, DeleteObject, CreateMultipartUpload, UploadPart, UploadPartCopy, ListParts, CompleteMultipartUpload, AbortMultipartUpload}
 
 -- the value of the first row whose condition holds, or the given one where none does
 abbrev pub first_row : {A : Type 0} → List (Bool × A) → A → A
@@ -26,6 +30,26 @@ abbrev pub asks_for_second_list : TargetParts → Bool
 asks_for_second_list target =
     option_map_or (λ value. bytes_eq value (codes "2")) (first_parameter (codes "list-type") target) false
 
+-- the configuration of a bucket that is named
+abbrev pub configuration_named : TargetParts → Option Configuration
+configuration_named target =
+    first_row (
+    (has_parameter (codes "cors") target, Some configurations.Cors)
+    ∷ (has_parameter (codes "encryption") target, Some configurations.Encryption)
+    ∷ (has_parameter (codes "lifecycle") target, Some configurations.Lifecycle)
+    ∷ (has_parameter (codes "object-lock") target, Some configurations.ObjectLock)
+    ∷ (has_parameter (codes "ownershipControls") target, Some configurations.OwnershipControls)
+    ∷ (has_parameter (codes "policy") target, Some configurations.Policy)
+    ∷ (has_parameter (codes "publicAccessBlock") target, Some configurations.PublicAccessBlock)
+    ∷ (has_parameter (codes "replication") target, Some configurations.Replication)
+    ∷ (has_parameter (codes "tagging") target, Some configurations.Tagging)
+    ∷ (has_parameter (codes "website") target, Some configurations.Website)
+    ∷ []) None
+
+-- GET of a bucket that names nothing of it
+abbrev pub objects_read : TargetParts → Operation
+objects_read target = first_row ((asks_for_second_list target, ListObjectsV2) ∷ []) ListObjects
+
 -- GET of a bucket
 abbrev pub bucket_read : TargetParts → Operation
 bucket_read target =
@@ -33,8 +57,8 @@ bucket_read target =
     (has_parameter (codes "versioning") target, GetBucketVersioning)
     ∷ (has_parameter (codes "uploads") target, ListMultipartUploads)
     ∷ (has_parameter (codes "versions") target, ListObjectVersions)
-    ∷ (asks_for_second_list target, ListObjectsV2)
-    ∷ []) ListObjects
+    ∷ (has_parameter (codes "location") target, GetBucketLocation)
+    ∷ []) (option_map_or GetBucketConfiguration (configuration_named target) (objects_read target))
 
 -- PUT of a bucket
 abbrev pub bucket_write : TargetParts → Operation
@@ -99,3 +123,19 @@ key_operation Put head target = Some (key_write head target)
 key_operation Post head target = key_post target
 key_operation Delete head target = Some (key_delete target)
 key_operation Other head target = None
+
+-- documents are XML
+abbrev pub is_xml : Dialect → Bool
+is_xml Json = false
+is_xml S3 = true
+
+-- this server has the operation: four of them where documents are XML alone, three not at all, and all others
+abbrev pub is_served : Dialect → Operation → Bool
+is_served dialect ListObjects = is_xml dialect
+is_served dialect GetBucketLocation = is_xml dialect
+is_served dialect (GetBucketConfiguration which) = is_xml dialect
+is_served dialect UploadPartCopy = is_xml dialect
+is_served dialect PostObject = false
+is_served dialect GetObjectPart = false
+is_served dialect HeadObjectPart = false
+is_served dialect other = true

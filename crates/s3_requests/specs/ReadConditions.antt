@@ -1,5 +1,6 @@
--- What the head of a GetObject or HeadObject asks of the version (RFC 9110, sections 13.1 and 14.2): of each line the first
--- one counts, and one that doesn't read is ignored.
+-- What the head of a GetObject or HeadObject asks of the version (RFC 9110, sections 13.1 and 14.2), and that of a copy of its
+-- source (Amazon S3 API Reference, CopyObject and UploadPartCopy): of each line the first one counts, and one that doesn't read
+-- is ignored.
 use Rattle.std.specs.Prelude.{ℕ, if◌then◌else◌, List, codes, Option, None, option_and_then}
 use Rattle.httpdate.specs.Date.{parse_secs}
 use Rattle.s3_conditions.specs.declared.conditions.Conditions.{Conditions}
@@ -15,7 +16,7 @@ date_of name head = option_and_then parse_secs (first_value name head)
 abbrev pub range_of : HeadParts → Option ByteRange
 range_of head = if is_sent (codes "if-range") head then None else option_and_then byte_range (first_value (codes "range") head)
 
--- the conditions
+-- the conditions of a read
 abbrev pub conditions_of : HeadParts → Conditions
 conditions_of head = record {
   if_match = first_value (codes "if-match") head;
@@ -23,4 +24,14 @@ conditions_of head = record {
   modified_since = date_of (codes "if-modified-since") head;
   unmodified_since = date_of (codes "if-unmodified-since") head;
   range = range_of head;
+}
+
+-- the conditions of a copy for its source, among which no range is
+abbrev pub source_conditions_of : HeadParts → Conditions
+source_conditions_of head = record {
+  if_match = first_value (codes "x-amz-copy-source-if-match") head;
+  if_none_match = first_value (codes "x-amz-copy-source-if-none-match") head;
+  modified_since = date_of (codes "x-amz-copy-source-if-modified-since") head;
+  unmodified_since = date_of (codes "x-amz-copy-source-if-unmodified-since") head;
+  range = None;
 }

@@ -3,10 +3,10 @@ ghost use Rattle.std.specs.Prelude.{◌≡◌, ◌<◌, true, length, Some, is_s
 ghost use Rattle.s3_terms.specs.Fault.{Follows};
 ghost use Rattle.s3_requests.specs.Commands as rules;
 
-use crate::region::Region;
 use crate::routing::{BucketPlan, Plan, UploadPlan};
 use s3_bodies::Payload;
 use s3_machine::{BucketCommand, Command, KeyCommand, ObjectPut, UploadCommand};
+use s3_prefixes::Text;
 use s3_request_documents::{read_completion, read_location, read_versioning};
 use s3_terms::{Code, Dialect, NoMemory};
 use std::alloc::Global;
@@ -61,6 +61,8 @@ fn bucket_command(alloc: Global, asked: BucketPlan, payload: Payload) -> Result<
         BucketPlan::Delete => Ok(BucketCommand::Delete),
         BucketPlan::PutVersioning { dialect } => versioning_command(alloc, dialect, payload),
         BucketPlan::GetVersioning => Ok(BucketCommand::GetVersioning),
+        BucketPlan::GetLocation { region } => Ok(BucketCommand::GetLocation { region }),
+        BucketPlan::GetConfiguration(which) => Ok(BucketCommand::GetConfiguration(which)),
         BucketPlan::ListObjects(asked) => Ok(BucketCommand::ListObjects(asked)),
         BucketPlan::ListVersions(asked) => Ok(BucketCommand::ListVersions(asked)),
         BucketPlan::ListUploads(asked) => Ok(BucketCommand::ListUploads(asked)),
@@ -70,7 +72,7 @@ fn bucket_command(alloc: Global, asked: BucketPlan, payload: Payload) -> Result<
 // CreateBucket, where the body may name this region, or isn't read.
 fn create_command(
     alloc: Global,
-    region: Option<Region>,
+    region: Option<Text>,
     payload: Payload,
 ) -> Result<BucketCommand, Code>
     ensures rule { Follows result (rules.create_command_of region payload) }
@@ -87,7 +89,7 @@ fn create_command(
 }
 
 // CreateBucket, where the body may name this region.
-fn located_command(alloc: Global, region: &Region, payload: Payload) -> Result<BucketCommand, Code>
+fn located_command(alloc: Global, region: &Text, payload: Payload) -> Result<BucketCommand, Code>
     ensures rule { Follows result (rules.create_command_of (Some region.now) payload) }
     ensures memory { IfErr result (λ code. code ≡ Code.InternalError → 0 < length payload) }
 {
@@ -156,6 +158,7 @@ fn upload_command(alloc: Global, asked: UploadPlan, payload: Payload) -> Result<
 {
     match asked {
         UploadPlan::PutPart { number } => Ok(UploadCommand::PutPart { number, payload }),
+        UploadPlan::CopyPart { number, copy } => Ok(UploadCommand::CopyPart { number, copy }),
         UploadPlan::Complete { dialect, if_absent } => {
             completion_command(alloc, dialect, if_absent, payload)
         }

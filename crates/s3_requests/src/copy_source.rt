@@ -1,4 +1,4 @@
-//! What a CopyObject copies.
+//! What a copy is from.
 ghost use Rattle.std.specs.Prelude.{◌≡◌, ◌==◌, take, IfOk};
 ghost use Rattle.std.specs.List.{list_any};
 ghost use Rattle.percent_encoding.specs.Percent.{percent_decode};
@@ -7,42 +7,46 @@ ghost use Rattle.s3_terms.specs.Fault.{Follows};
 ghost use Rattle.s3_requests.specs.CopySource as rules;
 
 use crate::arguments::read_id;
+use crate::operations::is_xml;
+use crate::read_conditions::source_conditions_of;
 use percent_encoding::percent_decode;
+use s3_conditions::Conditions;
 use s3_http_heads::{Head, has_bad_escape, is_named};
 use s3_machine::Source;
 use s3_names::{BucketName, Key, VersionId};
-use s3_terms::{Code, NoMemory};
+use s3_terms::{Code, Dialect, NoMemory};
 use s3_text::{after_first, before_first};
 use std::alloc::Global;
 
 /// How the names of lines begin that set conditions for the source.
 const CONDITION: &[u8] = b"x-amz-copy-source-if-";
 
-// The source that a CopyObject names. `NotImplemented` where the copy is to have metadata of its own, or on a
-// condition; `InvalidArgument` where the value of `x-amz-copy-source` names no version of a key.
+// The source that a copy names, and its conditions. `NotImplemented` where there are such and documents are JSON;
+// `InvalidArgument` where the value of `x-amz-copy-source` names no version of a key.
 #[tactic(auto, unfolding(crate::specs::CopySource::source_of))]
-pub(crate) fn copy_source(alloc: Global, head: &Head) -> Result<Source, Code>
-    ensures { Follows result (rules.source_of head.now) }
+pub(crate) fn copy_source(alloc: Global, dialect: Dialect, head: &Head) -> Result<Source, Code>
+    ensures { Follows result (rules.source_of dialect head.now) }
 {
-    if has_own_metadata(head) {
-        return Err(Code::NotImplemented);
-    }
-    if has_source_condition(head) {
+    if !is_xml(dialect) && has_source_condition(head) {
         return Err(Code::NotImplemented);
     }
     match head.first(b"x-amz-copy-source") {
         None => Err(Code::InvalidArgument),
-        Some(value) => source_in(alloc, value),
+        Some(value) => source_in(alloc, dialect, head, value),
     }
 }
 
-// Whether the copy is to have metadata of its own.
-fn has_own_metadata(head: &Head) -> bool
-    ensures { result ≡ rules.has_own_metadata head.now }
+// The conditions for the source.
+fn conditions_for_source(
+    alloc: Global,
+    dialect: Dialect,
+    head: &Head,
+) -> Result<Conditions, NoMemory>
+    ensures { IfOk result (λ conditions. conditions ≡ rules.conditions_for_source dialect head.now) }
 {
-    match head.first(b"x-amz-metadata-directive") {
-        None => false,
-        Some(directive) => directive != b"COPY".as_slice(),
+    match dialect {
+        Dialect::Json => Ok(Conditions::plain()),
+        Dialect::S3 => source_conditions_of(alloc, head),
     }
 }
 
@@ -74,10 +78,10 @@ fn front_of(name: &[u8]) -> &[u8]
     front
 }
 
-// What a value names.
+// What a value names, on the conditions of the head.
 #[tactic(auto, unfolding(crate::specs::CopySource::source_in))]
-fn source_in(alloc: Global, value: &[u8]) -> Result<Source, Code>
-    ensures { Follows result (rules.source_in value.now) }
+fn source_in(alloc: Global, dialect: Dialect, head: &Head, value: &[u8]) -> Result<Source, Code>
+    ensures { Follows result (rules.source_in (rules.conditions_for_source dialect head.now) value.now) }
 {
     let version = version_in(value)?;
     let path = path_in(value);
@@ -86,10 +90,12 @@ fn source_in(alloc: Global, value: &[u8]) -> Result<Source, Code>
     }
     let bucket = bucket_in(alloc, path)?;
     let key = key_in(alloc, path)?;
+    let conditions = conditions_for_source(alloc, dialect, head)?;
     Ok(Source {
         bucket,
         key,
         version,
+        conditions,
     })
 }
 

@@ -14,7 +14,7 @@ ghost use Rattle.s3_requests.specs.Description as rules;
 ghost use Rattle.s3_requests.specs.Name.{texts};
 
 use s3_http_heads::{Head, is_named};
-use s3_machine::UploadBegin;
+use s3_machine::Description;
 use s3_terms::Code;
 use s3_versions::{ContentType, Metadata, MetadataEntry};
 use std::alloc::{AllocError, Global};
@@ -27,12 +27,12 @@ const FRONT: &[u8] = b"x-amz-meta-";
 
 // What is said of the object: `InvalidArgument` of its media type, and then `MetadataTooLarge`.
 #[tactic(auto, unfolding(crate::specs::Description::description_of))]
-pub(crate) fn description_of(alloc: Global, head: &Head) -> Result<UploadBegin, Code>
+pub(crate) fn description_of(alloc: Global, head: &Head) -> Result<Description, Code>
     ensures { Follows result (rules.description_of head.now) }
 {
     let content_type = content_type_of(alloc, head)?;
     let metadata = metadata_of(alloc, head)?;
-    Ok(UploadBegin {
+    Ok(Description {
         content_type,
         metadata,
     })

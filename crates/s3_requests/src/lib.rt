@@ -2,23 +2,23 @@
 //! with the data that came.
 #![tactic(auto)]
 
+mod addresses;
 mod arguments;
 mod commands;
+mod copies;
 mod copy_source;
 mod description;
 mod laws;
 mod list_arguments;
 mod operations;
 mod read_conditions;
-mod region;
 mod routing;
 mod upload_arguments;
 mod write_condition;
 
 pub use commands::command;
 pub use laws::{plans_are_unbroken, tokens_are_read_back};
-pub use region::Region;
 pub use routing::{BucketPlan, Plan, UploadPlan, route};
 pub use s3_machine::{
-    BucketCommand, Command, KeyCommand, ObjectPut, ObjectRead, UploadBegin, UploadCommand,
+    BucketCommand, Command, Description, KeyCommand, ObjectPut, ObjectRead, UploadCommand,
 };

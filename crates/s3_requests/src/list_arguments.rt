@@ -8,11 +8,12 @@ ghost use Rattle.s3_http_heads.specs.Target.{first_parameter};
 ghost use Rattle.s3_requests.specs.ListArguments as rules;
 
 use crate::arguments::version_argument;
+use crate::operations::is_xml;
 use hex::FromHexError;
 use s3_http_heads::Target;
 use s3_listings::{PartsAsked, UploadsAsked, VersionsAsked};
 use s3_names::{UploadId, VersionId};
-use s3_prefixes::{ObjectsAsked, Text};
+use s3_prefixes::{ListVersion, ObjectsAsked, Text};
 use s3_terms::{Code, Dialect};
 use s3_text::decimal_number;
 use std::alloc::Global;
@@ -28,25 +29,48 @@ const NUMBER_DIGITS: usize = 9;
 pub(crate) fn objects_asked(
     alloc: Global,
     dialect: Dialect,
+    version: ListVersion,
     target: &Target,
 ) -> Result<ObjectsAsked, Code>
-    ensures { Follows result (rules.objects_asked_of dialect target.now) }
+    ensures { Follows result (rules.objects_asked_of dialect version target.now) }
 {
     let max_keys = count_argument(target, b"max-keys")?;
     let prefix = text_argument(alloc, target, b"prefix")?;
     let delimiter = text_argument(alloc, target, b"delimiter")?;
-    let start_after = optional_text(alloc, target, b"start-after")?;
-    let token = token_argument(alloc, target)?;
+    let (start_after, token) = places_asked(alloc, version, target)?;
     let is_url_encoded = is_encoding_asked(dialect, target)?;
     Ok(ObjectsAsked {
+        version,
         prefix,
         delimiter,
         start_after,
         token,
         max_keys,
         is_url_encoded,
-        tells_owner: is_owner_asked(dialect, target),
+        tells_owner: is_owner_asked(dialect, version, target),
     })
+}
+
+// The key and the item behind which a list of objects goes on, if they are there.
+#[tactic(auto, unfolding(crate::specs::ListArguments::places_of))]
+fn places_asked(
+    alloc: Global,
+    version: ListVersion,
+    target: &Target,
+) -> Result<(Option<Text>, Option<Text>), Code>
+    ensures { Follows result (rules.places_of version target.now) }
+{
+    match version {
+        ListVersion::First => {
+            let marker = optional_text(alloc, target, b"marker")?;
+            Ok((None, marker))
+        }
+        ListVersion::Second => {
+            let start_after = optional_text(alloc, target, b"start-after")?;
+            let token = token_argument(alloc, target)?;
+            Ok((start_after, token))
+        }
+    }
 }
 
 // What is asked of a list of versions: `NotImplemented` where common prefixes are asked for, and then `InvalidArgument`
@@ -160,12 +184,13 @@ fn encoding_named(name: Option<&[u8]>) -> Result<bool, Code>
 }
 
 // Whether the owners of objects are to be told.
-fn is_owner_asked(dialect: Dialect, target: &Target) -> bool
-    ensures { result ≡ rules.owner_asked dialect target.now }
+fn is_owner_asked(dialect: Dialect, version: ListVersion, target: &Target) -> bool
+    ensures { result ≡ rules.owner_asked dialect version target.now }
 {
-    match dialect {
-        Dialect::Json => false,
-        Dialect::S3 => value_of(target, b"fetch-owner") == b"true".as_slice(),
+    match version {
+        ListVersion::First => true,
+        ListVersion::Second => is_xml(dialect)
+            && value_of(target, b"fetch-owner") == b"true".as_slice(),
     }
 }
 

@@ -1,9 +1,11 @@
 //! The table of S3's operations: which one a request asks for, by its method, by what its address names, and by the
-//! parameters and lines that tell operations apart.
+//! parameters and lines that tell operations apart; and which of them this server has.
 ghost use Rattle.std.specs.Prelude.{◌≡◌};
 ghost use Rattle.s3_requests.specs.Operations as rules;
 
 use s3_http_heads::{Head, Method, Target};
+use s3_machine::Configuration;
+use s3_terms::Dialect;
 
 /// An operation, by its name in the Amazon S3 API Reference.
 #[derive(Clone, Copy)]
@@ -14,6 +16,9 @@ pub(crate) enum Operation {
     DeleteBucket,
     PutBucketVersioning,
     GetBucketVersioning,
+    GetBucketLocation,
+    // GetBucketPolicy and its like.
+    GetBucketConfiguration(Configuration),
     ListObjects,
     ListObjectsV2,
     ListObjectVersions,
@@ -70,7 +75,50 @@ fn bucket_read(target: &Target) -> Operation
         Operation::ListMultipartUploads
     } else if target.has_parameter(b"versions") {
         Operation::ListObjectVersions
-    } else if asks_for_second_list(target) {
+    } else if target.has_parameter(b"location") {
+        Operation::GetBucketLocation
+    } else {
+        match configuration_named(target) {
+            Some(which) => Operation::GetBucketConfiguration(which),
+            None => objects_read(target),
+        }
+    }
+}
+
+// The configuration of a bucket that is named.
+fn configuration_named(target: &Target) -> Option<Configuration>
+    ensures { result ≡ rules.configuration_named target.now }
+{
+    if target.has_parameter(b"cors") {
+        Some(Configuration::Cors)
+    } else if target.has_parameter(b"encryption") {
+        Some(Configuration::Encryption)
+    } else if target.has_parameter(b"lifecycle") {
+        Some(Configuration::Lifecycle)
+    } else if target.has_parameter(b"object-lock") {
+        Some(Configuration::ObjectLock)
+    } else if target.has_parameter(b"ownershipControls") {
+        Some(Configuration::OwnershipControls)
+    } else if target.has_parameter(b"policy") {
+        Some(Configuration::Policy)
+    } else if target.has_parameter(b"publicAccessBlock") {
+        Some(Configuration::PublicAccessBlock)
+    } else if target.has_parameter(b"replication") {
+        Some(Configuration::Replication)
+    } else if target.has_parameter(b"tagging") {
+        Some(Configuration::Tagging)
+    } else if target.has_parameter(b"website") {
+        Some(Configuration::Website)
+    } else {
+        None
+    }
+}
+
+// What a GET of a bucket asks for that names nothing of it.
+fn objects_read(target: &Target) -> Operation
+    ensures { result ≡ rules.objects_read target.now }
+{
+    if asks_for_second_list(target) {
         Operation::ListObjectsV2
     } else {
         Operation::ListObjects
@@ -148,4 +196,43 @@ fn key_post(target: &Target) -> Option<Operation>
     } else {
         None
     }
+}
+
+// Whether this server has the operation, where its documents are of this dialect.
+pub(crate) fn is_served(dialect: Dialect, operation: Operation) -> bool
+    ensures { result ≡ rules.is_served dialect operation }
+{
+    match operation {
+        Operation::ListObjects
+        | Operation::GetBucketLocation
+        | Operation::GetBucketConfiguration(_)
+        | Operation::UploadPartCopy => is_xml(dialect),
+        Operation::PostObject | Operation::GetObjectPart | Operation::HeadObjectPart => false,
+        Operation::ListBuckets
+        | Operation::CreateBucket
+        | Operation::HeadBucket
+        | Operation::DeleteBucket
+        | Operation::PutBucketVersioning
+        | Operation::GetBucketVersioning
+        | Operation::ListObjectsV2
+        | Operation::ListObjectVersions
+        | Operation::ListMultipartUploads
+        | Operation::PutObject
+        | Operation::CopyObject
+        | Operation::GetObject
+        | Operation::HeadObject
+        | Operation::DeleteObject
+        | Operation::CreateMultipartUpload
+        | Operation::UploadPart
+        | Operation::ListParts
+        | Operation::CompleteMultipartUpload
+        | Operation::AbortMultipartUpload => true,
+    }
+}
+
+// Whether documents are XML.
+pub(crate) fn is_xml(dialect: Dialect) -> bool
+    ensures { result ≡ rules.is_xml dialect }
+{
+    matches!(dialect, Dialect::S3)
 }

@@ -1,4 +1,4 @@
-//! What the head of a read asks of the version: its conditions and its range.
+//! What the head of a read asks of the version, its conditions and its range, and that of a copy of its source.
 ghost use Rattle.std.specs.Prelude.{◌≡◌, IfOk, option_and_then};
 ghost use Rattle.std.specs.Option.{option_copied};
 ghost use Rattle.httpdate.specs.Date.{parse_secs};
@@ -24,6 +24,21 @@ pub(crate) fn conditions_of(alloc: Global, head: &Head) -> Result<Conditions, No
         modified_since: date_of(head, b"if-modified-since"),
         unmodified_since: date_of(head, b"if-unmodified-since"),
         range: range_of(head),
+    })
+}
+
+// The conditions of a copy for its source, read as those of a read; there is no range among them.
+pub(crate) fn source_conditions_of(alloc: Global, head: &Head) -> Result<Conditions, NoMemory>
+    ensures { IfOk result (λ conditions. conditions ≡ rules.source_conditions_of head.now) }
+{
+    let if_match = tags_of(alloc, head, b"x-amz-copy-source-if-match")?;
+    let if_none_match = tags_of(alloc, head, b"x-amz-copy-source-if-none-match")?;
+    Ok(Conditions {
+        if_match,
+        if_none_match,
+        modified_since: date_of(head, b"x-amz-copy-source-if-modified-since"),
+        unmodified_since: date_of(head, b"x-amz-copy-source-if-unmodified-since"),
+        range: None,
     })
 }
 

@@ -1,28 +1,24 @@
 //! From a verified head to the operation that it asks for.
-ghost use Rattle.std.specs.Prelude.{◌≡◌, Ok, Err, IfOk, IfErr};
-ghost use Rattle.std.specs.List.{list_any};
+ghost use Rattle.std.specs.Prelude.{◌≡◌, Ok, IfOk};
 ghost use Rattle.s3_terms.specs.Fault.{Follows, FollowsPast};
-ghost use Rattle.s3_text.specs.Characters.{space};
-ghost use Rattle.s3_text.specs.Cut.{parts_at};
-ghost use Rattle.s3_http_heads.specs.Target.{has_parameter};
 ghost use Rattle.s3_requests.specs.Routing as rules;
 
+use crate::addresses::{address_at, is_service};
 use crate::arguments::version_argument;
-use crate::copy_source::copy_source;
+use crate::copies::{object_copy, part_copy};
 use crate::description::description_of;
 use crate::list_arguments::{objects_asked, parts_asked, uploads_asked, versions_asked};
-use crate::operations::{Operation, bucket_operation, key_operation, service_operation};
+use crate::operations::{Operation, bucket_operation, is_served, key_operation, service_operation};
 use crate::read_conditions::conditions_of;
-use crate::region::Region;
 use crate::upload_arguments::{part_argument, upload_argument};
 use crate::write_condition::absence_of;
 use s3_config::Config;
 use s3_http_heads::{Head, Target};
 use s3_listings::{PartsAsked, UploadsAsked, VersionsAsked};
-use s3_machine::{KeyCommand, ObjectCopy, ObjectPut, ObjectRead};
+use s3_machine::{Configuration, KeyCommand, ObjectPut, ObjectRead, PartCopy};
 use s3_names::{BucketName, Key, PartNumber, UploadId};
-use s3_prefixes::ObjectsAsked;
-use s3_terms::{Code, Dialect};
+use s3_prefixes::{ListVersion, ObjectsAsked, Text};
+use s3_terms::{Code, Dialect, NoMemory};
 use std::alloc::Global;
 
 /// What a head asks for, before the body is read: an operation with its arguments.
@@ -56,7 +52,7 @@ pub enum BucketPlan {
     /// Make it (CreateBucket).
     Create {
         /// The region that the body may name; `None` where the body isn't read.
-        region: Option<Region>,
+        region: Option<Text>,
     },
     /// Ask whether it is there (HeadBucket).
     Head,
@@ -68,7 +64,14 @@ pub enum BucketPlan {
     },
     /// Ask for its versioning (GetBucketVersioning).
     GetVersioning,
-    /// List its objects (ListObjectsV2).
+    /// Ask where it is (GetBucketLocation).
+    GetLocation {
+        /// The region of the server.
+        region: Text,
+    },
+    /// Ask for one of its configurations (GetBucketPolicy and its like).
+    GetConfiguration(Configuration),
+    /// List its objects (ListObjects and ListObjectsV2).
     ListObjects(ObjectsAsked),
     /// List its versions (ListObjectVersions).
     ListVersions(VersionsAsked),
@@ -82,6 +85,11 @@ pub enum UploadPlan {
     /// Keep the body as its part of this number (UploadPart).
     PutPart {
         number: PartNumber,
+    },
+    /// Keep what a version has as its part of this number (UploadPartCopy).
+    CopyPart {
+        number: PartNumber,
+        copy: PartCopy,
     },
     /// Store the parts that the body lists as one object (CompleteMultipartUpload).
     Complete {
@@ -103,73 +111,46 @@ pub(crate) enum KeyAsked {
     Upload { id: UploadId, asked: UploadPlan },
 }
 
-/// The sub-resources of S3 that this server doesn't have, with a space between each two.
-const LACKING: &[u8] =
-    b"accelerate acl analytics attributes cors delete encryption intelligent-tiering inventory legal-hold lifecycle location logging metrics notification object-lock ownershipControls policy policyStatus publicAccessBlock replication requestPayment restore retention select tagging torrent website";
-
 /// The operation that a verified head asks for, with its bucket, its key and its arguments (Amazon S3 User
 /// Guide, "Path-style requests"). A refusal is the first fault of routing in the order of
-/// `docs/PROTOCOL.md`; `InternalError` says that there was no memory for the names, for what a put or the beginning of an
-/// upload says of its object, for the tags that a read names, for the texts that a list is asked by and for the region that
-/// a new bucket may name, of an address that may have them: without a sub-resource that this server lacks, and with the name
-/// of a bucket. The cost is linear in the names and the query, and in the header lines times the names of metadata. Of
-/// `config` it takes the dialect and the region, by which some arguments and the documents of bodies are read.
+/// `docs/PROTOCOL.md`; `InternalError` says that there was no memory for the names, for what a put, a copy or the beginning
+/// of an upload says of its object, for the tags that a read or a copy names, for the texts that a list is asked by and for
+/// the region that a new bucket may name or that a bucket is in, of an address that may have them: without a sub-resource
+/// that this server lacks, and with the name of a bucket. The cost is linear in the names and the query, and in the header
+/// lines times the names of metadata. Of `config` it takes the dialect, by which there are more operations and arguments and
+/// by which the documents of bodies are read, and the region, in which all buckets are.
 #[tactic(auto, unfolding(crate::specs::Routing::route_of, crate::specs::Routing::bucket_at))]
 pub fn route(alloc: Global, config: &Config, head: &Head) -> Result<Plan, Code>
-    ensures { FollowsPast (rules.bucket_at head.now) result (rules.route_of config.now head.now) }
+    ensures { FollowsPast (rules.bucket_at config.now.dialect head.now) result (rules.route_of config.now head.now) }
 {
-    let target = address_at(head)?;
+    let target = address_at(config.dialect(), head)?;
     if is_service(target) {
-        return service_plan(head);
+        return service_plan(config.dialect(), head);
     }
     named_plan(alloc, config, head, target)
 }
 
-// What the target says, unless it names a sub-resource that isn't there.
-#[tactic(auto, unfolding(crate::specs::Routing::address_at))]
-fn address_at(head: &Head) -> Result<&Target, Code>
-    ensures ok { IfOk result (λ target. rules.address_at head.now ≡ Ok target.now) }
-    ensures err { IfErr result (λ code. rules.address_at head.now ≡ Err code) }
+// The operation, where there is one and this server has it: `MethodNotAllowed`, and then `NotImplemented`.
+#[tactic(auto, unfolding(crate::specs::Routing::served))]
+fn served(dialect: Dialect, found: Option<Operation>) -> Result<Operation, Code>
+    ensures { result ≡ rules.served dialect found }
 {
-    let target = head.decoded_target()?;
-    if names_lacking(target) {
+    let operation = found.ok_or(Code::MethodNotAllowed)?;
+    if !is_served(dialect, operation) {
         return Err(Code::NotImplemented);
     }
-    Ok(target)
-}
-
-// Whether the query names a sub-resource that this server doesn't have.
-fn names_lacking(target: &Target) -> bool
-    ensures { result ≡ rules.names_lacking target.now }
-{
-    names_one_of(target, LACKING)
-}
-
-// Whether the query names one of these, between which stand spaces.
-fn names_one_of(target: &Target, names: &[u8]) -> bool
-    ensures { result ≡ list_any (λ name. has_parameter name target.now) (parts_at space names.now) }
-{
-    names
-        .split(|byte| *byte == b' ')
-        .any(|name| target.has_parameter(name))
-}
-
-// Whether the service is meant.
-fn is_service(target: &Target) -> bool
-    ensures { result ≡ rules.is_service target.now }
-{
-    target.path() == b"/".as_slice()
+    Ok(operation)
 }
 
 // What is asked of the service.
 #[tactic(auto, unfolding(crate::specs::Routing::service_plan))]
-fn service_plan(head: &Head) -> Result<Plan, Code>
-    ensures { result ≡ rules.service_plan head.now }
+fn service_plan(dialect: Dialect, head: &Head) -> Result<Plan, Code>
+    ensures { result ≡ rules.service_plan dialect head.now }
 {
-    match service_operation(head.method()) {
-        Some(Operation::ListBuckets) => Ok(Plan::ListBuckets),
-        Some(_) => Err(Code::NotImplemented),
-        None => Err(Code::MethodNotAllowed),
+    let operation = served(dialect, service_operation(head.method()))?;
+    match operation {
+        Operation::ListBuckets => Ok(Plan::ListBuckets),
+        _ => Err(Code::NotImplemented),
     }
 }
 
@@ -213,18 +194,33 @@ fn bucket_plan(
 ) -> Result<BucketPlan, Code>
     ensures { Follows result (rules.bucket_plan config.now head.now target.now) }
 {
+    let operation = served(config.dialect(), bucket_operation(head.method(), target))?;
+    bucket_plan_for(alloc, config, target, operation)
+}
+
+// The same by its operation.
+fn bucket_plan_for(
+    alloc: Global,
+    config: &Config,
+    target: &Target,
+    operation: Operation,
+) -> Result<BucketPlan, Code>
+    ensures { Follows result (rules.bucket_plan_for config.now operation target.now) }
+{
     let dialect = config.dialect();
-    match bucket_operation(head.method(), target) {
-        Some(Operation::CreateBucket) => create_plan(alloc, config),
-        Some(Operation::HeadBucket) => Ok(BucketPlan::Head),
-        Some(Operation::DeleteBucket) => Ok(BucketPlan::Delete),
-        Some(Operation::PutBucketVersioning) => Ok(BucketPlan::PutVersioning { dialect }),
-        Some(Operation::GetBucketVersioning) => Ok(BucketPlan::GetVersioning),
-        Some(Operation::ListObjectsV2) => objects_plan(alloc, dialect, target),
-        Some(Operation::ListObjectVersions) => versions_plan(alloc, dialect, target),
-        Some(Operation::ListMultipartUploads) => uploads_plan(alloc, dialect, target),
-        Some(_) => Err(Code::NotImplemented),
-        None => Err(Code::MethodNotAllowed),
+    match operation {
+        Operation::CreateBucket => create_plan(alloc, config),
+        Operation::HeadBucket => Ok(BucketPlan::Head),
+        Operation::DeleteBucket => Ok(BucketPlan::Delete),
+        Operation::PutBucketVersioning => Ok(BucketPlan::PutVersioning { dialect }),
+        Operation::GetBucketVersioning => Ok(BucketPlan::GetVersioning),
+        Operation::GetBucketLocation => location_plan(alloc, config),
+        Operation::GetBucketConfiguration(which) => Ok(BucketPlan::GetConfiguration(which)),
+        Operation::ListObjects => first_objects_plan(alloc, dialect, target),
+        Operation::ListObjectsV2 => objects_plan(alloc, dialect, ListVersion::Second, target),
+        Operation::ListObjectVersions => versions_plan(alloc, dialect, target),
+        Operation::ListMultipartUploads => uploads_plan(alloc, dialect, target),
+        _ => Err(Code::NotImplemented),
     }
 }
 
@@ -235,7 +231,7 @@ fn create_plan(alloc: Global, config: &Config) -> Result<BucketPlan, Code>
     match config.dialect() {
         Dialect::Json => Ok(BucketPlan::Create { region: None }),
         Dialect::S3 => {
-            let region = Region::copy(alloc, config.region())?;
+            let region = region_of(alloc, config)?;
             Ok(BucketPlan::Create {
                 region: Some(region),
             })
@@ -243,11 +239,41 @@ fn create_plan(alloc: Global, config: &Config) -> Result<BucketPlan, Code>
     }
 }
 
-// ListObjectsV2, with what is asked of the list.
-fn objects_plan(alloc: Global, dialect: Dialect, target: &Target) -> Result<BucketPlan, Code>
-    ensures { Follows result (rules.objects_plan dialect target.now) }
+// GetBucketLocation, with the region that all buckets are in.
+fn location_plan(alloc: Global, config: &Config) -> Result<BucketPlan, Code>
+    ensures { Follows result (Ok (BucketPlan.GetLocation config.now.region)) }
 {
-    let asked = objects_asked(alloc, dialect, target)?;
+    let region = region_of(alloc, config)?;
+    Ok(BucketPlan::GetLocation { region })
+}
+
+// The region of the server.
+fn region_of(alloc: Global, config: &Config) -> Result<Text, NoMemory>
+    ensures { IfOk result (λ region. region ≡ config.now.region) }
+{
+    Text::of(alloc, config.region())
+}
+
+// ListObjects, with what is asked of the list: `NotImplemented` where another type of list is asked for.
+fn first_objects_plan(alloc: Global, dialect: Dialect, target: &Target) -> Result<BucketPlan, Code>
+    ensures { Follows result (rules.first_objects_plan dialect target.now) }
+{
+    if target.has_parameter(b"list-type") {
+        return Err(Code::NotImplemented);
+    }
+    objects_plan(alloc, dialect, ListVersion::First, target)
+}
+
+// A list of objects in this version, with what is asked of it.
+fn objects_plan(
+    alloc: Global,
+    dialect: Dialect,
+    version: ListVersion,
+    target: &Target,
+) -> Result<BucketPlan, Code>
+    ensures { Follows result (rules.objects_plan dialect version target.now) }
+{
+    let asked = objects_asked(alloc, dialect, version, target)?;
     Ok(BucketPlan::ListObjects(asked))
 }
 
@@ -272,16 +298,30 @@ fn uploads_plan(alloc: Global, dialect: Dialect, target: &Target) -> Result<Buck
 fn key_plan(alloc: Global, dialect: Dialect, head: &Head, target: &Target) -> Result<KeyAsked, Code>
     ensures { Follows result (rules.key_plan dialect head.now target.now) }
 {
-    match key_operation(head.method(), head, target) {
-        Some(Operation::UploadPart) => part_plan(target),
-        Some(Operation::ListParts) => parts_plan(target),
-        Some(Operation::CompleteMultipartUpload) => complete_plan(dialect, head, target),
-        Some(Operation::AbortMultipartUpload) => upload_plan(target, UploadPlan::Abort),
-        Some(operation) => match key_plan_for(alloc, head, target, operation) {
+    let operation = served(dialect, key_operation(head.method(), head, target))?;
+    asked_for(alloc, dialect, head, target, operation)
+}
+
+// The same by its operation.
+fn asked_for(
+    alloc: Global,
+    dialect: Dialect,
+    head: &Head,
+    target: &Target,
+    operation: Operation,
+) -> Result<KeyAsked, Code>
+    ensures { Follows result (rules.asked_for dialect operation head.now target.now) }
+{
+    match operation {
+        Operation::UploadPart => part_plan(target),
+        Operation::UploadPartCopy => part_copy_plan(alloc, dialect, head, target),
+        Operation::ListParts => parts_plan(target),
+        Operation::CompleteMultipartUpload => complete_plan(dialect, head, target),
+        Operation::AbortMultipartUpload => upload_plan(target, UploadPlan::Abort),
+        _ => match key_plan_for(alloc, dialect, head, target, operation) {
             Ok(asked) => Ok(KeyAsked::Key(asked)),
             Err(code) => Err(code),
         },
-        None => Err(Code::MethodNotAllowed),
     }
 }
 
@@ -293,6 +333,24 @@ fn part_plan(target: &Target) -> Result<KeyAsked, Code>
     Ok(KeyAsked::Upload {
         id,
         asked: UploadPlan::PutPart { number },
+    })
+}
+
+// UploadPartCopy, with its part, and what it copies.
+#[tactic(auto, unfolding(crate::specs::Routing::part_copy_plan))]
+fn part_copy_plan(
+    alloc: Global,
+    dialect: Dialect,
+    head: &Head,
+    target: &Target,
+) -> Result<KeyAsked, Code>
+    ensures { Follows result (rules.part_copy_plan dialect head.now target.now) }
+{
+    let (id, number) = part_argument(target)?;
+    let copy = part_copy(alloc, dialect, head)?;
+    Ok(KeyAsked::Upload {
+        id,
+        asked: UploadPlan::CopyPart { number, copy },
     })
 }
 
@@ -330,15 +388,16 @@ fn upload_plan(target: &Target, asked: UploadPlan) -> Result<KeyAsked, Code>
 #[tactic(auto, unfolding(crate::specs::Routing::key_plan_for))]
 fn key_plan_for(
     alloc: Global,
+    dialect: Dialect,
     head: &Head,
     target: &Target,
     operation: Operation,
 ) -> Result<KeyCommand<()>, Code>
-    ensures { Follows result (rules.key_plan_for operation head.now target.now) }
+    ensures { Follows result (rules.key_plan_for dialect operation head.now target.now) }
 {
     match operation {
         Operation::PutObject => put_plan(alloc, head),
-        Operation::CopyObject => copy_plan(alloc, head),
+        Operation::CopyObject => copy_plan(alloc, dialect, head, target),
         Operation::GetObject | Operation::HeadObject => read_plan(alloc, head, target),
         Operation::DeleteObject => delete_plan(target),
         Operation::CreateMultipartUpload => begin_plan(alloc, head),
@@ -392,9 +451,14 @@ fn delete_plan(target: &Target) -> Result<KeyCommand<()>, Code>
 }
 
 // CopyObject, with what it copies.
-fn copy_plan(alloc: Global, head: &Head) -> Result<KeyCommand<()>, Code>
-    ensures { Follows result (rules.copy_plan head.now) }
+fn copy_plan(
+    alloc: Global,
+    dialect: Dialect,
+    head: &Head,
+    target: &Target,
+) -> Result<KeyCommand<()>, Code>
+    ensures { Follows result (rules.copy_plan dialect head.now target.now) }
 {
-    let source = copy_source(alloc, head)?;
-    Ok(KeyCommand::Copy(ObjectCopy { source }))
+    let copy = object_copy(alloc, dialect, head, target)?;
+    Ok(KeyCommand::Copy(copy))
 }

@@ -42,7 +42,7 @@ module _ (settings : Settings) (head : HeadParts) (moment size : ℕ) (proved : 
 
   -- or its routing refuses it
   pub admits_unrouted : (reader : PayloadReader) (code : Code) → Begins (announced_payload settings head size proved) (Ok reader)
-      → FollowsPast {A = Plan} (bucket_at head) (Err code) (route_of settings head) → Admits (early_admission settings head moment) (Err code) (admission_of settings head moment)
+      → FollowsPast {A = Plan} (bucket_at settings.dialect head) (Err code) (route_of settings head) → Admits (early_admission settings head moment) (Err code) (admission_of settings head moment)
   unfolding admission_of
   admits_unrouted reader code (announced, at, stands) (inl lost) = inl (lost.0, early_ok)
   admits_unrouted reader code (announced, at, stands) (inr refused) = inr (rw (framed, verified, at, refused) refl)

@@ -7,6 +7,7 @@ use Rattle.s3_names.specs.declared.ids.VersionId.{VersionId}
 use Rattle.s3_versions.specs.declared.version.Data.{Data}
 use Rattle.s3_versions.specs.Metadata.{Entry as MetadataEntry}
 use Rattle.s3_uploads.specs.declared.listed.ListedPart.{ListedPart}
+use Rattle.s3_uploads.specs.declared.part.Part.{Part as UploadPart}
 use Rattle.s3_terms.specs.Fault.{◌>>=◌}
 use Rattle.s3_terms.specs.declared.code.Code.{Code}
 use Rattle.s3_records.specs.Catalogue.{opening}
@@ -22,15 +23,16 @@ use Rattle.s3_requests.specs.Commands.{bucket_command_of, upload_command_of, com
 use Rattle.s3_conditions.specs.declared.conditions.Selection.{Selection}
 use Rattle.s3_conditions.specs.declared.conditions.Selection.TheVariants.{Whole, Part, Unchanged, Outside}
 use Rattle.s3_machine.specs.declared.command.Command.{Command}
+use Rattle.s3_machine.specs.declared.command.Description.{Description}
 use Rattle.s3_machine.specs.declared.command.Found.{Found}
 use Rattle.s3_machine.specs.declared.command.Outcome.{Outcome}
 use Rattle.s3_machine.specs.declared.command.Outcome.TheVariants.{Got}
-use Rattle.s3_machine.specs.Step.{State}
+use Rattle.s3_machine.specs.Step.{State, described}
 use Rattle.s3_machine.specs.Effects.{Address, UploadPlace, Read, brought, brings, sent, upload_sent, whole, given, given_whole, found_object, succeeds}
 use Rattle.s3_machine.specs.History.{Entry, Legal}
-use Rattle.s3_machine.specs.Kept.{LeavesKey, SparesVersion, IsGiven, Puts, WasPut, Copies, EveryHistory, StoredIsKept, VersionsAreKept, OnlyStoredIsGiven, StoredWasBrought, ReadsGiveOrFail, ReadsAreJudged, PutsAreKept, PutVersionsAreKept, CopiesAreKept, CopyVersionsAreKept}
+use Rattle.s3_machine.specs.Kept.{LeavesKey, SparesVersion, IsGiven, Puts, WasPut, WasDescribed, Copies, EveryHistory, StoredIsKept, VersionsAreKept, OnlyStoredIsGiven, StoredWasBrought, ReadsGiveOrFail, ReadsAreJudged, PutsAreKept, PutVersionsAreKept, CopiesAreKept, CopyVersionsAreKept}
 use Rattle.s3_machine.specs.Uploads.{Completes, AreJoined, WasJoined}
-use Rattle.s3_machine.specs.UploadsKept.{CompletionsAreKept, CompletionVersionsAreKept}
+use Rattle.s3_machine.specs.UploadsKept.{CompletionsAreKept, CompletionVersionsAreKept, PartsHaveASource}
 use Rattle.s3_replies.specs.Lines.{metadata_line}
 use Rattle.s3_replies.specs.Laws.{Carries, IsUnbroken, PartsAreCarried, is_unbroken, is_whole_line, tells_success, SuccessIsShown, ObjectsAreCarried, TagsAreUnbroken}
 use Rattle.s3_payloads.specs.Laws.{WholePayloadsAreBodies}
@@ -40,7 +42,7 @@ use Rattle.s3_session.specs.ReadBack.{entry_of, entries_from, AsksFor, Wrote, Wr
 use Rattle.s3_session.proofs.ReplayLemmas.{replayed_legal, replayed_walk}
 use Rattle.s3_session.proofs.ServesLemmas.{all_of_two}
 use Rattle.s3_session.proofs.SoundLemmas.{admitted_length, one_count}
-use Rattle.s3_session.proofs.SentLemmas.{all_sent}
+use Rattle.s3_session.proofs.SentLemmas.{all_put}
 use Rattle.s3_session.proofs.UnbrokenLemmas.{BringsUnbroken, bucket_command, upload_command, walked_unbroken}
 
 -- ---- what a reply shows of its entry
@@ -116,21 +118,30 @@ abbrev BringsWhole : Entry → Type 0
 BringsWhole e = BringsUnbroken e.command
 
 -- what a put brought is so, and what a completion joined
-unbroken_origin : TagsAreUnbroken → (entries : List Entry) (what : Data (List ℕ)) → AllByRecursion BringsWhole entries
-    → (WasPut entries what ⊎ WasJoined entries what) → IsUnbroken what
-unbroken_origin tags entries what all (inl put) =
+unbroken_origin : TagsAreUnbroken → (least : ℕ) (s : State) (entries : List Entry) (what : Data (List ℕ)) → AllByRecursion BringsWhole entries
+    → (WasPut entries what ⊎ WasJoined least s entries what) → IsUnbroken what
+unbroken_origin tags least s entries what all (inl put) =
     (all_of_two BringsWhole put.before (put.put ∷ put.later) (subst (AllByRecursion BringsWhole) put.parts all)).1.0.whole what put.puts.brings
-unbroken_origin tags entries what all (inr it) =
+unbroken_origin tags least s entries what all (inr it) =
     let before = (all_of_two BringsWhole it.before (it.complete ∷ it.later) (subst (AllByRecursion BringsWhole) it.parts all)).0 in
     let joined = it.joined in
     let begun = joined.begun in
     let brings = (all_of_two BringsWhole begun.before (begun.begin ∷ begun.since) (subst (AllByRecursion BringsWhole) begun.parts before)).1.0 in
     let said = brings.begun it.upload.address joined.asked begun.begins.at in
     record {
-      tag = ap is_unbroken joined.tag ∙ tags _ (Some (length joined.bodies));
+      tag = ap is_unbroken joined.tag ∙ tags _ (Some (length joined.made));
       content_type = ap is_unbroken joined.content_type ∙ said.0;
       metadata = ap (λ (entries : List MetadataEntry). list_all is_whole_line (map metadata_line entries)) joined.metadata ∙ said.1;
     }
+
+-- and so are these data as a copy said of them
+unbroken_described : (entries : List Entry) (origin what : Data (List ℕ)) → AllByRecursion BringsWhole entries → IsUnbroken origin
+    → ((what ≡ origin) ⊎ WasDescribed entries origin what) → IsUnbroken what
+unbroken_described entries origin what all unbroken (inl same) = subst IsUnbroken (sym same) unbroken
+unbroken_described entries origin what all unbroken (inr it) =
+    let brings = (all_of_two BringsWhole it.before (it.copy ∷ it.later) (subst (AllByRecursion BringsWhole) it.parts all)).1.0 in
+    let said = brings.said it.asked it.said it.copies.from in
+    subst IsUnbroken (sym it.is) (record { tag = unbroken.tag; content_type = said.0; metadata = said.1 })
 
 module _ (laws : LawsBelow) (settings : Settings) (exchanges : List Exchange) (are : AreReplayed settings exchanges) where
   -- what holds of every history holds of theirs
@@ -142,7 +153,7 @@ module _ (laws : LawsBelow) (settings : Settings) (exchanges : List Exchange) (a
   replied_at earlier later x at =
       (all_of_two IsReplied earlier (x ∷ later) (subst (AllByRecursion IsReplied) at are.replied)).1.0
 
-  -- what a read is given was stored before, and brought by a put, or joined of parts
+  -- what a read is given was stored before, and brought by a put, or joined of parts, but for what a copy said of it
   unbroken_given : (earlier later : List Exchange) (read : Exchange) (asked : Read) (found : Found (List ℕ))
       → exchanges ≡ earlier ++ read ∷ later → AsksFor asked read → given read.answer.outcome ≡ Some found → IsUnbroken found.stored
   unbroken_given earlier later read asked found at asks gives =
@@ -151,8 +162,9 @@ module _ (laws : LawsBelow) (settings : Settings) (exchanges : List Exchange) (a
       refl entries asks.read gives).2 in
       let all = subst (AllByRecursion BringsWhole) entries (all_entries BringsUnbroken exchanges are.unbroken) in
       let past = (all_of_two BringsWhole (entries_from earlier) (entry_of read ∷ entries_from later) all).0 in
-      unbroken_origin laws.tags (entries_from earlier) found.stored past
-      (of_history laws.origins settings.buckets (entries_from earlier) (entry_of read ∷ entries_from later) _ refl entries was)
+      let brought = of_history laws.origins settings.buckets (entries_from earlier) (entry_of read ∷ entries_from later) _ refl entries was in
+      unbroken_described (entries_from earlier) brought.0 found.stored past
+      (unbroken_origin laws.tags settings.min_part (opening settings.buckets) (entries_from earlier) brought.0 past brought.1) brought.2
 
   -- so its reply carries it, where it is given all of it
   given_carried : (earlier later : List Exchange) (read : Exchange) (asked : Read) (found : Found (List ℕ))
@@ -277,25 +289,33 @@ module _ (laws : LawsBelow) (settings : Settings) (exchanges : List Exchange) (a
 
   -- ---- copies
 
-  copies_of : (x : Exchange) (address : Address) (asked : Read) → IsReplied x → WroteCopy address asked x → Copies address asked (entry_of x)
-  copies_of x address asked replied wrote =
+  copies_of : (x : Exchange) (address : Address) (asked : Read) (said : Option Description) → IsReplied x → WroteCopy address asked said x
+      → Copies address asked said (entry_of x)
+  copies_of x address asked said replied wrote =
       record { written = wrote.written; from = wrote.from; accepted = sym (shows laws.success x replied) ∙ wrote.answered }
 
+  -- the bytes of a copy are those of its source, whatever it says of them
+  copy_carried : (earlier later : List Exchange) (read : Exchange) (asked : Read) (t : ℕ) (said : Option Description) (what : Data (List ℕ))
+      → exchanges ≡ earlier ++ read ∷ later → AsksFor asked read → IsGiven t (described said what) (entry_of read) → Carries what.body read.reply
+  copy_carried earlier later read asked t None what at asks is = data_carried earlier later read asked t what at asks is
+  copy_carried earlier later read asked t (Some said) what at asks is =
+      data_carried earlier later read asked t (described (Some said) what) at asks is
+
   copy_read_back : EveryHistory CopiesAreKept → CopiesAreReadBack settings exchanges
-  copy_read_back kept before between later copy read address asked parts wrote alone asks =
+  copy_read_back kept before between later copy read address asked said parts wrote alone asks =
       let replied = replied_from before between later copy read parts in
-      let found = of_history kept (entries_from before) (entries_from between) (entries_from later) (entry_of copy) (entry_of read) address asked
-      (entries_of_parts before between later copy read parts) (copies_of copy address asked replied.0 wrote)
+      let found = of_history kept (entries_from before) (entries_from between) (entries_from later) (entry_of copy) (entry_of read) address asked said
+      (entries_of_parts before between later copy read parts) (copies_of copy address asked said replied.0 wrote)
       (leaves_key laws.success address between replied.1 alone) asks.read in
-      (found.0, found.1, data_carried (before ++ copy ∷ between) later read _ copy.context.moment found.0 parts asks found.2)
+      (found.0, found.1, copy_carried (before ++ copy ∷ between) later read _ copy.context.moment said found.0 parts asks found.2)
 
   copy_version_read_back : EveryHistory CopyVersionsAreKept → CopyVersionsAreReadBack settings exchanges
-  copy_version_read_back kept before between later copy read address asked id parts wrote under spared asks =
+  copy_version_read_back kept before between later copy read address asked said id parts wrote under spared asks =
       let replied = replied_from before between later copy read parts in
-      let found = of_history kept (entries_from before) (entries_from between) (entries_from later) (entry_of copy) (entry_of read) address asked id
-      (entries_of_parts before between later copy read parts) (copies_of copy address asked replied.0 wrote) under
+      let found = of_history kept (entries_from before) (entries_from between) (entries_from later) (entry_of copy) (entry_of read) address asked said id
+      (entries_of_parts before between later copy read parts) (copies_of copy address asked said replied.0 wrote) under
       (spares_version laws.success address id between replied.1 spared) asks.read in
-      (found.0, found.1, data_carried (before ++ copy ∷ between) later read _ copy.context.moment found.0 parts asks found.2)
+      (found.0, found.1, copy_carried (before ++ copy ∷ between) later read _ copy.context.moment said found.0 parts asks found.2)
 
   -- ---- completions
 
@@ -304,38 +324,38 @@ module _ (laws : LawsBelow) (settings : Settings) (exchanges : List Exchange) (a
   completes_of x upload listed replied wrote =
       record { asks = wrote.asks; accepted = sym (shows laws.success x replied) ∙ wrote.answered }
 
-  -- the reply to a read that is given what was joined carries the bytes that messages sent
-  joined_carried : (before between later : List Exchange) (complete read : Exchange) (upload : UploadPlace) (listed : List ListedPart)
+  -- the reply to a read that is given what was joined carries the bytes that messages put
+  joined_carried : PartsHaveASource → (before between later : List Exchange) (complete read : Exchange) (upload : UploadPlace) (listed : List ListedPart)
       (asked : Read) (what : Data (List ℕ))
       → exchanges ≡ before ++ complete ∷ between ++ read ∷ later → AsksFor asked read
-      → AreJoined (entries_from before) upload listed what → IsGiven complete.context.moment what (entry_of read)
-      → CarriesParts before upload listed read.reply
-  joined_carried before between later complete read upload listed asked what parts asks joined given =
+      → AreJoined settings.min_part (opening settings.buckets) (entries_from before) upload listed what → IsGiven complete.context.moment what (entry_of read)
+      → CarriesParts settings before upload listed read.reply
+  joined_carried sources before between later complete read upload listed asked what parts asks joined given =
       let begun = joined.begun in
       record {
-        bodies = joined.bodies;
-        sent = all_sent laws.success before (replied_parts before between later complete read parts).0 upload
+        bodies = map (λ (part : UploadPart (List ℕ)). part.body) joined.made;
+        put = all_put laws.success sources settings before (replied_parts before between later complete read parts).0 upload
             (begun.before ++ begun.begin ∷ []) begun.since
-            (begun.parts ∙ sym (append_assoc begun.before (begun.begin ∷ []) begun.since)) listed joined.bodies joined.sent;
+            (begun.parts ∙ sym (append_assoc begun.before (begun.begin ∷ []) begun.since)) listed joined.made joined.sent;
         carried = subst (λ (b : List ℕ). Carries b read.reply) joined.body
             (data_carried (before ++ complete ∷ between) later read asked complete.context.moment what parts asks given);
       }
 
-  completion_read_back : EveryHistory CompletionsAreKept → CompletionsAreReadBack settings exchanges
-  completion_read_back kept before between later complete read upload listed parts wrote alone asks =
+  completion_read_back : PartsHaveASource → EveryHistory CompletionsAreKept → CompletionsAreReadBack settings exchanges
+  completion_read_back sources kept before between later complete read upload listed parts wrote alone asks =
       let replied = replied_from before between later complete read parts in
       let found = of_history kept settings.buckets (entries_from before) (entries_from between) (entries_from later) (entry_of complete) (entry_of read)
       upload listed refl (entries_of_parts before between later complete read parts) (completes_of complete upload listed replied.0 wrote)
       (leaves_key laws.success upload.address between replied.1 alone) asks.read in
-      joined_carried before between later complete read upload listed _ found.0 parts asks found.1 found.2
+      joined_carried sources before between later complete read upload listed _ found.0 parts asks found.1 found.2
 
-  completion_version_read_back : EveryHistory CompletionVersionsAreKept → CompletionVersionsAreReadBack settings exchanges
-  completion_version_read_back kept before between later complete read upload listed id parts wrote under spared asks =
+  completion_version_read_back : PartsHaveASource → EveryHistory CompletionVersionsAreKept → CompletionVersionsAreReadBack settings exchanges
+  completion_version_read_back sources kept before between later complete read upload listed id parts wrote under spared asks =
       let replied = replied_from before between later complete read parts in
       let found = of_history kept settings.buckets (entries_from before) (entries_from between) (entries_from later) (entry_of complete) (entry_of read)
       upload listed id refl (entries_of_parts before between later complete read parts) (completes_of complete upload listed replied.0 wrote) under
       (spares_version laws.success upload.address id between replied.1 spared) asks.read in
-      joined_carried before between later complete read upload listed _ found.0 parts asks found.1 found.2
+      joined_carried sources before between later complete read upload listed _ found.0 parts asks found.1 found.2
 
 -- ---- of every replay
 
@@ -379,12 +399,13 @@ module _ (laws : LawsBelow) where
   copy_versions_are_read_back kept =
       of_replays (λ settings exchanges are. copy_version_read_back laws settings exchanges are kept)
 
-  pub completions_are_read_back : EveryHistory CompletionsAreKept → EveryReplay CompletionsAreReadBack
-  completions_are_read_back kept = of_replays (λ settings exchanges are. completion_read_back laws settings exchanges are kept)
+  pub completions_are_read_back : PartsHaveASource → EveryHistory CompletionsAreKept → EveryReplay CompletionsAreReadBack
+  completions_are_read_back sources kept =
+      of_replays (λ settings exchanges are. completion_read_back laws settings exchanges are sources kept)
 
-  pub completion_versions_are_read_back : EveryHistory CompletionVersionsAreKept → EveryReplay CompletionVersionsAreReadBack
-  completion_versions_are_read_back kept =
-      of_replays (λ settings exchanges are. completion_version_read_back laws settings exchanges are kept)
+  pub completion_versions_are_read_back : PartsHaveASource → EveryHistory CompletionVersionsAreKept → EveryReplay CompletionVersionsAreReadBack
+  completion_versions_are_read_back sources kept =
+      of_replays (λ settings exchanges are. completion_version_read_back laws settings exchanges are sources kept)
 
 -- ---- payloads
 

@@ -1,4 +1,4 @@
--- What is brought through a connection has no carriage return beside bodies, nor has what an upload is begun with.
+-- What is brought through a connection has no carriage return beside bodies, nor has what is said of an upload or of a copy.
 use Rattle.std.proofs.Common.{◌≡◌, ℕ, Bool, true, List, [], ◌∷◌, map, inl, inr, Option, Some, None, Result, Ok, Err, refl, ap, subst, ◌∙◌}
 use Rattle.std.specs.List.{AllByRecursion, list_all}
 use Rattle.std.proofs.lemmas.Bool.{cases_Bool, MatchBool-at_true, MatchBool-at_false}
@@ -11,16 +11,16 @@ use Rattle.s3_machine.specs.declared.command.Command.{Command}
 use Rattle.s3_terms.specs.Fault.{◌>>=◌}
 use Rattle.s3_terms.specs.declared.code.Code.{Code}
 use Rattle.s3_machine.specs.declared.command.BucketCommand.{BucketCommand}
-use Rattle.s3_machine.specs.declared.command.UploadBegin.{UploadBegin}
+use Rattle.s3_machine.specs.declared.command.Description.{Description}
 use Rattle.s3_machine.specs.declared.command.UploadCommand.{UploadCommand}
 use Rattle.s3_machine.specs.declared.command.Command.TheVariants as commands
 use Rattle.s3_requests.specs.declared.routing.Plan.{Plan}
 use Rattle.s3_requests.specs.declared.routing.Plan.TheVariants as plans
-use Rattle.s3_requests.specs.Laws.{is_unbroken_entry, IsUnbrokenPlan, PlansAreUnbroken}
+use Rattle.s3_requests.specs.Laws.{is_unbroken_entry, IsUnbrokenSaid, IsUnbrokenPlan, PlansAreUnbroken}
 use Rattle.s3_requests.specs.Commands.{bucket_command_of, upload_command_of, put_with, command_of}
 use Rattle.s3_machine.specs.declared.command.KeyCommand.TheVariants as key_commands
 use Rattle.s3_machine.specs.Step.{data_of}
-use Rattle.s3_machine.specs.Effects.{Address, begins, brought}
+use Rattle.s3_machine.specs.Effects.{Address, Read, source_read, begins, brought, copies}
 use Rattle.s3_replies.specs.declared.context.Context.{Context}
 use Rattle.s3_replies.specs.Laws.{IsUnbroken, TagsAreUnbroken, is_unbroken, is_whole_line}
 use Rattle.s3_replies.specs.Lines.{metadata_line}
@@ -29,17 +29,23 @@ use Rattle.s3_session.specs.Output.{Exchange, message_of}
 use Rattle.s3_session.specs.Walk.{Walks}
 use Rattle.s3_session.proofs.SoundLemmas.{admitted_route}
 
--- what an upload is begun with is so
-abbrev pub BeginsUnbroken : UploadBegin → Type 0
-BeginsUnbroken asked = (is_unbroken asked.content_type ≡ true) × (list_all is_whole_line (map metadata_line asked.metadata) ≡ true)
+-- what is said of an object is so
+abbrev pub SaysUnbroken : Description → Type 0
+SaysUnbroken said = (is_unbroken said.content_type ≡ true) × (list_all is_whole_line (map metadata_line said.metadata) ≡ true)
 
--- all that the command brings along is so, and what it begins an upload with
+-- all that the command brings along is so, what it begins an upload with, and what it says of a copy
 pub record BringsUnbroken (command : Command) : Type 0 where
   pub whole : (what : Data (List ℕ)) → brought command ≡ Some what → IsUnbroken what
-  pub begun : (address : Address) (asked : UploadBegin) → begins command ≡ Some (address, asked) → BeginsUnbroken asked
+  pub begun : (address : Address) (asked : Description) → begins command ≡ Some (address, asked) → SaysUnbroken asked
+  pub said : (asked : Read) (said : Description) → copies command ≡ Some (asked, Some said) → SaysUnbroken said
 
 told_whole : (entries : List Entry) → list_all is_unbroken_entry entries ≡ true → list_all is_whole_line (map metadata_line entries) ≡ true
 told_whole entries all = list_all-map is_whole_line metadata_line entries ∙ all
+
+-- so what a plan says of a copy may stand in lines
+copy_said : (found : Option Description) → IsUnbrokenSaid found → (said : Description) → found ≡ Some said → SaysUnbroken said
+copy_said (Some found) unbroken said is = subst SaysUnbroken (same_Some found said is) (unbroken.0, told_whole found.metadata unbroken.1)
+copy_said None unbroken said is = absurd (cc)
 
 -- a plan for a bucket makes a command on it
 pub bucket_command : (rule : Result BucketCommand Code) (name : List ℕ) (command : Command)
@@ -59,10 +65,10 @@ planned : TagsAreUnbroken → (plan : Plan) (payload : List ℕ) (command : Comm
 unfolding command_of
 planned tags (plans.Bucket name asked) payload command unbroken made =
     subst BringsUnbroken (bucket_command (bucket_command_of asked payload) name command made).1
-    (record { whole = λ what is. absurd (cc); begun = λ address began is. absurd (cc) })
+    (record { whole = λ what is. absurd (cc); begun = λ address began is. absurd (cc); said = λ asked said is. absurd (cc) })
 planned tags (plans.Upload bucket key id asked) payload command unbroken made =
     subst BringsUnbroken (upload_command (upload_command_of asked payload) bucket key id command made).2
-    (record { whole = λ what is. absurd (cc); begun = λ address began is. absurd (cc) })
+    (record { whole = λ what is. absurd (cc); begun = λ address began is. absurd (cc); said = λ asked said is. absurd (cc) })
 planned tags (plans.Key bucket key (key_commands.Put put)) payload command unbroken made =
     let same : commands.Key bucket key (key_commands.Put (put_with put payload)) ≡ command = cc in
     let all : IsUnbroken (data_of (put_with put payload)) =
@@ -71,6 +77,7 @@ planned tags (plans.Key bucket key (key_commands.Put put)) payload command unbro
     (record {
       whole = λ what is. let stored : data_of (put_with put payload) ≡ what = cc in subst IsUnbroken stored all;
       begun = λ address began is. absurd (cc);
+      said = λ asked said is. absurd (cc);
     })
 planned tags (plans.Key bucket key (key_commands.Begin begin)) payload command unbroken made =
     let same : commands.Key bucket key (key_commands.Begin begin) ≡ command = cc in
@@ -78,10 +85,22 @@ planned tags (plans.Key bucket key (key_commands.Begin begin)) payload command u
     (record {
       whole = λ what is. absurd (cc);
       begun = λ address asked is.
-          let said : begin ≡ asked = ap (λ (it : Address × UploadBegin). it.1) (same_Some (record { bucket = bucket; key = key }, begin) (address, asked) is) in
-          subst BeginsUnbroken said (unbroken.0, told_whole begin.metadata unbroken.1);
+          let said : begin ≡ asked = ap (λ (it : Address × Description). it.1) (same_Some (record { bucket = bucket; key = key }, begin) (address, asked) is) in
+          subst SaysUnbroken said (unbroken.0, told_whole begin.metadata unbroken.1);
+      said = λ asked said is. absurd (cc);
     })
-planned tags _ payload command unbroken made = record { whole = λ what is. absurd (cc); begun = λ address began is. absurd (cc) }
+planned tags (plans.Key bucket key (key_commands.Copy copy)) payload command unbroken made =
+    let same : commands.Key bucket key (key_commands.Copy copy) ≡ command = cc in
+    subst BringsUnbroken same
+    (record {
+      whole = λ what is. absurd (cc);
+      begun = λ address began is. absurd (cc);
+      said = λ asked said is.
+          copy_said copy.description unbroken said
+          (ap (λ (it : Read × Option Description). it.1) (same_Some (source_read copy.source, copy.description) (asked, Some said) is));
+    })
+planned tags _ payload command unbroken made =
+    record { whole = λ what is. absurd (cc); begun = λ address began is. absurd (cc); said = λ asked said is. absurd (cc) }
 
 module _ (law : PlansAreUnbroken) (messages : SoundMessages) (tags : TagsAreUnbroken) (settings : Settings) where
   sound_unbroken : (moment : ℕ) (bytes rest : List ℕ) (context : Context) (command : Command)

@@ -7,14 +7,17 @@ use Rattle.s3_names.specs.declared.ids.VersionId.{VersionId}
 use Rattle.s3_payloads.specs.Form.{IsSentAsItIs}
 use Rattle.s3_bodies.specs.Payload.{tag_of}
 use Rattle.s3_versions.specs.declared.version.Data.{Data}
+use Rattle.s3_uploads.specs.Parts.{part_tag}
 use Rattle.s3_uploads.specs.declared.listed.ListedPart.{ListedPart}
 use Rattle.s3_records.specs.Catalogue.{opening}
 use Rattle.s3_conditions.specs.declared.conditions.Selection.{Selection}
 use Rattle.s3_conditions.specs.declared.conditions.Selection.TheVariants.{Whole, Part, Unchanged, Outside}
 use Rattle.s3_conditions.specs.Conditions.{judged}
 use Rattle.s3_machine.specs.declared.command.Command.{Command}
-use Rattle.s3_machine.specs.Step.{State}
-use Rattle.s3_machine.specs.Effects.{Address, Object, UploadPlace, PartPlace, Read, writes, copies, brings, sends, sent, completes, whole, reads, touched}
+use Rattle.s3_machine.specs.declared.command.CopyRange.{CopyRange}
+use Rattle.s3_machine.specs.declared.command.Description.{Description}
+use Rattle.s3_machine.specs.Step.{State, cut, part_copied}
+use Rattle.s3_machine.specs.Effects.{Address, Object, UploadPlace, PartPlace, Read, writes, copies, copies_part, brings, sends, sent, completes, whole, reads, touched}
 use Rattle.s3_machine.specs.History.{Entry, after}
 use Rattle.s3_machine.specs.Kept.{LeavesKey, SparesVersion, Stores, WasStored, WouldGive}
 use Rattle.s3_replies.specs.declared.context.Context.{Context}
@@ -52,10 +55,10 @@ pub record Wrote (address : Address) (body : List ℕ) (x : Exchange) : Type 0 w
   pub brought : brings x.command ≡ Some body
   pub answered : tells_success x.reply ≡ true
 
--- the message copies this version to the address, and its reply tells of success
-pub record WroteCopy (address : Address) (asked : Read) (x : Exchange) : Type 0 where
+-- the message copies this version to the address by these conditions, says this of it, and its reply tells of success
+pub record WroteCopy (address : Address) (asked : Read) (said : Option Description) (x : Exchange) : Type 0 where
   pub written : writes x.command ≡ Some address
-  pub from : copies x.command ≡ Some asked
+  pub from : copies x.command ≡ Some (asked, said)
   pub answered : tells_success x.reply ≡ true
 
 -- the message completes the upload with these parts, and its reply tells of success
@@ -69,7 +72,22 @@ pub record SentPart (part : PartPlace) (bytes : List ℕ) (x : Exchange) : Type 
   pub brings : sent x.command ≡ Some bytes
   pub answered : tells_success x.reply ≡ true
 
--- the message sends nothing as the part, or its reply doesn't tell of success
+-- the message copies this range of this version to the part, and its reply tells of success
+pub record CopiedPart (part : PartPlace) (asked : Read) (range : Option CopyRange) (x : Exchange) : Type 0 where
+  pub at : sends x.command ≡ Some part
+  pub from : copies_part x.command ≡ Some (asked, range)
+  pub answered : tells_success x.reply ≡ true
+
+-- How a message, in the state before it, puts these bytes as a part that has this tag. It sends them, and the tag is theirs; or
+-- they are the range that it copies of what a read of its source, by the conditions of the copy, would be given, and the tag is
+-- that of such a part.
+pub data PutsPart (s : State) (part : PartPlace) (tag bytes : List ℕ) (x : Exchange) : Type 0 where
+  Sent : SentPart part bytes x → tag ≡ tag_of bytes → PutsPart s part tag bytes x
+  Copied : (asked : Read) → (range : Option CopyRange) → (source : Data (List ℕ)) → CopiedPart part asked range x
+      → WouldGive s asked source → bytes ≡ cut range source.body → tag ≡ part_tag (part_copied x.context.moment range source)
+      → PutsPart s part tag bytes x
+
+-- the message puts nothing as the part, or its reply doesn't tell of success
 abbrev pub LeavesPart : PartPlace → Exchange → Type 0
 LeavesPart part x = sends x.command ≡ Some part → tells_success x.reply ≡ false
 
@@ -77,21 +95,20 @@ LeavesPart part x = sends x.command ≡ Some part → tells_success x.reply ≡ 
 abbrev pub place_listed : UploadPlace → ListedPart → PartPlace
 place_listed upload listed = record { upload = upload; number = listed.number }
 
--- one of these messages sent these bytes to the upload under a listed number, none behind it sent others, and the tag that is
--- listed is theirs
-pub record WasSentLast (messages : List Exchange) (upload : UploadPlace) (listed : ListedPart) (bytes : List ℕ) : Type 0 where
+-- one of these messages put these bytes to the upload under a listed number and the tag that is listed, and none behind it put
+-- others
+pub record WasPutLast (settings : Settings) (messages : List Exchange) (upload : UploadPlace) (listed : ListedPart) (bytes : List ℕ) : Type 0 where
   pub before : List Exchange
-  pub send : Exchange
+  pub put : Exchange
   pub later : List Exchange
-  pub parts : messages ≡ before ++ send ∷ later
-  pub sends : SentPart (place_listed upload listed) bytes send
+  pub parts : messages ≡ before ++ put ∷ later
+  pub puts : PutsPart (state_behind settings before) (place_listed upload listed) listed.tag bytes put
   pub last : AllByRecursion (LeavesPart (place_listed upload listed)) later
-  pub tag : listed.tag ≡ tag_of bytes
 
--- the reply carries the bytes of the listed parts of the upload, as these messages sent them last, one part behind another
-pub record CarriesParts (messages : List Exchange) (upload : UploadPlace) (listed : List ListedPart) (reply : List ℕ) : Type 0 where
+-- the reply carries the bytes of the listed parts of the upload, as these messages put them last, one part behind another
+pub record CarriesParts (settings : Settings) (messages : List Exchange) (upload : UploadPlace) (listed : List ListedPart) (reply : List ℕ) : Type 0 where
   pub bodies : List (List ℕ)
-  pub sent : AllZip (WasSentLast messages upload) listed bodies
+  pub put : AllZip (WasPutLast settings messages upload) listed bodies
   pub carried : Carries (concat bodies) reply
 
 -- the message doesn't write under the address, or its reply doesn't tell of success
@@ -180,13 +197,14 @@ module _ (settings : Settings) (exchanges : List Exchange) where
       → AsksFor (whole address (Some id)) read
       → Carries body read.reply
 
-  -- What a copy whose reply tells of success found at its source, as a read of that would have been given it, is read back
-  -- in the same way: by the key to which it was copied,
+  -- The bytes that a copy whose reply tells of success found at its source, as a read of that by its conditions would have been
+  -- given them, are read back in the same way, whatever the copy says beside them: by the key to which it was copied,
   abbrev pub CopiesAreReadBack : Type 0
   CopiesAreReadBack =
       (before between later : List Exchange) (copy read : Exchange) (address : Address) (asked : Read)
+      (said : Option Description)
       → exchanges ≡ before ++ copy ∷ between ++ read ∷ later
-      → WroteCopy address asked copy
+      → WroteCopy address asked said copy
       → AllByRecursion (LeavesAlone address) between
       → AsksFor (whole address None) read
       → (what : Data (List ℕ)) × WouldGive (state_behind settings before) asked what × Carries what.body read.reply
@@ -194,17 +212,18 @@ module _ (settings : Settings) (exchanges : List Exchange) where
   -- and by the version that the copy made.
   abbrev pub CopyVersionsAreReadBack : Type 0
   CopyVersionsAreReadBack =
-      (before between later : List Exchange) (copy read : Exchange) (address : Address) (asked : Read) (id : VersionId)
+      (before between later : List Exchange) (copy read : Exchange) (address : Address) (asked : Read)
+      (said : Option Description) (id : VersionId)
       → exchanges ≡ before ++ copy ∷ between ++ read ∷ later
-      → WroteCopy address asked copy
+      → WroteCopy address asked said copy
       → touched copy.command copy.answer.outcome ≡ Some id
       → AllByRecursion (SparesId address id) between
       → AsksFor (whole address (Some id)) read
       → (what : Data (List ℕ)) × WouldGive (state_behind settings before) asked what × Carries what.body read.reply
 
   -- And what is read back of a completion whose reply tells of success are the bytes of its parts, in the order in which it lists
-  -- them: each those of the last message before it that sent a part of this number to the upload, and whose reply told of
-  -- success. They are read back by the key of the upload,
+  -- them: each those of the last message before it that put a part of this number to the upload, sent or copied, and whose reply
+  -- told of success. They are read back by the key of the upload,
   abbrev pub CompletionsAreReadBack : Type 0
   CompletionsAreReadBack =
       (before between later : List Exchange) (complete read : Exchange) (upload : UploadPlace) (listed : List ListedPart)
@@ -212,7 +231,7 @@ module _ (settings : Settings) (exchanges : List Exchange) where
       → WroteParts upload listed complete
       → AllByRecursion (LeavesAlone upload.address) between
       → AsksFor (whole upload.address None) read
-      → CarriesParts before upload listed read.reply
+      → CarriesParts settings before upload listed read.reply
 
   -- and by the version that the completion made.
   abbrev pub CompletionVersionsAreReadBack : Type 0
@@ -224,7 +243,7 @@ module _ (settings : Settings) (exchanges : List Exchange) where
       → touched complete.command complete.answer.outcome ≡ Some id
       → AllByRecursion (SparesId upload.address id) between
       → AsksFor (whole upload.address (Some id)) read
-      → CarriesParts before upload listed read.reply
+      → CarriesParts settings before upload listed read.reply
 
 -- The bytes that commands have so are the payloads of the bodies of their messages, which are the bodies where these are sent
 -- as they are.

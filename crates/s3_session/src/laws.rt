@@ -7,7 +7,8 @@ ghost use Rattle.s3_session.specs.Stands.{SessionsWrite};
 
 use s3_http_heads::{texts_say_one_thing, verdict_is_exact};
 use s3_machine::{
-    completions_are_kept, copies_are_kept, only_stored_is_given, puts_are_kept, stored_is_kept,
+    completions_are_kept, copies_are_kept, only_stored_is_given, parts_have_a_source,
+    puts_are_kept, stored_is_kept,
 };
 use s3_payloads::{accepted_bodies_are_whole, payloads_are_judged, verdicts_are_final};
 use s3_replies::{refusals_are_unique, replies_are_unique, replies_show_what_came};
@@ -183,8 +184,8 @@ pub fn puts_are_read_back()
     replies_show_what_came();
 }
 
-/// A law: and what a copy whose reply tells of success found at its source is read back by its own key and version, as if
-/// it had been put. There is nothing to run.
+/// A law: and the bytes that a copy whose reply tells of success found at its source are read back by its own key and version, as
+/// if they had been put, whatever it says of them. There is nothing to run.
 pub fn copies_are_read_back()
     ensures back { EveryReplay CopiesAreReadBack }
     ensures versions { EveryReplay CopyVersionsAreReadBack }
@@ -197,8 +198,8 @@ pub fn copies_are_read_back()
 }
 
 /// A law: and the parts of a completion whose reply tells of success are read back by its own key and version, one behind
-/// another: of each the payload of the last message before it that sent the part, and whose reply told of success. There is
-/// nothing to run.
+/// another, each as the last message before it put it whose reply told of success: the payload of a message that sent the part, or,
+/// where that was copied, the bytes that its range names of what was found at its source. There is nothing to run.
 pub fn completions_are_read_back()
     ensures back { EveryReplay CompletionsAreReadBack }
     ensures versions { EveryReplay CompletionVersionsAreReadBack }
@@ -208,6 +209,7 @@ pub fn completions_are_read_back()
     sound_verdicts_are_exact();
     plans_are_unbroken();
     completions_are_kept();
+    parts_have_a_source();
     only_stored_is_given();
     replies_show_what_came();
 }

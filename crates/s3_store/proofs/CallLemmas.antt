@@ -1,7 +1,7 @@
 -- What comes of commands, from what the calls ensure that carry them out.
-use Rattle.std.proofs.Common.{◌≡◌, ap, ◌∙◌, sym, subst, ℕ, Bool, true, false, ◌&&◌, List, Option, Some, None, Result, Ok, Err, IfOk, OnErr, option_and_then}
+use Rattle.std.proofs.Common.{◌≡◌, ap, ◌∙◌, sym, subst, ℕ, Bool, true, false, ◌&&◌, List, Option, Some, None, Result, Ok, Err, IfOk, OnErr}
 use Rattle.std.specs.Prelude.{is_ok, is_some}
-use Rattle.s3_terms.specs.declared.code.Code.TheVariants.{BucketAlreadyOwnedByYou, NoSuchBucket, NoSuchUpload}
+use Rattle.s3_terms.specs.declared.code.Code.TheVariants.{BucketAlreadyOwnedByYou, NoSuchUpload}
 use Rattle.s3_terms.specs.Fault.{◌>>◌}
 use Rattle.s3_bodies.specs.Payload.{tag_of}
 use Rattle.s3_conditions.specs.declared.conditions.Selection.{Selection}
@@ -9,7 +9,7 @@ use Rattle.s3_versions.specs.declared.picking.Facts.{Facts}
 use Rattle.s3_versions.specs.declared.picking.Refusal.{Refusal}
 use Rattle.s3_versions.specs.declared.version.Data.{Data}
 use Rattle.s3_versions.specs.declared.version.Versioning.{Versioning}
-use Rattle.s3_versions.specs.Rules.{stored, asked_for, facts_read, pick}
+use Rattle.s3_versions.specs.Rules.{facts_read, pick}
 use Rattle.s3_uploads.specs.Parts.{part_sent}
 use Rattle.s3_uploads.specs.declared.listed.ListedPart.{ListedPart}
 use Rattle.s3_records.specs.declared.records.BucketFacts.{BucketFacts}
@@ -23,13 +23,14 @@ use Rattle.s3_machine.specs.declared.command.Found.{Found}
 use Rattle.s3_machine.specs.declared.command.KeyCommand.TheVariants as key_commands
 use Rattle.s3_machine.specs.declared.command.ObjectCopy.{ObjectCopy}
 use Rattle.s3_machine.specs.declared.command.ObjectRead.{ObjectRead}
-use Rattle.s3_machine.specs.declared.command.Source.{Source}
+use Rattle.s3_machine.specs.declared.command.PartCopy.{PartCopy}
 use Rattle.s3_machine.specs.declared.command.Outcome.{Outcome}
 use Rattle.s3_machine.specs.declared.command.Outcome.TheVariants as outcomes
 use Rattle.s3_machine.specs.declared.command.UploadCommand.TheVariants as upload_commands
 use Rattle.s3_machine.specs.Step.{State, Stepped, bucket_done, copied, is_taken, stepped}
-use Rattle.s3_store.specs.Steps.{bucket_step, key_step, upload_step, copy_step, copied_as, completed_as, barred_code, data_found, read_as_found, selected_by, got_of, MayEnter}
-use Rattle.s3_store.proofs.StepLemmas.{read_shown, read_refused, read_accepted, copies, copy_accepted, source_found, source_lost, source_read}
+use Rattle.s3_store.specs.Steps.{bucket_step, key_step, upload_step, copy_step, copied_as, part_source, part_step, part_step_as, source_in, completed_as, barred_code, read_as_found, selected_by, got_of, MayEnter}
+use Rattle.s3_store.proofs.StepLemmas.{read_shown, read_refused, read_accepted, copies, copy_accepted}
+use Rattle.s3_store.proofs.SourceLemmas.{part_copies, part_copy_accepted, found_open}
 use Rattle.s3_store.proofs.UploadLemmas.{upload_lost, part_put, completes, completion_barred}
 
 pub on_err : {T E P : Type 0} (r : Result T E) → P → OnErr r P
@@ -74,32 +75,17 @@ module _ (s now : State) (name key : List ℕ) (asked : ObjectRead) (facts : Res
   pub read_unrefused : IsChosen → (selection : Selection) → chosen ≡ Ok selection → (n t : ℕ) → is_refused (key_step s n t name key (key_commands.Read asked)).1 ≡ false
   read_unrefused h selection is n t = read_accepted s n t name key asked selection (chosen_as h (Ok selection) is)
 
--- ---- sources of copies
-
-module _ (s : State) (source : Source) (facts : Option BucketFacts) (there : is_some facts ≡ has_bucket s source.bucket) where
-  pub none_copied : facts ≡ None → Err (record { code = NoSuchBucket; is_delete_marker = false }) ≡ copied s source
-  none_copied is = sym (source_lost s source (sym there ∙ ap is_some is))
-
-  pub found_copied : (now : State) (f : BucketFacts) (found : Result (Found (List ℕ)) Refusal) (d : Result (Data (List ℕ)) Refusal) → facts ≡ Some f → now ≡ s
-      → found ≡ read_as_found f.versioning (pick source.version (versions_of now source.bucket source.key)) → d ≡ data_found found → d ≡ copied s source
-  found_copied now f found d is same reads has = let step = source_found s source f.versioning (sym there ∙ ap is_some is) in cc
-
-  pub stored_copied : (now : State) (f : BucketFacts) → facts ≡ Some f → now ≡ s
-      → (option_and_then stored (asked_for source.version (versions_of now source.bucket source.key)) ≡ None → ⊥) → is_ok (copied s source) ≡ true
-  stored_copied now f is same stores =
-      source_read s source (sym there ∙ ap is_some is) (subst (λ s. option_and_then stored (asked_for source.version (versions_of s source.bucket source.key)) ≡ None → ⊥) same stores)
-
 -- ---- copies
 
 module _ (s : State) (n t : ℕ) (name key : List ℕ) (asked : ObjectCopy) where
-  pub copy_unrefused : is_ok (copied s asked.source) ≡ true → is_refused (key_step s n t name key (key_commands.Copy asked)).1 ≡ false
-  copy_unrefused is = ap (λ (st : Stepped). is_refused st.1) (copies s n t name key asked) ∙ copy_accepted s n t name key (copied s asked.source) is
+  pub copy_unrefused : is_ok (copied s asked) ≡ true → is_refused (key_step s n t name key (key_commands.Copy asked)).1 ≡ false
+  copy_unrefused is = ap (λ (st : Stepped). is_refused st.1) (copies s n t name key asked) ∙ copy_accepted s n t name key (copied s asked) is
 
-  pub copy_fails : (now : State) (read : Result (Data (List ℕ)) Refusal) (refusal : Refusal) (outcome : Outcome) → read ≡ copied s asked.source → read ≡ Err refusal → now ≡ s
+  pub copy_fails : (now : State) (read : Result (Data (List ℕ)) Refusal) (refusal : Refusal) (outcome : Outcome) → read ≡ copied s asked → read ≡ Err refusal → now ≡ s
       → outcome ≡ outcomes.Refused refusal.code refusal.is_delete_marker → key_step s n t name key (key_commands.Copy asked) ≡ (now, outcome)
   copy_fails now read refusal outcome reads is same refused = let step = copies s n t name key asked ∙ ap (copied_as s n t name key) (sym reads ∙ is) in cc
 
-  pub copy_puts : (now : State) (read : Result (Data (List ℕ)) Refusal) (d : Data (List ℕ)) → read ≡ copied s asked.source → read ≡ Ok d → now ≡ s
+  pub copy_puts : (now : State) (read : Result (Data (List ℕ)) Refusal) (d : Data (List ℕ)) → read ≡ copied s asked → read ≡ Ok d → now ≡ s
       → key_step s n t name key (key_commands.Copy asked) ≡ copy_step now n t name key d
   copy_puts now read d reads is same =
       copies s n t name key asked ∙ ap (copied_as s n t name key) (sym reads ∙ is) ∙ ap (λ s. copy_step s n t name key d) (sym same)
@@ -119,6 +105,42 @@ module _ (s : State) (t : ℕ) (name key : List ℕ) (id number : ℕ) (payload 
   pub part_fails : (now : State) (outcome : Outcome) → is_some (upload_at s name key id) ≡ false → now ≡ s → outcome ≡ outcomes.Refused NoSuchUpload false
       → (least n : ℕ) → upload_step least s n t name key id (upload_commands.PutPart number payload) ≡ (now, outcome)
   part_fails now outcome lost same refused least n = let step = upload_lost least s n t name key id (upload_commands.PutPart number payload) lost in cc
+
+-- ---- parts that are copied
+
+module _ (s : State) (t : ℕ) (name key : List ℕ) (id number : ℕ) (copy : PartCopy) where
+  -- what is found for the part
+  abbrev IsFoundAs : Result (Found (List ℕ)) Refusal → Type 0
+  IsFoundAs read = read ≡ part_source (upload_at s name key id) (source_in s copy.source copy.range)
+
+  part_copied_as : (read r : Result (Found (List ℕ)) Refusal) → IsFoundAs read → read ≡ r → (least n : ℕ)
+      → upload_step least s n t name key id (upload_commands.CopyPart number copy) ≡ part_step_as s t name key id number copy.range r
+  part_copied_as read r reads is least n =
+      part_copies least s n t name key id number copy ∙ ap (part_step_as s t name key id number copy.range) (sym reads ∙ is)
+
+  pub part_copy_unrefused : is_ok (part_source (upload_at s name key id) (source_in s copy.source copy.range)) ≡ true → (least n : ℕ)
+      → is_refused (upload_step least s n t name key id (upload_commands.CopyPart number copy)).1 ≡ false
+  part_copy_unrefused is least n =
+      ap (λ (st : Stepped). is_refused st.1) (part_copies least s n t name key id number copy)
+      ∙ part_copy_accepted s t name key id number copy.range (part_source (upload_at s name key id) (source_in s copy.source copy.range)) is
+
+  pub part_copy_fails : (now : State) (read : Result (Found (List ℕ)) Refusal) (refusal : Refusal) (outcome : Outcome) → IsFoundAs read → read ≡ Err refusal → now ≡ s
+      → outcome ≡ outcomes.Refused refusal.code refusal.is_delete_marker
+      → (least n : ℕ) → upload_step least s n t name key id (upload_commands.CopyPart number copy) ≡ (now, outcome)
+  part_copy_fails now read refusal outcome reads is same refused least n = let step = part_copied_as read (Err refusal) reads is least n in cc
+
+  pub part_copy_open : (now : State) (read : Result (Found (List ℕ)) Refusal) (f : Found (List ℕ)) → IsFoundAs read → read ≡ Ok f → now ≡ s
+      → is_some (upload_at now name key id) ≡ true
+  part_copy_open now read f reads is same =
+      ap (λ (s : State). is_some (upload_at s name key id)) same
+      ∙ found_open (upload_at s name key id) (source_in s copy.source copy.range) (ap is_ok (sym reads ∙ is))
+
+  pub part_copy_puts : {E : Type 0} (now : State) (read : Result (Found (List ℕ)) Refusal) (f : Found (List ℕ)) (r : Result Outcome E) (after : State)
+      → IsFoundAs read → read ≡ Ok f → now ≡ s → IfOk r (λ o. part_step now t name key id number copy.range f ≡ (after, o))
+      → IfOk r (λ o. (least n : ℕ) → upload_step least s n t name key id (upload_commands.CopyPart number copy) ≡ (after, o))
+  part_copy_puts now read f (Ok o) after reads is same steps = λ least n.
+      part_copied_as read (Ok f) reads is least n ∙ ap (λ s. part_step s t name key id number copy.range f) (sym same) ∙ steps
+  part_copy_puts now read f (Err e) after reads is same steps = tt
 
 -- ---- completions
 

@@ -1,3 +1,4 @@
 pub mod CallLemmas
+pub mod SourceLemmas
 pub mod StepLemmas
 pub mod UploadLemmas

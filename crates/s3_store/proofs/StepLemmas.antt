@@ -1,8 +1,8 @@
 -- What comes of commands, from what is told of the records.
-use Rattle.std.proofs.Common.{◌≡◌, refl, ap, ◌∙◌, sym, ℕ, Bool, true, false, not, List, Option, Some, None, Result, Ok, Err, option_map, option_and_then}
+use Rattle.std.proofs.Common.{◌≡◌, refl, ap, ◌∙◌, ℕ, Bool, true, false, List, Option, Some, None, Result, Ok, Err, option_map, option_and_then}
 use Rattle.std.specs.Prelude.{◌&&◌, is_ok, is_some}
 use Rattle.std.specs.FinMap as map
-use Rattle.s3_terms.specs.declared.code.Code.TheVariants.{NoSuchBucket, PreconditionFailed}
+use Rattle.s3_terms.specs.declared.code.Code.TheVariants.{PreconditionFailed}
 use Rattle.s3_names.specs.declared.ids.VersionId.{VersionId}
 use Rattle.s3_conditions.specs.declared.conditions.Conditions.{Conditions}
 use Rattle.s3_conditions.specs.declared.conditions.Selection.{Selection}
@@ -14,9 +14,9 @@ use Rattle.s3_versions.specs.declared.version.Data.{Data}
 use Rattle.s3_versions.specs.declared.version.Version.{Version}
 use Rattle.s3_versions.specs.declared.version.Versioning.{Versioning}
 use Rattle.s3_versions.specs.declared.version.Versioning.TheVariants.{Unversioned}
-use Rattle.s3_versions.specs.Rules.{stored, stored_in, current, asked_for, judged, pick, facts_of as version_facts, facts_read, read_as}
+use Rattle.s3_versions.specs.Rules.{stored, stored_in, current, judged, pick, facts_of as version_facts, facts_read, read_as}
 use Rattle.s3_records.specs.declared.records.BucketFacts.{BucketFacts}
-use Rattle.s3_records.specs.Catalogue.{Bucket, facts_of, facts_in, has_bucket, listed_buckets, versions_of, versioning_in, versioning_of}
+use Rattle.s3_records.specs.Catalogue.{Bucket, facts_of, facts_in, listed_buckets, versions_of, versioning_in, versioning_of}
 use Rattle.s3_documents.specs.Document as documents
 use Rattle.s3_machine.specs.Effects.{is_refused}
 use Rattle.s3_machine.specs.declared.command.BucketCommand.{BucketCommand}
@@ -26,13 +26,12 @@ use Rattle.s3_machine.specs.declared.command.KeyCommand.TheVariants as key_comma
 use Rattle.s3_machine.specs.declared.command.ObjectCopy.{ObjectCopy}
 use Rattle.s3_machine.specs.declared.command.ObjectPut.{ObjectPut}
 use Rattle.s3_machine.specs.declared.command.ObjectRead.{ObjectRead}
-use Rattle.s3_machine.specs.declared.command.Source.{Source}
 use Rattle.s3_machine.specs.declared.command.Outcome.{Outcome}
 use Rattle.s3_machine.specs.declared.command.Outcome.TheVariants as outcomes
 use Rattle.s3_terms.specs.Fault.{◌>>◌, ◌>>=◌}
 use Rattle.s3_machine.specs.Fault.{refuse}
-use Rattle.s3_machine.specs.Step.{State, step, is_taken, data_of, copied, data_read, key_done, done, Stepped, stepped, found_in, outcome_shown, shown_by}
-use Rattle.s3_store.specs.Steps.{bucket_step, key_step, put_step, copy_step, copied_as, data_found, read_as_found, selected_of, selected_by, got_of}
+use Rattle.s3_machine.specs.Step.{State, step, is_taken, data_of, copied, key_done, done, Stepped, stepped, found_in, outcome_shown, shown_by}
+use Rattle.s3_store.specs.Steps.{bucket_step, key_step, put_step, copy_step, copied_as, read_as_found, selected_of, selected_by, got_of}
 
 -- a bucket that is there tells its versioning
 abbrev told_versioning : Option BucketFacts → Versioning
@@ -56,7 +55,7 @@ module _ (least : ℕ) (s : State) (n t : ℕ) where
   on_bucket name asked = refl
 
 -- a version with its bytes, and what it stores
-abbrev Read : Type 0
+abbrev pub Read : Type 0
 Read = Version (List ℕ) × Data (List ℕ)
 
 -- what a rule answers that shows what conditions select of a version
@@ -120,17 +119,6 @@ module _ (s : State) (n t : ℕ) (name key : List ℕ) (asked : ObjectRead) wher
       → is_refused (key_step s n t name key (key_commands.Read asked)).1 ≡ false
   unfolding key_done
   read_accepted selection = accepts s (versioning_of s name) asked.conditions (pick asked.version (versions_of s name key)) selection
-
--- a version that stores something is read
-stores_content : (refusal : Refusal) (v : Version (List ℕ)) (c : Content (List ℕ)) → v.content ≡ c → (stored v ≡ None → ⊥) → (read : Read) × (read_as refusal v c ≡ Ok read)
-stores_content refusal v DeleteMarker is stores = absurd (stores (ap stored_in is))
-stores_content refusal v (Stored d) is stores = ((v, d), refl)
-
-stores_found : (asked : Option VersionId) (found : Option (Version (List ℕ))) → (option_and_then stored found ≡ None → ⊥) → (read : Read) × (judged asked found ≡ Ok read)
-stores_found None None stores = absurd (stores refl)
-stores_found None (Some v) stores = stores_content _ v v.content refl stores
-stores_found (Some id) None stores = absurd (stores refl)
-stores_found (Some id) (Some v) stores = stores_content _ v v.content refl stores
 
 -- what is told of a version that is read is told of the one found
 abbrev pub IsToldOf : Versioning → Option (Version (List ℕ)) → Found (List ℕ) → Type 0
@@ -196,42 +184,15 @@ copied_after : (s : State) (n t : ℕ) (name key : List ℕ) (source : Result (D
 copied_after s n t name key (Ok stored) = refl
 copied_after s n t name key (Err refusal) = refl
 
-pub copies : (s : State) (n t : ℕ) (name key : List ℕ) (asked : ObjectCopy) → key_step s n t name key (key_commands.Copy asked) ≡ copied_as s n t name key (copied s asked.source)
+pub copies : (s : State) (n t : ℕ) (name key : List ℕ) (asked : ObjectCopy) → key_step s n t name key (key_commands.Copy asked) ≡ copied_as s n t name key (copied s asked)
 unfolding key_done
-copies s n t name key asked = copied_after s n t name key (copied s asked.source)
+copies s n t name key asked = copied_after s n t name key (copied s asked)
 
 pub copy_accepted : (s : State) (n t : ℕ) (name key : List ℕ) (source : Result (Data (List ℕ)) Refusal) → is_ok source ≡ true → is_refused (copied_as s n t name key source).1 ≡ false
 copy_accepted s n t name key (Ok stored) is = refl
 copy_accepted s n t name key (Err refusal) is = absurd (cc)
 
-found_data : (versioning : Versioning) (read : Result Read Refusal) → data_found (read_as_found versioning read) ≡ data_read read
-found_data versioning (Ok read) = refl
-found_data versioning (Err refusal) = refl
-
--- a source in a bucket that is there, and in one that isn't
-pub source_found : (s : State) (source : Source) (versioning : Versioning) → has_bucket s source.bucket ≡ true
-    → copied s source ≡ data_found (read_as_found versioning (pick source.version (versions_of s source.bucket source.key)))
-unfolding copied
-source_found s source versioning there =
-    ap (λ (b : Bool). refuse (not b) NoSuchBucket >> data_read (pick source.version (versions_of s source.bucket source.key))) there
-    ∙ sym (found_data versioning (pick source.version (versions_of s source.bucket source.key)))
-
-pub source_lost : (s : State) (source : Source) → has_bucket s source.bucket ≡ false → copied s source ≡ Err (record { code = NoSuchBucket; is_delete_marker = false })
-unfolding copied
-source_lost s source none =
-    ap (λ (b : Bool). refuse (not b) NoSuchBucket >> data_read (pick source.version (versions_of s source.bucket source.key))) none
-
--- a source that is there with something stored is read
-pub source_read : (s : State) (source : Source) → has_bucket s source.bucket ≡ true
-    → (option_and_then stored (asked_for source.version (versions_of s source.bucket source.key)) ≡ None → ⊥) → is_ok (copied s source) ≡ true
-unfolding copied
-source_read s source there stores =
-    ap (λ (b : Bool). is_ok (refuse (not b) NoSuchBucket >> data_read (pick source.version (versions_of s source.bucket source.key)))) there
-    ∙ ap (λ (r : Result Read Refusal). is_ok (data_read r)) (stores_found source.version (asked_for source.version (versions_of s source.bucket source.key)) stores).1
-
 pub ruleset copy_steps = (copies, copy_accepted)
-
-pub ruleset source_steps = (source_found, source_lost, source_read)
 
 pub ruleset all_steps = (lists, on_bucket)
 

@@ -26,7 +26,7 @@ use Rattle.s3_store.specs.Steps.{upload_step, completion_step, completed_as, bar
 use Rattle.s3_store.proofs.StepLemmas.{barred_by}
 
 -- what is asked for, if it is open
-abbrev opened : Option (Upload (List ℕ)) → Result (Upload (List ℕ)) Refusal
+abbrev pub opened : Option (Upload (List ℕ)) → Result (Upload (List ℕ)) Refusal
 opened found = as_refusal (ok_or found NoSuchUpload)
 
 -- a rule that an open upload meets
@@ -51,6 +51,7 @@ module _ (least : ℕ) (s : State) (n t : ℕ) (name key : List ℕ) (id : ℕ) 
       → upload_step least s n t name key id asked ≡ (s, outcomes.Refused NoSuchUpload false)
   unfolding upload_done
   upload_lost (upload_commands.PutPart number payload) is = missed s (upload_at s name key id) _ is
+  upload_lost (upload_commands.CopyPart number copy) is = missed s (upload_at s name key id) _ is
   upload_lost (upload_commands.Complete listed if_absent) is = missed s (upload_at s name key id) _ is
   upload_lost upload_commands.Abort is = missed s (upload_at s name key id) _ is
   upload_lost (upload_commands.ListParts asked) is = missed s (upload_at s name key id) _ is

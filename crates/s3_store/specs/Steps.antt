@@ -1,8 +1,9 @@
 -- One step of a store.
-use Rattle.std.specs.Prelude.{◌≡◌, refl, ℕ, ◌+◌, false, IsTrue, List, Option, Some, None, Result, Ok, Err}
+use Rattle.std.specs.Prelude.{◌≡◌, refl, ℕ, ◌+◌, false, not, IsTrue, List, Option, Some, None, Result, Ok, Err, ⊤}
 use Rattle.std.specs.Coded.{Coded, code_by, coded×, coded_ℕ}
 use Rattle.s3_terms.specs.declared.code.Code.{Code}
-use Rattle.s3_terms.specs.declared.code.Code.TheVariants.{NoSuchUpload, PreconditionFailed}
+use Rattle.s3_terms.specs.declared.code.Code.TheVariants.{InvalidArgument, NoSuchUpload, PreconditionFailed}
+use Rattle.s3_terms.specs.Fault.{◌>>◌, ◌>>=◌}
 use Rattle.s3_versions.specs.Codes.{coded_bytes}
 use Rattle.s3_conditions.specs.declared.conditions.Conditions.{Conditions}
 use Rattle.s3_conditions.specs.declared.conditions.Selection.{Selection}
@@ -13,20 +14,25 @@ use Rattle.s3_versions.specs.declared.version.Data.{Data}
 use Rattle.s3_versions.specs.declared.version.Version.{Version}
 use Rattle.s3_versions.specs.declared.version.Versioning.{Versioning}
 use Rattle.s3_versions.specs.Rules.{new_id, VersionPut}
+use Rattle.s3_uploads.specs.Parts.{part_tag}
 use Rattle.s3_uploads.specs.declared.upload.Upload.{Upload}
 use Rattle.s3_records.specs.Catalogue.{has_bucket, versioning_of}
-use Rattle.s3_records.specs.Changes.{KeyChanged, UploadCompleted, changed}
+use Rattle.s3_records.specs.Changes.{KeyChanged, PartPut, UploadCompleted, changed}
 use Rattle.s3_records.specs.Codes.{coded_catalogue}
 use Rattle.s3_records.specs.Places.{AreBelow}
 use Rattle.s3_documents.specs.Document as documents
 use Rattle.s3_machine.specs.declared.command.BucketCommand.{BucketCommand}
 use Rattle.s3_machine.specs.declared.command.Command.{Command}
+use Rattle.s3_machine.specs.declared.command.CopyRange.{CopyRange}
+use Rattle.s3_machine.specs.declared.command.Description.{Description}
 use Rattle.s3_machine.specs.declared.command.Found.{Found}
 use Rattle.s3_machine.specs.declared.command.KeyCommand.{KeyCommand}
 use Rattle.s3_machine.specs.declared.command.Outcome.{Outcome}
 use Rattle.s3_machine.specs.declared.command.Outcome.TheVariants as outcomes
+use Rattle.s3_machine.specs.declared.command.Source.{Source}
 use Rattle.s3_machine.specs.declared.command.UploadCommand.{UploadCommand}
-use Rattle.s3_machine.specs.Step.{State, Stepped, step, stepped, bucket_done, key_done, upload_done, found_in, shown_by, shown_in, source_code}
+use Rattle.s3_machine.specs.Fault.{refuse}
+use Rattle.s3_machine.specs.Step.{State, Stepped, step, stepped, bucket_done, key_done, upload_done, described, found_in, lies_in, may_be_copied, part_copied, shown_by, shown_in, source_code, source_found}
 
 -- what a store is seen as: the state, and the number of the next entry
 pub record Standing : Type 0 where
@@ -100,10 +106,45 @@ abbrev pub copied_as : State → ℕ → ℕ → List ℕ → List ℕ → Resul
 copied_as s n t name key (Ok stored) = copy_step s n t name key stored
 copied_as s n t name key (Err refusal) = (s, outcomes.Refused refusal.code refusal.is_delete_marker)
 
--- what is copied of a version that was found
-abbrev pub data_found : Result (Found (List ℕ)) Refusal → Result (Data (List ℕ)) Refusal
-data_found (Ok found) = Ok found.stored
-data_found (Err refusal) = Err (record { code = source_code refusal.code; is_delete_marker = false })
+-- the version that a copy is from, where the range lies in it
+abbrev pub source_in : State → Source → Option CopyRange → Result (Found (List ℕ)) Refusal
+source_in s source range = do
+  found ← source_found s source
+  refuse (not (lies_in range found.stored.size)) InvalidArgument
+  Ok found
+
+-- what a copy is told of a version that is known so, or why none is read
+abbrev pub facts_for_copy : Result Facts Refusal → Result Facts Refusal
+facts_for_copy (Ok facts) = Ok facts
+facts_for_copy (Err refusal) = Err (record { code = source_code refusal.code; is_delete_marker = false })
+
+-- whether a version may be copied of which this is known, by the conditions and the range
+abbrev pub source_judged : Conditions → Option CopyRange → Result Facts Refusal → Result ⊤ Refusal
+source_judged conditions range read = do
+  facts ← facts_for_copy read
+  refuse (not (may_be_copied conditions facts)) PreconditionFailed
+  refuse (not (lies_in range facts.size)) InvalidArgument
+
+-- what is copied of a version that was found, and is described so
+abbrev pub data_found : Option Description → Result (Found (List ℕ)) Refusal → Result (Data (List ℕ)) Refusal
+data_found said (Ok found) = Ok (described said found.stored)
+data_found said (Err refusal) = Err refusal
+
+-- what is copied to an upload, if that is open
+abbrev pub part_source : Option (Upload (List ℕ)) → Result (Found (List ℕ)) Refusal → Result (Found (List ℕ)) Refusal
+part_source None found = Err (record { code = NoSuchUpload; is_delete_marker = false })
+part_source (Some u) found = found
+
+-- what the copy of a part does once it is known what its source has
+abbrev pub part_step : State → ℕ → List ℕ → List ℕ → ℕ → ℕ → Option CopyRange → Found (List ℕ) → Stepped
+part_step s t name key id number range found = (
+  changed s name (PartPut key id number (part_copied t range found.stored)),
+  outcomes.PartCopied (part_tag (part_copied t range found.stored)) t found.shown,
+)
+
+abbrev pub part_step_as : State → ℕ → List ℕ → List ℕ → ℕ → ℕ → Option CopyRange → Result (Found (List ℕ)) Refusal → Stepped
+part_step_as s t name key id number range (Ok found) = part_step s t name key id number range found
+part_step_as s t name key id number range (Err refusal) = (s, outcomes.Refused refusal.code refusal.is_delete_marker)
 
 -- what a completion does once it is known what it stores
 abbrev pub completion_step : State → ℕ → ℕ → List ℕ → List ℕ → ℕ → Data (List ℕ) → Stepped

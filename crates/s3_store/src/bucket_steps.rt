@@ -3,9 +3,9 @@ ghost use Rattle.std.specs.Prelude.{◌≡◌, ℕ, true, false, IfOk, OnErr, Is
 ghost use Rattle.s3_machine.specs.Effects.{is_refused, takes_room_in_bucket};
 ghost use Rattle.s3_store.specs.Steps.{bucket_step};
 
-use crate::list_steps::{tell_objects, tell_uploads, tell_versions};
+use crate::list_steps::{tell_location, tell_objects, tell_uploads, tell_versions};
 use s3_calendar::Moment;
-use s3_machine::{BucketCommand, Outcome};
+use s3_machine::{BucketCommand, Configuration, Outcome};
 use s3_names::BucketName;
 use s3_records::Records;
 use s3_terms::{Code, NoMemory};
@@ -43,6 +43,8 @@ pub(crate) fn take_on_bucket<R: Records>(
         BucketCommand::Delete => delete(records, alloc, name),
         BucketCommand::PutVersioning { status } => put_versioning(records, alloc, name, status),
         BucketCommand::GetVersioning => get_versioning(records, alloc, name),
+        BucketCommand::GetLocation { region } => tell_location(records, alloc, name, region),
+        BucketCommand::GetConfiguration(which) => get_configuration(records, alloc, name, which),
         BucketCommand::ListObjects(asked) => tell_objects(records, alloc, name, asked),
         BucketCommand::ListVersions(asked) => tell_versions(records, alloc, name, asked),
         BucketCommand::ListUploads(asked) => tell_uploads(records, alloc, name, asked),
@@ -154,5 +156,25 @@ fn get_versioning<R: Records>(
         Some(facts) => Ok(Outcome::BucketVersioning {
             versioning: facts.versioning,
         }),
+    }
+}
+
+// GetBucketPolicy and its like: no bucket has the configuration.
+#[tactic(auto, unfolding(s3_machine::specs::Step::bucket_done))]
+fn get_configuration<R: Records>(
+    records: &mut R,
+    alloc: Global,
+    name: &BucketName,
+    which: Configuration,
+) -> Result<Outcome, NoMemory>
+    ensures ok { IfOk result (λ outcome. (t : ℕ)
+        → bucket_step (R.catalogue records.old) t name.now (BucketCommand.GetConfiguration which)
+        ≡ (R.catalogue records.new, outcome)) }
+    ensures same { R.catalogue records.new ≡ R.catalogue records.old }
+    ensures memory { OnErr result (R.is_in_memory ≡ false) }
+{
+    match records.bucket(alloc, name)? {
+        None => Ok(refused(Code::NoSuchBucket)),
+        Some(_) => Ok(refused(which.absence())),
     }
 }

@@ -1,21 +1,23 @@
 //! What a copy does.
-ghost use Rattle.std.specs.Prelude.{◌≡◌, ℕ, true, false, Ok, IfOk, OnErr, IsTrue, is_ok};
+ghost use Rattle.std.specs.Prelude.{◌≡◌, true, false, IfOk, OnErr, is_ok};
 ghost use Rattle.s3_machine.specs.Effects.{is_refused};
 ghost use Rattle.s3_machine.specs.Step as rules;
 ghost use Rattle.s3_store.specs.Steps.{key_step, copy_step, data_found, MayEnter};
 
 use crate::key_steps::refused_with;
-use crate::reading::{look, shown};
+use crate::reading::shown;
+use crate::sources::find_source;
 use s3_bodies::Body;
 use s3_calendar::Moment;
-use s3_machine::{Found, KeyCommand, ObjectCopy, Outcome, Source};
+use s3_machine::{Description, Found, KeyCommand, ObjectCopy, Outcome};
 use s3_names::{BucketName, Key};
 use s3_records::Records;
-use s3_terms::{Code, NoMemory};
+use s3_terms::NoMemory;
 use s3_versions::{Data, Refusal, Versioning};
 use std::alloc::Global;
 
-/// CopyObject. The bytes are shared, and none is copied. `NoMemory` leaves the records as they were.
+/// CopyObject. Whether the source meets its conditions is judged before memory is taken. The bytes are shared, and none is
+/// copied. `NoMemory` leaves the records as they were.
 #[tactic(auto, using(crate::proofs::StepLemmas::copy_steps))]
 pub(crate) fn copy<R: Records>(
     records: &mut R,
@@ -23,19 +25,19 @@ pub(crate) fn copy<R: Records>(
     bucket: &BucketName,
     versioning: Versioning,
     key: Key,
-    asked: &ObjectCopy,
+    asked: ObjectCopy,
     number: u64,
     moment: Moment,
 ) -> Result<Outcome, NoMemory>
     requires { MayEnter (R.catalogue records.old) number bucket.now versioning }
     ensures ok { IfOk result (λ outcome.
-        key_step (R.catalogue records.old) number moment bucket.now key (KeyCommand.Copy asked.now)
+        key_step (R.catalogue records.old) number moment bucket.now key (KeyCommand.Copy asked)
         ≡ (R.catalogue records.new, outcome)) }
     ensures err { OnErr result (R.catalogue records.new ≡ R.catalogue records.old) }
     ensures memory { OnErr result (R.is_in_memory ≡ true
-        → is_refused (key_step (R.catalogue records.old) number moment bucket.now key (KeyCommand.Copy asked.now)).1 ≡ false) }
+        → is_refused (key_step (R.catalogue records.old) number moment bucket.now key (KeyCommand.Copy asked)).1 ≡ false) }
 {
-    match source_data(records, alloc, &asked.source)? {
+    match copied(records, alloc, asked)? {
         Err(refusal) => Ok(refused_with(refusal)),
         Ok(stored) => put_copy(
             records, alloc, bucket, versioning, key, stored, number, moment,
@@ -43,7 +45,7 @@ pub(crate) fn copy<R: Records>(
     }
 }
 
-// Puts what a source has.
+// Puts what a copy stores.
 fn put_copy<R: Records>(
     records: &mut R,
     alloc: Global,
@@ -65,55 +67,54 @@ fn put_copy<R: Records>(
     Ok(Outcome::Copied { tag, moment, shown })
 }
 
-// What the source has, or the refusal.
-#[tactic(auto, using(crate::proofs::StepLemmas::source_steps))]
-fn source_data<R: Records>(
+// What a copy stores, or the refusal.
+fn copied<R: Records>(
     records: &mut R,
     alloc: Global,
-    source: &Source,
+    asked: ObjectCopy,
 ) -> Result<Result<Data<Body>, Refusal>, NoMemory>
-    ensures value { IfOk result (λ read. read ≡ rules.copied (R.catalogue records.old) source.now) }
+    ensures value { IfOk result (λ read. read ≡ rules.copied (R.catalogue records.old) asked) }
     ensures same { R.catalogue records.new ≡ R.catalogue records.old }
-    ensures memory { OnErr result (R.is_in_memory ≡ true → is_ok (rules.copied (R.catalogue records.old) source.now) ≡ true) }
+    ensures memory { OnErr result (R.is_in_memory ≡ true → is_ok (rules.copied (R.catalogue records.old) asked) ≡ true) }
 {
-    match records.bucket(alloc, &source.bucket)? {
-        None => Ok(Err(Refusal {
-            code: Code::NoSuchBucket,
-            is_delete_marker: false,
-        })),
-        Some(facts) => {
-            let found = look(
-                records,
-                alloc,
-                &source.bucket,
-                facts.versioning,
-                &source.key,
-                source.version,
-            )?;
-            Ok(data_of(found))
+    let ObjectCopy {
+        source,
+        description,
+    } = asked;
+    let found = find_source(records, alloc, &source, None);
+    drop(source);
+    match found {
+        Ok(found) => Ok(data_found(description, found)),
+        Err(no_memory) => {
+            drop(description);
+            Err(no_memory)
         }
     }
 }
 
-// What is copied of a version that was found.
-fn data_of(found: Result<Found<Body>, Refusal>) -> Result<Data<Body>, Refusal>
-    ensures { result ≡ data_found found }
+// What is copied of a version that was found, and is described so.
+fn data_found(
+    said: Option<Description>,
+    found: Result<Found<Body>, Refusal>,
+) -> Result<Data<Body>, Refusal>
+    ensures { result ≡ data_found said found }
 {
     match found {
-        Ok(found) => Ok(found.stored),
-        Err(refusal) => Err(Refusal {
-            code: source_code(refusal.code),
-            is_delete_marker: false,
-        }),
+        Ok(found) => Ok(described(said, found.stored)),
+        Err(refusal) => Err(refusal),
     }
 }
 
-// How a copy says that there is nothing to be read.
-fn source_code(code: Code) -> Code
-    ensures { result ≡ rules.source_code code }
+// What is stored of a source, by what is said of the copy. What its source says is dropped then.
+fn described(said: Option<Description>, stored: Data<Body>) -> Data<Body>
+    ensures { result ≡ rules.described said stored }
 {
-    match code {
-        Code::MethodNotAllowed => Code::InvalidRequest,
-        _ => code,
+    match said {
+        None => stored,
+        Some(said) => Data {
+            content_type: said.content_type,
+            metadata: said.metadata,
+            ..stored
+        },
     }
 }

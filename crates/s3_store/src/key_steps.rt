@@ -64,8 +64,11 @@ pub(crate) fn take_on_key<R: Records>(
     }
 }
 
-/// Drops a command on a key that takes no step.
-pub(crate) fn let_go_at_key(_key: Key, _asked: KeyCommand<Payload>) {}
+// Drops a command on a key that takes no step.
+fn let_go_at_key(key: Key, asked: KeyCommand<Payload>) {
+    drop(key);
+    drop(asked);
+}
 
 // The same in a bucket that is there, and has this versioning.
 fn take_in_bucket<R: Records>(
@@ -90,13 +93,9 @@ fn take_in_bucket<R: Records>(
         KeyCommand::Put(asked) => put(
             records, alloc, bucket, versioning, key, asked, number, moment,
         ),
-        KeyCommand::Copy(asked) => {
-            let copied = copy(
-                records, alloc, bucket, versioning, key, &asked, number, moment,
-            );
-            drop(asked);
-            copied
-        }
+        KeyCommand::Copy(asked) => copy(
+            records, alloc, bucket, versioning, key, asked, number, moment,
+        ),
         KeyCommand::Read(asked) => {
             let told = read(records, alloc, bucket, versioning, &key, &asked);
             drop(asked);
@@ -145,7 +144,10 @@ fn put<R: Records>(
 }
 
 // Drops a put that stores nothing.
-fn let_go_of_put(_key: Key, _asked: ObjectPut<Payload>) {}
+fn let_go_of_put(key: Key, asked: ObjectPut<Payload>) {
+    drop(key);
+    drop(asked);
+}
 
 // A put whose condition holds, or that has none.
 fn store<R: Records>(

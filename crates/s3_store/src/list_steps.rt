@@ -1,4 +1,4 @@
-//! What the commands do that list.
+//! What the commands do that tell a document of a bucket or of all buckets.
 ghost use Rattle.std.specs.Prelude.{◌≡◌, ℕ, true, false, IfOk, OnErr};
 ghost use Rattle.s3_records.specs.Rows.{key_rows};
 ghost use Rattle.s3_listings.specs.Objects.{objects_told};
@@ -14,7 +14,7 @@ use s3_documents::Document;
 use s3_listings::{UploadsAsked, VersionsAsked, list_objects, list_uploads, list_versions};
 use s3_machine::{BucketCommand, Command, Outcome};
 use s3_names::BucketName;
-use s3_prefixes::ObjectsAsked;
+use s3_prefixes::{ObjectsAsked, Text};
 use s3_records::Records;
 use s3_terms::{Code, NoMemory};
 use std::alloc::Global;
@@ -31,7 +31,38 @@ pub(crate) fn tell_buckets<R: Records>(records: &mut R, alloc: Global) -> Result
     Ok(Outcome::Told { document })
 }
 
-/// ListObjectsV2.
+/// GetBucketLocation.
+#[tactic(auto, unfolding(s3_machine::specs::Step::bucket_done))]
+pub(crate) fn tell_location<R: Records>(
+    records: &mut R,
+    alloc: Global,
+    name: &BucketName,
+    region: Text,
+) -> Result<Outcome, NoMemory>
+    ensures ok { IfOk result (λ outcome. (t : ℕ)
+        → bucket_step (R.catalogue records.old) t name.now (BucketCommand.GetLocation region)
+        ≡ (R.catalogue records.new, outcome)) }
+    ensures same { R.catalogue records.new ≡ R.catalogue records.old }
+    ensures memory { OnErr result (R.is_in_memory ≡ true → (t : ℕ)
+        → is_refused (bucket_step (R.catalogue records.old) t name.now (BucketCommand.GetLocation region)).1 ≡ false) }
+{
+    match records.bucket(alloc, name) {
+        Ok(Some(_)) => {
+            let document = Document::of_location(alloc, region)?;
+            Ok(Outcome::Told { document })
+        }
+        Ok(None) => {
+            drop(region);
+            Ok(refused(Code::NoSuchBucket))
+        }
+        Err(no_memory) => {
+            drop(region);
+            Err(no_memory)
+        }
+    }
+}
+
+/// ListObjects and ListObjectsV2.
 #[tactic(auto, unfolding(s3_machine::specs::Step::bucket_done))]
 pub(crate) fn tell_objects<R: Records>(
     records: &mut R,

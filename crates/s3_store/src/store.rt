@@ -4,7 +4,7 @@ ghost use Rattle.s3_records.specs.Catalogue.{opening};
 ghost use Rattle.s3_store.specs.Steps.{opened, after_step, outcome_of};
 ghost use Rattle.s3_machine.specs.Effects.{is_refused, takes_room};
 
-use crate::take::{let_go, take};
+use crate::take::take;
 use s3_bodies::Body;
 use s3_calendar::Moment;
 use s3_machine::{Answer, Command, steps_keep};
@@ -93,7 +93,7 @@ impl<R: Records + Drop> Store<R> {
         steps_keep();
         let number = self.number;
         if number == u64::MAX {
-            let_go(command);
+            drop(command);
             return Err(NoMemory);
         }
         let outcome = take(

@@ -5,9 +5,9 @@ ghost use Rattle.s3_machine.specs.Effects.{is_refused, takes_room};
 ghost use Rattle.s3_machine.specs.Step.{step};
 
 use crate::bucket_steps::take_on_bucket;
-use crate::key_steps::{let_go_at_key, take_on_key};
+use crate::key_steps::take_on_key;
 use crate::list_steps::tell_buckets;
-use crate::upload_steps::{let_go_of_upload, take_on_upload};
+use crate::upload_steps::take_on_upload;
 use s3_calendar::Moment;
 use s3_machine::{Command, Outcome};
 use s3_records::Records;
@@ -47,27 +47,5 @@ pub(crate) fn take<R: Records>(
         } => take_on_upload(
             records, alloc, least_part, &bucket, key, id, asked, number, moment,
         ),
-    }
-}
-
-/// Drops a command that takes no step.
-pub(crate) fn let_go(command: Command) {
-    match command {
-        Command::ListBuckets => {}
-        Command::Bucket {
-            name: _name,
-            asked: _asked,
-        } => {}
-        Command::Key {
-            bucket: _bucket,
-            key,
-            asked,
-        } => let_go_at_key(key, asked),
-        Command::Upload {
-            bucket: _bucket,
-            key,
-            id: _,
-            asked,
-        } => let_go_of_upload(key, asked),
     }
 }

@@ -14,11 +14,12 @@ ghost use Rattle.s3_store.specs.Steps.{key_step, upload_step, MayEnter};
 
 use crate::bucket_steps::refused;
 use crate::completing::complete;
+use crate::part_copies::copy_part;
 use s3_bodies::Payload;
 use s3_calendar::Moment;
 use s3_documents::Document;
 use s3_listings::{PartsAsked, list_parts};
-use s3_machine::{Command, KeyCommand, Outcome, UploadBegin, UploadCommand};
+use s3_machine::{Command, Description, KeyCommand, Outcome, UploadCommand};
 use s3_names::{BucketName, Key, PartNumber, UploadId};
 use s3_records::Records;
 use s3_terms::{Code, NoMemory};
@@ -33,7 +34,7 @@ pub(crate) fn begin<R: Records>(
     alloc: Global,
     bucket: &BucketName,
     key: Key,
-    asked: UploadBegin,
+    asked: Description,
     number: u64,
     moment: Moment,
 ) -> Result<Outcome, NoMemory>
@@ -117,8 +118,11 @@ pub(crate) fn take_on_upload<R: Records>(
     }
 }
 
-/// Drops a command on an upload that takes no step.
-pub(crate) fn let_go_of_upload(_key: Key, _asked: UploadCommand) {}
+// Drops a command on an upload that takes no step.
+fn let_go_of_upload(key: Key, asked: UploadCommand) {
+    drop(key);
+    drop(asked);
+}
 
 // The same in a bucket that is there, and has this versioning.
 fn take_in_bucket<R: Records>(
@@ -146,6 +150,9 @@ fn take_in_bucket<R: Records>(
             number: part,
             payload,
         } => put_part(records, alloc, bucket, &key, id, part, payload, moment),
+        UploadCommand::CopyPart { number: part, copy } => {
+            copy_part(records, alloc, bucket, &key, id, part, copy, moment)
+        }
         UploadCommand::Complete { listed, if_absent } => complete(
             records, alloc, least_part, bucket, versioning, key, id, &listed, if_absent, number,
             moment,

@@ -5,7 +5,7 @@ use Rattle.std.specs.Prelude.{ℕ, List, codes}
 use Rattle.s3_terms.specs.declared.code.Code.{Code}
 use Rattle.s3_terms.specs.declared.status.Status.{Status}
 use Rattle.s3_terms.specs.declared.status.Status.TheVariants as statuses
-use Rattle.s3_terms.specs.declared.code.Code.TheVariants.{MalformedHead, HeadTooLarge, NotImplemented, InvalidRequest, MissingContentLength, EntityTooLarge, InvalidURI, AccessDenied, AuthorizationHeaderMalformed, RequestTimeTooSkewed, InvalidArgument, InvalidAccessKeyId, SignatureDoesNotMatch, InvalidDigest, InvalidBucketName, KeyTooLongError, MethodNotAllowed, MetadataTooLarge, NoSuchUpload, IncompleteBody, XAmzContentSHA256Mismatch, BadDigest, MalformedBody, NoSuchBucket, BucketAlreadyOwnedByYou, BucketNotEmpty, NoSuchKey, NoSuchVersion, PreconditionFailed, InvalidRange, InvalidPartOrder, InvalidPart, EntityTooSmall, InternalError, AuthorizationQueryParametersError, MalformedXML, InvalidLocationConstraint}
+use Rattle.s3_terms.specs.declared.code.Code.TheVariants.{MalformedHead, HeadTooLarge, NotImplemented, InvalidRequest, MissingContentLength, EntityTooLarge, InvalidURI, AccessDenied, AuthorizationHeaderMalformed, RequestTimeTooSkewed, InvalidArgument, InvalidAccessKeyId, SignatureDoesNotMatch, InvalidDigest, InvalidBucketName, KeyTooLongError, MethodNotAllowed, MetadataTooLarge, NoSuchUpload, IncompleteBody, XAmzContentSHA256Mismatch, BadDigest, MalformedBody, NoSuchBucket, BucketAlreadyOwnedByYou, BucketNotEmpty, NoSuchKey, NoSuchVersion, PreconditionFailed, InvalidRange, InvalidPartOrder, InvalidPart, EntityTooSmall, InternalError, AuthorizationQueryParametersError, MalformedXML, InvalidLocationConstraint, NoSuchBucketPolicy, NoSuchCORSConfiguration, NoSuchLifecycleConfiguration, NoSuchPublicAccessBlockConfiguration, NoSuchTagSet, NoSuchWebsiteConfiguration, ObjectLockConfigurationNotFoundError, OwnershipControlsNotFoundError, ReplicationConfigurationNotFoundError, ServerSideEncryptionConfigurationNotFoundError}
 
 -- a row of the table: a code's number, its HTTP status, its name and its message
 abbrev pub Row : Type 0
@@ -50,6 +50,16 @@ row_of InternalError = (34, statuses.InternalServerError, codes "InternalError",
 row_of AuthorizationQueryParametersError = (35, statuses.BadRequest, codes "AuthorizationQueryParametersError", codes "The signing query is malformed.")
 row_of MalformedXML = (36, statuses.BadRequest, codes "MalformedXML", codes "The body is not the expected XML.")
 row_of InvalidLocationConstraint = (37, statuses.BadRequest, codes "InvalidLocationConstraint", codes "The location constraint is not this region.")
+row_of NoSuchBucketPolicy = (38, statuses.NotFound, codes "NoSuchBucketPolicy", codes "The bucket has no policy.")
+row_of NoSuchCORSConfiguration = (39, statuses.NotFound, codes "NoSuchCORSConfiguration", codes "The bucket has no CORS rules.")
+row_of NoSuchLifecycleConfiguration = (40, statuses.NotFound, codes "NoSuchLifecycleConfiguration", codes "The bucket has no lifecycle rules.")
+row_of NoSuchPublicAccessBlockConfiguration = (41, statuses.NotFound, codes "NoSuchPublicAccessBlockConfiguration", codes "The bucket blocks no public access.")
+row_of NoSuchTagSet = (42, statuses.NotFound, codes "NoSuchTagSet", codes "The bucket has no tags.")
+row_of NoSuchWebsiteConfiguration = (43, statuses.NotFound, codes "NoSuchWebsiteConfiguration", codes "The bucket is no website.")
+row_of ObjectLockConfigurationNotFoundError = (44, statuses.NotFound, codes "ObjectLockConfigurationNotFoundError", codes "The bucket has no object lock.")
+row_of OwnershipControlsNotFoundError = (45, statuses.NotFound, codes "OwnershipControlsNotFoundError", codes "The bucket has no ownership controls.")
+row_of ReplicationConfigurationNotFoundError = (46, statuses.NotFound, codes "ReplicationConfigurationNotFoundError", codes "The bucket has no replication rules.")
+row_of ServerSideEncryptionConfigurationNotFoundError = (47, statuses.NotFound, codes "ServerSideEncryptionConfigurationNotFoundError", codes "The bucket has no default encryption.")
 
 -- the code's number in the table
 abbrev pub number_of : Code → ℕ

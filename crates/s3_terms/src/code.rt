@@ -46,6 +46,16 @@ pub enum Code {
     AuthorizationQueryParametersError = 35,
     MalformedXML = 36,
     InvalidLocationConstraint = 37,
+    NoSuchBucketPolicy = 38,
+    NoSuchCORSConfiguration = 39,
+    NoSuchLifecycleConfiguration = 40,
+    NoSuchPublicAccessBlockConfiguration = 41,
+    NoSuchTagSet = 42,
+    NoSuchWebsiteConfiguration = 43,
+    ObjectLockConfigurationNotFoundError = 44,
+    OwnershipControlsNotFoundError = 45,
+    ReplicationConfigurationNotFoundError = 46,
+    ServerSideEncryptionConfigurationNotFoundError = 47,
 }
 
 impl Code {
@@ -70,9 +80,20 @@ impl Code {
             | Code::InvalidAccessKeyId
             | Code::SignatureDoesNotMatch => Status::Forbidden,
             Code::MethodNotAllowed => Status::MethodNotAllowed,
-            Code::NoSuchUpload | Code::NoSuchBucket | Code::NoSuchKey | Code::NoSuchVersion => {
-                Status::NotFound
-            }
+            Code::NoSuchUpload
+            | Code::NoSuchBucket
+            | Code::NoSuchKey
+            | Code::NoSuchVersion
+            | Code::NoSuchBucketPolicy
+            | Code::NoSuchCORSConfiguration
+            | Code::NoSuchLifecycleConfiguration
+            | Code::NoSuchPublicAccessBlockConfiguration
+            | Code::NoSuchTagSet
+            | Code::NoSuchWebsiteConfiguration
+            | Code::ObjectLockConfigurationNotFoundError
+            | Code::OwnershipControlsNotFoundError
+            | Code::ReplicationConfigurationNotFoundError
+            | Code::ServerSideEncryptionConfigurationNotFoundError => Status::NotFound,
             Code::BucketAlreadyOwnedByYou | Code::BucketNotEmpty => Status::Conflict,
             Code::PreconditionFailed => Status::PreconditionFailed,
             Code::InvalidRange => Status::RangeNotSatisfiable,
@@ -143,6 +164,18 @@ impl Code {
             Code::AuthorizationQueryParametersError => "AuthorizationQueryParametersError",
             Code::MalformedXML => "MalformedXML",
             Code::InvalidLocationConstraint => "InvalidLocationConstraint",
+            Code::NoSuchBucketPolicy => "NoSuchBucketPolicy",
+            Code::NoSuchCORSConfiguration => "NoSuchCORSConfiguration",
+            Code::NoSuchLifecycleConfiguration => "NoSuchLifecycleConfiguration",
+            Code::NoSuchPublicAccessBlockConfiguration => "NoSuchPublicAccessBlockConfiguration",
+            Code::NoSuchTagSet => "NoSuchTagSet",
+            Code::NoSuchWebsiteConfiguration => "NoSuchWebsiteConfiguration",
+            Code::ObjectLockConfigurationNotFoundError => "ObjectLockConfigurationNotFoundError",
+            Code::OwnershipControlsNotFoundError => "OwnershipControlsNotFoundError",
+            Code::ReplicationConfigurationNotFoundError => "ReplicationConfigurationNotFoundError",
+            Code::ServerSideEncryptionConfigurationNotFoundError => {
+                "ServerSideEncryptionConfigurationNotFoundError"
+            }
         }
     }
 
@@ -189,6 +222,18 @@ impl Code {
             Code::AuthorizationQueryParametersError => "The signing query is malformed.",
             Code::MalformedXML => "The body is not the expected XML.",
             Code::InvalidLocationConstraint => "The location constraint is not this region.",
+            Code::NoSuchBucketPolicy => "The bucket has no policy.",
+            Code::NoSuchCORSConfiguration => "The bucket has no CORS rules.",
+            Code::NoSuchLifecycleConfiguration => "The bucket has no lifecycle rules.",
+            Code::NoSuchPublicAccessBlockConfiguration => "The bucket blocks no public access.",
+            Code::NoSuchTagSet => "The bucket has no tags.",
+            Code::NoSuchWebsiteConfiguration => "The bucket is no website.",
+            Code::ObjectLockConfigurationNotFoundError => "The bucket has no object lock.",
+            Code::OwnershipControlsNotFoundError => "The bucket has no ownership controls.",
+            Code::ReplicationConfigurationNotFoundError => "The bucket has no replication rules.",
+            Code::ServerSideEncryptionConfigurationNotFoundError => {
+                "The bucket has no default encryption."
+            }
         }
     }
 }

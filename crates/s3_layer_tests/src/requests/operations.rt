@@ -5,8 +5,9 @@ use s3_bodies::{Body, Payload};
 use s3_calendar::Moment;
 use s3_conditions::{ByteRange, Conditions, Selection};
 use s3_documents::Document;
-use s3_machine::{Found, Outcome, Source};
+use s3_machine::{CopyRange, Found, ObjectCopy, Outcome, Source};
 use s3_names::{Tag, UploadId, VersionId};
+use s3_prefixes::ListVersion;
 use s3_requests::{
     BucketCommand, BucketPlan, Command, KeyCommand, Plan, UploadCommand, UploadPlan,
 };
@@ -14,7 +15,15 @@ use s3_terms::{Code, Dialect};
 use s3_versions::{Data, Versioning, VersioningStatus};
 use std::alloc::Global;
 
-// The operation on a bucket.
+// The list of this version.
+fn list_of(version: ListVersion) -> &'static str {
+    match version {
+        ListVersion::First => "ListObjects",
+        ListVersion::Second => "ListObjectsV2",
+    }
+}
+
+// The operation on a bucket; where a configuration is asked for, the code that says that there is none.
 fn bucket_operation(asked: &BucketPlan) -> &'static str {
     match asked {
         BucketPlan::Create { .. } => "CreateBucket",
@@ -22,7 +31,9 @@ fn bucket_operation(asked: &BucketPlan) -> &'static str {
         BucketPlan::Delete => "DeleteBucket",
         BucketPlan::PutVersioning { .. } => "PutBucketVersioning",
         BucketPlan::GetVersioning => "GetBucketVersioning",
-        BucketPlan::ListObjects(_) => "ListObjectsV2",
+        BucketPlan::GetLocation { .. } => "GetBucketLocation",
+        BucketPlan::GetConfiguration(which) => which.absence().name(),
+        BucketPlan::ListObjects(asked) => list_of(asked.version),
         BucketPlan::ListVersions(_) => "ListObjectVersions",
         BucketPlan::ListUploads(_) => "ListMultipartUploads",
     }
@@ -43,6 +54,7 @@ fn key_operation<B>(asked: &KeyCommand<B>) -> (&'static str, Option<VersionId>) 
 fn upload_operation(asked: &UploadPlan) -> &'static str {
     match asked {
         UploadPlan::PutPart { .. } => "UploadPart",
+        UploadPlan::CopyPart { .. } => "UploadPartCopy",
         UploadPlan::Complete { .. } => "CompleteMultipartUpload",
         UploadPlan::Abort => "AbortMultipartUpload",
         UploadPlan::ListParts(_) => "ListParts",
@@ -115,7 +127,22 @@ fn with_source(alloc: Global, text: Vec<u8>, source: &Source) -> Told {
         source.key.as_bytes(),
     )?;
     let from = with_version(from, source.version)?;
-    Ok([text.as_slice(), &from].concat(alloc)?)
+    with_conditions(
+        alloc,
+        [text.as_slice(), &from].concat(alloc)?,
+        &source.conditions,
+    )
+}
+
+// That text, and which bytes of the source are copied, if they are named.
+fn with_range(alloc: Global, text: Vec<u8>, range: Option<CopyRange>) -> Told {
+    match range {
+        None => Ok(text),
+        Some(CopyRange { first, last }) => {
+            let text = with_number(alloc, &text, first)?;
+            with_number(alloc, &text, last)
+        }
+    }
 }
 
 // That text, and whether the key is to have no object.
@@ -127,11 +154,18 @@ fn with_absence(alloc: Global, text: &[u8], if_absent: bool) -> Told {
     Ok(told)
 }
 
+// That text, what is copied, and whether the copy is described anew.
+fn with_copy(alloc: Global, text: Vec<u8>, asked: &ObjectCopy) -> Told {
+    let mut told = with_source(alloc, text, &asked.source)?;
+    told.extend_from_slice(word_if(asked.description.is_some(), b" described"))?;
+    Ok(told)
+}
+
 // That text, and what is asked beside the version.
 fn with_asked<B>(alloc: Global, text: Vec<u8>, asked: &KeyCommand<B>) -> Told {
     match asked {
         KeyCommand::Put(asked) => with_absence(alloc, &text, asked.if_absent),
-        KeyCommand::Copy(asked) => with_source(alloc, text, &asked.source),
+        KeyCommand::Copy(asked) => with_copy(alloc, text, asked),
         KeyCommand::Read(asked) => with_conditions(alloc, text, &asked.conditions),
         _ => Ok(text),
     }
@@ -147,6 +181,10 @@ fn with_number(alloc: Global, text: &[u8], behind: u64) -> Told {
 fn with_part(alloc: Global, text: &[u8], asked: &UploadPlan) -> Told {
     match asked {
         UploadPlan::PutPart { number } => with_number(alloc, text, u64::from(number.get())),
+        UploadPlan::CopyPart { number, copy } => {
+            let text = with_number(alloc, text, u64::from(number.get()))?;
+            with_range(alloc, with_source(alloc, text, &copy.source)?, copy.range)
+        }
         UploadPlan::ListParts(asked) => {
             let text = with_number(alloc, text, asked.marker)?;
             with_number(alloc, &text, u64::from(asked.max_parts))
@@ -206,7 +244,9 @@ fn bucket_text(asked: &BucketCommand) -> &'static str {
             status: VersioningStatus::Suspended,
         } => "PutBucketVersioning Suspended",
         BucketCommand::GetVersioning => "GetBucketVersioning",
-        BucketCommand::ListObjects(_) => "ListObjectsV2",
+        BucketCommand::GetLocation { .. } => "GetBucketLocation",
+        BucketCommand::GetConfiguration(which) => which.absence().name(),
+        BucketCommand::ListObjects(asked) => list_of(asked.version),
         BucketCommand::ListVersions(_) => "ListObjectVersions",
         BucketCommand::ListUploads(_) => "ListMultipartUploads",
     }
@@ -239,6 +279,7 @@ fn upload_text(asked: &UploadCommand) -> &'static str {
     match asked {
         UploadCommand::PutPart { payload, .. } if is_hello(payload) => "UploadPart hello",
         UploadCommand::PutPart { .. } => "UploadPart",
+        UploadCommand::CopyPart { .. } => "UploadPartCopy",
         UploadCommand::Complete { listed, .. } => match listed.as_slice() {
             [part] if part.number.get() == 1 && is_same(part.tag.as_bytes(), HELLO_TAG) => {
                 "CompleteMultipartUpload hello"
@@ -371,6 +412,12 @@ fn part_text(alloc: Global, tag: &Tag) -> Told {
     joined(alloc, b"part ", tag.text().as_bytes())
 }
 
+fn part_copied_text(alloc: Global, tag: &Tag, moment: Moment, source: Option<VersionId>) -> Told {
+    let seconds = number(alloc, moment.seconds())?;
+    let behind = [b" ".as_slice(), &seconds, b" ", tag.text().as_bytes()].concat(alloc)?;
+    shown_text(alloc, b"part copied ", source, &behind)
+}
+
 /// What came of a command.
 pub(crate) fn outcome_text(alloc: Global, outcome: Outcome) -> Told {
     match outcome {
@@ -383,6 +430,11 @@ pub(crate) fn outcome_text(alloc: Global, outcome: Outcome) -> Told {
         Outcome::Put { tag, shown } => stored_text(alloc, &tag, shown),
         Outcome::Copied { tag, moment, shown } => copied_text(alloc, &tag, moment, shown),
         Outcome::PartPut { tag } => part_text(alloc, &tag),
+        Outcome::PartCopied {
+            tag,
+            moment,
+            source,
+        } => part_copied_text(alloc, &tag, moment, source),
         Outcome::Completed {
             document,
             tag,

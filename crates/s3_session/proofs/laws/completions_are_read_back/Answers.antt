@@ -15,7 +15,7 @@ returns c =
       origins = c.only_stored_is_given.ensures.brought;
     } in
     record {
-      back = completions_are_read_back below c.completions_are_kept.ensures.by_key;
-      versions = completion_versions_are_read_back below c.completions_are_kept.ensures.by_version;
+      back = completions_are_read_back below c.parts_have_a_source.ensures.sources c.completions_are_kept.ensures.by_key;
+      versions = completion_versions_are_read_back below c.parts_have_a_source.ensures.sources c.completions_are_kept.ensures.by_version;
       payloads = payloads_are_sent c.accepted_bodies_are_whole.ensures.payload;
     }

@@ -5,21 +5,21 @@ use Rattle.s3_store.proofs.copying.copy.Goals as goal
 
 pub returns-in_err-refusal-clause-memory : goal.returns-in_err-refusal-clause-memory
 returns-in_err-refusal-clause-memory g c =
-    on_err c.from_residual.result (λ memory. copy_unrefused _ c.args.number c.args.moment _ c.args.key c.args.asked.now (c.in_err-refusal.ensures.memory memory))
+    on_err c.from_residual.result (λ memory. copy_unrefused _ c.args.number c.args.moment _ c.args.key c.args.asked (c.in_err-refusal.ensures.memory memory))
 
 pub returns-in-Err-clause-ok : goal.returns-in-Err-clause-ok
 returns-in-Err-clause-ok g c =
-    copy_fails _ c.args.number c.args.moment _ c.args.key c.args.asked.now _ _ c.in-Err.refusal c.refused_with.result
-    c.in_ok-refusal.ensures.value c.in-Err.is c.source_data.ensures.same c.refused_with.ensures
+    copy_fails _ c.args.number c.args.moment _ c.args.key c.args.asked _ _ c.in-Err.refusal c.refused_with.result
+    c.in_ok-refusal.ensures.value c.in-Err.is c.copied.ensures.same c.refused_with.ensures
 
 pub put_copy-requires : goal.put_copy-requires
-put_copy-requires g c = may_enter _ _ c.args.number _ c.args.versioning c.source_data.ensures.same c.requires
+put_copy-requires g c = may_enter _ _ c.args.number _ c.args.versioning c.copied.ensures.same c.requires
 
 pub returns-in-Ok-clause-ok : goal.returns-in-Ok-clause-ok
 returns-in-Ok-clause-ok g c =
     then_steps c.put_copy.result _ _ _
-    (copy_puts _ c.args.number c.args.moment _ c.args.key c.args.asked.now _ _ c.in-Ok.stored c.in_ok-refusal.ensures.value c.in-Ok.is c.source_data.ensures.same) c.put_copy.ensures.ok
+    (copy_puts _ c.args.number c.args.moment _ c.args.key c.args.asked _ _ c.in-Ok.stored c.in_ok-refusal.ensures.value c.in-Ok.is c.copied.ensures.same) c.put_copy.ensures.ok
 
 pub returns-in-Ok-clause-memory : goal.returns-in-Ok-clause-memory
 returns-in-Ok-clause-memory g c =
-    on_err c.put_copy.result (λ _. copy_unrefused _ c.args.number c.args.moment _ c.args.key c.args.asked.now (ap is_ok (sym c.in_ok-refusal.ensures.value ∙ c.in-Ok.is)))
+    on_err c.put_copy.result (λ _. copy_unrefused _ c.args.number c.args.moment _ c.args.key c.args.asked (ap is_ok (sym c.in_ok-refusal.ensures.value ∙ c.in-Ok.is)))
