@@ -50,8 +50,9 @@ class Disk(Command):
                     break
                 time.sleep(0.1)
             if running.poll() is not None:
-                # s3fs tries once more by Signature Version 2, and tells what came of that.
-                told(1, said.read_text(errors="replace"), refused=["403", "invalid credentials", "retry to connect"])
+                # What went wrong comes first. s3fs tries once more by Signature Version 2, and tells what came of that.
+                lines = sorted(said.read_text(errors="replace").splitlines(), key=lambda line: "[INF]" in line)
+                told(1, "\n".join(lines), refused=["403", "invalid credentials", "retry to connect"])
             yield mount
         finally:
             subprocess.run(["fusermount", "-u", mount], capture_output=True)
@@ -69,7 +70,8 @@ class S3backer(Disk):
     name = program = "s3backer"
     SIZE = 8 << 20
     limits = dict.fromkeys(["head", "delete", "missing key", "wrong, 8 MiB", "wrong secret", "odd key"], Disk.NO_FILES)
-    limits |= dict.fromkeys(["presigned get", "presigned head"], "their key is odd, which it signs otherwise than it asks")
+    SIGNED = "their key is odd, which it signs otherwise than it asks"
+    limits |= dict.fromkeys(["presigned get", "presigned head"], SIGNED)
     limits |= {"64 MiB": "the disk that is tried has 8 MiB"}
 
     def __init__(self, *words, **more):

@@ -15,7 +15,10 @@ class S3cmd(Command):
     """`s3cmd`, which lists by the first version of the call alone."""
 
     name = program = "s3cmd"
-    limits = {"presigned get": "it signs addresses by Signature Version 2 alone"}
+    limits = {
+        "presigned get": "it signs addresses by Signature Version 2 alone",
+        "control bytes v1": "it doesn't ask for encoding-type=url, and XML 1.0 has no character for them",
+    }
     calls = dict.fromkeys(["sync", "remove all", "purge"], "DeleteObjects")
     adds_metadata = True
 
@@ -122,7 +125,8 @@ class Rclone(Command):
     lists by it chooses itself: the first one, where it isn't told which server this is."""
 
     name = program = "rclone"
-    limits_in_json = {"list": "it takes an answer that is no XML for a list with nothing in it"}
+    EMPTY = "it takes an answer that is no XML for a list with nothing in it"
+    limits_in_json = dict.fromkeys(["list", "1,001 keys", "pages"], EMPTY)
 
     def rclone(self, *words, cutoff="1Gi", more=None):
         env = environment(
