@@ -263,7 +263,7 @@ class S4cmd(Command):
         sizes = [f"--multipart-split-size={PART}", *(f"--max-singlepart-{kind}-size={threshold}" for kind in kinds)]
         where = ["--retry", "1", "--endpoint-url", f"http://{self.address}"]
         status, wrote, said = ran(["s4cmd", *where, *sizes, *words], env)
-        told(status, said, ["404"], ["403", "SignatureDoesNotMatch"])
+        told(status, said, ["404", "Source doesn't exist"], ["403", "SignatureDoesNotMatch"])
         return wrote
 
     def put(self, key, data, threshold=1024 * MIB):
