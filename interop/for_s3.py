@@ -1,5 +1,5 @@
 """The checks of `interop/run` that it makes with `--dialect s3` alone, where documents are XML: of lists with odd keys,
-of copies, of buckets and versions, and of calls that the server doesn't have. `folders.py` has those of folders."""
+of copies, of buckets and versions, and of several deletions by one call. `folders.py` has those of folders."""
 
 import os
 import re
@@ -20,8 +20,6 @@ LARGEST = 64 * MIB
 LARGE = 100_000_000
 # Seconds after which a put that follows an empty one came too late: a client of botocore waits for 60.
 SOON = 20
-# What the server doesn't have, by the check that asks for it.
-CALLS = {"delete many": "DeleteObjects"}
 # A media type and metadata, and what takes their place.
 KEPT = ("text/css", {"a": "1", "old": "x"})
 NEW = ("text/html", {"a": "2", "new": "v w"})

@@ -207,7 +207,6 @@ class Boto3Files(Boto3):
     """The same library's transfers of files, which ask for an object before they get it, and its resources."""
 
     name = "boto3 files"
-    calls = {"remove all": "DeleteObjects"}
 
     def transfer(self, operation, *words, **settings):
         from boto3.s3.transfer import TransferConfig

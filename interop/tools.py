@@ -19,7 +19,6 @@ class S3cmd(Command):
         "presigned get": "it signs addresses by Signature Version 2 alone",
         "control bytes v1": "it doesn't ask for encoding-type=url, and XML 1.0 has no character for them",
     }
-    calls = dict.fromkeys(["sync", "remove all", "purge"], "DeleteObjects")
     adds_metadata = True
 
     def s3cmd(self, *words, in_parts=False):
@@ -255,7 +254,6 @@ class S4cmd(Command):
     ASKING = ["get", "put again", "head", "delete", "missing key", "wrong secret", "wrong, 8 MiB"]
     limits_in_json = dict.fromkeys([*ASKING, "empty", "8 MiB", "odd key", "copy", "in parts"], LISTS)
     limits = dict.fromkeys(["move", "copy all"], "it fails where a key that it tells of has a `%`")
-    calls = dict.fromkeys(["sync", "remove all"], "DeleteObjects")
 
     def s4cmd(self, *words, threshold=1024 * MIB):
         env = environment(S3_ACCESS_KEY=ID, S3_SECRET_KEY=self.secret)

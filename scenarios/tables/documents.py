@@ -35,7 +35,10 @@ ORDER = {
     "CopyObjectResult": "ETag LastModified",
     "CopyPartResult": "ETag LastModified",
     "VersioningConfiguration": "Status",
-    "Error": "Code Message RequestId",
+    "DeleteResult": "Results",
+    "Deleted": "DeleteMarker DeleteMarkerVersionId Key VersionId",
+    # A refusal tells no key and no version; the error of a key tells no request.
+    "Error": "Code Key Message VersionId RequestId",
 }
 # The document of which members a JSON document has, or would have: the first row whose names are all there.
 ROOTS = {
@@ -46,6 +49,7 @@ ROOTS = {
     "ListMultipartUploadsResult": "Uploads",
     "ListPartsResult": "Parts",
     "LocationConstraint": "LocationConstraint",
+    "DeleteResult": "Results",
     "InitiateMultipartUploadResult": "Bucket Key UploadId",
     "CompleteMultipartUploadResult": "Bucket ETag Key",
     "CopyObjectResult": "ETag LastModified",
@@ -105,6 +109,8 @@ def row_name(name, row):
     """The name of the element of a row, by that of the member that has all of them."""
     if name == "Versions":
         return "DeleteMarker" if row["DeleteMarker"] else "Version"
+    if name == "Results":
+        return "Error" if "Code" in row else "Deleted"
     return {"Uploads": "Upload", "Parts": "Part"}.get(name, name)
 
 

@@ -30,8 +30,10 @@ CONFIGURATIONS = {
     b"tagging": "NoSuchTagSet",
     b"website": "NoSuchWebsiteConfiguration",
 }
-# Which sub-resources that dialect answers of a bucket that is read.
-READ_OF_BUCKETS = {b"location", *CONFIGURATIONS}
+# Which sub-resources of a bucket that dialect answers, by the method.
+OF_BUCKETS = {"GET": {b"location", *CONFIGURATIONS}, "POST": {b"delete"}}
+# The conditions of a key that is to be deleted with others, which aren't there; and how a document says yes and no.
+CONDITIONS, TRUTHS = {"ETag", "LastModifiedTime", "Size"}, {"true": True, "false": False}
 VERSION_ID, UPLOAD_ID = re.compile(rb"null|v[0-9a-f]{16}"), re.compile(rb"u[0-9a-f]{16}")
 BUCKET_NAME, FOUR_NUMBERS = re.compile(rb"[a-z0-9][a-z0-9.-]{1,61}[a-z0-9]"), re.compile(rb"[0-9]+(\.[0-9]+){3}")
 
@@ -241,6 +243,19 @@ class Request:
         refuse(not all(1 <= number <= 10_000 for number, _ in parts))
         return [(number, tag.strip('"')) for number, tag in parts]
 
+    def is_protected(self):
+        """Whether its head says what its body is: by the MD5, or by a hash, which is there where it isn't presigned."""
+        return self.line("content-md5") is not None or not is_presigned(self)
+
+    def deletion(self):
+        """Whether only faults are to be told of the objects that are to be deleted, and these."""
+        refuse(not self.is_protected(), "InvalidRequest")
+        said = xml_of(self.received().bytes(), "Delete")
+        quiet = last_text(said, "Quiet")
+        is_quiet = False if quiet is None else TRUTHS.get(trimmed(quiet))
+        refuse(is_quiet is None, "MalformedXML")
+        return is_quiet, objects_in_xml(said)
+
 
 def parts_in_json(said):
     parts = said.get("Parts") if isinstance(said, dict) else None
@@ -260,6 +275,23 @@ def parts_in_xml(body):
     return [(int(number.lstrip("0")[:9] or "0"), tag) for number, tag in told]
 
 
+def objects_in_xml(said):
+    """The objects that are to be deleted: of each its key, the id of its version, where one is named, and its fault, if
+    it has one."""
+    objects = rows(said, "Object")
+    refuse(not 1 <= len(objects) <= 1000 or not all(last_text(it, "Key") for it in objects), "MalformedXML")
+    refuse(any(field.name in CONDITIONS for it in objects for field in it), "NotImplemented")
+    named = [(last_text(it, "Key").encode(), last_text(it, "VersionId")) for it in objects]
+    return [(key, name, fault_of(key, name)) for key, name in named]
+
+
+def fault_of(key, name):
+    """Why an object can't be deleted that is named so, if it can't."""
+    if len(key) > 1024:
+        return "KeyTooLongError"
+    return None if name is None or VERSION_ID.fullmatch(name.encode()) else "InvalidArgument"
+
+
 def always(_request):
     return True
 
@@ -274,6 +306,10 @@ def is_bucket_name(name):
 
 def is_s3(request):
     return request.dialect == S3
+
+
+def is_presigned(request):
+    return request.has("X-Amz-Signature")
 
 
 def has_in_s3(*names):
@@ -300,6 +336,7 @@ OPERATIONS = [
     ("GET", False, lambda request: request.value("list-type", bytes) == b"2", "list_objects_v2"),
     ("GET", False, lambda request: is_s3(request) and not request.has("list-type"), "list_objects"),
     ("GET", False, always, None),
+    ("POST", False, has_in_s3("delete"), "delete_objects"),
     ("POST", False, always, None),
     ("PUT", False, always, "create_bucket"),
     ("HEAD", False, always, "head_bucket"),
@@ -323,8 +360,8 @@ OPERATIONS = [
 
 def operation(request):
     """The operation that a request asks for: the first row that applies."""
-    is_bucket_read = request.method == "GET" and request.path != "/" and request.key == b""
-    lacking = SUB_RESOURCES - (READ_OF_BUCKETS if is_bucket_read and is_s3(request) else set())
+    is_answered = is_s3(request) and request.path != "/" and request.key == b""
+    lacking = SUB_RESOURCES - (OF_BUCKETS.get(request.method, set()) if is_answered else set())
     refuse(lacking & set(request.asked), "NotImplemented")
     if request.path == "/":
         refuse(request.method != "GET", "MethodNotAllowed")

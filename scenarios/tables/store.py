@@ -7,8 +7,9 @@ import re
 import time
 
 from .bodies import Body
-from .codes import CODES, REASONS
-from .documents import CONTENT_TYPES, JSON, S3, document
+from .codes import CODES
+from .documents import JSON, S3, document
+from .replies import START, of_got, of_stored, of_told, of_unmodified, reply
 from .requests import CONFIGURATIONS, Refused, is_s3, operation, refuse
 
 # The least size of a part, but for the last one, in the servers of scenarios.
@@ -43,11 +44,6 @@ def quoted(tag):
 def stamp(moment):
     """A moment as documents tell it."""
     return time.strftime("%Y-%m-%dT%H:%M:%S.000Z", time.gmtime(moment))
-
-
-def date(moment):
-    """A moment as header lines tell it."""
-    return time.strftime("%a, %d %b %Y %H:%M:%S GMT", time.gmtime(moment))
 
 
 def page_of(entries, most):
@@ -109,11 +105,16 @@ class Data:
         self.tag, (self.content_type, self.metadata), self.body = tag, description, body
 
 
-class Version:
-    """An object, or a delete marker, which has no data."""
+def id_of(number):
+    """The id of a version that the command of this number makes where versioning is enabled."""
+    return f"v{number:016x}"
 
-    def __init__(self, name, moment, data):
-        self.name, self.moment, self.data = name, moment, data
+
+class Version:
+    """An object, or a delete marker, which has no data, and the number of the command that made it."""
+
+    def __init__(self, name, number, moment, data):
+        self.name, self.number, self.moment, self.data = name, number, moment, data
 
 
 class Part:
@@ -159,8 +160,22 @@ class Bucket:
         if self.mode != "Enabled":
             versions[:] = [version for version in versions if version.name != "null"]
         if data is not None or self.mode is not None:
-            versions.insert(0, Version(f"v{number:016x}" if self.mode == "Enabled" else "null", moment, data))
+            versions.insert(0, Version(id_of(number) if self.mode == "Enabled" else "null", number, moment, data))
         return versions[0].name if self.mode is not None else None
+
+    def delete(self, key, name, number, moment):
+        """Deletes a key, or its version of this id, and gives the id of the delete marker that is made, or is gone."""
+        if name is None:
+            return self.put(key, number, moment, None)
+        versions = self.keys.setdefault(key, [])
+        gone = [version for version in versions if version.name == name]
+        versions[:] = [version for version in versions if version.name != name]
+        return name if gone and gone[0].data is None else None
+
+    def spares(self, key, name, number):
+        """Whether a deletion is of what the same command made, which stays."""
+        is_made = any(version.number == number for version in self.keys.get(key, []))
+        return is_made if name is None else name == id_of(number)
 
     def picked(self, key, name):
         """The version that a get finds."""
@@ -179,7 +194,7 @@ class Store:
     """The bucket `pail` and others, how many commands were answered, and the facts of the last document. Each operation
     gives the lines of its reply."""
 
-    def __init__(self, dialect=JSON, moment=1369353600):
+    def __init__(self, dialect=JSON, moment=START):
         self.buckets, self.number, self.moment = {b"pail": Bucket()}, 0, moment
         self.dialect, self.facts = dialect, None
 
@@ -201,18 +216,14 @@ class Store:
 
     def reply(self, status, lines=(), body=Body()):
         """The lines of a reply. One that ends the connection is to no command, and has no number."""
-        is_over = "Connection: close" in lines
-        told = [f"HTTP/1.1 {status} {REASONS[status]}", f"Date: {date(self.moment)}", *lines[:is_over]]
-        told += [f"x-amz-request-id: {0 if is_over else self.number:016x}", *lines[is_over:]]
-        told += [] if status in (204, 304) else [f"Content-Length: {body.size}"]
-        return [*told, "", *(f"{line}|" for line in body.lines())]
+        return reply(status, 0 if "Connection: close" in lines else self.number, lines, body, self.moment)
 
     def told(self, facts, lines=(), status=200, root=None):
         """The lines of a reply with a document, which may have a root of its own."""
         self.facts = facts
         number = 0 if "Connection: close" in lines else self.number
         text = document(self.dialect, facts, f"{number:016x}", root)
-        return self.reply(status, [*lines, f"Content-Type: {CONTENT_TYPES[self.dialect]}"], Body.of(text))
+        return self.reply(status, [*lines, *of_told(self.dialect)], Body.of(text))
 
     def refusal(self, code, lines):
         status, message = CODES[code]
@@ -270,7 +281,7 @@ class Store:
         data, bucket = Data(hashlib.md5(body.bytes()).hexdigest(), description, body), self.bucket(request)
         deny(wants_none and request.key in bucket.current(), "PreconditionFailed")
         name = bucket.put(request.key, self.number, self.moment, data)
-        return self.reply(200, [*shown(name), f"ETag: {quoted(data.tag)}"])
+        return self.reply(200, [*shown(name), *of_stored(data.tag)])
 
     def source(self, request, place):
         """The version that a copy is of, which has to be as the request's conditions say."""
@@ -299,29 +310,39 @@ class Store:
         bucket = self.bucket(request)
         version = bucket.picked(request.key, name)
         data, told = version.data, shown(bucket.mode and version.name)
-        told += [f"ETag: {quoted(data.tag)}", f"Last-Modified: {date(version.moment)}"]
         status = judged(request, "", version)
         deny(status == 412, "PreconditionFailed")
         if status == 304:
-            return self.reply(304, told)
+            return self.reply(304, [*told, *of_unmodified(data.tag, version.moment)])
         size_told = [f"Content-Range: bytes */{data.body.size}"] if self.dialect == S3 else []
-        part, told = range_of(request.line("range"), data.body.size, size_told), [*told, "Accept-Ranges: bytes"]
-        if part is not None:
-            told.append(f"Content-Range: bytes {part[0]}-{part[1]}/{data.body.size}")
-        told += [f"Content-Type: {data.content_type}"]
-        told += [f"x-amz-meta-{name}: {value}" for name, value in sorted(data.metadata.items())]
-        return self.reply(200, told, data.body) if part is None else self.reply(206, told, data.body.cut(*part))
+        part = range_of(request.line("range"), data.body.size, size_told)
+        told += of_got(data.tag, version.moment, data.content_type)
+        told += [f"x-amz-meta-{name}: {value}" for name, value in data.metadata.items()]
+        if part is None:
+            return self.reply(200, told, data.body)
+        told.append(f"Content-Range: bytes {part[0]}-{part[1]}/{data.body.size}")
+        return self.reply(206, told, data.body.cut(*part))
 
     def delete_object(self, request):
         name = request.version_id()
         bucket = self.bucket(request)
-        if name is None:
-            name = bucket.put(request.key, self.number, self.moment, None)
-            return self.reply(204, [*shown(name), *(MARKER if name else [])])
-        versions = bucket.keys.setdefault(request.key, [])
-        gone = [version for version in versions if version.name == name]
-        versions[:] = [version for version in versions if version.name != name]
-        return self.reply(204, [*shown(bucket.mode and name), *(MARKER if gone and gone[0].data is None else [])])
+        marker = bucket.delete(request.key, name, self.number, self.moment)
+        return self.reply(204, [*shown(bucket.mode and (name or marker)), *(MARKER if marker else [])])
+
+    def delete_objects(self, request):
+        is_quiet, objects = request.deletion()
+        bucket = self.bucket(request)
+        told = [self.deleted(bucket, *named) for named in objects]
+        return self.told({"Results": [row for row in told if "Code" in row or not is_quiet]})
+
+    def deleted(self, bucket, key, name, fault):
+        """What is told of an object that is deleted with others, or that can't be."""
+        told = {"Key": key.decode()} | ({} if name is None else {"VersionId": name})
+        if fault is not None:
+            return told | {"Code": fault, "Message": CODES[fault][1]}
+        is_left = bucket.spares(key, name, self.number)
+        marker = None if is_left else bucket.delete(key, name, self.number, self.moment)
+        return told | ({} if marker is None else {"DeleteMarker": True, "DeleteMarkerVersionId": marker})
 
     # Uploads.
 
@@ -338,7 +359,7 @@ class Store:
         number, name = request.part_number(), request.upload_id()
         part = Part(request.received(), self.moment)
         self.upload(request, name).parts[number] = part
-        return self.reply(200, [f"ETag: {quoted(part.digest.hex())}"])
+        return self.reply(200, of_stored(part.digest.hex()))
 
     def upload_part_copy(self, request):
         number, name = request.part_number(), request.upload_id()

@@ -109,11 +109,6 @@ def replies(lines):
     return found
 
 
-def in_xml(lines):
-    """The lines of replies, their documents in XML."""
-    return [line for reply in replies(lines) for line in reply_lines(reply)]
-
-
 def bytes_of(lines):
     """What the lines of replies stand for."""
     told = []

@@ -1,6 +1,7 @@
 pub mod CalendarLemmas
 pub mod CopiedLemmas
 pub mod DateLemmas
+pub mod DeletionLemmas
 pub mod EncodedLemmas
 pub mod FieldLemmas
 pub mod IdLemmas

@@ -5,18 +5,22 @@ use Rattle.std.proofs.lemmas.Bool.{and_parts, lt-ltb}
 use Rattle.s3_versions.specs.declared.version.Versioning.TheVariants.{Unversioned, Enabled, Suspended}
 use Rattle.s3_versions.specs.declared.version.Versioning.{Versioning}
 use Rattle.s3_names.specs.Ids.{upload_id_text, version_id_text}
+use Rattle.s3_deletions.specs.declared.told.DeletionRow.{DeletionRow}
+use Rattle.s3_deletions.specs.declared.told.DeletionRow.TheVariants.{Deleted, Fault}
+use Rattle.s3_names.specs.declared.ids.VersionId.{VersionId}
 use Rattle.s3_records.specs.declared.rows.VersionRow.{VersionRow}
 use Rattle.s3_listings.specs.Pages.{next_of}
 use Rattle.s3_xml.specs.Documents.{goes_on, is_document, document_of}
 use Rattle.s3_xml.specs.Events.{Event, leaf, element, text_in}
 use Rattle.s3_xml.specs.Events as xml
 use Rattle.s3_xml.specs.Laws.{is_name, is_namespace, is_plain, Fits, ContentsFit, DocumentsAreReadBack}
-use Rattle.s3_documents.specs.Document.{Document, buckets, objects, versions, uploads, parts, begun, completed, copied, part_copied, versioning, location, error}
+use Rattle.s3_documents.specs.Document.{Document, buckets, objects, versions, uploads, parts, begun, completed, deletions, copied, part_copied, versioning, location, error}
 use Rattle.s3_documents.specs.Laws.{XmlIsReadBack}
 use Rattle.s3_documents.specs.Location.{constraint_told}
 use Rattle.s3_documents.specs.Printed.{told}
 use Rattle.s3_documents.specs.Buckets.{bucket_row}
 use Rattle.s3_documents.specs.Copied.{copied_fields}
+use Rattle.s3_documents.specs.Deleted.{deleted_fields, fault_fields}
 use Rattle.s3_documents.specs.Error.{error_elements}
 use Rattle.s3_documents.specs.ObjectList.{prefix_row, key_count, token_told, delimiter_told}
 use Rattle.s3_documents.specs.PartList.{part_fields, number_of_part}
@@ -26,8 +30,9 @@ use Rattle.s3_documents.specs.Upload.{begun_fields}
 use Rattle.s3_documents.specs.UploadList.{upload_marker_told, key_of_upload, id_of_upload}
 use Rattle.s3_documents.specs.VersionList.{key_of_row, id_of_row, tag_of_facts, size_of_facts}
 use Rattle.s3_documents.specs.Versioning.{versioning_fields}
-use Rattle.s3_documents.specs.Xml.{in_first, in_second, marker_asked, next_marker, standard, encoding_told, completed_elements, plain, objects_manner, owned_manner, content_of, fields_events, element_of, owner, owner_fields, owner_in, owned, listed, bucket_events, object_before, object_behind, object_events, prefix_events, version_name, version_before, version_behind, version_events, begun_before, begun_behind, upload_events, part_events, objects_before, objects_between, objects_behind, versions_before, versions_behind, uploads_before, uploads_behind, parts_before, parts_behind, root_of, namespace, namespace_of, events_of}
+use Rattle.s3_documents.specs.Xml.{in_first, in_second, marker_asked, next_marker, standard, encoding_told, completed_elements, plain, objects_manner, owned_manner, content_of, fields_events, element_of, owner, owner_fields, owner_in, owned, listed, bucket_events, object_before, object_behind, object_events, prefix_events, version_name, version_before, version_behind, version_events, begun_before, begun_behind, upload_events, part_events, deletion_events, objects_before, objects_between, objects_behind, versions_before, versions_behind, uploads_before, uploads_behind, parts_before, parts_behind, root_of, namespace, namespace_of, events_of}
 use Rattle.s3_documents.specs.declared.xml.Manner.{Manner}
+use Rattle.s3_terms.specs.Code.{name_of, message_of}
 use Rattle.s3_terms.specs.declared.dialect.Dialect.TheVariants.{S3}
 
 -- ---- fields whose names are names
@@ -124,6 +129,17 @@ parts_before_named : (bucket key id marker most more : Value) (next : Option Val
 parts_before_named bucket key id marker most more None = refl
 parts_before_named bucket key id marker most more (Some next) = refl
 
+deleted_named : (key : List ℕ) (version marker : Option VersionId) → IsNamed (deleted_fields key version marker)
+deleted_named key None None = refl
+deleted_named key None (Some marker) = refl
+deleted_named key (Some version) None = refl
+deleted_named key (Some version) (Some marker) = refl
+
+fault_named : (code key message : Value) (version : Option Value)
+    → IsNamed ((codes "Code", code) ∷ (codes "Key", key) ∷ (codes "Message", message) ∷ told (codes "VersionId") version)
+fault_named code key message None = refl
+fault_named code key message (Some version) = refl
+
 -- ---- what fits, by what is known of that
 
 module _ (law : ContentsFit) where
@@ -171,6 +187,18 @@ module _ (law : ContentsFit) where
       owned_fits manner (version_name row) (version_before row) (version_behind row) (version_named (is_none row.facts))
       (version_before_named (option_map tag_of_facts row.facts) (truth row.is_latest) (encodable row.key) (moment row.moment))
       (version_behind_named (option_map size_of_facts row.facts) (option_map (λ facts. standard) row.facts) (text (version_id_text row.id)))
+
+  deletion_fits : (is_quiet : Bool) (row : DeletionRow) → Fits 2 (deletion_events is_quiet row)
+  deletion_fits true (Deleted key version marker) = law.deeper 0 2 [] (omega arith) law.nothing
+  deletion_fits false (Deleted key version marker) =
+      element_fits plain (codes "Deleted") (deleted_fields key version marker) refl (deleted_named key version marker)
+  deletion_fits is_quiet (Fault fault) =
+      element_fits plain (codes "Error") (fault_fields fault) refl
+      (fault_named (text (name_of fault.code)) (text fault.key) (text (message_of fault.code)) (option_map text fault.version))
+
+  deletions_fit : (is_quiet : Bool) (rows : List DeletionRow) → Fits 3 (events_of (deletions is_quiet rows))
+  deletions_fit is_quiet rows =
+      law.deeper 2 3 (events_of (deletions is_quiet rows)) (omega arith) (rows_fit 2 (deletion_events is_quiet) (deletion_fits is_quiet) rows)
 
   buckets_fit : (list : _) → Fits 3 (events_of (buckets list))
   buckets_fit list =
@@ -236,6 +264,7 @@ root_named (uploads name asked page) = refl
 root_named (parts bucket key id asked page) = refl
 root_named (begun bucket key id) = refl
 root_named (completed bucket key tag) = refl
+root_named (deletions is_quiet rows) = refl
 root_named (copied tag made) = refl
 root_named (part_copied tag made) = refl
 root_named (versioning state) = refl
@@ -250,6 +279,7 @@ namespace_fits (uploads name asked page) = refl
 namespace_fits (parts bucket key id asked page) = refl
 namespace_fits (begun bucket key id) = refl
 namespace_fits (completed bucket key tag) = refl
+namespace_fits (deletions is_quiet rows) = refl
 namespace_fits (copied tag made) = refl
 namespace_fits (part_copied tag made) = refl
 namespace_fits (versioning state) = refl
@@ -288,6 +318,7 @@ xml_read_back read law (uploads name asked page) = fitting law (uploads name ask
 xml_read_back read law (parts bucket key id asked page) = fitting law (parts bucket key id asked page) (parts_fit law bucket key id asked page)
 xml_read_back read law (begun bucket key id) = fields_read_back law (begun bucket key id) (begun_fields bucket key id) refl refl
 xml_read_back read law (completed bucket key tag) = fields_read_back law (completed bucket key tag) (completed_elements bucket key tag) refl refl
+xml_read_back read law (deletions is_quiet rows) = fitting law (deletions is_quiet rows) (deletions_fit law is_quiet rows)
 xml_read_back read law (copied tag made) = fields_read_back law (copied tag made) (copied_fields tag made) refl refl
 xml_read_back read law (part_copied tag made) = fields_read_back law (part_copied tag made) (copied_fields tag made) refl refl
 xml_read_back read law (versioning state) = fields_read_back law (versioning state) (versioning_fields state) refl (versioning_named state)

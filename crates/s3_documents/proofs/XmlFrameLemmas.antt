@@ -3,7 +3,7 @@ use Rattle.std.proofs.Common.{◌≤◌, ◌+◌, length, arith, Result, Ok, Err
 use Rattle.s3_xml.specs.Printed.{event_text}
 use Rattle.s3_xml.specs.Events.{end}
 use Rattle.s3_xml.specs.Writer.{opening}
-use Rattle.s3_documents.specs.Document.{Document, buckets, objects, versions, uploads, parts, begun, completed, copied, part_copied, versioning, location, error}
+use Rattle.s3_documents.specs.Document.{Document, buckets, objects, versions, uploads, parts, begun, completed, deletions, copied, part_copied, versioning, location, error}
 use Rattle.s3_documents.specs.Xml.{root_of, namespace_of}
 
 pub frame_room : (document : Document) → length (opening (root_of document) (namespace_of document)) + length (event_text (end (root_of document))) ≤ 192
@@ -15,6 +15,7 @@ frame_room (uploads name asked page) = omega arith
 frame_room (parts bucket key id asked page) = omega arith
 frame_room (begun bucket key id) = omega arith
 frame_room (completed bucket key tag) = omega arith
+frame_room (deletions is_quiet rows) = omega arith
 frame_room (copied tag made) = omega arith
 frame_room (part_copied tag made) = omega arith
 frame_room (versioning state) = omega arith

@@ -255,7 +255,7 @@ object_events_room manner object short small =
       class_field manner,
     )
 
-id_length : (id : VersionId) → length (version_id_text id) ≤ 17
+pub id_length : (id : VersionId) → length (version_id_text id) ≤ 17
 unfolding numbered_id number_digits
 id_length Null = omega arith
 id_length (Numbered n) = omega (arith, length-encode_with lower_digits (to_be_bytes w64 n))

@@ -1,8 +1,9 @@
 -- What the documents of replies tell, as facts (Amazon S3 API Reference, the operations that are named).
-use Rattle.std.specs.Prelude.{ℕ, List}
+use Rattle.std.specs.Prelude.{ℕ, Bool, List, []}
 use Rattle.s3_terms.specs.declared.code.Code.{Code}
 use Rattle.s3_versions.specs.declared.version.Versioning.{Versioning}
 use Rattle.s3_prefixes.specs.declared.asked.ObjectsAsked.{ObjectsAsked}
+use Rattle.s3_deletions.specs.declared.told.DeletionRow.{DeletionRow}
 use Rattle.s3_uploads.specs.declared.part.PartRow.{PartRow}
 use Rattle.s3_records.specs.declared.records.ListedBucket.{ListedBucket}
 use Rattle.s3_records.specs.declared.rows.UploadRow.{UploadRow}
@@ -37,6 +38,8 @@ pub data Document : Type 0 where
   begun : (bucket key : List ℕ) → ℕ → Document
   -- CompleteMultipartUpload: the bucket, the key, and the tag of the version that was made
   completed : (bucket key tag : List ℕ) → Document
+  -- DeleteObjects: whether only faults are told, and a row for each object
+  deletions : Bool → List DeletionRow → Document
   -- CopyObject: the tag of the version that was made, and its moment
   copied : List ℕ → ℕ → Document
   -- UploadPartCopy: the tag of the part that was made, and its moment
@@ -48,7 +51,8 @@ pub data Document : Type 0 where
   -- of a refusal: its code, and the number of the answer
   error : Code → ℕ → Document
 
--- what a document tells, under the names that JSON documents have for it
+-- what a document tells, under the names that JSON documents have for it; the rows of a DeleteObjects
+-- are told in XML alone
 abbrev pub tree_of : Document → Tree
 tree_of (buckets rows) = buckets_tree rows
 tree_of (objects name asked page) = objects_tree name asked page
@@ -57,6 +61,7 @@ tree_of (uploads name asked page) = uploads_tree name asked page
 tree_of (parts bucket key id asked page) = parts_tree bucket key id asked page
 tree_of (begun bucket key id) = leaves (begun_fields bucket key id)
 tree_of (completed bucket key tag) = leaves (completed_fields bucket key tag)
+tree_of (deletions is_quiet rows) = []
 tree_of (copied tag made) = leaves (copied_fields tag made)
 tree_of (part_copied tag made) = leaves (copied_fields tag made)
 tree_of (versioning state) = leaves (versioning_fields state)

@@ -1,5 +1,6 @@
 pub mod Buckets
 pub mod Copied
+pub mod Deleted
 pub mod Document
 pub mod Error
 pub mod Json

@@ -6,6 +6,8 @@ use Rattle.std.specs.List.{flat_map}
 use Rattle.std.specs.Option.{unwrap_or}
 use Rattle.s3_canonical.specs.Encoding.{encode_path}
 use Rattle.s3_names.specs.Ids.{upload_id_text, version_id_text}
+use Rattle.s3_deletions.specs.declared.told.DeletionRow.{DeletionRow}
+use Rattle.s3_deletions.specs.declared.told.DeletionRow.TheVariants.{Deleted, Fault}
 use Rattle.s3_prefixes.specs.declared.asked.ListVersion.{ListVersion}
 use Rattle.s3_prefixes.specs.declared.asked.ListVersion.TheVariants.{First, Second}
 use Rattle.s3_prefixes.specs.declared.asked.ObjectsAsked.{ObjectsAsked}
@@ -21,7 +23,8 @@ use Rattle.s3_listings.specs.Objects.{ObjectsTold}
 use Rattle.s3_listings.specs.Pages.{Page, next_of}
 use Rattle.s3_documents.specs.Buckets.{bucket_row}
 use Rattle.s3_documents.specs.Copied.{tag_told, copied_fields}
-use Rattle.s3_documents.specs.Document.{Document, buckets, objects, versions, uploads, parts, begun, completed, copied, part_copied, versioning, location, error}
+use Rattle.s3_documents.specs.Deleted.{deleted_fields, fault_fields}
+use Rattle.s3_documents.specs.Document.{Document, buckets, objects, versions, uploads, parts, begun, completed, deletions, copied, part_copied, versioning, location, error}
 use Rattle.s3_documents.specs.Error.{error_elements}
 use Rattle.s3_documents.specs.Location.{constraint_told}
 use Rattle.s3_documents.specs.ObjectList.{prefix_row, key_count, token_told, delimiter_told}
@@ -156,6 +159,12 @@ upload_events manner row = owned manner (codes "Upload") (begun_before row) (beg
 abbrev pub part_events : Manner → PartRow → List Event
 part_events manner row = element_of manner (codes "Part") (part_fields row)
 
+-- a row of DeleteObjects: what is gone, which isn't told where only faults are, and what can't be deleted
+abbrev pub deletion_events : Bool → DeletionRow → List Event
+deletion_events is_quiet (Deleted key version marker) =
+    if is_quiet then [] else element_of plain (codes "Deleted") (deleted_fields key version marker)
+deletion_events is_quiet (Fault fault) = element_of plain (codes "Error") (fault_fields fault)
+
 -- ---- what stands beside the rows
 
 -- what only the first version of a list of objects tells, and what only the second one does
@@ -269,6 +278,7 @@ root_of (uploads name asked page) = codes "ListMultipartUploadsResult"
 root_of (parts bucket key id asked page) = codes "ListPartsResult"
 root_of (begun bucket key id) = codes "InitiateMultipartUploadResult"
 root_of (completed bucket key tag) = codes "CompleteMultipartUploadResult"
+root_of (deletions is_quiet rows) = codes "DeleteResult"
 root_of (copied tag made) = codes "CopyObjectResult"
 root_of (part_copied tag made) = codes "CopyPartResult"
 root_of (versioning state) = codes "VersioningConfiguration"
@@ -288,6 +298,7 @@ namespace_of (uploads name asked page) = namespace
 namespace_of (parts bucket key id asked page) = namespace
 namespace_of (begun bucket key id) = namespace
 namespace_of (completed bucket key tag) = namespace
+namespace_of (deletions is_quiet rows) = namespace
 namespace_of (copied tag made) = namespace
 namespace_of (part_copied tag made) = namespace
 namespace_of (versioning state) = namespace
@@ -320,6 +331,7 @@ events_of (parts bucket key id asked page) =
     listed_owned plain (parts_before bucket key id asked page) (flat_map (part_events plain) page.given) parts_behind
 events_of (begun bucket key id) = fields_events plain (begun_fields bucket key id)
 events_of (completed bucket key tag) = fields_events plain (completed_elements bucket key tag)
+events_of (deletions is_quiet rows) = flat_map (deletion_events is_quiet) rows
 events_of (copied tag made) = fields_events plain (copied_fields tag made)
 events_of (part_copied tag made) = fields_events plain (copied_fields tag made)
 events_of (versioning state) = fields_events plain (versioning_fields state)

@@ -4,6 +4,7 @@
 
 mod buckets;
 mod copied;
+mod deletions;
 mod encoded;
 mod laws;
 mod list;
@@ -23,5 +24,5 @@ mod xml;
 
 pub use copied::{copied_document, part_copied_document};
 pub use laws::{documents_are_one, xml_is_read_back};
-pub use listed::Document;
+pub use listed::{DeletionDraft, Document};
 pub use printer::{Field, Leaf, Printer, Row, text_of};

@@ -1,10 +1,12 @@
 //! The documents of replies. The text of one is printed when it is wanted.
 ghost use Rattle.std.specs.Prelude.{◌≡◌, IfOk};
-ghost use Rattle.s3_documents.specs.Document.{buckets, objects, versions, uploads, parts, begun, completed, location};
-ghost use Rattle.s3_documents.specs.Listed.{reserved_document};
+ghost use Rattle.s3_deletions.specs.Deletions.{rows_told};
+ghost use Rattle.s3_documents.specs.Document.{buckets, objects, versions, uploads, parts, begun, completed, deletions, location};
+ghost use Rattle.s3_documents.specs.Listed.{reserved_document, kept_document};
 ghost use Rattle.s3_documents.specs.Spelling.{document_text};
 
 use crate::buckets::BucketsList;
+use crate::deletions::DeletionsReserved;
 use crate::location::BucketLocation;
 use crate::object_list::ObjectsList;
 use crate::part_list::PartsList;
@@ -13,6 +15,7 @@ use crate::upload::{UploadBegun, UploadCompleted};
 use crate::upload_list::UploadsList;
 use crate::version_list::VersionsList;
 use s3_bodies::Body;
+use s3_deletions::{Deletion, Markers, NamedObject};
 use s3_listings::{
     ObjectPage, PartPage, PartsAsked, UploadPage, UploadsAsked, VersionPage, VersionsAsked,
 };
@@ -27,7 +30,14 @@ use std::marker::Model;
 /// when the document was made.
 #[derive(Drop)]
 pub struct Document {
-    reservation: Box<Reservation>,
+    kept: Kept,
+}
+
+// What is printed later. The rows of a DeleteObjects are told into a place that was taken before it was done.
+#[derive(Drop)]
+enum Kept {
+    Reserved(Box<Reservation>),
+    Deletions(Box<DeletionsReserved>),
 }
 
 // What is printed later, with the room for it.
@@ -45,11 +55,46 @@ enum Reservation {
 
 impl Model for Document {
     ghost use Rattle.s3_documents.specs.Document.{Document};
-    ghost use Rattle.s3_documents.specs.Listed.{reserved_document};
+    ghost use Rattle.s3_documents.specs.Listed.{kept_document};
 
     ghost Value = { Document };
 
-    ghost view = { λ document. reserved_document document.reservation.value };
+    ghost view = { λ document. kept_document document.kept };
+}
+
+/// What a DeleteObjects asks for, with all the room for its document: only what is told of delete markers is missing.
+/// Contracts see it as what is asked for.
+#[derive(Drop)]
+pub struct DeletionDraft {
+    reserved: Box<DeletionsReserved>,
+}
+
+impl Model for DeletionDraft {
+    ghost use Rattle.s3_deletions.specs.declared.named.Deletion.{Deletion};
+
+    ghost Value = { Deletion };
+
+    ghost view = { λ draft. draft.reserved.value.list.deletion };
+}
+
+impl DeletionDraft {
+    /// The objects that are named, in their order.
+    pub fn objects(&self) -> &[NamedObject]
+        ensures { result.now ≡ self.now.objects }
+    {
+        self.reserved.list.deletion.objects.as_slice()
+    }
+
+    /// The document, by the ids that are told of the delete markers of the objects, in their order. It takes no memory.
+    pub fn told(self, markers: Markers) -> Document
+        ensures { result ≡ deletions self.is_quiet (rows_told self.objects markers) }
+    {
+        let DeletionDraft { mut reserved } = self;
+        reserved.list.markers = markers;
+        Document {
+            kept: Kept::Deletions(reserved),
+        }
+    }
 }
 
 impl Document {
@@ -159,11 +204,21 @@ impl Document {
         pending(alloc, Reservation::Location(reserved))
     }
 
+    /// The draft of the document of a DeleteObjects that isn't done yet. It takes the room for all that may be told of delete
+    /// markers.
+    pub fn of_deletions(alloc: Global, deletion: Deletion) -> Result<DeletionDraft, NoMemory>
+        ensures { IfOk result (λ draft. draft ≡ deletion) }
+    {
+        let reserved = DeletionsReserved::of(alloc, deletion)?;
+        let reserved = Box::new(alloc, reserved)?;
+        Ok(DeletionDraft { reserved })
+    }
+
     /// The text, as a body, so spelled. It takes no memory.
     pub fn into_body(self, dialect: Dialect) -> Body
         ensures { result ≡ document_text dialect self }
     {
-        Body::alone(printed(Box::into_inner(self.reservation), dialect))
+        Body::alone(kept_text(self.kept, dialect))
     }
 }
 
@@ -172,7 +227,18 @@ fn pending(alloc: Global, reservation: Reservation) -> Result<Document, NoMemory
     ensures { IfOk result (λ document. document ≡ reserved_document reservation) }
 {
     let reservation = Box::new(alloc, reservation)?;
-    Ok(Document { reservation })
+    Ok(Document {
+        kept: Kept::Reserved(reservation),
+    })
+}
+
+fn kept_text(kept: Kept, dialect: Dialect) -> Vec<u8>
+    ensures { result.items ≡ document_text dialect (kept_document kept) }
+{
+    match kept {
+        Kept::Reserved(reservation) => printed(Box::into_inner(reservation), dialect),
+        Kept::Deletions(reserved) => Box::into_inner(reserved).text(dialect),
+    }
 }
 
 fn printed(reservation: Reservation, dialect: Dialect) -> Vec<u8>

@@ -1,5 +1,5 @@
 //! Documents that are printed later, into room that was taken before.
-ghost use Rattle.std.specs.Prelude.{◌≡◌, ◌+◌, ◌<◌, ◌≤◌, [], ◌++◌, length, vec_capacity, IfOk, OnOk, OnErr};
+ghost use Rattle.std.specs.Prelude.{◌≡◌, ℕ, ◌+◌, ◌<◌, ◌≤◌, [], ◌++◌, length, vec_capacity, IfOk, OnOk, OnErr};
 ghost use Rattle.s3_documents.specs.Document.{Document, tree_of};
 ghost use Rattle.s3_documents.specs.Printed.{branches_tokens, begun, room_of, TakesRoom, IsRoomFor};
 ghost use Rattle.s3_documents.specs.Spelling.{document_text};
@@ -73,11 +73,7 @@ impl<P: Told> Reserved<P> {
     pub fn of(alloc: Global, told: P) -> Result<Reserved<P>, NoMemory>
         ensures { IfOk result (λ reserved. reserved ≡ P.document told) }
     {
-        let room = told.room().saturating_add(FRAME_MAX);
-        if room == usize::MAX {
-            return Err(NoMemory);
-        }
-        let room = Vec::with_capacity(alloc, room)?;
+        let room = room_taken(alloc, told.room())?;
         Ok(Reserved { told, room })
     }
 
@@ -86,10 +82,32 @@ impl<P: Told> Reserved<P> {
         ensures { result.items ≡ document_text dialect self }
     {
         let Reserved { told, room } = self;
-        match dialect {
-            Dialect::Json => json_text(&told, room),
-            Dialect::S3 => xml_text(&told, room),
-        }
+        text_in(&told, room, dialect)
+    }
+}
+
+/// Takes so much room, and that for what stands round it.
+pub(crate) fn room_taken(alloc: Global, room: usize) -> Result<Vec<u8>, NoMemory>
+    ensures empty { IfOk result (λ taken. taken.items ≡ []) }
+    ensures room { IfOk result (λ taken. (needed : ℕ) → IsRoomFor room needed → needed + 192 ≤ vec_capacity taken) }
+{
+    let room = room.saturating_add(FRAME_MAX);
+    if room == usize::MAX {
+        return Err(NoMemory);
+    }
+    Ok(Vec::with_capacity(alloc, room)?)
+}
+
+/// The text of a document, so spelled, in room that suffices for it. It takes no memory.
+pub(crate) fn text_in<P: Told>(told: &P, room: Vec<u8>, dialect: Dialect) -> Vec<u8>
+    requires empty { room.items ≡ [] }
+    requires json { room_of (branches_tokens (tree_of (P.document told.now))) + 4 ≤ vec_capacity room }
+    requires xml { length (markup (events_of (P.document told.now))) + 192 ≤ vec_capacity room }
+    ensures { result.items ≡ document_text dialect (P.document told.now) }
+{
+    match dialect {
+        Dialect::Json => json_text(told, room),
+        Dialect::S3 => xml_text(told, room),
     }
 }
 

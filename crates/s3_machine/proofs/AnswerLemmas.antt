@@ -1,6 +1,6 @@
 -- What right answers say, and how a delete marker hides.
-use Rattle.std.proofs.Common.{◌≡◌, refl, sym, ap, subst, ◌∙◌, Bool, true, false, not, ℕ, ⊎_elim, inl, inr, List, ◌∷◌, ◌++◌, append_assoc, Option, Some, None, option_map, is_some, Result, Ok, Err}
-use Rattle.std.proofs.lemmas.Bool.{false≢true}
+use Rattle.std.proofs.Common.{◌≡◌, refl, sym, ap, subst, ◌∙◌, Bool, true, false, not, ℕ, ⊎_elim, inl, inr, List, [], ◌∷◌, ◌++◌, append_assoc, Option, Some, None, option_map, is_some, Result, Ok, Err}
+use Rattle.std.proofs.lemmas.Bool.{false≢true, not-false}
 use Rattle.std.proofs.lemmas.Option.{same_Some}
 use Rattle.std.specs.Result.{result_ok}
 use Rattle.s3_terms.specs.declared.code.Code.{Code}
@@ -41,9 +41,9 @@ use Rattle.s3_machine.specs.History.{Entry, IsAnswer, after, after_entry}
 use Rattle.s3_machine.specs.Kept.{SparesVersion, ReadsVersion, Stores, Copies, WouldGive, WouldMake, Source, Put, Copy, Completion, Marks, EveryHistory, StoredIsKept, VersionsAreKept, StoredIsTold, ReadsGiveOrFail, MarkersHide, QuietEntriesChangeNothing, PutsAreKept, PutVersionsAreKept, CopiesAreKept, CopyVersionsAreKept, BodiesAreTagged, PutsStoreTheirContents, CopiesStoreTheirSource, CompletionsStoreTheirParts, StoredHasSource}
 use Rattle.s3_machine.specs.Laws.{QuietStepsChangeNothing, ConditionsJudgeReads}
 use Rattle.s3_machine.specs.Step.{State, Stepped, read_for_copy, shows_all, may_be_copied, source_found, described, copied, data_of, shown_in, makes_marker, found_in, outcome_shown, shown_by, key_done, done, stepped, step}
-use Rattle.s3_machine.proofs.EffectLemmas.{Rules, shown, after_line, copy_done, not_false}
+use Rattle.s3_machine.proofs.EffectLemmas.{Rules, versions_at, shown, after_line, copy_done}
 use Rattle.s3_machine.proofs.HistoryLemmas.{after-push, parts_of, right_at}
-use Rattle.s3_machine.proofs.KeptLemmas.{versions_at, outcome_is, picked, got, plain_shown, step_reads, stored_there, key_left}
+use Rattle.s3_machine.proofs.KeptLemmas.{outcome_is, picked, got, plain_shown, step_reads, stored_there, stored_writes, key_left}
 
 -- a plain read hands out all of a version, or refuses
 abbrev GivesOrRefuses : Stepped → Type 0
@@ -106,7 +106,7 @@ conditions_judge_reads least s n t name key version conditions =
 
 -- ---- puts
 
-key_put : (s : State) (n t : ℕ) (a : Address) (command : Command) (what : Data (List ℕ)) → writes command ≡ Some a
+key_put : (s : State) (n t : ℕ) (a : Address) (command : Command) (what : Data (List ℕ)) → writes command ≡ a ∷ []
     → brought command ≡ Some what → stored_by s n t command ≡ Some (object_of s n t a what)
 key_put s n t a (commands.Key bucket key (key_commands.Put put)) what written brings = cc
 key_put s n t a _ what written brings = absurd (cc)
@@ -240,7 +240,7 @@ source_there s n t name key false (Ok what) accepted = (what, refl)
 source_there s n t name key false (Err refusal) accepted = absurd (cc)
 
 copy_stores : (least : ℕ) (s : State) (n t : ℕ) (command : Command) (a : Address) (asked : Read) (said : Option Description)
-    → writes command ≡ Some a → copies command ≡ Some (asked, said) → succeeds (step least s n t command).1 ≡ true
+    → writes command ≡ a ∷ [] → copies command ≡ Some (asked, said) → succeeds (step least s n t command).1 ≡ true
     → StoresSome s n t a command
 unfolding done key_done copy_done
 copy_stores least s n t (commands.Key bucket key (key_commands.Copy copy)) a asked said written from accepted =
@@ -329,7 +329,7 @@ source_of : (s : State) (e : Entry) (command : Command) (object : Object) → e.
     → stored_by s e.answer.number e.moment command ≡ Some object → succeeds e.answer.outcome ≡ true → Source s e object
 source_of s e (commands.Key bucket key (key_commands.Put put)) object same is accepted =
     Put (record {
-      written = ap writes same ∙ ap (option_map (λ (o : Object). o.address)) is;
+      written = ap writes same ∙ stored_writes s e.answer.number e.moment (commands.Key bucket key (key_commands.Put put)) object is;
       brings = ap brought same ∙ ap (option_map (λ (o : Object). o.stored)) is;
       accepted = accepted;
     })
@@ -338,7 +338,7 @@ source_of s e (commands.Key bucket key (key_commands.Copy copy)) object same is 
     stored_there s e.answer.number e.moment (record { bucket = bucket; key = key }) (result_ok (copied s copy)) object is in
     let from = source_gives s e.answer.number e.moment (record { bucket = bucket; key = key }) copy object is in
     Copy (source_read copy.source) copy.description from.source
-    (record { written = ap writes same ∙ ap Some address; from = ap copies same; accepted = accepted })
+    (record { written = ap writes same ∙ ap (λ (a : Address). a ∷ []) address; from = ap copies same; accepted = accepted })
     from.gives from.is
 source_of s e (commands.Upload bucket key id (upload_commands.Complete listed if_absent)) object same is accepted =
     let upload = place_of bucket key id in
@@ -368,7 +368,7 @@ put_versions_are_kept tells law least s n entries legal before between later put
 
 -- the bytes that are brought are accepted under their tag
 brought_tag : (command : Command) (body : List ℕ) → brings command ≡ Some body
-    → (a : Address) × (what : Data (List ℕ)) × (writes command ≡ Some a) × (brought command ≡ Some what) × (what.tag ≡ tag_of body)
+    → (a : Address) × (what : Data (List ℕ)) × (writes command ≡ a ∷ []) × (brought command ≡ Some what) × (what.tag ≡ tag_of body)
 brought_tag (commands.Key bucket key (key_commands.Put put)) body is =
     let same : put.payload ≡ body = cc in
     (record { bucket = bucket; key = key }, data_of put, refl, refl, ap tag_of same)
@@ -407,7 +407,7 @@ unfolding done key_done
 step_marks hide rules least s n t a id is =
     after_line (λ st. st.1 ≡ outcomes.Deleted (Some id) true → IsHidden st.0 a) s (not (has_bucket s a.bucket)) NoSuchBucket (key_done s n t a.bucket a.key (key_commands.Delete None))
     (λ none. absurd (cc))
-    (λ there marked. hidden_by hide _ a (versioning_of s a.bucket) n t (versions_at s a) id (rules s a.bucket a.key (KeyDeleted n t) (not_false (has_bucket s a.bucket) there)) (told_shown (versioning_of s a.bucket) n id marked))
+    (λ there marked. hidden_by hide _ a (versioning_of s a.bucket) n t (versions_at s a) id (rules s a.bucket a.key (KeyDeleted n t) (not-false (has_bucket s a.bucket) there)) (told_shown (versioning_of s a.bucket) n id marked))
     is
 
 module _ (places : ChangesAreByPlace (List ℕ)) (rules : Rules) (hide : versions.MarkersHide (List ℕ)) where

@@ -24,6 +24,7 @@ use Rattle.s3_machine.proofs.AnswerLemmas.{stored_has_source}
 use Rattle.s3_machine.proofs.EffectLemmas.{Rules}
 use Rattle.s3_machine.proofs.HistoryLemmas.{Legal-append}
 use Rattle.s3_machine.proofs.OriginLemmas.{only_stored_stands, reads_found}
+use Rattle.s3_machine.proofs.StateLemmas.{Numbers}
 
 -- a command that reads this
 read_of : Read → Command
@@ -105,7 +106,7 @@ same_stored : (s : State) (e : Entry) (n t : ℕ) (address : Address) (what : Da
 same_stored s e n t address what object stores others =
     ap (λ (o : Object). o.stored) (same_Some (object_of s n t address what) object (sym others.by ∙ stores.by))
 
-module _ (places : ChangesAreByPlace (List ℕ)) (rules : Rules) (empty : OpeningIsEmpty (List ℕ))
+module _ (places : ChangesAreByPlace (List ℕ)) (rules : Rules) (numbers : Numbers) (empty : OpeningIsEmpty (List ℕ))
     (ids : IdsAreTold (List ℕ)) (joins : EveryHistory CompletionsJoinWhatWasSent) (least : ℕ) (s : State) (n : ℕ) (names : List (List ℕ)) (opens : s ≡ opening names) where
   -- what a copy stores has the origin of its source
   by_copy : (earlier : List Entry) (object : Object) (was : WasStored least s earlier object) (asked : Read) (said : Option Description)
@@ -156,7 +157,7 @@ module _ (places : ChangesAreByPlace (List ℕ)) (rules : Rules) (empty : Openin
       let read = reads_found ids least here 0 0 (read_of asked) asked gives.found (reads_it asked)
       (whole_given _ gives.found (gives.gives least 0 0 (read_of asked) (reads_it asked))) in
       let from = found_object asked.address read.0 gives.found in
-      let stored = only_stored_stands places rules empty least s n was.before legal names from opens read.2 in
+      let stored = only_stored_stands places rules numbers empty least s n was.before legal names from opens read.2 in
       by_copy earlier object was asked said source copies is
       (brought_before least s earlier was.before (was.write ∷ was.between) source was.parts
       (subst (WasBrought least s was.before) gives.holds (known from stored)))
@@ -174,9 +175,9 @@ module _ (places : ChangesAreByPlace (List ℕ)) (rules : Rules) (empty : Openin
       (λ (o : Object) stored. brought_within k was.before o fewer before stored)
       (stored_has_source (after least s was.before) was.write object was.stores)
 
-pub stored_was_brought : ChangesAreByPlace (List ℕ) → Rules → OpeningIsEmpty (List ℕ) → IdsAreTold (List ℕ)
+pub stored_was_brought : ChangesAreByPlace (List ℕ) → Rules → Numbers → OpeningIsEmpty (List ℕ) → IdsAreTold (List ℕ)
     → EveryHistory CompletionsJoinWhatWasSent → EveryHistory StoredWasBrought
-stored_was_brought places rules empty ids joins least s n entries legal names earlier later object opens parts was =
-    let brought = brought_within places rules empty ids joins least s n names opens (length earlier) earlier object (omega arith)
+stored_was_brought places rules numbers empty ids joins least s n entries legal names earlier later object opens parts was =
+    let brought = brought_within places rules numbers empty ids joins least s n names opens (length earlier) earlier object (omega arith)
     (Legal-append least s n earlier later (subst (Legal least s n) parts legal)).0 was in
     (brought.origin, brought.brought, brought.since)

@@ -1,5 +1,5 @@
 -- What a write meets that wants no object under its key, and what stands there between two of them.
-use Rattle.std.proofs.Common.{◌≡◌, ◌≢◌, refl, sym, ap, subst, ◌∙◌, Bool, true, false, not, ◌&&◌, ℕ, suc, inl, inr, List, [], ◌∷◌, ◌++◌, append_assoc, Option, Some, None, is_some, Result, Ok, Err, ok_or}
+use Rattle.std.proofs.Common.{◌≡◌, ◌≢◌, refl, sym, ap, subst, ◌∙◌, Bool, true, false, not, ◌&&◌, ℕ, suc, inl, inr, List, [], ◌∷◌, ◌++◌, append_assoc, Contains, Option, Some, None, is_some, Result, Ok, Err, ok_or}
 use Rattle.std.proofs.lemmas.Bool.{false≢true}
 use Rattle.std.specs.List.{list_all, list_any}
 use Rattle.std.specs.Prelude.{option_and_then}
@@ -33,10 +33,11 @@ use Rattle.s3_machine.specs.History.{Entry, IsAnswer, Legal, after, after_entry}
 use Rattle.s3_machine.specs.Kept.{EveryHistory}
 use Rattle.s3_machine.specs.Laws.{QuietStepsChangeNothing}
 use Rattle.s3_machine.specs.Step.{State, Stepped, is_taken, data_of, key_done, upload_done, done, stepped, step}
-use Rattle.s3_machine.proofs.EffectLemmas.{Rules, completing}
+use Rattle.s3_machine.proofs.ContainsLemmas.{contains_or}
+use Rattle.s3_machine.proofs.EffectLemmas.{Rules, versions_at, address_or, completing}
 use Rattle.s3_machine.proofs.HistoryLemmas.{after-push, parts_of, right_at}
 use Rattle.s3_machine.proofs.JoinedLemmas.{command_completed}
-use Rattle.s3_machine.proofs.KeptLemmas.{versions_at, outcome_is, same_address, entry_does, entry_stores}
+use Rattle.s3_machine.proofs.KeptLemmas.{outcome_is, entry_does, entry_stores}
 
 -- who wants no object at an address has the condition, and is of that address
 wanted : (if_absent : Bool) (a b : Address) → where_absent if_absent a ≡ Some b → (if_absent ≡ true) × (a ≡ b)
@@ -181,17 +182,16 @@ same_object s after a same = ap (λ (vs : List (Version (List ℕ))). is_some (o
 module _ (places : ChangesAreByPlace (List ℕ)) (rules : Rules) (least : ℕ) where
   -- an entry behind which no object is at an address where one was wrote there
   entry_takes : (s : State) (n : ℕ) (e : Entry) (a : Address) → IsAnswer least s n e → has_object s a ≡ true
-      → has_object (after_entry least s e) a ≡ false → (writes e.command ≡ Some a) × (succeeds e.answer.outcome ≡ true)
+      → has_object (after_entry least s e) a ≡ false → Contains (writes e.command) a × (succeeds e.answer.outcome ≡ true)
   entry_takes s n e a answer found leaves =
-      elim (entry_does places rules least s n e answer) [
+      elim (entry_does places rules least s n e answer).effect [
         | inl same ↦
             absurd (false≢true (sym leaves ∙ same_object s (after_entry least s e) a (same.versions a.bucket a.key) ∙ found))
         | inr changes ↦
-            elim (same_address a changes.address) [
-              | inl here ↦ (changes.written ∙ ap Some (sym here), ap succeeds (outcome_is least s n e answer) ∙ changes.accepted)
-              | inr other ↦
-                  absurd (false≢true (sym leaves
-                  ∙ same_object s (after_entry least s e) a (changes.place.other_keys a.bucket a.key other) ∙ found))
+            elim (contains_or address_or (writes e.command) a) [
+              | inl written ↦ (written, ap succeeds (outcome_is least s n e answer) ∙ changes.accepted)
+              | inr never ↦
+                  absurd (false≢true (sym leaves ∙ same_object s (after_entry least s e) a (changes.other_keys a never) ∙ found))
             ]
       ]
 

@@ -1,8 +1,9 @@
 -- What one step does: to the versions under keys, and that a refusal and a command that only reads do nothing.
-use Rattle.std.proofs.Common.{◌≡◌, refl, sym, ap, subst, ◌∙◌, arith, Bool, true, false, not, ◌&&◌, ℕ, ◌+◌, ◌<◌, ◌⊎◌, inl, inr, IsTrue, List, Option, Some, None, option_map, IfSome, Result, Ok, Err, ok_or}
-use Rattle.std.proofs.lemmas.Bool.{false≢true}
+use Rattle.std.proofs.Common.{◌≡◌, ◌≢◌, refl, sym, ap, ap₂, subst, ◌∙◌, arith, Bool, true, false, not, ◌&&◌, ℕ, ◌+◌, ◌<◌, ◌⊎◌, ⊎_elim, inl, inr, IsTrue, List, [], ◌∷◌, Contains, Option, Some, None, option_map, IfSome, Result, Ok, Err, ok_or}
+use Rattle.std.proofs.lemmas.Bool.{false≢true, not-false}
 use Rattle.std.specs.List.{list_all, list_any}
 use Rattle.std.specs.Result.{result_ok}
+use Rattle.s3_text.proofs.MapLemmas.{same_or}
 use Rattle.s3_terms.specs.declared.code.Code.{Code}
 use Rattle.s3_terms.specs.declared.code.Code.TheVariants.{NoSuchBucket, BucketAlreadyOwnedByYou, BucketNotEmpty, InvalidArgument, NoSuchUpload, PreconditionFailed, InvalidPartOrder, InvalidPart, EntityTooSmall}
 use Rattle.s3_names.specs.declared.ids.VersionId.{VersionId}
@@ -14,8 +15,10 @@ use Rattle.s3_versions.specs.declared.version.Data.{Data}
 use Rattle.s3_versions.specs.declared.version.Version.{Version}
 use Rattle.s3_versions.specs.declared.version.Versioning.{Versioning}
 use Rattle.s3_versions.specs.declared.version.Versioning.TheVariants.{Unversioned, Enabled, Suspended}
-use Rattle.s3_versions.specs.Rules.{made, new_id, stored, pick, facts_of, is_new_number, KeyChange, VersionPut, KeyDeleted, VersionDropped, after_change}
-use Rattle.s3_versions.specs.Laws.{id_changed, marker_made, version_made}
+use Rattle.s3_versions.specs.Rules.{made, new_id, stored, pick, facts_of, asked_for, KeyChange, VersionPut, KeyDeleted, VersionDropped, after_change}
+use Rattle.s3_versions.specs.Laws.{id_changed, version_made}
+use Rattle.s3_deletions.specs.Deletions.{rows_told}
+use Rattle.s3_deletions.specs.declared.named.Deletion.{Deletion}
 use Rattle.s3_uploads.specs.Completion.{numbers_listed, is_sent, is_small, front_of, parts_listed, completed_parts, joined_data, completed}
 use Rattle.s3_uploads.specs.Parts.{PartList, rises, part_sent, part_tag}
 use Rattle.s3_uploads.specs.declared.listed.ListedPart.{ListedPart}
@@ -23,9 +26,10 @@ use Rattle.s3_uploads.specs.declared.part.Part.{Part}
 use Rattle.s3_uploads.specs.declared.upload.Upload.{Upload}
 use Rattle.s3_records.specs.Catalogue.{has_bucket, is_empty_bucket, versions_of, versioning_of}
 use Rattle.s3_records.specs.Changes.{Change, BucketAdded, BucketDropped, VersioningSet, KeyChanged, UploadAdded, PartPut, UploadDropped, UploadCompleted, changed}
+use Rattle.s3_records.specs.Deletions.{all_deleted, markers_of}
 use Rattle.s3_records.specs.Laws.{ChangesFollowRules, CompletionsFollowRules}
 use Rattle.s3_records.specs.OpenUploads.{upload_at}
-use Rattle.s3_records.specs.Places.{SameVersions, OnePlaceChanges, ChangesAreByPlace, number_in, AreBelow, NumbersStayBelow, LaterIsBelow}
+use Rattle.s3_records.specs.Places.{version_at, SameVersions, OnePlaceChanges, ChangesAreByPlace, number_in, AreBelow, NumbersStayBelow, LaterIsBelow}
 use Rattle.s3_documents.specs.Document as documents
 use Rattle.s3_machine.specs.declared.command.BucketCommand.{BucketCommand}
 use Rattle.s3_machine.specs.declared.command.BucketCommand.TheVariants as bucket_commands
@@ -46,6 +50,14 @@ use Rattle.s3_machine.specs.Fault.{refuse, as_refusal}
 use Rattle.s3_machine.specs.Effects.{Address, writes, object_of, upload_stored, stored_by, acknowledged, touched, told, is_refused, succeeds, only_reads}
 use Rattle.s3_machine.specs.Step.{State, Stepped, is_taken, copied, source_found, lies_in, part_copied, data_of, shown_in, found_in, outcome_shown, shown_by, upload_begun, open_upload, bucket_done, key_done, upload_done, done, stepped, step}
 use Rattle.s3_machine.specs.Laws.{QuietStepsChangeNothing, StepsStayBelow}
+use Rattle.s3_machine.proofs.ChangeLemmas.{Comes, Stays, Then, comes_below}
+use Rattle.s3_machine.proofs.ContainsLemmas.{nothing_in, one_in, is_in}
+use Rattle.s3_machine.proofs.DeletionLemmas.{nothing_stored, IsIn, all_come}
+use Rattle.s3_machine.proofs.DeletionRowLemmas.{unwritten_keys, touched_others, touched_empty}
+
+-- the versions under an address
+abbrev pub versions_at : State → Address → List (Version (List ℕ))
+versions_at s a = versions_of s a.bucket a.key
 
 -- the command was refused, or only reads
 abbrev pub IsQuiet : Command → Outcome → Type 0
@@ -54,55 +66,57 @@ IsQuiet command outcome = (is_refused outcome ≡ true) ⊎ (only_reads command 
 -- every key has the versions that it had, and a write didn't succeed
 pub record Same (s : State) (command : Command) (st : Stepped) : Type 0 where
   pub versions : SameVersions s st.0
-  pub refused : (a : Address) → writes command ≡ Some a → succeeds st.1 ≡ false
+  pub refused : (a : Address) → Contains (writes command) a → succeeds st.1 ≡ false
   pub quiet : IsQuiet command st.1 → st.0 ≡ s
 
--- a write stored these data: the object that its command stores, whose tag it tells and which is current now
-pub record Adds (s : State) (n t : ℕ) (command : Command) (st : Stepped) (a : Address) (id : VersionId)
-    (now : Option (Version (List ℕ))) : Type 0 where
-  pub what : Data (List ℕ)
-  pub by : stored_by s n t command ≡ Some (object_of s n t a what)
-  pub under : id ≡ new_id (versioning_of s a.bucket) n
-  pub tagged : acknowledged st.1 ≡ Some what.tag
-  pub makes : now ≡ Some (made (versioning_of s a.bucket) n t (Stored what))
-  pub versions : versions_of st.0 a.bucket a.key ≡ after_change (versioning_of s a.bucket) (VersionPut n t what) (versions_of s a.bucket a.key)
-
--- or it stored nothing
-pub record AddsNothing (s : State) (n t : ℕ) (command : Command) (now : Option (Version (List ℕ))) : Type 0 where
-  pub by : stored_by s n t command ≡ None
-  pub empty : (v : Version (List ℕ)) → now ≡ Some v → stored v ≡ None
-
--- a write succeeded, and changed what stands at one place
-pub record Changes (s : State) (n t : ℕ) (command : Command) (st : Stepped) : Type 0 where
+-- a write stored these data: the object that its command stores at the one place that it writes, whose tag it tells and which is
+-- current now
+pub record Adds (s : State) (n t : ℕ) (command : Command) (st : Stepped) : Type 0 where
   pub address : Address
-  pub written : writes command ≡ Some address
+  pub what : Data (List ℕ)
+  pub by : stored_by s n t command ≡ Some (object_of s n t address what)
+  pub written : writes command ≡ address ∷ []
+  pub touches : touched command st.1 address ≡ new_id (versioning_of s address.bucket) n ∷ []
+  pub tagged : acknowledged st.1 ≡ Some what.tag
+  pub makes : version_at st.0 address.bucket address.key (new_id (versioning_of s address.bucket) n)
+      ≡ Some (made (versioning_of s address.bucket) n t (Stored what))
+  pub versions : versions_at st.0 address
+      ≡ after_change (versioning_of s address.bucket) (VersionPut n t what) (versions_at s address)
+
+-- or it stored nothing, and where it changed something nothing stored stands: where its number is above those of all versions
+pub record AddsNothing (s : State) (n t : ℕ) (command : Command) (st : Stepped) : Type 0 where
+  pub by : stored_by s n t command ≡ None
+  pub empty : AreBelow n s → (a : Address) (id : VersionId) (v : Version (List ℕ)) → Contains (writes command) a
+      → Contains (touched command st.1 a) id → version_at st.0 a.bucket a.key id ≡ Some v → stored v ≡ None
+
+-- a write succeeded, and changed what stands where it touches it, and nothing else
+pub record Changes (s : State) (n t : ℕ) (command : Command) (st : Stepped) : Type 0 where
   pub accepted : succeeds st.1 ≡ true
   pub more : only_reads command ≡ false
-  pub change : Change (List ℕ)
-  pub is : st.0 ≡ changed s address.bucket change
-  pub numbered : IfSome (number_in change) (λ m. m < n + 1)
-  pub id : VersionId
-  pub touches : touched command st.1 ≡ Some id
-  pub now : Option (Version (List ℕ))
-  pub place : OnePlaceChanges s st.0 address.bucket address.key id now
-  pub adds : Adds s n t command st address id now ⊎ AddsNothing s n t command now
+  pub other_keys : (a : Address) → ¬ Contains (writes command) a → versions_at st.0 a ≡ versions_at s a
+  pub other_ids : (a : Address) (id : VersionId) → (Contains (writes command) a → ¬ Contains (touched command st.1 a) id)
+      → version_at st.0 a.bucket a.key id ≡ version_at s a.bucket a.key id
+  pub adds : Adds s n t command st ⊎ AddsNothing s n t command st
 
-abbrev pub Does : State → ℕ → ℕ → Command → Stepped → Type 0
-Does s n t command st = Same s command st ⊎ Changes s n t command st
+-- what a step does, by changes of its number
+pub record Does (s : State) (n t : ℕ) (command : Command) (st : Stepped) : Type 0 where
+  pub comes : Comes n s st.0
+  pub effect : Same s command st ⊎ Changes s n t command st
 
 -- a rule whose first line may refuse
 pub after_line : (P : Stepped → Type 0) (s : State) (fault : Bool) (code : Code) (next : Result Stepped Refusal) → P (s, outcomes.Refused code false) → (fault ≡ false → P (stepped s next)) → P (stepped s (refuse fault code >> next))
 after_line P s true code next refused goes = refused
 after_line P s false code next refused goes = goes refl
 
-no_write : (command : Command) (outcome : Outcome) → writes command ≡ None → (a : Address) → writes command ≡ Some a → succeeds outcome ≡ false
-no_write command outcome none a is = absurd (cc)
+no_write : (command : Command) (outcome : Outcome) → writes command ≡ [] → (a : Address) → Contains (writes command) a → succeeds outcome ≡ false
+no_write command outcome none a is = absurd (nothing_in (writes command) a none is)
 
-untouched : (s : State) (n t : ℕ) (command : Command) (outcome : Outcome) → ((a : Address) → writes command ≡ Some a → succeeds outcome ≡ false) → Does s n t command (s, outcome)
-untouched s n t command outcome refused = inl (record { versions = λ name key. refl; refused = refused; quiet = λ is. refl })
+untouched : (s : State) (n t : ℕ) (command : Command) (outcome : Outcome) → ((a : Address) → Contains (writes command) a → succeeds outcome ≡ false) → Does s n t command (s, outcome)
+untouched s n t command outcome refused =
+    record { comes = Stays; effect = inl (record { versions = λ name key. refl; refused = refused; quiet = λ is. refl }) }
 
 -- a command that writes nothing leaves the state, or has the versions that it had
-unwritten : {outcome : Outcome} (s : State) (n t : ℕ) (command : Command) → writes command ≡ None → Does s n t command (s, outcome)
+unwritten : {outcome : Outcome} (s : State) (n t : ℕ) (command : Command) → writes command ≡ [] → Does s n t command (s, outcome)
 unwritten {outcome} s n t command none = untouched s n t command outcome (no_write command outcome none)
 
 -- what succeeds isn't refused
@@ -112,7 +126,7 @@ not_refused (outcomes.OutOfRange size) is = absurd (false≢true is)
 not_refused _ is = refl
 
 -- a rule's line that may refuse such a command
-next_line : (s : State) (n t : ℕ) (command : Command) (fault : Bool) (code : Code) (next : Result Stepped Refusal) → writes command ≡ None → (fault ≡ false → Does s n t command (stepped s next)) → Does s n t command (stepped s (refuse fault code >> next))
+next_line : (s : State) (n t : ℕ) (command : Command) (fault : Bool) (code : Code) (next : Result Stepped Refusal) → writes command ≡ [] → (fault ≡ false → Does s n t command (stepped s next)) → Does s n t command (stepped s (refuse fault code >> next))
 next_line s n t command fault code next none goes = after_line (Does s n t command) s fault code next (unwritten s n t command none) goes
 
 -- a command that changes something isn't quiet
@@ -120,23 +134,45 @@ not_quiet : {X : Type 0} (command : Command) (outcome : Outcome) → is_refused 
 not_quiet command outcome accepted more (inl is) = absurd (false≢true (sym accepted ∙ is))
 not_quiet command outcome accepted more (inr is) = absurd (false≢true (sym more ∙ is))
 
-same_versions : {outcome : Outcome} (s after : State) (n t : ℕ) (command : Command) → writes command ≡ None → is_refused outcome ≡ false → only_reads command ≡ false → SameVersions s after → Does s n t command (after, outcome)
-same_versions {outcome} s after n t command none accepted more same =
-    inl (record { versions = same; refused = no_write command outcome none; quiet = not_quiet command outcome accepted more })
+-- a change that leaves all versions
+same_versions : {outcome : Outcome} (s : State) (name : List ℕ) (change : Change (List ℕ)) (n t : ℕ) (command : Command)
+    → writes command ≡ [] → is_refused outcome ≡ false → only_reads command ≡ false → IfSome (number_in change) (λ m. m < n + 1)
+    → SameVersions s (changed s name change) → Does s n t command (changed s name change, outcome)
+same_versions {outcome} s name change n t command none accepted more numbered same =
+    record {
+      comes = Then Stays name change numbered;
+      effect = inl (record {
+        versions = same;
+        refused = no_write command outcome none;
+        quiet = not_quiet command outcome accepted more;
+      });
+    }
 
-pub not_false : (b : Bool) → not b ≡ false → b ≡ true
-not_false true is = refl
-not_false false is = absurd (false≢true (sym is))
+-- two addresses are the same or not
+joined : (a b : Address) → a.bucket ≡ b.bucket → a.key ≡ b.key → a ≡ b
+joined a b bucket key =
+    let built : List ℕ → List ℕ → Address = λ x y. record { bucket = x; key = y } in
+    ap₂ built bucket key
+
+pub same_address : (a b : Address) → (a ≡ b) ⊎ ¬ ((a.bucket ≡ b.bucket) × (a.key ≡ b.key))
+same_address a b =
+    elim (same_or a.bucket b.bucket) [
+      | inl bucket ↦
+          elim (same_or a.key b.key) [
+            | inl key ↦ inl (joined a b bucket key)
+            | inr key ↦ inr (λ both. key both.1)
+          ]
+      | inr bucket ↦ inr (λ both. bucket both.0)
+    ]
+
+pub address_or : (a b : Address) → (a ≡ b) ⊎ (a ≢ b)
+address_or a b =
+    ⊎_elim inl (λ other. inr (λ is. other (ap (λ (x : Address). x.bucket) is, ap (λ (x : Address). x.key) is))) (same_address a b)
 
 told_new : (b : Versioning) (n : ℕ) → told (shown_in b (new_id b n)) ≡ new_id b n
 told_new Unversioned n = refl
 told_new Enabled n = refl
 told_new Suspended n = refl
-
-nothing_stored : (b : Versioning) (n t : ℕ) (v : Version (List ℕ)) → marker_made b n t ≡ Some v → stored v ≡ None
-nothing_stored Unversioned n t v is = absurd (cc)
-nothing_stored Enabled n t v is = cc
-nothing_stored Suspended n t v is = cc
 
 -- what a copy does once its source is known
 unfoldable pub copy_done : State → ℕ → ℕ → List ℕ → List ℕ → Data (List ℕ) → Result Stepped Refusal
@@ -207,16 +243,16 @@ module _ (places : ChangesAreByPlace (List ℕ)) (rules : Rules) where
   unfolding bucket_done
   bucket_does s n t name bucket_commands.Create =
       next_line s n t _ (has_bucket s name) BucketAlreadyOwnedByYou _ refl
-      (λ none. same_versions s (changed s name (BucketAdded t)) n t _ refl refl refl (places s name (BucketAdded t) (ap not none)))
+      (λ none. same_versions s name (BucketAdded t) n t _ refl refl refl tt (places s name (BucketAdded t) (ap not none)))
   bucket_does s n t name bucket_commands.Head =
       next_line s n t _ (not (has_bucket s name)) NoSuchBucket _ refl (λ there. unwritten s n t _ refl)
   bucket_does s n t name bucket_commands.Delete =
       next_line s n t _ (not (has_bucket s name)) NoSuchBucket _ refl
       (λ there. next_line s n t _ (not (is_empty_bucket s name)) BucketNotEmpty _ refl
-      (λ empty. same_versions s (changed s name BucketDropped) n t _ refl refl refl (places s name BucketDropped (not_false (is_empty_bucket s name) empty))))
+      (λ empty. same_versions s name BucketDropped n t _ refl refl refl tt (places s name BucketDropped (not-false (is_empty_bucket s name) empty))))
   bucket_does s n t name (bucket_commands.PutVersioning status) =
       next_line s n t _ (not (has_bucket s name)) NoSuchBucket _ refl
-      (λ there. same_versions s (changed s name (VersioningSet status)) n t _ refl refl refl (places s name (VersioningSet status) refl))
+      (λ there. same_versions s name (VersioningSet status) n t _ refl refl refl tt (places s name (VersioningSet status) refl))
   bucket_does s n t name bucket_commands.GetVersioning =
       next_line s n t _ (not (has_bucket s name)) NoSuchBucket _ refl (λ there. unwritten s n t _ refl)
   bucket_does s n t name (bucket_commands.GetLocation region) =
@@ -231,39 +267,69 @@ module _ (places : ChangesAreByPlace (List ℕ)) (rules : Rules) where
       next_line s n t _ (not (has_bucket s name)) NoSuchBucket _ refl (λ there. unwritten s n t _ refl)
 
   -- a rule that only reads changes nothing
-  showing : (s : State) (n t : ℕ) (command : Command) (selection : Result Selection Refusal) (out : Selection → Outcome) → writes command ≡ None → Does s n t command (stepped s (selection >>= (λ chosen. Ok (s, out chosen))))
+  showing : (s : State) (n t : ℕ) (command : Command) (selection : Result Selection Refusal) (out : Selection → Outcome) → writes command ≡ [] → Does s n t command (stepped s (selection >>= (λ chosen. Ok (s, out chosen))))
   showing s n t command (Ok selection) out none = unwritten s n t command none
   showing s n t command (Err refusal) out none = unwritten s n t command none
 
-  reading : (s : State) (n t : ℕ) (command : Command) (read : Result (Version (List ℕ) × Data (List ℕ)) Refusal) (name : List ℕ) (conditions : Conditions) → writes command ≡ None → Does s n t command (stepped s (read >>= shown s name conditions))
+  reading : (s : State) (n t : ℕ) (command : Command) (read : Result (Version (List ℕ) × Data (List ℕ)) Refusal) (name : List ℕ) (conditions : Conditions) → writes command ≡ [] → Does s n t command (stepped s (read >>= shown s name conditions))
   reading s n t command (Ok r) name conditions none = showing s n t command (shown_by conditions (facts_of r)) (outcome_shown (found_in (versioning_of s name) r)) none
   reading s n t command (Err refusal) name conditions none = unwritten s n t command none
 
-  -- a command changes the versions under a key, as entry n
+  -- a command changes the versions of one id under a key, as entry n
   writing : (s : State) (n t : ℕ) (name key : List ℕ) (command : Command) (change : Change (List ℕ)) (what : KeyChange (List ℕ))
       (outcome : Outcome)
       → OnePlaceChanges s (changed s name change) name key (id_changed (versioning_of s name) what) (version_made (versioning_of s name) what)
-      → writes command ≡ Some (record { bucket = name; key = key })
+      → writes command ≡ record { bucket = name; key = key } ∷ []
       → succeeds outcome ≡ true → only_reads command ≡ false → IfSome (number_in change) (λ m. m < n + 1)
-      → touched command outcome ≡ Some (id_changed (versioning_of s name) what)
-      → Adds s n t command (changed s name change, outcome) (record { bucket = name; key = key }) (id_changed (versioning_of s name) what) (version_made (versioning_of s name) what)
-      ⊎ AddsNothing s n t command (version_made (versioning_of s name) what)
+      → touched command outcome (record { bucket = name; key = key }) ≡ id_changed (versioning_of s name) what ∷ []
+      → Adds s n t command (changed s name change, outcome) ⊎ AddsNothing s n t command (changed s name change, outcome)
       → Does s n t command (changed s name change, outcome)
   writing s n t name key command change what outcome place written accepted more numbered touches adds =
-      inr (record {
-        address = record { bucket = name; key = key };
-        written = written;
-        accepted = accepted;
-        more = more;
-        change = change;
-        is = refl;
-        numbered = numbered;
-        id = id_changed (versioning_of s name) what;
-        touches = touches;
-        now = version_made (versioning_of s name) what;
-        place = place;
-        adds = adds;
-      })
+      let here : Address = record { bucket = name; key = key } in
+      let id = id_changed (versioning_of s name) what in
+      let after = changed s name change in
+      record {
+        comes = Then Stays name change numbered;
+        effect = inr (record {
+          accepted = accepted;
+          more = more;
+          other_keys = λ a other.
+              place.other_keys a.bucket a.key (λ both. other (is_in (writes command) here a written (joined here a (sym both.0) (sym both.1))));
+          other_ids = λ a other spared.
+              elim (same_address a here) [
+                | inl same ↦
+                    subst (λ (b : Address). version_at after b.bucket b.key other ≡ version_at s b.bucket b.key other) (sym same)
+                    (place.other_ids other (λ is.
+                    spared (is_in (writes command) here a written (sym same))
+                    (is_in (touched command outcome a) id other (ap (touched command outcome) same ∙ touches) (sym is))))
+                | inr differ ↦ ap (asked_for (Some other)) (place.other_keys a.bucket a.key differ)
+              ];
+          adds = adds;
+        });
+      }
+
+  -- it stores nothing: what stands where it changes the versions is nothing that is stored
+  emptying : (s : State) (n t : ℕ) (name key : List ℕ) (command : Command) (change : Change (List ℕ)) (what : KeyChange (List ℕ))
+      (outcome : Outcome)
+      → OnePlaceChanges s (changed s name change) name key (id_changed (versioning_of s name) what) (version_made (versioning_of s name) what)
+      → writes command ≡ record { bucket = name; key = key } ∷ []
+      → succeeds outcome ≡ true → only_reads command ≡ false → IfSome (number_in change) (λ m. m < n + 1)
+      → touched command outcome (record { bucket = name; key = key }) ≡ id_changed (versioning_of s name) what ∷ []
+      → stored_by s n t command ≡ None
+      → ((v : Version (List ℕ)) → version_made (versioning_of s name) what ≡ Some v → stored v ≡ None)
+      → Does s n t command (changed s name change, outcome)
+  emptying s n t name key command change what outcome place written accepted more numbered touches by empty =
+      let here : Address = record { bucket = name; key = key } in
+      let id = id_changed (versioning_of s name) what in
+      let after = changed s name change in
+      writing s n t name key command change what outcome place written accepted more numbered touches
+      (inr (record {
+        by = by;
+        empty = λ below a other v wrote touched_it is.
+            let same = one_in (writes command) here a written wrote in
+            let under = one_in (touched command outcome a) id other (ap (touched command outcome) (sym same) ∙ touches) touched_it in
+            empty v (sym place.here ∙ ap₂ (λ (b : Address) (i : VersionId). version_at after b.bucket b.key i) same under ∙ is);
+      }))
 
   -- it stores these data, by a change that puts them under a key, and tells their tag and the new id
   stores : (s : State) (n t : ℕ) (name key : List ℕ) (command : Command) (change : Change (List ℕ)) (what : Data (List ℕ)) (outcome : Outcome)
@@ -271,25 +337,34 @@ module _ (places : ChangesAreByPlace (List ℕ)) (rules : Rules) where
       (version_made (versioning_of s name) (VersionPut n t what))
       → versions_of (changed s name change) name key ≡ after_change (versioning_of s name) (VersionPut n t what) (versions_of s name key)
       → number_in change ≡ Some n
-      → writes command ≡ Some (record { bucket = name; key = key })
+      → writes command ≡ record { bucket = name; key = key } ∷ []
       → stored_by s n t command ≡ Some (object_of s n t (record { bucket = name; key = key }) what)
       → succeeds outcome ≡ true → only_reads command ≡ false → acknowledged outcome ≡ Some what.tag
-      → touched command outcome ≡ Some (told (shown_in (versioning_of s name) (new_id (versioning_of s name) n)))
+      → touched command outcome (record { bucket = name; key = key }) ≡ told (shown_in (versioning_of s name) (new_id (versioning_of s name) n)) ∷ []
       → Does s n t command (changed s name change, outcome)
   stores s n t name key command change what outcome place versions numbered written by accepted more tagged touches =
       let next : n < n + 1 = omega arith in
+      let under = touches ∙ ap (λ (id : VersionId). id ∷ []) (told_new (versioning_of s name) n) in
       writing s n t name key command change (VersionPut n t what) outcome place written accepted more
-      (subst (λ (number : Option ℕ). IfSome number (λ m. m < n + 1)) (sym numbered) next)
-      (touches ∙ ap Some (told_new (versioning_of s name) n))
-      (inl (record { what = what; by = by; under = refl; tagged = tagged; makes = refl; versions = versions }))
+      (subst (λ (number : Option ℕ). IfSome number (λ m. m < n + 1)) (sym numbered) next) under
+      (inl (record {
+        address = record { bucket = name; key = key };
+        what = what;
+        by = by;
+        written = written;
+        touches = under;
+        tagged = tagged;
+        makes = place.here;
+        versions = versions;
+      }))
 
   -- a put under a key stores what it puts
   puts : (s : State) (n t : ℕ) (name key : List ℕ) (command : Command) (what : Data (List ℕ)) (outcome : Outcome)
       → IsTrue (has_bucket s name)
-      → writes command ≡ Some (record { bucket = name; key = key })
+      → writes command ≡ record { bucket = name; key = key } ∷ []
       → stored_by s n t command ≡ Some (object_of s n t (record { bucket = name; key = key }) what)
       → succeeds outcome ≡ true → only_reads command ≡ false → acknowledged outcome ≡ Some what.tag
-      → touched command outcome ≡ Some (told (shown_in (versioning_of s name) (new_id (versioning_of s name) n)))
+      → touched command outcome (record { bucket = name; key = key }) ≡ told (shown_in (versioning_of s name) (new_id (versioning_of s name) n)) ∷ []
       → Does s n t command (changed s name (KeyChanged key (VersionPut n t what)), outcome)
   puts s n t name key command what outcome there =
       stores s n t name key command (KeyChanged key (VersionPut n t what)) what outcome
@@ -317,17 +392,17 @@ module _ (places : ChangesAreByPlace (List ℕ)) (rules : Rules) where
   key_does s n t name key (key_commands.Read asked) there =
       reading s n t (commands.Key name key (key_commands.Read asked)) (pick asked.version (versions_of s name key)) name asked.conditions refl
   key_does s n t name key (key_commands.Delete None) there =
-      writing s n t name key (commands.Key name key (key_commands.Delete None)) (KeyChanged key (KeyDeleted n t)) (KeyDeleted n t) _
+      emptying s n t name key (commands.Key name key (key_commands.Delete None)) (KeyChanged key (KeyDeleted n t)) (KeyDeleted n t) _
       (places s name (KeyChanged key (KeyDeleted n t)) there) refl refl refl (omega arith)
-      (ap Some (told_new (versioning_of s name) n))
-      (inr (record { by = refl; empty = λ v is. nothing_stored (versioning_of s name) n t v is }))
+      (ap (λ (id : VersionId). id ∷ []) (told_new (versioning_of s name) n)) refl
+      (λ v is. nothing_stored (versioning_of s name) n t v is)
   key_does s n t name key (key_commands.Delete (Some id)) there =
-      writing s n t name key (commands.Key name key (key_commands.Delete (Some id))) (KeyChanged key (VersionDropped id))
-      (VersionDropped id) _ (places s name (KeyChanged key (VersionDropped id)) there) refl refl refl tt refl
-      (inr (record { by = refl; empty = λ v is. absurd (cc) }))
+      emptying s n t name key (commands.Key name key (key_commands.Delete (Some id))) (KeyChanged key (VersionDropped id))
+      (VersionDropped id) _ (places s name (KeyChanged key (VersionDropped id)) there) refl refl refl tt refl refl
+      (λ v is. absurd (cc))
   key_does s n t name key (key_commands.Begin begin) there =
-      same_versions s (changed s name (UploadAdded key n (upload_begun t begin))) n t (commands.Key name key (key_commands.Begin begin))
-      refl refl refl (places s name (UploadAdded key n (upload_begun t begin)) there)
+      same_versions s name (UploadAdded key n (upload_begun t begin)) n t (commands.Key name key (key_commands.Begin begin))
+      refl refl refl tt (places s name (UploadAdded key n (upload_begun t begin)) there)
 
   -- what is done with an upload, where it is open
   opened : (s : State) (n t : ℕ) (name key : List ℕ) (id : ℕ) (asked : UploadCommand) (next : Upload (List ℕ) → Result Stepped Refusal)
@@ -364,7 +439,7 @@ module _ (places : ChangesAreByPlace (List ℕ)) (rules : Rules) where
       let part = part_copied t copy.range found.stored in
       after_line (Does s n t (commands.Upload name key id (upload_commands.CopyPart number copy)))
       s (not (lies_in copy.range found.stored.size)) InvalidArgument _ (unwritten s n t _ refl)
-      (λ within. same_versions s (changed s name (PartPut key id number part)) n t _ refl refl refl
+      (λ within. same_versions s name (PartPut key id number part) n t _ refl refl refl tt
       (places s name (PartPut key id number part) there))
   part_copies s n t name key id number copy (Err refusal) there = unwritten s n t _ refl
 
@@ -373,7 +448,7 @@ module _ (places : ChangesAreByPlace (List ℕ)) (rules : Rules) where
   unfolding upload_done
   upload_does least s n t name key id (upload_commands.PutPart number payload) there =
       opened s n t name key id (upload_commands.PutPart number payload) _
-      (λ u is. same_versions s (changed s name (PartPut key id number (part_sent t payload))) n t _ refl refl refl
+      (λ u is. same_versions s name (PartPut key id number (part_sent t payload)) n t _ refl refl refl tt
       (places s name (PartPut key id number (part_sent t payload)) there))
   upload_does least s n t name key id (upload_commands.CopyPart number copy) there =
       opened s n t name key id (upload_commands.CopyPart number copy) _
@@ -386,9 +461,33 @@ module _ (places : ChangesAreByPlace (List ℕ)) (rules : Rules) where
       (λ free. upload_completes least s n t name key id listed if_absent u (completed least listed u) refl is there))
   upload_does least s n t name key id upload_commands.Abort there =
       opened s n t name key id upload_commands.Abort _
-      (λ u is. same_versions s (changed s name (UploadDropped key id)) n t _ refl refl refl (places s name (UploadDropped key id) there))
+      (λ u is. same_versions s name (UploadDropped key id) n t _ refl refl refl tt (places s name (UploadDropped key id) there))
   upload_does least s n t name key id (upload_commands.ListParts asked) there =
       opened s n t name key id (upload_commands.ListParts asked) _ (λ u is. unwritten s n t _ refl)
+
+  -- several deletions store nothing
+  all_delete : (s : State) (n t : ℕ) (name : List ℕ) (deletion : Deletion) → IsTrue (has_bucket s name)
+      → Does s n t (commands.DeleteObjects name deletion) (
+        all_deleted s name n t deletion.objects,
+        outcomes.Told (documents.deletions deletion.is_quiet (rows_told deletion.objects (markers_of s name n t deletion.objects))),
+      )
+  all_delete s n t name deletion there =
+      let b = versioning_of s name in
+      let is : IsIn b name s = record { there = there; versioning = refl } in
+      record {
+        comes = all_come b name n t s deletion.objects is;
+        effect = inr (record {
+          accepted = refl;
+          more = refl;
+          other_keys = λ a other. unwritten_keys places b name n t s deletion.objects a is other;
+          other_ids = λ a id spared. touched_others places b name n t s deletion.objects a id is spared;
+          adds = inr (record {
+            by = refl;
+            empty = λ below a id v wrote touches at.
+                touched_empty places b name n t rules.keys s deletion.objects a id v is below wrote touches at;
+          });
+        });
+      }
 
   pub step_does : (least : ℕ) (s : State) (n t : ℕ) (command : Command) → Does s n t command (step least s n t command)
   unfolding done
@@ -397,16 +496,20 @@ module _ (places : ChangesAreByPlace (List ℕ)) (rules : Rules) where
   step_does least s n t (commands.Key name key asked) =
       after_line (Does s n t (commands.Key name key asked)) s (not (has_bucket s name)) NoSuchBucket (key_done s n t name key asked)
       (untouched s n t (commands.Key name key asked) _ (λ a is. refl))
-      (λ there. key_does s n t name key asked (not_false (has_bucket s name) there))
+      (λ there. key_does s n t name key asked (not-false (has_bucket s name) there))
   step_does least s n t (commands.Upload name key id asked) =
       after_line (Does s n t (commands.Upload name key id asked)) s (not (has_bucket s name)) NoSuchBucket (upload_done least s n t name key id asked)
       (untouched s n t (commands.Upload name key id asked) _ (λ a is. refl))
-      (λ there. upload_does least s n t name key id asked (not_false (has_bucket s name) there))
+      (λ there. upload_does least s n t name key id asked (not-false (has_bucket s name) there))
+  step_does least s n t (commands.DeleteObjects name deletion) =
+      after_line (Does s n t (commands.DeleteObjects name deletion)) s (not (has_bucket s name)) NoSuchBucket _
+      (untouched s n t (commands.DeleteObjects name deletion) _ (λ a is. refl))
+      (λ there. all_delete s n t name deletion (not-false (has_bucket s name) there))
 
   -- so a refusal and a command that only reads change nothing
   pub quiet_steps_change_nothing : QuietStepsChangeNothing
   quiet_steps_change_nothing least s n t command quiet =
-      elim (step_does least s n t command) [
+      elim (step_does least s n t command).effect [
         | inl same ↦ same.quiet quiet
         | inr changes ↦ not_quiet command (step least s n t command).1 (not_refused (step least s n t command).1 changes.accepted) changes.more quiet
       ]
@@ -414,10 +517,4 @@ module _ (places : ChangesAreByPlace (List ℕ)) (rules : Rules) where
   -- and the next number is above those of all versions
   pub steps_stay_below : NumbersStayBelow (List ℕ) → LaterIsBelow (List ℕ) → StepsStayBelow
   steps_stay_below stay later least s n t command below =
-      let next = later n (n + 1) s (omega arith) below in
-      elim (step_does least s n t command) [
-        | inl same ↦ λ (name key : List ℕ). ap (is_new_number (n + 1)) (same.versions name key) ∙ next name key
-        | inr changes ↦
-            subst (AreBelow (n + 1)) (sym changes.is)
-            (stay (n + 1) s changes.address.bucket changes.change next changes.numbered)
-      ]
+      comes_below stay n s (step least s n t command).0 (step_does least s n t command).comes (later n (n + 1) s (omega arith) below)

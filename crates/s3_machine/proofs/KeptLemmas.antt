@@ -1,9 +1,8 @@
 -- What was put comes back, by its key and by its version.
-use Rattle.std.proofs.Common.{◌≡◌, refl, sym, ap, ap₂, subst, ◌∙◌, Bool, true, false, not, ℕ, ◌⊎◌, inl, inr, List, [], ◌∷◌, Option, Some, None, is_some, option_map, Result, Ok, Err}
+use Rattle.std.proofs.Common.{◌≡◌, refl, sym, ap, subst, ◌∙◌, Bool, true, false, not, ℕ, inl, inr, List, [], ◌∷◌, Contains, Option, Some, None, is_some, option_map, Result, Ok, Err}
 use Rattle.std.proofs.lemmas.Bool.{false≢true}
 use Rattle.std.proofs.lemmas.Option.{same_Some}
 use Rattle.std.specs.FinMap as map
-use Rattle.s3_text.proofs.MapLemmas.{same_or}
 use Rattle.s3_terms.specs.declared.code.Code.TheVariants.{NoSuchBucket}
 use Rattle.s3_names.specs.declared.ids.VersionId.{VersionId}
 use Rattle.s3_conditions.specs.declared.conditions.Conditions.{Conditions}
@@ -34,34 +33,14 @@ use Rattle.s3_machine.specs.Effects.{Address, Object, Read, writes, object_of, k
 use Rattle.s3_machine.specs.History.{Entry, IsAnswer, Legal, after, after_entry}
 use Rattle.s3_machine.specs.Kept.{Leaves, LeavesKey, Spares, SparesVersion, Stores, Tells, IsGiven, EveryHistory, StoredIsKept, VersionsAreKept, StoredIsTold}
 use Rattle.s3_machine.specs.Step.{State, Stepped, found_in, outcome_shown, shown_by, key_done, done, stepped, step}
-use Rattle.s3_machine.proofs.EffectLemmas.{Rules, Changes, Does, shown, step_does}
+use Rattle.s3_machine.proofs.ContainsLemmas.{is_in}
+use Rattle.s3_machine.proofs.EffectLemmas.{Rules, Changes, Does, versions_at, shown, step_does}
 use Rattle.s3_machine.proofs.HistoryLemmas.{parts_of, right_at}
-
--- the versions under an address, and the one of an id
-abbrev pub versions_at : State → Address → List (Version (List ℕ))
-versions_at s a = versions_of s a.bucket a.key
 
 -- a right answer has the outcome of the step under its number
 pub outcome_is : (least : ℕ) (s : State) (n : ℕ) (e : Entry) → IsAnswer least s n e → e.answer.outcome ≡ (step least s e.answer.number e.moment e.command).1
 outcome_is least s n e answer =
     ap (λ a. a.outcome) answer ∙ sym (ap (λ a. (step least s a.number e.moment e.command).1) answer)
-
--- two addresses are the same or not
-joined : (a b : Address) → a.bucket ≡ b.bucket → a.key ≡ b.key → a ≡ b
-joined a b bucket key =
-    let built : List ℕ → List ℕ → Address = λ x y. record { bucket = x; key = y } in
-    ap₂ built bucket key
-
-pub same_address : (a b : Address) → (a ≡ b) ⊎ ¬ ((a.bucket ≡ b.bucket) × (a.key ≡ b.key))
-same_address a b =
-    elim (same_or a.bucket b.bucket) [
-      | inl bucket ↦
-          elim (same_or a.key b.key) [
-            | inl key ↦ inl (joined a b bucket key)
-            | inr key ↦ inr (λ both. key both.1)
-          ]
-      | inr bucket ↦ inr (λ both. bucket both.0)
-    ]
 
 -- what a read of a bucket that is there is answered
 abbrev pub picked : State → List ℕ → Conditions → Result (Version (List ℕ) × Data (List ℕ)) Refusal → Outcome
@@ -98,46 +77,48 @@ pub past_line : (s : State) (fault : Bool) (next : Result Stepped Refusal) → f
 past_line s false next is = refl
 past_line s true next is = absurd (false≢true (sym is))
 
--- a read is answered what is picked, by its conditions, where there is a version at all
-pub step_reads : (least : ℕ) (s : State) (n t : ℕ) (command : Command) (wanted : Read) (v : Version (List ℕ))
-    → reads command ≡ Some wanted → asked_for wanted.version (versions_at s wanted.address) ≡ Some v
+-- a read is answered what is picked, by its conditions, where the bucket is there
+pub read_there : (least : ℕ) (s : State) (n t : ℕ) (command : Command) (wanted : Read)
+    → reads command ≡ Some wanted → has_bucket s wanted.address.bucket ≡ true
     → (step least s n t command).1 ≡ picked s wanted.address.bucket wanted.conditions (pick wanted.version (versions_at s wanted.address))
 unfolding done key_done
-step_reads least s n t (commands.Key name key (key_commands.Read asked)) wanted v is found =
+read_there least s n t (commands.Key name key (key_commands.Read asked)) wanted is found =
     let same : read_at (record { bucket = name; key = key }) asked ≡ wanted = cc in
-    let here : asked_for asked.version (versions_of s name key) ≡ Some v =
-    subst (λ (q : Read). asked_for q.version (versions_at s q.address) ≡ Some v) (sym same) found in
-    let first = some_first asked.version (versions_of s name key) v here in
-    let there = there_with s (record { bucket = name; key = key }) first.0 first.1 first.2 in
+    let there = ap (λ (q : Read). has_bucket s q.address.bucket) same ∙ found in
     ap (λ (st : Stepped). st.1) (past_line s (not (has_bucket s name)) (key_done s n t name key (key_commands.Read asked)) (ap not there))
     ∙ got s name asked.conditions (pick asked.version (versions_of s name key))
     ∙ ap (λ (q : Read). picked s q.address.bucket q.conditions (pick q.version (versions_at s q.address))) same
-step_reads least s n t _ wanted v is found = absurd (cc)
+read_there least s n t _ wanted is found = absurd (cc)
+
+-- so it is where there is a version at all
+pub step_reads : (least : ℕ) (s : State) (n t : ℕ) (command : Command) (wanted : Read) (v : Version (List ℕ))
+    → reads command ≡ Some wanted → asked_for wanted.version (versions_at s wanted.address) ≡ Some v
+    → (step least s n t command).1 ≡ picked s wanted.address.bucket wanted.conditions (pick wanted.version (versions_at s wanted.address))
+step_reads least s n t command wanted v is found =
+    let first = some_first wanted.version (versions_at s wanted.address) v found in
+    read_there least s n t command wanted is (there_with s wanted.address first.0 first.1 first.2)
 
 module _ (places : ChangesAreByPlace (List ℕ)) (rules : Rules) (least : ℕ) where
   -- what an entry did
   pub entry_does : (s : State) (n : ℕ) (e : Entry) → IsAnswer least s n e → Does s e.answer.number e.moment e.command (step least s e.answer.number e.moment e.command)
   entry_does s n e answer = step_does places rules least s e.answer.number e.moment e.command
 
-  -- a write that succeeded changed one place
-  pub entry_changes : (s : State) (n : ℕ) (e : Entry) (a : Address) → IsAnswer least s n e → writes e.command ≡ Some a → succeeds e.answer.outcome ≡ true → Changes s e.answer.number e.moment e.command (step least s e.answer.number e.moment e.command)
+  -- a write that succeeded changed what it touches
+  pub entry_changes : (s : State) (n : ℕ) (e : Entry) (a : Address) → IsAnswer least s n e → Contains (writes e.command) a → succeeds e.answer.outcome ≡ true → Changes s e.answer.number e.moment e.command (step least s e.answer.number e.moment e.command)
   entry_changes s n e a answer written accepted =
-      elim (entry_does s n e answer) [
+      elim (entry_does s n e answer).effect [
         | inl same ↦ absurd (false≢true (sym (same.refused a written) ∙ sym (ap succeeds (outcome_is least s n e answer)) ∙ accepted))
         | inr changes ↦ changes
       ]
 
   -- an entry that leaves an address leaves its versions
-  versions_left : (s : State) (n : ℕ) (e : Entry) (a : Address) → IsAnswer least s n e → Leaves a e → versions_at (after_entry least s e) a ≡ versions_at s a
+  pub versions_left : (s : State) (n : ℕ) (e : Entry) (a : Address) → IsAnswer least s n e → Leaves a e → versions_at (after_entry least s e) a ≡ versions_at s a
   versions_left s n e a answer leaves =
-      elim (entry_does s n e answer) [
+      elim (entry_does s n e answer).effect [
         | inl same ↦ same.versions a.bucket a.key
         | inr changes ↦
-            elim (same_address a changes.address) [
-              | inl here ↦
-                  absurd (false≢true (sym (leaves (changes.written ∙ ap Some (sym here))) ∙ ap succeeds (outcome_is least s n e answer) ∙ changes.accepted))
-              | inr other ↦ changes.place.other_keys a.bucket a.key other
-            ]
+            changes.other_keys a (λ written.
+            false≢true (sym (leaves written) ∙ ap succeeds (outcome_is least s n e answer) ∙ changes.accepted))
       ]
 
   pub key_left : (s : State) (n : ℕ) (es : List Entry) (a : Address) → Legal least s n es → LeavesKey a es → versions_at (after least s es) a ≡ versions_at s a
@@ -148,19 +129,13 @@ module _ (places : ChangesAreByPlace (List ℕ)) (rules : Rules) (least : ℕ) w
   -- an entry that spares a version leaves it
   pub version_left : (s : State) (n : ℕ) (e : Entry) (a : Address) (id : VersionId) → IsAnswer least s n e → Spares a id e → version_at (after_entry least s e) a.bucket a.key id ≡ version_at s a.bucket a.key id
   version_left s n e a id answer spares =
-      elim (entry_does s n e answer) [
+      elim (entry_does s n e answer).effect [
         | inl same ↦ ap (asked_for (Some id)) (same.versions a.bucket a.key)
         | inr changes ↦
-            elim (same_address a changes.address) [
-              | inl here ↦
-                  let outcome = outcome_is least s n e answer in
-                  let touches = λ (is : id ≡ changes.id).
-                  spares (changes.written ∙ ap Some (sym here)) (ap succeeds outcome ∙ changes.accepted)
-                  (ap (touched e.command) outcome ∙ changes.touches ∙ ap Some (sym is)) in
-                  subst (λ (b : Address). version_at (after_entry least s e) b.bucket b.key id ≡ version_at s b.bucket b.key id) (sym here)
-                  (changes.place.other_ids id touches)
-              | inr other ↦ ap (asked_for (Some id)) (changes.place.other_keys a.bucket a.key other)
-            ]
+            let outcome = outcome_is least s n e answer in
+            changes.other_ids a id (λ written touches.
+            spares written (ap succeeds outcome ∙ changes.accepted)
+            (subst (λ (o : Outcome). Contains (touched e.command o a) id) (sym outcome) touches))
       ]
 
   pub version_spared : (s : State) (n : ℕ) (es : List Entry) (a : Address) (id : VersionId) → Legal least s n es → SparesVersion a id es → version_at (after least s es) a.bucket a.key id ≡ version_at s a.bucket a.key id
@@ -191,18 +166,18 @@ stored_there s n t a (Some what) object is = cc
 stored_there s n t a None object is = absurd (cc)
 
 stored_at_address : (s : State) (n t : ℕ) (a : Address) (asked : KeyCommand (List ℕ)) (object : Object) → stored_at s n t a asked ≡ Some object
-    → Some a ≡ Some object.address
-stored_at_address s n t a asked object is = ap Some (stored_there s n t a (key_stored s a asked) object is)
+    → a ∷ [] ≡ object.address ∷ []
+stored_at_address s n t a asked object is = ap (λ (b : Address). b ∷ []) (stored_there s n t a (key_stored s a asked) object is)
 
-stored_writes : (s : State) (n t : ℕ) (command : Command) (object : Object) → stored_by s n t command ≡ Some object
-    → writes command ≡ Some object.address
+pub stored_writes : (s : State) (n t : ℕ) (command : Command) (object : Object) → stored_by s n t command ≡ Some object
+    → writes command ≡ object.address ∷ []
 stored_writes s n t (commands.Key bucket key (key_commands.Put put)) object is =
     stored_at_address s n t (record { bucket = bucket; key = key }) (key_commands.Put put) object is
 stored_writes s n t (commands.Key bucket key (key_commands.Copy copy)) object is =
     stored_at_address s n t (record { bucket = bucket; key = key }) (key_commands.Copy copy) object is
 stored_writes s n t (commands.Upload bucket key id (upload_commands.Complete listed if_absent)) object is =
     let upload = place_of bucket key id in
-    ap Some (stored_there s n t upload.address (upload_stored (open_at s upload) (upload_commands.Complete listed if_absent)) object is)
+    ap (λ (b : Address). b ∷ []) (stored_there s n t upload.address (upload_stored (open_at s upload) (upload_commands.Complete listed if_absent)) object is)
 stored_writes s n t _ object is = absurd (cc)
 
 -- what an entry leaves that stores an object: its answer tells it, and it stands as the newest version of its key
@@ -220,19 +195,19 @@ module _ (places : ChangesAreByPlace (List ℕ)) (rules : Rules) where
   entry_stores least s n e object answer stores =
       let outcome = outcome_is least s n e answer in
       let changes = entry_changes places rules least s n e object.address answer
-      (stored_writes s e.answer.number e.moment e.command object stores.by) stores.accepted in
+      (is_in (writes e.command) object.address object.address (stored_writes s e.answer.number e.moment e.command object stores.by) refl)
+      stores.accepted in
       elim changes.adds [
         | inl adds ↦
             subst (λ (o : Object). Added s (after_entry least s e) e o) (same_Some _ object (sym adds.by ∙ stores.by)) (record {
               told = record {
-                written = changes.written;
-                under = ap (touched e.command) outcome ∙ changes.touches ∙ ap Some adds.under;
+                written = adds.written;
+                under = ap (λ (o : Outcome). touched e.command o adds.address) outcome ∙ adds.touches;
                 tagged = ap acknowledged outcome ∙ adds.tagged;
               };
-              versioning = versioning_of s changes.address.bucket;
+              versioning = versioning_of s adds.address.bucket;
               versions = adds.versions;
-              stands = ap (version_at (after_entry least s e) changes.address.bucket changes.address.key) (sym adds.under)
-                  ∙ changes.place.here ∙ adds.makes;
+              stands = adds.makes;
             })
         | inr nothing ↦ absurd (cc (nothing.by, stores.by))
       ]

@@ -1,7 +1,12 @@
 pub mod AnswerLemmas
 pub mod BroughtLemmas
+pub mod ChangeLemmas
 pub mod ConditionalLemmas
+pub mod ContainsLemmas
 pub mod CourseLemmas
+pub mod DeletedLemmas
+pub mod DeletionLemmas
+pub mod DeletionRowLemmas
 pub mod EffectLemmas
 pub mod HistoryLemmas
 pub mod JoinedLemmas
@@ -12,6 +17,7 @@ pub mod OriginLemmas
 pub mod PartLemmas
 pub mod RowLemmas
 pub mod ShownLemmas
+pub mod StateLemmas
 pub mod StayLemmas
 pub mod TellingLemmas
 pub mod UploadLemmas

@@ -36,10 +36,11 @@ use Rattle.s3_machine.specs.History.{Entry, Legal, after, after_entry}
 use Rattle.s3_machine.specs.Kept.{EveryHistory, facts_stored, StoredIsListed, ListedIsStored, ListsTellWhatIsThere, VersionListsTellWhatIsThere}
 use Rattle.s3_machine.specs.Laws.{reading, all_keys, IsListed, ListsShowWhatReadsGive, ListsAreTold, VersionListsAreTold}
 use Rattle.s3_machine.specs.Step.{State, Stepped, found_in, bucket_done, key_done, done, stepped, step}
-use Rattle.s3_machine.proofs.EffectLemmas.{Rules}
+use Rattle.s3_machine.proofs.EffectLemmas.{Rules, versions_at}
 use Rattle.s3_machine.proofs.HistoryLemmas.{Legal-append, after-append, right_at}
-use Rattle.s3_machine.proofs.KeptLemmas.{versions_at, outcome_is, picked, got, whole_given, past_line, key_left, entry_stores}
+use Rattle.s3_machine.proofs.KeptLemmas.{outcome_is, picked, got, whole_given, past_line, key_left, entry_stores}
 use Rattle.s3_machine.proofs.OriginLemmas.{picked_stands, only_stored_stands}
+use Rattle.s3_machine.proofs.StateLemmas.{Numbers}
 
 -- what is listed is current
 abbrev pub ListedIsCurrent : Type 0
@@ -126,8 +127,8 @@ module _ (law : ListedIsCurrent) (places : ChangesAreByPlace (List ℕ)) (rules 
       ((law (after least (after_entry least here write) between) a.bucket a.key (facts_stored object)).1
       (ap (λ (vs : List (Version (List ℕ))). facts_read (pick None vs)) versions ∙ ap facts_read now.1))
 
-  pub listed_is_stored : IdsAreTold (List ℕ) → OpeningIsEmpty (List ℕ) → EveryHistory ListedIsStored
-  listed_is_stored ids empty least s n entries legal names a facts opens stands =
+  pub listed_is_stored : Numbers → IdsAreTold (List ℕ) → OpeningIsEmpty (List ℕ) → EveryHistory ListedIsStored
+  listed_is_stored numbers ids empty least s n entries legal names a facts opens stands =
       let there = after least s entries in
       let read = facts_known (pick None (versions_at there a)) facts ((law there a.bucket a.key facts).0 stands) in
       let picks = picked_stands ids there a None read.0 read.1 in
@@ -135,7 +136,7 @@ module _ (law : ListedIsCurrent) (places : ChangesAreByPlace (List ℕ)) (rules 
         object = record { address = a; id = id_of read.0.0; moment = read.0.0.moment; stored = read.0.1 };
         at = refl;
         known = read.2;
-        stored = only_stored_stands places rules empty least s n entries legal names _ opens picks.1;
+        stored = only_stored_stands places rules numbers empty least s n entries legal names _ opens picks.1;
       }
 
 -- ---- what lists tell

@@ -1,9 +1,8 @@
 -- Each object that stands was stored by an entry of the history.
-use Rattle.std.proofs.Common.{◌≡◌, ◌≢◌, refl, sym, ap, subst, ◌∙◌, Bool, true, false, not, cond, ℕ, suc, ◌⊎◌, inl, inr, List, [], ◌∷◌, ◌++◌, append_assoc, append-nil, Option, Some, None, Result, Ok, Err, find}
-use Rattle.std.proofs.lemmas.Bool.Decides.{eqb_tells}
+use Rattle.std.proofs.Common.{◌≡◌, ◌≢◌, refl, sym, ap, ap₂, subst, ◌∙◌, Bool, true, false, not, cond, ℕ, suc, ◌⊎◌, inl, inr, List, [], ◌∷◌, ◌++◌, append_assoc, append-nil, Contains, Option, Some, None, Result, Ok, Err, find}
+use Rattle.std.proofs.lemmas.Bool.{false≢true}
 use Rattle.std.proofs.lemmas.Option.{same_Some}
 use Rattle.s3_names.specs.declared.ids.VersionId.{VersionId}
-use Rattle.s3_names.specs.declared.ids.VersionId.TheVariants.{Null, Numbered}
 use Rattle.s3_conditions.specs.declared.conditions.Conditions.{Conditions}
 use Rattle.s3_conditions.specs.declared.conditions.Selection.{Selection}
 use Rattle.s3_conditions.specs.declared.conditions.Selection.TheVariants.{Whole, Part, Unchanged, Outside}
@@ -14,12 +13,12 @@ use Rattle.s3_versions.specs.declared.version.Data.{Data}
 use Rattle.s3_versions.specs.declared.version.Version.{Version}
 use Rattle.s3_versions.specs.declared.version.Versioning.{Versioning}
 use Rattle.s3_versions.specs.declared.version.Versioning.TheVariants.{Unversioned, Enabled, Suspended}
-use Rattle.s3_versions.specs.Rules.{id_of, is_under, made, stored, stored_in, pick, facts_of, asked_for, judged, read_as}
+use Rattle.s3_versions.specs.Rules.{id_of, is_under, made, new_id, stored, stored_in, pick, facts_of, asked_for, judged, read_as}
 use Rattle.s3_terms.specs.declared.code.Code.TheVariants.{NoSuchBucket, NoSuchKey, MethodNotAllowed}
 use Rattle.s3_versions.specs.Laws.{IdsAreTold}
 use Rattle.s3_records.specs.Catalogue.{opening, has_bucket, versions_of, versioning_of}
 use Rattle.s3_records.specs.Laws.{OpeningIsEmpty}
-use Rattle.s3_records.specs.Places.{version_at, ChangesAreByPlace}
+use Rattle.s3_records.specs.Places.{version_at, ChangesAreByPlace, AreBelow}
 use Rattle.s3_machine.specs.declared.command.Found.{Found}
 use Rattle.s3_machine.specs.Effects.{Address, Object, Read, writes, object_of, read_at, reads, given, found_object, touched, succeeds}
 use Rattle.s3_machine.specs.History.{Entry, IsAnswer, Legal, after, after_entry}
@@ -27,11 +26,15 @@ use Rattle.s3_machine.specs.Kept.{Spares, SparesVersion, Stores, WasStored, Stan
 use Rattle.s3_machine.specs.declared.command.Command.{Command}
 use Rattle.s3_machine.specs.declared.command.Command.TheVariants as commands
 use Rattle.s3_machine.specs.declared.command.KeyCommand.TheVariants as key_commands
+use Rattle.s3_machine.specs.declared.command.Outcome.{Outcome}
 use Rattle.s3_terms.specs.Fault.{◌>>=◌}
 use Rattle.s3_machine.specs.Step.{State, found_in, shown_in, outcome_shown, shown_by, key_done, done, stepped, step}
-use Rattle.s3_machine.proofs.EffectLemmas.{Rules, Changes, shown, after_line}
+use Rattle.s3_machine.proofs.ContainsLemmas.{one_in, contains_or}
+use Rattle.s3_machine.proofs.DeletionLemmas.{id_or}
+use Rattle.s3_machine.proofs.EffectLemmas.{Rules, versions_at, address_or, Adds, Changes, shown, after_line}
 use Rattle.s3_machine.proofs.HistoryLemmas.{Legal-append, after-push}
-use Rattle.s3_machine.proofs.KeptLemmas.{versions_at, outcome_is, same_address, entry_does, version_left}
+use Rattle.s3_machine.proofs.KeptLemmas.{outcome_is, entry_does, version_left}
+use Rattle.s3_machine.proofs.StateLemmas.{Numbers, numbered_by, entry_below}
 
 -- each object that stands behind these entries was stored by one of them
 abbrev pub Known : ℕ → State → List Entry → Type 0
@@ -52,17 +55,6 @@ stored_push least s past object e known spares = record {
   spared = spares_push object.address object.id known.between e known.spared spares;
 }
 
--- two ids are the same or not
-same_id : (x y : VersionId) → (x ≡ y) ⊎ (x ≢ y)
-same_id Null Null = inl refl
-same_id Null (Numbered n) = inr (λ is. cc)
-same_id (Numbered m) Null = inr (λ is. cc)
-same_id (Numbered m) (Numbered n) =
-    elim (eqb_tells m n) [
-      | inl same ↦ inl (ap Numbered same.1)
-      | inr differ ↦ inr (λ is. differ.1 (cc))
-    ]
-
 -- the version that a put made, by what it stores
 made_data : (b : Versioning) (n t : ℕ) (e d : Data (List ℕ)) → stored (made b n t (Stored e)) ≡ Some d → d ≡ e
 made_data b n t e d is = cc
@@ -81,42 +73,25 @@ same_object x y address id moment stored_same =
     (subst (λ (d : Data (List ℕ)). built y.address y.id y.moment d) (sym stored_same) refl)))
 
 module _ (places : ChangesAreByPlace (List ℕ)) (rules : Rules) (least : ℕ) where
-  -- what stands at a place that an entry changed, it stored
-  stored_here : (s : State) (n : ℕ) (e : Entry) (object : Object) (answer : IsAnswer least s n e)
-      (changes : Changes s e.answer.number e.moment e.command (step least s e.answer.number e.moment e.command))
-      → object.address ≡ changes.address → object.id ≡ changes.id → Stands (after_entry least s e) object → Stores s e object
-  stored_here s n e object answer changes place under stands =
-      let there : version_at (after_entry least s e) changes.address.bucket changes.address.key changes.id ≡ Some stands.version =
-      sym (ap (λ (b : Address). version_at (after_entry least s e) b.bucket b.key changes.id) place)
-      ∙ sym (ap (version_at (after_entry least s e) object.address.bucket object.address.key) under) ∙ stands.there in
-      elim changes.adds [
-        | inl adds ↦
-            let b = versioning_of s changes.address.bucket in
-            let is = same_Some _ stands.version (sym adds.makes ∙ sym changes.place.here ∙ there) in
-            let same = same_object (object_of s e.answer.number e.moment changes.address adds.what) object
-            (sym place)
-            (sym adds.under ∙ sym under)
-            (sym (made_when b e.answer.number e.moment adds.what stands.version (ap Some is)) ∙ stands.moment)
-            (sym (made_data b e.answer.number e.moment adds.what object.stored (ap stored is ∙ stands.holds))) in
-            record { by = adds.by ∙ ap Some same; accepted = ap succeeds (outcome_is least s n e answer) ∙ changes.accepted }
-        | inr nothing ↦ let none = nothing.empty stands.version (sym changes.place.here ∙ there) in let some = stands.holds in absurd (cc)
-      ]
-
-  spares_same : (s : State) (n : ℕ) (e : Entry) (a : Address) (id : VersionId) (answer : IsAnswer least s n e)
-      → ((b : Address) → writes e.command ≡ Some b → succeeds (step least s e.answer.number e.moment e.command).1 ≡ false) → Spares a id e
-  spares_same s n e a id answer refused written accepted =
-      let is = sym accepted ∙ ap succeeds (outcome_is least s n e answer) ∙ refused a written in absurd (cc)
-
-  spares_address : (s : State) (e : Entry) (a : Address) (id : VersionId) (changes : Changes s e.answer.number e.moment e.command (step least s e.answer.number e.moment e.command))
-      → ¬ ((a.bucket ≡ changes.address.bucket) × (a.key ≡ changes.address.key)) → Spares a id e
-  spares_address s e a id changes other written accepted =
-      let same : a ≡ changes.address = cc (written, changes.written) in
-      absurd (other (ap (λ (x : Address). x.bucket) same, ap (λ (x : Address). x.key) same))
-
-  spares_id : (s : State) (n : ℕ) (e : Entry) (a : Address) (id : VersionId) (answer : IsAnswer least s n e) (changes : Changes s e.answer.number e.moment e.command (step least s e.answer.number e.moment e.command))
-      → id ≢ changes.id → Spares a id e
-  spares_id s n e a id answer changes other written accepted touches =
-      other (cc (sym touches ∙ ap (touched e.command) (outcome_is least s n e answer) ∙ changes.touches))
+  -- what stands where an entry stored something, it stored
+  stored_here : (s : State) (n : ℕ) (e : Entry) (object : Object) → IsAnswer least s n e
+      → succeeds (step least s e.answer.number e.moment e.command).1 ≡ true
+      → Adds s e.answer.number e.moment e.command (step least s e.answer.number e.moment e.command)
+      → Contains (writes e.command) object.address
+      → Contains (touched e.command (step least s e.answer.number e.moment e.command).1 object.address) object.id
+      → Stands (after_entry least s e) object → Stores s e object
+  stored_here s n e object answer accepted adds written touches stands =
+      let outcome = (step least s e.answer.number e.moment e.command).1 in
+      let b = versioning_of s adds.address.bucket in
+      let place = one_in (writes e.command) adds.address object.address adds.written written in
+      let under = one_in (touched e.command outcome object.address) (new_id b e.answer.number) object.id
+      (ap (touched e.command outcome) (sym place) ∙ adds.touches) touches in
+      let there = ap₂ (λ (a : Address) (i : VersionId). version_at (after_entry least s e) a.bucket a.key i) place under ∙ stands.there in
+      let is = same_Some _ stands.version (sym adds.makes ∙ there) in
+      let same = same_object (object_of s e.answer.number e.moment adds.address adds.what) object place under
+      (sym (made_when b e.answer.number e.moment adds.what stands.version (ap Some is)) ∙ stands.moment)
+      (sym (made_data b e.answer.number e.moment adds.what object.stored (ap stored is ∙ stands.holds))) in
+      record { by = adds.by ∙ ap Some same; accepted = ap succeeds (outcome_is least s n e answer) ∙ accepted }
 
   -- what stands behind an entry it stored, or it stood before, and the entry didn't touch its id
   abbrev StoredOrStood : State → Entry → Object → Type 0
@@ -128,39 +103,62 @@ module _ (places : ChangesAreByPlace (List ℕ)) (rules : Rules) (least : ℕ) w
       let there = sym (version_left places rules least s n e object.address object.id answer spares) ∙ stands.there in
       inr (record { version = stands.version; there = there; moment = stands.moment; holds = stands.holds }, spares)
 
-  stored_or_stood : (s : State) (n : ℕ) (e : Entry) (object : Object) → IsAnswer least s n e → Stands (after_entry least s e) object
-      → StoredOrStood s e object
-  stored_or_stood s n e object answer stands =
+  -- so does what stands where an entry changed something
+  stored_or_nothing : (s : State) (n : ℕ) (e : Entry) (object : Object) → IsAnswer least s n e → AreBelow e.answer.number s
+      → Changes s e.answer.number e.moment e.command (step least s e.answer.number e.moment e.command)
+      → Contains (writes e.command) object.address
+      → Contains (touched e.command (step least s e.answer.number e.moment e.command).1 object.address) object.id
+      → Stands (after_entry least s e) object → Stores s e object
+  stored_or_nothing s n e object answer below changes written touches stands =
+      elim changes.adds [
+        | inl adds ↦ stored_here s n e object answer changes.accepted adds written touches stands
+        | inr nothing ↦
+            let none = nothing.empty below object.address object.id stands.version written touches stands.there in
+            let some = stands.holds in absurd (cc)
+      ]
+
+  stored_or_stood : (s : State) (n : ℕ) (e : Entry) (object : Object) → IsAnswer least s n e → AreBelow e.answer.number s
+      → Stands (after_entry least s e) object → StoredOrStood s e object
+  stored_or_stood s n e object answer below stands =
       let a = object.address in
-      elim (entry_does places rules least s n e answer) [
-        | inl same ↦ stood s n e object answer stands (spares_same s n e a object.id answer same.refused)
+      let outcome = outcome_is least s n e answer in
+      elim (entry_does places rules least s n e answer).effect [
+        | inl same ↦
+            stood s n e object answer stands (λ written accepted touches.
+            false≢true (sym (same.refused a written) ∙ sym (ap succeeds outcome) ∙ accepted))
         | inr changes ↦
-            elim (same_address a changes.address) [
-              | inl place ↦
-                  elim (same_id object.id changes.id) [
-                    | inl under ↦ inl (stored_here s n e object answer changes place under stands)
-                    | inr other ↦ stood s n e object answer stands (spares_id s n e a object.id answer changes other)
+            elim (contains_or address_or (writes e.command) a) [
+              | inl written ↦
+                  elim (contains_or id_or (touched e.command (step least s e.answer.number e.moment e.command).1 a) object.id) [
+                    | inl touches ↦ inl (stored_or_nothing s n e object answer below changes written touches stands)
+                    | inr spared ↦
+                        stood s n e object answer stands (λ written accepted touches.
+                        spared (subst (λ (o : Outcome). Contains (touched e.command o a) object.id) outcome touches))
                   ]
-              | inr other ↦ stood s n e object answer stands (spares_address s e a object.id changes other)
+              | inr never ↦ stood s n e object answer stands (λ written accepted touches. never written)
             ]
       ]
 
-  known_push : (s : State) (n : ℕ) (past : List Entry) (e : Entry) → Known least s past → IsAnswer least (after least s past) n e
-      → Known least s (past ++ e ∷ [])
-  known_push s n past e known answer object stands =
+  known_push : (s : State) (n : ℕ) (past : List Entry) (e : Entry) → Known least s past → AreBelow n (after least s past)
+      → IsAnswer least (after least s past) n e → Known least s (past ++ e ∷ [])
+  known_push s n past e known below answer object stands =
       let here = after least s past in
-      elim (stored_or_stood here n e object answer (subst (λ (t : State). Stands t object) (after-push least s past e) stands)) [
+      let number = numbered_by least here n e answer in
+      elim (stored_or_stood here n e object answer (subst (λ (m : ℕ). AreBelow m here) (sym number) below)
+      (subst (λ (t : State). Stands t object) (after-push least s past e) stands)) [
         | inl stores ↦ record { before = past; write = e; between = []; parts = refl; stores = stores; spared = tt }
         | inr before ↦ stored_push least s past object e (known object before.0) before.1
       ]
 
-  pub known_after : (s : State) (n : ℕ) (past es : List Entry) → Known least s past → Legal least (after least s past) n es
-      → Known least s (past ++ es)
-  known_after s n past [] known legal = subst (Known least s) (sym (append-nil past)) known
-  known_after s n past (e ∷ es) known legal =
+  pub known_after : Numbers → (s : State) (n : ℕ) (past es : List Entry) → Known least s past → AreBelow n (after least s past)
+      → Legal least (after least s past) n es → Known least s (past ++ es)
+  known_after numbers s n past [] known below legal = subst (Known least s) (sym (append-nil past)) known
+  known_after numbers s n past (e ∷ es) known below legal =
+      let there = sym (after-push least s past e) in
       subst (Known least s) (append_assoc past (e ∷ []) es)
-      (known_after s (suc n) (past ++ e ∷ []) es (known_push s n past e known legal.0)
-      (subst (λ (t : State). Legal least t (suc n) es) (sym (after-push least s past e)) legal.1))
+      (known_after numbers s (suc n) (past ++ e ∷ []) es (known_push s n past e known below legal.0)
+      (subst (AreBelow (suc n)) there (entry_below places rules least numbers (after least s past) n e legal.0 below))
+      (subst (λ (t : State). Legal least t (suc n) es) there legal.1))
 
 found_passes : {X : Type 0} (p : X → Bool) (xs : List X) (x : X) → find p xs ≡ Some x → p x ≡ true
 found_passes p [] x is = absurd (cc)
@@ -272,12 +270,12 @@ nothing_known empty least names object stands =
     let none = ap (asked_for (Some object.id))
     ((empty names object.address.bucket).empty object.address.key) in let some = stands.there in absurd (cc)
 
-module _ (places : ChangesAreByPlace (List ℕ)) (rules : Rules) (empty : OpeningIsEmpty (List ℕ)) where
+module _ (places : ChangesAreByPlace (List ℕ)) (rules : Rules) (numbers : Numbers) (empty : OpeningIsEmpty (List ℕ)) where
   opened : (least : ℕ) (s : State) (n : ℕ) (names : List (List ℕ)) (es : List Entry) → s ≡ opening names → Legal least s n es
       → Known least s es
   opened least s n names es opens =
-      subst (λ (t : State). Legal least t n es → Known least t es) (sym opens) (known_after places rules least (opening names) n [] es
-      (nothing_known empty least names))
+      subst (λ (t : State). Legal least t n es → Known least t es) (sym opens) (known_after places rules least numbers (opening names) n [] es
+      (nothing_known empty least names) (numbers.opening n names))
 
   pub only_stored_stands : EveryHistory OnlyStoredStands
   only_stored_stands least s n entries legal names object opens stands = opened least s n names entries opens legal object stands

@@ -20,7 +20,8 @@ use Rattle.s3_machine.specs.Step.{State, upload_begun}
 use Rattle.s3_machine.specs.UploadsKept.{IsPartListed, TellsOfSent, PartsAreKept, OnlySentStands, PartsAreListedWhileStanding}
 use Rattle.s3_machine.proofs.CourseLemmas.{part_of, fate_of}
 use Rattle.s3_machine.proofs.PartLemmas.{part_sized}
-use Rattle.s3_machine.proofs.TellingLemmas.{contains_later, kept_by, was_there}
+use Rattle.s3_machine.proofs.ContainsLemmas.{contains_later}
+use Rattle.s3_machine.proofs.TellingLemmas.{kept_by, was_there}
 use Rattle.s3_machine.proofs.UploadLemmas.{Left, Begun, Sent, Ended}
 
 -- ---- where numbers rise

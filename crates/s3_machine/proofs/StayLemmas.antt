@@ -17,6 +17,7 @@ use Rattle.s3_machine.specs.Uploads.{Begins, Sends, KeepsOpen, StaysOpen, KeepsP
 use Rattle.s3_machine.proofs.CourseLemmas.{part_of, fate_of, begins_alone, sends_alone}
 use Rattle.s3_machine.proofs.HistoryLemmas.{Legal-append, after-append}
 use Rattle.s3_machine.proofs.KeptLemmas.{outcome_is}
+use Rattle.s3_machine.proofs.StateLemmas.{numbered_by}
 use Rattle.s3_machine.proofs.UploadLemmas.{IsEnded, Left, Begun, Sent, Ended}
 
 -- an upload that was begun has what it was begun with, and goes on to
@@ -28,10 +29,6 @@ still_open : (s after : State) (upload : UploadPlace) (t : ℕ) (asked : Descrip
     → open_at after upload ≡ open_at s upload → IsOpen after upload t asked
 still_open s after upload t asked is same =
     record { found = is.found; there = same ∙ is.there; moment = is.moment; content_type = is.content_type; metadata = is.metadata }
-
--- the number of a right answer
-numbered_by : (least : ℕ) (s : State) (n : ℕ) (e : Entry) → IsAnswer least s n e → e.answer.number ≡ n
-numbered_by least s n e answer = ap (λ a. a.number) answer
 
 -- the id of an upload that was begun is below the number of the next entry
 pub begun_below : (least : ℕ) (s : State) (n : ℕ) (past : List Entry) (upload : UploadPlace) (t : ℕ) (asked : Description) → Legal least s n past

@@ -1,5 +1,5 @@
 -- What is told of uploads: by answers, and by lists.
-use Rattle.std.proofs.Common.{◌≡◌, ◌≢◌, refl, sym, ap, subst, ◌∙◌, ◌↔◌, arith, Bool, true, false, not, ◌&&◌, cond, ℕ, nat_eq, zero, suc, inl, inr, IsTrue, List, [], ◌∷◌, filter, Contains, Option, Some, None, option_map, Result, Ok, Err, ok_or}
+use Rattle.std.proofs.Common.{◌≡◌, ◌≢◌, refl, sym, ap, subst, ◌∙◌, ◌↔◌, arith, Bool, true, false, not, ◌&&◌, cond, ℕ, nat_eq, zero, suc, IsTrue, List, [], ◌∷◌, filter, Contains, Option, Some, None, option_map, Result, Ok, Err, ok_or}
 use Rattle.std.proofs.lemmas.Bool.{false≢true}
 use Rattle.std.proofs.lemmas.List.Elements.{All-filter, All-contains, All-contains_itself}
 use Rattle.std.proofs.lemmas.Option.{same_Some}
@@ -21,7 +21,7 @@ use Rattle.s3_uploads.specs.declared.upload.Upload.{Upload}
 use Rattle.s3_records.specs.Catalogue.{has_bucket}
 use Rattle.s3_records.specs.Laws.{UploadsAreListed}
 use Rattle.s3_records.specs.OpenUploads.{upload_at, parts_sent, parts_at, is_upload_from, upload_rows}
-use Rattle.s3_records.specs.Places.{ChangesAreByPlace, SameVersions}
+use Rattle.s3_records.specs.Places.{ChangesAreByPlace}
 use Rattle.s3_records.specs.Rows.{is_from}
 use Rattle.s3_records.specs.declared.rows.Start.TheVariants.{Behind}
 use Rattle.s3_records.specs.declared.rows.UploadRow.{UploadRow}
@@ -51,10 +51,11 @@ use Rattle.s3_machine.specs.Laws.{asking, UploadListsAreTold, PartListsAreTold, 
 use Rattle.s3_machine.specs.Step.{State, Stepped, is_taken, source_found, lies_in, part_copied, bucket_done, key_done, upload_done, done, stepped, step}
 use Rattle.s3_machine.specs.UploadsKept.{all_uploads, UploadsAreOpenUntilEnded, BegunIsTold, SentIsTold, CopiedPartIsTold, CompletedIsTold, UploadListsTellWhatIsThere, PartListsTellWhatIsThere, UploadsAreListedWhileOpen, OnlyWritesChangeVersions}
 use Rattle.s3_machine.proofs.AnswerLemmas.{would_find}
+use Rattle.s3_machine.proofs.ContainsLemmas.{contains_later}
 use Rattle.s3_machine.proofs.CourseLemmas.{asked_of}
-use Rattle.s3_machine.proofs.EffectLemmas.{Rules, after_line, step_does, part_copying, completing}
+use Rattle.s3_machine.proofs.EffectLemmas.{Rules, versions_at, after_line, part_copying, completing}
 use Rattle.s3_machine.proofs.HistoryLemmas.{after-push, right_at}
-use Rattle.s3_machine.proofs.KeptLemmas.{outcome_is, past_line}
+use Rattle.s3_machine.proofs.KeptLemmas.{outcome_is, past_line, versions_left}
 use Rattle.s3_machine.proofs.ListLemmas.{page_told, command_outcome}
 
 -- ---- answers
@@ -281,9 +282,6 @@ part_lists_tell_what_is_there least s n entries legal before later list name key
     ∙ parts_step least (after least s before) list.answer.number list.moment name key id asked (sym (ap succeeds outcome) ∙ success)
 
 -- what passes a test is kept with those that do
-pub contains_later : {X : Type 0} (y x : X) (ys : List X) → Contains ys x → Contains (y ∷ ys) x
-contains_later y x ys (k, within, is) = (suc k, omega arith, is)
-
 pub kept_by : {X : Type 0} (p : X → Bool) (xs : List X) (x : X) → p x ≡ true → Contains xs x → Contains (filter p xs) x
 kept_by p [] x passes (k, within, is) = absurd (omega arith)
 kept_by p (y ∷ ys) x passes (zero, within, is) =
@@ -360,9 +358,7 @@ module _ (listed : UploadsAreListed (List ℕ)) where
 
 module _ (places : ChangesAreByPlace (List ℕ)) (rules : Rules) where
   pub only_writes_change_versions : EveryHistory OnlyWritesChangeVersions
-  only_writes_change_versions least s n entries legal before later e parts none =
-      let here = after least s before in
-      elim (step_does places rules least here e.answer.number e.moment e.command) [
-        | inl same ↦ subst (SameVersions here) (sym (after-push least s before e)) same.versions
-        | inr changes ↦ let written = changes.written in absurd (cc)
-      ]
+  only_writes_change_versions least s n entries legal before later e address parts other =
+      ap (λ (state : State). versions_at state address) (after-push least s before e)
+      ∙ versions_left places rules least (after least s before) _ e address (right_at least s n entries before later e legal parts)
+      (λ written. absurd (other written))

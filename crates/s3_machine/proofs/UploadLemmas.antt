@@ -1,5 +1,6 @@
 -- What one step does to an upload.
 use Rattle.std.proofs.Common.{◌≡◌, refl, sym, ap, ap₂, ◌∙◌, Bool, true, false, not, ◌&&◌, ℕ, ◌⊎◌, inl, inr, IsTrue, List, Option, Some, None, option_map, Result, Ok, Err, ok_or}
+use Rattle.std.proofs.lemmas.Bool.{not-false}
 use Rattle.std.proofs.lemmas.Bool.Decides.{eqb_tells}
 use Rattle.std.proofs.lemmas.Option.{same_Some}
 use Rattle.std.specs.Result.{result_ok}
@@ -20,6 +21,7 @@ use Rattle.s3_uploads.specs.declared.part.Part.{Part}
 use Rattle.s3_uploads.specs.declared.upload.Upload.{Upload}
 use Rattle.s3_records.specs.Catalogue.{has_bucket, is_empty_bucket, versions_of, versioning_of}
 use Rattle.s3_records.specs.Changes.{Change, BucketAdded, BucketDropped, VersioningSet, KeyChanged, UploadAdded, PartPut, UploadDropped, UploadCompleted, changed}
+use Rattle.s3_records.specs.Deletions.{all_deleted}
 use Rattle.s3_records.specs.OpenUploads.{upload_at}
 use Rattle.s3_records.specs.Places.{OneUploadChanges, ChangesAreByUpload}
 use Rattle.s3_machine.specs.declared.command.BucketCommand.{BucketCommand}
@@ -38,7 +40,8 @@ use Rattle.s3_machine.specs.declared.command.Outcome.{Outcome}
 use Rattle.s3_machine.specs.Fault.{refuse, as_refusal}
 use Rattle.s3_machine.specs.Effects.{Address, UploadPlace, PartPlace, place_of, open_at, begins, sends, copied_part, puts_part, ends, succeeds}
 use Rattle.s3_machine.specs.Step.{State, Stepped, is_taken, copied, source_found, lies_in, part_copied, data_of, outcome_shown, shown_by, found_in, upload_begun, open_upload, bucket_done, key_done, upload_done, done, stepped, step}
-use Rattle.s3_machine.proofs.EffectLemmas.{after_line, not_false, copy_done, part_copying, shown, completing}
+use Rattle.s3_machine.proofs.DeletionLemmas.{IsIn, uploads_stay}
+use Rattle.s3_machine.proofs.EffectLemmas.{after_line, copy_done, part_copying, shown, completing}
 
 -- a step leaves an upload, or the place of one: what the command may be to do there it doesn't do
 pub record IsLeft (s : State) (n : ℕ) (command : Command) (st : Stepped) (upload : UploadPlace) : Type 0 where
@@ -170,7 +173,7 @@ module _ (law : ChangesAreByUpload (List ℕ)) where
       fate_line s n t _ upload (not (has_bucket s name)) NoSuchBucket _
       (λ there. fate_line s n t _ upload (not (is_empty_bucket s name)) BucketNotEmpty _
       (λ empty. left_alone s (changed s name BucketDropped) n t _ _ upload
-      (law s name BucketDropped (not_false (is_empty_bucket s name) empty) upload.address.bucket upload.address.key upload.id) refl refl refl))
+      (law s name BucketDropped (not-false (is_empty_bucket s name) empty) upload.address.bucket upload.address.key upload.id) refl refl refl))
   bucket_fate s n t name (bucket_commands.PutVersioning status) upload =
       fate_line s n t _ upload (not (has_bucket s name)) NoSuchBucket _
       (λ there. left_alone s (changed s name (VersioningSet status)) n t _ _ upload
@@ -376,7 +379,13 @@ module _ (law : ChangesAreByUpload (List ℕ)) where
   step_fate least s n t (commands.Bucket name asked) upload = bucket_fate s n t name asked upload
   step_fate least s n t (commands.Key name key asked) upload =
       fate_line s n t _ upload (not (has_bucket s name)) NoSuchBucket (key_done s n t name key asked)
-      (λ there. key_fate s n t name key asked upload (not_false (has_bucket s name) there))
+      (λ there. key_fate s n t name key asked upload (not-false (has_bucket s name) there))
   step_fate least s n t (commands.Upload name key id asked) upload =
       fate_line s n t _ upload (not (has_bucket s name)) NoSuchBucket (upload_done least s n t name key id asked)
-      (λ there. upload_fate least s n t name key id asked upload (not_false (has_bucket s name) there))
+      (λ there. upload_fate least s n t name key id asked upload (not-false (has_bucket s name) there))
+  step_fate least s n t (commands.DeleteObjects name deletion) upload =
+      fate_line s n t _ upload (not (has_bucket s name)) NoSuchBucket _
+      (λ there.
+      let is : IsIn (versioning_of s name) name s = record { there = not-false (has_bucket s name) there; versioning = refl } in
+      left_alone s (all_deleted s name n t deletion.objects) n t (commands.DeleteObjects name deletion) _ upload
+      (uploads_stay (versioning_of s name) name n t law s deletion.objects is upload.address.bucket upload.address.key upload.id) refl refl refl)

@@ -1,7 +1,7 @@
 -- Conditional writes (Amazon S3 User Guide, "How to prevent object overwrites with conditional writes"): a put or a completion
 -- that wants no object under its key succeeds only where there is none. So of those that race for a key at most one succeeds,
 -- until its object is taken away.
-use Rattle.std.specs.Prelude.{◌≡◌, ℕ, Bool, true, false, List, [], ◌∷◌, ◌++◌, Some}
+use Rattle.std.specs.Prelude.{◌≡◌, ℕ, Bool, true, false, List, [], ◌∷◌, ◌++◌, Contains, Some}
 use Rattle.s3_terms.specs.declared.code.Code.TheVariants.{PreconditionFailed}
 use Rattle.s3_machine.specs.declared.command.Outcome.TheVariants as outcomes
 use Rattle.s3_machine.specs.Step.{State, is_taken}
@@ -21,7 +21,7 @@ pub record PutsIfAbsent (address : Address) (e : Entry) : Type 0 where
 -- the entry takes the object of the address away: it writes there and succeeds, and an object was there before it and isn't behind
 -- it
 pub record TakesAway (least : ℕ) (s : State) (address : Address) (e : Entry) : Type 0 where
-  pub written : writes e.command ≡ Some address
+  pub written : Contains (writes e.command) address
   pub accepted : succeeds e.answer.outcome ≡ true
   pub found : has_object s address ≡ true
   pub leaves : has_object (after_entry least s e) address ≡ false

@@ -1,7 +1,8 @@
 -- What a command asks for, and what came of it, in words that every operation shares.
-use Rattle.std.specs.Prelude.{ℕ, Bool, true, false, if◌then◌else◌, List, Option, Some, None, option_map, Result, Ok, Err}
-use Rattle.std.specs.Option.{unwrap_or}
+use Rattle.std.specs.Prelude.{ℕ, Bool, true, false, if◌then◌else◌, List, [], ◌∷◌, filter_map, Option, Some, None, option_map, Result, Ok, Err}
+use Rattle.std.specs.Option.{option_or, unwrap_or}
 use Rattle.std.specs.Result.{result_ok}
+use Rattle.std.specs.Str.{bytes_eq}
 use Rattle.s3_names.specs.declared.ids.VersionId.{VersionId}
 use Rattle.s3_names.specs.declared.ids.VersionId.TheVariants.{Null}
 use Rattle.s3_conditions.specs.declared.conditions.Conditions.{Conditions}
@@ -13,6 +14,11 @@ use Rattle.s3_versions.specs.declared.picking.Refusal.{Refusal}
 use Rattle.s3_versions.specs.declared.version.Data.{Data}
 use Rattle.s3_versions.specs.declared.version.Versioning.{Versioning}
 use Rattle.s3_versions.specs.Rules.{new_id}
+use Rattle.s3_deletions.specs.declared.named.Deletion.{Deletion}
+use Rattle.s3_deletions.specs.declared.named.NamedObject.{NamedObject}
+use Rattle.s3_deletions.specs.declared.named.NamedObject.TheVariants as named
+use Rattle.s3_deletions.specs.declared.told.DeletionRow.{DeletionRow}
+use Rattle.s3_deletions.specs.declared.told.DeletionRow.TheVariants as rows
 use Rattle.s3_uploads.specs.Completion.{parts_listed, joined_data}
 use Rattle.s3_uploads.specs.Parts.{part_at, part_sent}
 use Rattle.s3_uploads.specs.declared.listed.ListedPart.{ListedPart}
@@ -20,6 +26,7 @@ use Rattle.s3_uploads.specs.declared.part.Part.{Part}
 use Rattle.s3_uploads.specs.declared.upload.Upload.{Upload}
 use Rattle.s3_records.specs.Catalogue.{versioning_of}
 use Rattle.s3_records.specs.OpenUploads.{upload_at, parts_at}
+use Rattle.s3_documents.specs.Document as documents
 use Rattle.s3_machine.specs.declared.command.BucketCommand.{BucketCommand}
 use Rattle.s3_machine.specs.declared.command.BucketCommand.TheVariants as bucket_commands
 use Rattle.s3_machine.specs.declared.command.Command.{Command}
@@ -65,21 +72,32 @@ pub record PartPlace : Type 0 where
 abbrev pub part_in : State → PartPlace → Option (Part (List ℕ))
 part_in s part = part_at part.number (parts_at s part.upload.address.bucket part.upload.address.key part.upload.id)
 
--- the address whose versions a command may change
-abbrev pub key_written : Address → KeyCommand (List ℕ) → Option Address
-key_written address (key_commands.Put put) = Some address
-key_written address (key_commands.Copy copy) = Some address
-key_written address (key_commands.Delete asked) = Some address
-key_written address other = None
+-- the addresses whose versions a command may change
+abbrev pub key_written : Address → KeyCommand (List ℕ) → List Address
+key_written address (key_commands.Put put) = address ∷ []
+key_written address (key_commands.Copy copy) = address ∷ []
+key_written address (key_commands.Delete asked) = address ∷ []
+key_written address other = []
 
-abbrev pub upload_written : Address → UploadCommand → Option Address
-upload_written address (upload_commands.Complete listed if_absent) = Some address
-upload_written address other = None
+abbrev pub upload_written : Address → UploadCommand → List Address
+upload_written address (upload_commands.Complete listed if_absent) = address ∷ []
+upload_written address other = []
 
-abbrev pub writes : Command → Option Address
+-- the address of an object that is named to be deleted
+abbrev pub address_named : List ℕ → NamedObject → Option Address
+address_named bucket (named.Object d) = Some (record { bucket = bucket; key = d.key })
+address_named bucket (named.Fault fault) = None
+
+abbrev pub writes : Command → List Address
 writes (commands.Key bucket key asked) = key_written (record { bucket = bucket; key = key }) asked
 writes (commands.Upload bucket key id asked) = upload_written (record { bucket = bucket; key = key }) asked
-writes other = None
+writes (commands.DeleteObjects bucket deletion) = filter_map (address_named bucket) deletion.objects
+writes other = []
+
+-- the objects that a command deletes together, and in which bucket
+abbrev pub deletes : Command → Option (List ℕ × Deletion)
+deletes (commands.DeleteObjects bucket deletion) = Some (bucket, deletion)
+deletes other = None
 
 -- the address under which a command stores only where no object is
 abbrev pub where_absent : Bool → Address → Option Address
@@ -281,9 +299,10 @@ only_reads commands.ListBuckets = true
 only_reads (commands.Bucket name asked) = only_reads_bucket asked
 only_reads (commands.Key name key asked) = only_reads_key asked
 only_reads (commands.Upload name key id asked) = only_reads_upload asked
+only_reads (commands.DeleteObjects name deletion) = false
 
 -- the command may take memory: it makes a bucket, a version, a delete marker, an upload or a part, hands out what is kept, or
--- tells of it in a list
+-- tells of it, or of what it deletes, in a list
 abbrev pub takes_room_in_bucket : BucketCommand → Bool
 takes_room_in_bucket bucket_commands.Create = true
 takes_room_in_bucket (bucket_commands.GetLocation region) = true
@@ -309,6 +328,7 @@ takes_room s commands.ListBuckets = true
 takes_room s (commands.Bucket name asked) = takes_room_in_bucket asked
 takes_room s (commands.Key name key asked) = takes_room_at_key (versioning_of s name) asked
 takes_room s (commands.Upload name key id asked) = takes_room_in_upload asked
+takes_room s (commands.DeleteObjects name deletion) = true
 
 -- the machine refuses
 abbrev pub is_refused : Outcome → Bool
@@ -368,14 +388,34 @@ acknowledged other = None
 abbrev pub told : Option VersionId → VersionId
 told shown = unwrap_or shown Null
 
-abbrev pub told_id : Outcome → Option VersionId
-told_id (outcomes.Put tag shown) = Some (told shown)
-told_id (outcomes.Copied tag moment shown) = Some (told shown)
-told_id (outcomes.Completed document tag shown) = Some (told shown)
-told_id (outcomes.Deleted shown is_delete_marker) = Some (told shown)
-told_id other = None
+abbrev pub told_ids : Outcome → List VersionId
+told_ids (outcomes.Put tag shown) = told shown ∷ []
+told_ids (outcomes.Copied tag moment shown) = told shown ∷ []
+told_ids (outcomes.Completed document tag shown) = told shown ∷ []
+told_ids (outcomes.Deleted shown is_delete_marker) = told shown ∷ []
+told_ids other = []
 
--- the id whose version a command made, replaced or deleted: the one that a delete named, or the one that it was told
-abbrev pub touched : Command → Outcome → Option VersionId
-touched (commands.Key bucket key (key_commands.Delete (Some id))) outcome = Some id
-touched other outcome = told_id outcome
+-- the id of the delete marker that a row tells of a key that was named without a version, if it tells one
+abbrev pub marker_in_row : List ℕ → DeletionRow → Option VersionId
+marker_in_row key (rows.Deleted k None marker) = if bytes_eq k key then marker else None
+marker_in_row key other = None
+
+-- that of the first row that tells one
+abbrev pub marker_in_rows : List ℕ → List DeletionRow → Option VersionId
+marker_in_rows key [] = None
+marker_in_rows key (row ∷ rest) = option_or (marker_in_row key row) (marker_in_rows key rest)
+
+-- the id that an object touches of a key: that of the version that it names, or else of the delete marker that is told of the
+-- key, or `null`, where none is
+abbrev pub id_named : List ℕ → List DeletionRow → NamedObject → Option VersionId
+id_named key told_rows (named.Object d) =
+    if bytes_eq d.key key then Some (unwrap_or d.version (told (marker_in_rows key told_rows))) else None
+id_named key told_rows (named.Fault fault) = None
+
+-- the ids whose versions a command made, replaced or deleted under an address that it writes: the one that a delete named, or
+-- the one that it was told, and those of all objects that were deleted together
+abbrev pub touched : Command → Outcome → Address → List VersionId
+touched (commands.Key bucket key (key_commands.Delete (Some id))) outcome address = id ∷ []
+touched (commands.DeleteObjects bucket deletion) (outcomes.Told (documents.deletions is_quiet told_rows)) address =
+    filter_map (id_named address.key told_rows) deletion.objects
+touched other outcome address = told_ids outcome

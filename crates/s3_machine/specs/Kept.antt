@@ -1,6 +1,6 @@
 -- What the machine keeps: what an entry stored comes back and nothing else does, by its key and by its version; a
 -- delete marker hides and takes nothing away; what was refused or only read changes nothing.
-use Rattle.std.specs.Prelude.{◌≡◌, ◌≢◌, ◌⊎◌, ℕ, true, false, List, [], ◌∷◌, ◌++◌, Option, Some, None, is_some, Ok}
+use Rattle.std.specs.Prelude.{◌≡◌, ◌⊎◌, ℕ, true, false, List, [], ◌∷◌, ◌++◌, Contains, Option, Some, None, is_some, Ok}
 use Rattle.std.specs.List.{AllByRecursion}
 use Rattle.s3_terms.specs.declared.code.Code.TheVariants.{NoSuchKey}
 use Rattle.s3_names.specs.declared.ids.VersionId.{VersionId}
@@ -39,7 +39,7 @@ use Rattle.s3_machine.specs.Uploads.{Completes, WasJoined}
 
 -- the entry, if it may change the versions of the address, doesn't succeed
 abbrev pub Leaves : Address → Entry → Type 0
-Leaves address e = writes e.command ≡ Some address → succeeds e.answer.outcome ≡ false
+Leaves address e = Contains (writes e.command) address → succeeds e.answer.outcome ≡ false
 
 -- no entry that succeeds changes them
 abbrev pub LeavesKey : Address → List Entry → Type 0
@@ -48,7 +48,8 @@ LeavesKey address entries = AllByRecursion (Leaves address) entries
 -- the entry, if it may change the versions of the address and succeeds, doesn't touch this id
 abbrev pub Spares : Address → VersionId → Entry → Type 0
 Spares address id e =
-    writes e.command ≡ Some address → succeeds e.answer.outcome ≡ true → touched e.command e.answer.outcome ≢ Some id
+    Contains (writes e.command) address → succeeds e.answer.outcome ≡ true
+    → ¬ Contains (touched e.command e.answer.outcome address) id
 
 -- no entry makes, replaces or deletes the version of this id there
 abbrev pub SparesVersion : Address → VersionId → List Entry → Type 0
@@ -79,10 +80,10 @@ pub record WasStoredWith (least : ℕ) (s : State) (entries : List Entry) (addre
   pub known : facts_stored object ≡ facts
   pub stored : WasStored least s entries object
 
--- the entry tells what it stored: where it writes, the id of the version, and the tag
+-- the entry tells what it stored: where it writes, and nowhere else, the one id that it touches there, and the tag
 pub record Tells (object : Object) (e : Entry) : Type 0 where
-  pub written : writes e.command ≡ Some object.address
-  pub under : touched e.command e.answer.outcome ≡ Some object.id
+  pub written : writes e.command ≡ object.address ∷ []
+  pub under : touched e.command e.answer.outcome object.address ≡ object.id ∷ []
   pub tagged : acknowledged e.answer.outcome ≡ Some object.stored.tag
 
 -- the object stands in this state
@@ -126,13 +127,13 @@ pub record IsFoundUnder (id : VersionId) (asked : Read) (found : Found (List ℕ
 
 -- the entry puts these data under the address, and succeeds
 pub record Puts (address : Address) (what : Data (List ℕ)) (e : Entry) : Type 0 where
-  pub written : writes e.command ≡ Some address
+  pub written : writes e.command ≡ address ∷ []
   pub brings : brought e.command ≡ Some what
   pub accepted : succeeds e.answer.outcome ≡ true
 
 -- the entry copies this version to the address by these conditions, says this of it, and succeeds
 pub record Copies (address : Address) (asked : Read) (said : Option Description) (e : Entry) : Type 0 where
-  pub written : writes e.command ≡ Some address
+  pub written : writes e.command ≡ address ∷ []
   pub from : copies e.command ≡ Some (asked, said)
   pub accepted : succeeds e.answer.outcome ≡ true
 
@@ -335,7 +336,7 @@ module _ (least : ℕ) (s : State) (entries : List Entry) where
       (before between later : List Entry) (put read : Entry) (address : Address) (what : Data (List ℕ)) (id : VersionId)
       → entries ≡ before ++ put ∷ between ++ read ∷ later
       → Puts address what put
-      → touched put.command put.answer.outcome ≡ Some id
+      → touched put.command put.answer.outcome address ≡ id ∷ []
       → SparesVersion address id between
       → ReadsVersion address id read
       → IsGiven put.moment what read
@@ -357,7 +358,7 @@ module _ (least : ℕ) (s : State) (entries : List Entry) where
       (id : VersionId)
       → entries ≡ before ++ copy ∷ between ++ read ∷ later
       → Copies address asked said copy
-      → touched copy.command copy.answer.outcome ≡ Some id
+      → touched copy.command copy.answer.outcome address ≡ id ∷ []
       → SparesVersion address id between
       → ReadsVersion address id read
       → (what : Data (List ℕ)) × WouldGive (after least s before) asked what × IsGiven copy.moment (described said what) read

@@ -1,5 +1,6 @@
 pub mod Conditional
 pub mod Configuration
+pub mod Deleted
 pub mod Effects
 pub mod Fault
 pub mod History

@@ -18,6 +18,7 @@ use Rattle.s3_versions.specs.declared.version.Version.{Version}
 use Rattle.s3_versions.specs.declared.version.Versioning.{Versioning}
 use Rattle.s3_versions.specs.declared.version.Versioning.TheVariants.{Unversioned, Enabled, Suspended}
 use Rattle.s3_versions.specs.Rules.{id_of, is_under, stored, is_delete_marker, current, pick, facts_of, new_id, VersionPut, KeyDeleted, VersionDropped}
+use Rattle.s3_deletions.specs.Deletions.{rows_told}
 use Rattle.s3_uploads.specs.Completion.{completed}
 use Rattle.s3_uploads.specs.Parts.{part_sent, part_tag}
 use Rattle.s3_uploads.specs.declared.part.Part.{Part}
@@ -25,6 +26,7 @@ use Rattle.s3_uploads.specs.declared.upload.Upload.{Upload}
 use Rattle.s3_records.specs.Catalogue.{Catalogue, has_bucket, listed_buckets, is_empty_bucket, versions_of, versioning_of}
 use Rattle.s3_records.specs.Rows.{key_rows}
 use Rattle.s3_records.specs.Changes.{BucketAdded, BucketDropped, VersioningSet, KeyChanged, UploadAdded, PartPut, UploadDropped, UploadCompleted, changed}
+use Rattle.s3_records.specs.Deletions.{all_deleted, markers_of}
 use Rattle.s3_records.specs.OpenUploads.{upload_at}
 use Rattle.s3_listings.specs.Objects.{objects_told}
 use Rattle.s3_listings.specs.Parts.{parts_page}
@@ -283,6 +285,13 @@ done least s n t (commands.Key name key asked) = do
 done least s n t (commands.Upload name key id asked) = do
   refuse (not (has_bucket s name)) NoSuchBucket
   upload_done least s n t name key id asked
+done least s n t (commands.DeleteObjects name deletion) = do
+  refuse (not (has_bucket s name)) NoSuchBucket
+  Ok (
+    all_deleted s name n t deletion.objects,
+    outcomes.Told
+        (documents.deletions deletion.is_quiet (rows_told deletion.objects (markers_of s name n t deletion.objects))),
+  )
 
 -- a refusal leaves the state as it was
 abbrev pub stepped : State → Result Stepped Refusal → Stepped

@@ -8,9 +8,8 @@ use Rattle.s3_uploads.specs.Parts.{part_sent, part_tag}
 use Rattle.s3_uploads.specs.declared.listed.ListedPart.{ListedPart}
 use Rattle.s3_uploads.specs.declared.part.Part.{Part}
 use Rattle.s3_uploads.specs.declared.part.PartRow.{PartRow}
-use Rattle.s3_records.specs.Catalogue.{opening}
+use Rattle.s3_records.specs.Catalogue.{opening, versions_of}
 use Rattle.s3_records.specs.OpenUploads.{parts_at}
-use Rattle.s3_records.specs.Places.{SameVersions}
 use Rattle.s3_listings.specs.declared.asked.PartsAsked.{PartsAsked}
 use Rattle.s3_listings.specs.declared.asked.UploadsAsked.{UploadsAsked}
 use Rattle.s3_listings.specs.Parts.{parts_asked, parts_page}
@@ -23,7 +22,7 @@ use Rattle.s3_machine.specs.declared.command.CopyRange.{CopyRange}
 use Rattle.s3_machine.specs.declared.command.Description.{Description}
 use Rattle.s3_machine.specs.declared.command.UploadCommand.TheVariants as upload_commands
 use Rattle.s3_machine.specs.Step.{State, part_copied}
-use Rattle.s3_machine.specs.Effects.{UploadPlace, PartPlace, Read, part_in, writes, copies_part, sends, sent, object_of, touched, succeeds}
+use Rattle.s3_machine.specs.Effects.{Address, UploadPlace, PartPlace, Read, part_in, writes, copies_part, sends, sent, object_of, touched, succeeds}
 use Rattle.s3_machine.specs.History.{Entry, after}
 use Rattle.s3_machine.specs.Kept.{LeavesKey, SparesVersion, Stores, ReadsKey, ReadsVersion, IsGiven, WouldGive}
 use Rattle.s3_machine.specs.Uploads.{Begins, Sends, Completes, WasBegun, WasSent, IsOpen, AreJoined}
@@ -169,7 +168,7 @@ module _ (least : ℕ) (s : State) (entries : List Entry) where
       → s ≡ opening names
       → entries ≡ before ++ complete ∷ between ++ read ∷ later
       → Completes upload listed complete
-      → touched complete.command complete.answer.outcome ≡ Some id
+      → touched complete.command complete.answer.outcome upload.address ≡ id ∷ []
       → SparesVersion upload.address id between
       → ReadsVersion upload.address id read
       → (what : Data (List ℕ)) × AreJoined least s before upload listed what × IsGiven complete.moment what read
@@ -210,13 +209,14 @@ module _ (least : ℕ) (s : State) (entries : List Entry) where
       → 0 < row.number
       → (IsPartListed (after least s entries) upload row ↔ TellsOfSent least s entries upload row)
 
-  -- No object shows of an upload before it is completed: what writes under no key leaves all versions.
+  -- No object shows of an upload before it is completed: what doesn't write under a key leaves its versions.
   abbrev pub OnlyWritesChangeVersions : Type 0
   OnlyWritesChangeVersions =
-      (before later : List Entry) (e : Entry)
+      (before later : List Entry) (e : Entry) (address : Address)
       → entries ≡ before ++ e ∷ later
-      → writes e.command ≡ None
-      → SameVersions (after least s before) (after least s (before ++ e ∷ []))
+      → ¬ Contains (writes e.command) address
+      → versions_of (after least s (before ++ e ∷ [])) address.bucket address.key
+      ≡ versions_of (after least s before) address.bucket address.key
 
 -- A part that is sent has the bytes that were sent, and their MD5 as its digest.
 abbrev pub PartsHaveTheirBytes : Type 0

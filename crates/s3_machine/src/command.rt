@@ -4,6 +4,7 @@ use crate::Configuration;
 use s3_bodies::{Body, Payload};
 use s3_calendar::Moment;
 use s3_conditions::{Conditions, Selection};
+use s3_deletions::Deletion;
 use s3_documents::Document;
 use s3_listings::{PartsAsked, UploadsAsked, VersionsAsked};
 use s3_names::{BucketName, Key, PartNumber, Tag, UploadId, VersionId};
@@ -34,6 +35,11 @@ pub enum Command {
         key: Key,
         id: UploadId,
         asked: UploadCommand,
+    },
+    /// Deletes several objects of a bucket, all of them or none (DeleteObjects).
+    DeleteObjects {
+        bucket: BucketName,
+        deletion: Deletion,
     },
 }
 
@@ -170,8 +176,8 @@ pub struct Answer {
 /// What came of a command. A version's id is shown where the bucket's versioning was ever set.
 #[derive(Drop)]
 pub enum Outcome {
-    /// What was asked for, as a document: a list of buckets, of objects, of versions, of uploads or of parts, or the id of
-    /// the upload that was begun. The room for its text is taken in the step, so that printing it takes no memory.
+    /// What was asked for, as a document: a list of buckets, of objects, of versions, of uploads or of parts, the id of the
+    /// upload that was begun, or what became of the objects that were to be deleted. The room for its text is taken in the step, so that printing it takes no memory.
     Told {
         document: Document,
     },

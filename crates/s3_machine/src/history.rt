@@ -3,6 +3,7 @@ ghost use Rattle.std.specs.Prelude.{◌≡◌, ℕ, ◌+◌, List, [], ◌∷◌
 ghost use Rattle.s3_machine.specs.Step.{State};
 ghost use Rattle.s3_machine.specs.History.{Entry, IsAnswer, Legal, after, after_entry};
 ghost use Rattle.s3_machine.specs.Kept.{EveryHistory, StoredIsKept, VersionsAreKept, StoredIsTold, StoredIsListed, OnlyStoredStands, OnlyStoredIsGiven, ListedIsStored, ListsTellWhatIsThere, VersionListsTellWhatIsThere, StoredWasBrought, ReadsGiveOrFail, ReadsAreJudged, PutsStoreTheirContents, StoredHasSource, PutsAreKept, PutVersionsAreKept, CopiesStoreTheirSource, CopiesAreKept, CopyVersionsAreKept, BodiesAreTagged, CompletionsStoreTheirParts, MarkersHide, QuietEntriesChangeNothing};
+ghost use Rattle.s3_machine.specs.Deleted.{NamedKeysAreGone, NamedVersionsAreGone, OtherVersionsStay, DeletionsAreTold, MarkersAreToldOnce};
 ghost use Rattle.s3_machine.specs.Conditional.{AcceptedFindsNone, RefusedFindsOne, StoredKeepsOthersOut, OneIsAccepted};
 ghost use Rattle.s3_machine.specs.UploadsKept.{UploadsAreOpenUntilEnded, PartsAreKept, OnlySentStands, BegunIsTold, SentIsTold, CopiedPartIsTold, CompletedIsTold, CompletionsJoinWhatWasSent, CompletionsAreKept, CompletionVersionsAreKept, UploadListsTellWhatIsThere, PartListsTellWhatIsThere, UploadsAreListedWhileOpen, PartsAreListedWhileStanding, OnlyWritesChangeVersions, PartsHaveTheirBytes, CopiedPartsAreOfTheirSource, PartsHaveASource};
 
@@ -10,8 +11,8 @@ use crate::laws::steps_keep;
 use s3_bodies::Body;
 use s3_listings::listed_keys_are_read;
 use s3_records::{
-    changes_are_by_place, changes_are_by_upload, changes_follow_rules, uploads_are_listed,
-    versions_stay_in_order,
+    changes_are_by_place, changes_are_by_upload, changes_follow_rules, numbers_stay_below,
+    uploads_are_listed, versions_stay_in_order,
 };
 use s3_uploads::{completions_join_the_listed, puts_are_under_one_number};
 use s3_versions::{ids_differ, puts_are_current};
@@ -54,6 +55,7 @@ pub fn only_stored_is_given()
     changes_are_by_place::<Body>();
     changes_follow_rules::<Body>();
     ids_differ::<Body>();
+    numbers_stay_below::<Body>();
     versions_stay_in_order::<Body>();
     completions_join_what_was_sent();
 }
@@ -69,6 +71,7 @@ pub fn stored_is_listed()
     changes_follow_rules::<Body>();
     puts_are_current::<Body>();
     ids_differ::<Body>();
+    numbers_stay_below::<Body>();
     versions_stay_in_order::<Body>();
     listed_keys_are_read::<Body>();
 }
@@ -178,7 +181,7 @@ pub fn completions_are_kept()
     stored_is_kept();
 }
 
-/// A law, with nothing to run: an entry that writes under no key leaves the versions of all: a list of objects shows nothing of
+/// A law, with nothing to run: an entry that doesn't write under a key leaves its versions: a list of objects shows nothing of
 /// an upload, and no read does, before it is completed.
 pub fn only_writes_change_versions()
     ensures { EveryHistory OnlyWritesChangeVersions }
@@ -194,6 +197,25 @@ pub fn delete_markers_hide()
 {
     changes_are_by_place::<Body>();
     changes_follow_rules::<Body>();
+    s3_versions::markers_hide::<Body>();
+}
+
+/// A law, with nothing to run: what becomes of the objects that one entry deletes together. In a legal history from the opening
+/// state a key that it names without a version, and no version of which it names, is gone until an entry changes the key's
+/// versions, and a version that it names is gone, unless the entry makes a delete marker of its id. Every other version stays,
+/// of other keys and of other buckets too. Who asks for it is told of each object in their order, and of no key twice of a delete
+/// marker whose id is the number of the entry.
+pub fn named_objects_are_gone()
+    ensures keys { EveryHistory NamedKeysAreGone }
+    ensures versions { EveryHistory NamedVersionsAreGone }
+    ensures others { EveryHistory OtherVersionsStay }
+    ensures told { EveryHistory DeletionsAreTold }
+    ensures once { EveryHistory MarkersAreToldOnce }
+{
+    changes_are_by_place::<Body>();
+    changes_follow_rules::<Body>();
+    numbers_stay_below::<Body>();
+    versions_stay_in_order::<Body>();
     s3_versions::markers_hide::<Body>();
 }
 

@@ -10,40 +10,20 @@ use Rattle.std.specs.Ordering.{nat_cmp}
 use Rattle.std.specs.declared.cmp.Ordering.{Ordering}
 use Rattle.s3_text.specs.Order.{byte_order}
 use Rattle.s3_text.proofs.MapLemmas.{same_or}
-use Rattle.s3_versions.specs.declared.version.Version.{Version}
 use Rattle.s3_versions.specs.Rules.{KeyChange, after_change}
 use Rattle.s3_uploads.specs.declared.upload.Upload.{Upload}
 use Rattle.s3_uploads.specs.Uploads.{with_part}
-use Rattle.s3_records.specs.Catalogue.{Keys, KeyUploads, Uploads, Bucket, Catalogue, new_bucket, opening, versions_at, versions_in, found_versions, has_no_keys, has_no_uploads, is_empty_in}
-use Rattle.s3_records.specs.Changes.{Change, BucketAdded, BucketDropped, VersioningSet, KeyChanged, UploadAdded, PartPut, UploadDropped, UploadCompleted, with_versions, with_uploads, with_id, set_in, change_in, upload_change_in, bucket_after, changed}
+use Rattle.s3_records.specs.Catalogue.{KeyUploads, Uploads, Bucket, Catalogue, new_bucket, opening, versions_at, versions_in, found_versions, has_no_keys, has_no_uploads, is_empty_in}
+use Rattle.s3_records.specs.Changes.{Change, BucketAdded, BucketDropped, VersioningSet, KeyChanged, UploadAdded, PartPut, UploadDropped, UploadCompleted, with_uploads, with_id, set_in, change_in, upload_change_in, bucket_after, changed}
 use Rattle.s3_records.specs.OpenUploads.{uploads_under, upload_under, upload_in, found_uploads}
 use Rattle.s3_records.specs.Laws.{AreFilled, KeysStayFilled, OthersHaveSomething}
-use Rattle.s3_records.proofs.MapLemmas.{get-put_here, get-put_other, get-remove_here, get-remove_other}
+use Rattle.s3_records.proofs.KeyLemmas.{put_filled, remove_filled, with_filled}
 use Rattle.s3_records.proofs.LawLemmas.{changed_here, changes_are_local, opening_found}
 
 -- no key of a bucket is without
 record Filled {B : Type 0} (b : Bucket B) : Type 0 where
   versions : (key : List ℕ) → get b.keys key ≢ Some []
   uploads : (key : List ℕ) → get b.uploads key ≢ Some empty
-
--- a map where one key is written or taken out
-put_filled : {X : Type 0} (m : FinMap byte_order X) (key : List ℕ) (v none : X) → v ≢ none → ((q : List ℕ) → get m q ≢ Some none) → (q : List ℕ) → get (insert m key v) q ≢ Some none
-put_filled m key v none some filled q is =
-    elim (same_or q key) [
-      | inl same ↦ some (same_Some v none (sym (get-put_here m key v) ∙ ap (get (insert m key v)) (sym same) ∙ is))
-      | inr other ↦ filled q (sym (get-put_other m key v q other) ∙ is)
-    ]
-
-remove_filled : {X : Type 0} (m : FinMap byte_order X) (key : List ℕ) (none : X) → ((q : List ℕ) → get m q ≢ Some none) → (q : List ℕ) → get (remove m key) q ≢ Some none
-remove_filled m key none filled q is =
-    elim (same_or q key) [
-      | inl same ↦ absurd (none-some none (sym (get-remove_here m key) ∙ ap (get (remove m key)) (sym same) ∙ is))
-      | inr other ↦ filled q (sym (get-remove_other m key q other) ∙ is)
-    ]
-
-with_filled : {B : Type 0} (keys : Keys B) (key : List ℕ) (vs : List (Version B)) → ((q : List ℕ) → get keys q ≢ Some []) → (q : List ℕ) → get (with_versions keys key vs) q ≢ Some []
-with_filled keys key [] filled q is = remove_filled keys key [] filled q is
-with_filled keys key (v ∷ vs) filled q is = put_filled keys key (v ∷ vs) [] (λ none. cc) filled q is
 
 not_empty : {B : Type 0} (under : KeyUploads B) → (len under == 0) ≡ false → under ≢ empty
 not_empty {B} under some none = false≢true (sym some ∙ ap (λ n. n == 0) (ap len none ∙ len-empty nat_cmp (Upload B)))

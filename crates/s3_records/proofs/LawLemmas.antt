@@ -69,7 +69,7 @@ changes_follow_rules c name key what there =
     ap (λ found. versions_in found key) (changed_here c name (KeyChanged key what)) ∙ this_key key what (get c name) there
 
 -- a bucket that changes twice
-changed_twice : {B : Type 0} (c : Catalogue B) (name : List ℕ) (first second : Option (Bucket B)) → with_bucket (with_bucket c name first) name second ≡ with_bucket c name second
+pub changed_twice : {B : Type 0} (c : Catalogue B) (name : List ℕ) (first second : Option (Bucket B)) → with_bucket (with_bucket c name first) name second ≡ with_bucket c name second
 changed_twice c name first second = same_by_get _ _ (λ q.
     elim (same_or q name) [
       | inl same ↦ ap (get (with_bucket (with_bucket c name first) name second)) same ∙ bucket_here (with_bucket c name first) name second

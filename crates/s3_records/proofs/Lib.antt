@@ -1,10 +1,17 @@
+pub mod BucketDeletionLemmas
 pub mod CatalogueLemmas
+pub mod CopyLemmas
+pub mod DeletedKeyLemmas
+pub mod DeletedVersionLemmas
+pub mod DeletionLawLemmas
+pub mod DeletionLemmas
 pub mod FilledLemmas
 pub mod KeyLemmas
 pub mod LawLemmas
 pub mod ListingLemmas
 pub mod ListLemmas
 pub mod MapLemmas
+pub mod MergingLemmas
 pub mod OrderedLemmas
 pub mod PlaceLemmas
 pub mod RowLemmas

@@ -16,7 +16,7 @@ use Rattle.s3_records.proofs.LawLemmas.{changed_here, changes_are_local, complet
 use Rattle.s3_records.proofs.UploadLemmas.{same_id, own_id, upload_here, same_key, other_key}
 
 -- two ids are the same, or not
-same_or_id : (i id : ℕ) → (i ≡ id) ⊎ (i ≢ id)
+pub same_or_id : (i id : ℕ) → (i ≡ id) ⊎ (i ≢ id)
 same_or_id i id =
     elim (eq_by_cmp nat_cmp i id) as (λ b. eq_by_cmp nat_cmp i id ≡ b → (i ≡ id) ⊎ (i ≢ id)) [
       | true ↦ λ is. inl (same_id i id is)

@@ -1,7 +1,7 @@
 -- The catalogue: which buckets there are, and the versions and the open uploads under their keys (Amazon S3 User Guide,
 -- "Buckets overview", "Using versioning in S3 buckets" and "Using multipart upload"). What stands for the bytes is left open: in the state of a server it is the
 -- bytes themselves.
-use Rattle.std.specs.Prelude.{ℕ, ◌==◌, ◌&&◌, Bool, true, List, [], ◌∷◌, map as each, Option, Some, None, is_some, option_map}
+use Rattle.std.specs.Prelude.{◌≢◌, ℕ, ◌==◌, ◌&&◌, Bool, true, List, [], ◌∷◌, map as each, Option, Some, None, is_some, option_map}
 use Rattle.std.specs.FinMap as map
 use Rattle.std.specs.Ordering.{nat_cmp}
 use Rattle.s3_text.specs.Order.{byte_order}
@@ -78,6 +78,10 @@ versions_in (Some b) key = versions_at b.keys key
 
 abbrev pub versions_of : {B : Type 0} → Catalogue B → List ℕ → List ℕ → List (Version B)
 versions_of c name key = versions_in (map.get c name) key
+
+-- a key that is there has some
+abbrev pub HaveVersions : {B : Type 0} → Keys B → Type 0
+HaveVersions keys = (key : List ℕ) → map.get keys key ≢ Some []
 
 -- a bucket's versioning
 abbrev pub versioning_in : {B : Type 0} → Option (Bucket B) → Versioning

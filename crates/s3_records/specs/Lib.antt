@@ -1,7 +1,10 @@
 pub mod Catalogue
 pub mod Changes
 pub mod Codes
+pub mod DeletionLaws
+pub mod Deletions
 pub mod Laws
+pub mod Merging
 pub mod OpenUploads
 pub use Rattle.s3_versions.specs.Rules
 pub mod Places

@@ -1,5 +1,5 @@
 //! One bucket, in memory.
-ghost use Rattle.std.specs.Prelude.{◌≡◌, ◌≢◌, [], None, Some, IfOk, OnOk, OnErr, IsTrue, is_some, option_map, find};
+ghost use Rattle.std.specs.Prelude.{◌≡◌, ◌≢◌, ℕ, List, [], None, Some, IfOk, OnOk, OnErr, IsTrue, is_some, option_map, find};
 ghost use Rattle.s3_uploads.specs.Parts.{part_at};
 ghost use Rattle.s3_uploads.specs.Uploads.{with_part};
 ghost use Rattle.s3_versions.specs.Rules.{is_under, replaced, is_new_number, VersionPut, KeyDeleted, VersionDropped};
@@ -9,6 +9,7 @@ use crate::records::BucketFacts;
 use crate::uploads::UploadMap;
 use s3_bodies::Body;
 use s3_calendar::Moment;
+use s3_deletions::{Markers, NamedObject};
 use s3_names::{Key, PartNumber, UploadId, VersionId};
 use s3_terms::NoMemory;
 use s3_uploads::{Part, Upload};
@@ -41,6 +42,7 @@ impl Model for StoredBucket {
 impl StoredBucket {
     ghost use Rattle.s3_records.specs.Catalogue.{new_bucket, facts_of, is_empty_in, versions_at};
     ghost use Rattle.s3_records.specs.Changes.{set_in, change_in, upload_change_in};
+    ghost use Rattle.s3_records.specs.Deletions.{bucket_deleted, markers_in};
     ghost use Rattle.s3_records.specs.OpenUploads.{upload_under, parts_sent};
 
     /// A bucket made at this moment, unversioned and empty. It takes no memory yet.
@@ -135,6 +137,30 @@ impl StoredBucket {
         ensures gone { result ≡ find (is_under id) (versions_at self.old.keys key.now) }
     {
         self.keys.drop_version(key, id)
+    }
+
+    /// Deletes the objects that are named, by the entry of this number, which is above those of all versions, and answers for
+    /// each the id of the delete marker that was made or is gone. `NoMemory` leaves the bucket as it was.
+    pub(crate) fn delete_all(
+        &mut self,
+        alloc: Global,
+        objects: &[NamedObject],
+        number: u64,
+        moment: Moment,
+    ) -> Result<Markers, NoMemory>
+        requires { (key : List ℕ) → IsTrue (is_new_number number (versions_at self.old.keys key)) }
+        ensures ok { OnOk result (self.new ≡ bucket_deleted number moment objects.now self.old) }
+        ensures markers { IfOk result (λ markers. markers
+            ≡ markers_in self.old.versioning number moment self.old.keys objects.now) }
+        ensures err { OnErr result (self.new ≡ self.old) }
+    {
+        match self
+            .keys
+            .delete_all(alloc, self.versioning, number, moment, objects)
+        {
+            Ok(ids) => Ok(Markers::new(ids)),
+            Err(failed) => Err(failed),
+        }
     }
 
     /// Puts in an upload, in the place of the one that has its key and its id. `NoMemory` leaves the bucket as it was.

@@ -24,14 +24,14 @@ use std::ops::Bound;
 /// versions.
 #[derive(Drop)]
 pub(crate) struct KeyMap {
-    by_key: BTreeMap<Key, Versions<Body>>,
+    pub(crate) by_key: BTreeMap<Key, Versions<Body>>,
 }
 
 impl Model for KeyMap {
     ghost use Rattle.std.specs.Prelude.{ℕ, List};
     ghost use Rattle.std.specs.FinMap as map;
     ghost use Rattle.s3_versions.specs.Codes.{coded_bytes};
-    ghost use Rattle.s3_records.specs.Catalogue.{Keys};
+    ghost use Rattle.s3_records.specs.Catalogue.{Keys, HaveVersions};
     ghost use Rattle.s3_records.specs.Codes.{coded_keys};
 
     ghost Value = { Keys (List ℕ) };
@@ -39,6 +39,8 @@ impl Model for KeyMap {
     ghost coded = { coded_keys coded_bytes };
 
     ghost view = { λ keys. map.from_entries keys.by_key.entries };
+
+    ghost invariant = { λ keys. HaveVersions (map.from_entries keys.by_key.entries) };
 }
 
 impl KeyMap {

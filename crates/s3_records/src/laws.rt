@@ -1,5 +1,6 @@
 //! Laws of the catalogue: what every change keeps, with nothing to run.
 ghost use Rattle.s3_records.specs.Laws.{ChangesAreLocal, ChangesNameOneKey, ChangesFollowRules, CompletionsFollowRules, CompletionsDoBoth, SwitchesKeepKeys, VersionsStayInOrder, OpeningIsEmpty, EmptyHasNothing, KeysStayFilled, OthersHaveSomething, KeysRise, HeldIsGot, UploadsAreListed, UploadsFollow};
+ghost use Rattle.s3_records.specs.DeletionLaws.{DeletionsStayBelow, NextStaysBelow, DeletionsStayInOrder, DeletionsStayFilled, DeletionsAreByPlace, DeletionsKeepTheRest, DeletionsDelete};
 ghost use Rattle.s3_records.specs.Places.{ChangesAreByPlace, ChangesAreByUpload, NumbersStayBelow, LaterIsBelow, OpeningIsBelow};
 
 use s3_versions::{one_id_changes, stay_versions};
@@ -59,6 +60,30 @@ pub fn numbers_stay_below<B>()
     ensures stay { NumbersStayBelow B }
     ensures later { LaterIsBelow B }
     ensures opening { OpeningIsBelow B }
+{
+    stay_versions::<B>();
+}
+
+/// A law, with nothing to run: several deletions by one entry leave what stands at each place that none of them names, and every
+/// upload, and each bucket with its moment and its versioning. At a place that one names stands nothing after it, or what stood
+/// there, or the delete marker that the entry makes: so a version that is named is gone, unless the entry makes one of its id,
+/// and a key that is named without one shows no version, and a delete marker where the bucket isn't unversioned.
+pub fn deletions_are_by_place<B>()
+    ensures places { DeletionsAreByPlace B }
+    ensures rest { DeletionsKeepTheRest B }
+    ensures gone { DeletionsDelete B }
+{
+    one_id_changes::<B>();
+    stay_versions::<B>();
+}
+
+/// A law, with nothing to run: after several deletions by one entry, whose number is above those of all versions, the next number
+/// is above them, and under each key that is there stand versions of one key, as before.
+pub fn deletions_stay_in_order<B>()
+    ensures below { DeletionsStayBelow B }
+    ensures next { NextStaysBelow B }
+    ensures order { DeletionsStayInOrder B }
+    ensures filled { DeletionsStayFilled B }
 {
     stay_versions::<B>();
 }

@@ -4,10 +4,13 @@
 
 mod adding;
 mod bucket;
+mod copying;
+mod deletions;
 mod keys;
 mod laws;
 mod listing;
 mod map_records;
+mod merging;
 mod records;
 mod rows;
 mod upload_listing;
@@ -15,8 +18,8 @@ mod uploads;
 
 pub use laws::{
     changes_are_by_place, changes_are_by_upload, changes_are_local, changes_follow_rules,
-    empty_has_nothing, held_is_got, keys_rise, numbers_stay_below, uploads_are_listed,
-    versions_stay_in_order,
+    deletions_are_by_place, deletions_stay_in_order, empty_has_nothing, held_is_got, keys_rise,
+    numbers_stay_below, uploads_are_listed, versions_stay_in_order,
 };
 pub use map_records::MapRecords;
 pub use records::{BucketFacts, ListedBucket, Records};

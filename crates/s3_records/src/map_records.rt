@@ -14,6 +14,7 @@ use crate::records::{BucketFacts, ListedBucket, Records};
 use crate::rows::{KeyRow, Start, UploadRow, UploadStart, VersionRow, VersionStart};
 use s3_bodies::Body;
 use s3_calendar::Moment;
+use s3_deletions::{Markers, NamedObject};
 use s3_names::{BucketName, Key, PartNumber, UploadId, VersionId};
 use s3_terms::{Code, NoMemory};
 use s3_uploads::{CompletionError, ListedPart, Part, PartRow, Upload};
@@ -279,6 +280,21 @@ impl Records for MapRecords {
             // The caller knows that the bucket is there.
             None => unreachable!(),
             Some(bucket) => Ok(bucket.drop_version(key, id)),
+        }
+    }
+
+    fn delete_all(
+        &mut self,
+        alloc: Global,
+        bucket: &BucketName,
+        objects: &[NamedObject],
+        number: u64,
+        moment: Moment,
+    ) -> Result<Markers, NoMemory> {
+        match self.by_name.get_mut(bucket) {
+            // The caller knows that the bucket is there.
+            None => unreachable!(),
+            Some(bucket) => bucket.delete_all(alloc, objects, number, moment),
         }
     }
 

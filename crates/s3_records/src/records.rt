@@ -4,12 +4,15 @@ ghost use Rattle.s3_versions.specs.Rules.{is_under, asked_for, facts_read, pick,
 ghost use Rattle.s3_records.specs.Catalogue.{Catalogue, facts_in, listed_buckets, has_bucket, is_empty_bucket, versions_of, versioning_of};
 ghost use Rattle.s3_uploads.specs.Parts.{part_at, rows_behind};
 ghost use Rattle.s3_records.specs.Changes.{changed, BucketAdded, BucketDropped, VersioningSet, KeyChanged, UploadAdded, PartPut, UploadDropped, UploadCompleted};
+ghost use Rattle.s3_records.specs.Deletions.{all_deleted, markers_of};
 ghost use Rattle.s3_records.specs.OpenUploads.{upload_at, parts_at, completed_at, uploads_from};
+ghost use Rattle.s3_records.specs.Places.{AreBelow};
 ghost use Rattle.s3_records.specs.Rows.{keys_from, versions_from};
 
 use crate::rows::{KeyRow, Start, UploadRow, UploadStart, VersionRow, VersionStart};
 use s3_bodies::Body;
 use s3_calendar::Moment;
+use s3_deletions::{Markers, NamedObject};
 use s3_names::{BucketName, Key, PartNumber, UploadId, VersionId};
 use s3_terms::{Code, NoMemory};
 use s3_uploads::{ListedPart, Part, PartRow, Upload};
@@ -221,6 +224,27 @@ pub trait Records {
         ensures gone { IfOk result (λ gone. gone ≡ find (is_under id) (versions_of (catalogue self.old) bucket.now key.now)) }
         ensures err { OnErr result (catalogue self.new ≡ catalogue self.old) }
         ensures memory { OnErr result (is_in_memory ≡ false) };
+
+    /// Deletes the objects that are named, in a bucket, which has to be there, each as DeleteObject does and in their order
+    /// (Amazon S3 API Reference, DeleteObjects; `specs/Deletions.antt`): all of them, or none. The entry has this number,
+    /// which is above those of all versions, and this moment. What it makes or drops is told of each: the id of the delete
+    /// marker that was made or is gone, if one was. The versions that go are dropped.
+    ///
+    /// Where a delete marker may be made, the versions under the keys that are named are copied before they change, and share
+    /// their bytes.
+    fn delete_all(
+        &mut self,
+        alloc: Global,
+        bucket: &BucketName,
+        objects: &[NamedObject],
+        number: u64,
+        moment: Moment,
+    ) -> Result<Markers, NoMemory>
+        requires there { IsTrue (has_bucket (catalogue self.old) bucket.now) }
+        requires below { AreBelow number (catalogue self.old) }
+        ensures ok { OnOk result (catalogue self.new ≡ all_deleted (catalogue self.old) bucket.now number moment objects.now) }
+        ensures markers { IfOk result (λ markers. markers ≡ markers_of (catalogue self.old) bucket.now number moment objects.now) }
+        ensures err { OnErr result (catalogue self.new ≡ catalogue self.old) };
 
     /// Whether the upload of this id to this key is open. A keeper in memory has no error here.
     fn has_upload(

@@ -1,5 +1,7 @@
 pub mod CompletionLemmas
 pub mod DataLemmas
+pub mod DeletionLemmas
+pub mod DeletionRowLemmas
 pub mod FieldLemmas
 pub mod NumberLemmas
 pub mod RowLemmas

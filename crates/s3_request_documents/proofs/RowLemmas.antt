@@ -1,11 +1,10 @@
 -- What the elements of a completion tell, one after another, is what its rows list.
-use Rattle.std.proofs.Common.{◌≡◌, refl, inr, sym, ap, ◌∙◌, ℕ, ◌+◌, ◌<◌, ◌≤◌, Bool, true, false, not, ◌==◌, ◌&&◌, nat_lt, cond, if◌then◌else◌, List, [], ◌∷◌, ◌++◌, length, take, take_all, min, arith, append_assoc, append-nil, length-append, codes, Option, Some, None}
+use Rattle.std.proofs.Common.{◌≡◌, refl, inr, sym, ap, ◌∙◌, ℕ, ◌+◌, ◌<◌, ◌≤◌, Bool, true, false, not, ◌==◌, ◌&&◌, nat_lt, if◌then◌else◌, List, [], ◌∷◌, ◌++◌, length, take, take_all, min, arith, append_assoc, append-nil, length-append, codes, Option, Some, None}
 use Rattle.std.proofs.lemmas.Bool.Decides.{nat_tests}
 use Rattle.std.proofs.lemmas.List.{take-append-le}
-use Rattle.std.proofs.lemmas.List.Elements.{filter-append, filter_map-append}
-use Rattle.std.proofs.lemmas.List.Folds.{list_all-append}
+use Rattle.std.proofs.lemmas.List.Elements.{filter_map-append}
 use Rattle.std.proofs.lemmas.Option.{none-some, same_Some}
-use Rattle.std.specs.Prelude.{option_map, option_and_then, filter, is_some, ok_or, Result, Ok, Err}
+use Rattle.std.specs.Prelude.{option_map, option_and_then, is_some, ok_or, Result, Ok, Err}
 use Rattle.std.specs.List.{last_or, list_all, filter_map, cons_option}
 use Rattle.s3_terms.specs.Fault.{Follows, refuse, ◌>>=◌, ◌>>◌}
 use Rattle.s3_terms.specs.declared.code.Code.{Code}
@@ -20,28 +19,12 @@ use Rattle.s3_request_documents.specs.Xml.{is_named, rows_from, rows_named, fiel
 use Rattle.s3_request_documents.specs.declared.completion_rows.Fields.{Fields}
 use Rattle.s3_request_documents.specs.declared.completion_rows.Rows.{Rows}
 use Rattle.s3_request_documents.specs.declared.completion_xml.Told.{Told}
-use Rattle.s3_request_documents.proofs.XmlLemmas.{ends_in, nothing_there, rooted_none, rooted_some}
+use Rattle.s3_request_documents.proofs.XmlLemmas.{ends_in, nothing_there, rooted_none, rooted_some, field_more, all_more}
 
 -- ---- what fields tell
 
 abbrev fields_told : List Ended → Fields
 fields_told fields = record { tag = tag_told fields; number = option_map as_part_number (number_field fields) }
-
-last_more : {A : Type 0} → (o : Option A) (xs : List A) (x : A) → last_or o (xs ++ x ∷ []) ≡ Some x
-last_more o [] x = refl
-last_more o (y ∷ xs) x = last_more (Some y) xs x
-
-content_more : (is : Bool) (fields : List Ended) (element : Ended)
-    → option_map (λ e. e.content) (last_or None (fields ++ cond is (element ∷ []) [])) ≡ (if is then Some element.content else option_map (λ e. e.content) (last_or None fields))
-content_more true fields element = ap (option_map (λ e. e.content)) (last_more None fields element)
-content_more false fields element = ap (λ fs. option_map (λ e. e.content) (last_or None fs)) (append-nil fields)
-
--- one more field
-field_more : (name : List ℕ) (fields : List Ended) (element : Ended)
-    → field_in name (fields ++ element ∷ []) ≡ (if is_named name element then Some element.content else field_in name fields)
-field_more name fields element =
-    ap (λ es. option_map (λ e. e.content) (last_or None es)) (filter-append (is_named name) fields (element ∷ []))
-    ∙ content_more (is_named name element) (filter (is_named name) fields) element
 
 under : {A B : Type 0} → (f : Option A → B) (is : Bool) (a b : Option A) → f (if is then a else b) ≡ (if is then f a else f b)
 under f true a b = refl
@@ -101,13 +84,6 @@ few_is count = grind (arith, nat_tests)
 
 count_more : (count : ℕ) → (if nat_lt (min count 10_001) 10_001 then min count 10_001 + 1 else min count 10_001) ≡ min (count + 1) 10_001
 count_more count = grind (arith, nat_tests)
-
-and_true : (b : Bool) → (b && true) ≡ b
-and_true true = refl
-and_true false = refl
-
-all_more : {A : Type 0} → (p : A → Bool) (xs : List A) (x : A) → (list_all p xs && p x) ≡ list_all p (xs ++ x ∷ [])
-all_more p xs x = sym (list_all-append p xs (x ∷ []) ∙ ap (λ b. list_all p xs && b) (and_true (p x)))
 
 abbrev made : List ListedPart → ℕ → Bool → Bool → Rows
 made parts count are_parts are_numbered = record { fields = no_fields; parts = parts; count = count; are_parts = are_parts; are_numbered = are_numbered }

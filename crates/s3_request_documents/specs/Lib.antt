@@ -1,6 +1,8 @@
 pub mod Completion
 pub mod CompletionTold
 pub mod Data
+pub mod Deletion
+pub mod DeletionTold
 pub mod FieldTold
 pub mod Json
 pub mod Location

@@ -1,51 +1,17 @@
 //! The numbers of parts that a completion tells in XML.
-ghost use Rattle.std.specs.Prelude.{◌≡◌, ◌+◌, ◌*◌, ◌<◌, ◌≤◌, true, length, min, option_map};
+ghost use Rattle.std.specs.Prelude.{◌≡◌, ◌+◌, ◌*◌, ◌<◌, ◌≤◌, true, min, option_map};
 ghost use Rattle.std.specs.Char.{is_ascii_digit, digit_value};
-ghost use Rattle.std.specs.List.{list_all, prefix_len, suffix_len};
+ghost use Rattle.std.specs.List.{list_all};
 ghost use Rattle.std.specs.Str.Parse.{digits_value};
-ghost use Rattle.s3_xml.specs.Characters.{is_white};
 ghost use Rattle.s3_names.specs.Ids.{as_part_number};
-ghost use Rattle.s3_request_documents.specs.Xml.{trimmed, number_told};
+ghost use Rattle.s3_request_documents.specs.Xml.{number_told};
 
+use crate::white::trimmed;
 use s3_names::PartNumber;
 use s3_text::has_digits_alone;
 
 // The least number that no part has: each greater one counts as it.
 const NO_PART: u64 = 10_001;
-
-// Whether a byte is white space.
-fn is_white(byte: u8) -> bool
-    ensures { result ≡ is_white byte }
-{
-    matches!(byte, b' ' | b'\t' | b'\n' | b'\r')
-}
-
-// How many bytes of white space stand at the front.
-fn white_front(text: &[u8]) -> usize
-    ensures value { result ≡ prefix_len is_white text.now }
-    ensures within { result ≤ length text.now }
-{
-    text.iter().take_while(|byte| is_white(**byte)).count()
-}
-
-// And at the end.
-fn white_end(text: &[u8]) -> usize
-    ensures value { result ≡ suffix_len is_white text.now }
-    ensures within { result ≤ length text.now }
-{
-    text.iter()
-        .rev()
-        .take_while(|byte| is_white(**byte))
-        .count()
-}
-
-// A text without white space at its ends.
-fn trimmed(text: &[u8]) -> &[u8]
-    ensures { result.now ≡ trimmed text.now }
-{
-    let behind = &text[white_front(text)..];
-    &behind[..behind.len() - white_end(behind)]
-}
 
 // The number of these digits and one more.
 fn with_digit(number: u64, byte: u8) -> u64

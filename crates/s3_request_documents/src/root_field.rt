@@ -25,6 +25,13 @@ impl Model for FieldText {
 }
 
 impl FieldText {
+    /// The text of these bytes, which are moved and not copied.
+    pub(crate) fn new(text: Vec<u8>) -> FieldText
+        ensures { result ≡ text.items }
+    {
+        FieldText { text }
+    }
+
     /// Its bytes.
     pub(crate) fn as_bytes(&self) -> &[u8]
         ensures { result.now ≡ self.now }

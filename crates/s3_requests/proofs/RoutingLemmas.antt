@@ -1,22 +1,14 @@
 -- A target with its names is a plan.
-use Rattle.std.proofs.Common.{◌≡◌, refl, sym, ap, ◌∙◌, ℕ, true, false, List, length, ◌==◌, Ok}
+use Rattle.std.proofs.Common.{◌≡◌, refl, sym, ap, ◌∙◌, ℕ, false, List, length, ◌==◌, Ok}
 use Rattle.s3_config.specs.Settings.{Settings}
 use Rattle.s3_terms.specs.declared.dialect.Dialect.{Dialect}
 use Rattle.s3_http_heads.specs.Head.{HeadParts}
 use Rattle.s3_http_heads.specs.Target.{TargetParts}
 use Rattle.s3_names.specs.Names.{object_key}
-use Rattle.s3_requests.specs.declared.routing.Plan.TheVariants as plans
-use Rattle.s3_requests.specs.declared.routing.BucketPlan.{BucketPlan}
 use Rattle.s3_requests.specs.declared.routing.KeyAsked.{KeyAsked}
-use Rattle.s3_requests.specs.Routing.{bucket_named, bucket_plan, key_plan, plan_under, named_plan}
+use Rattle.s3_requests.specs.Routing.{bucket_named, key_plan, plan_under, named_plan}
 
--- a target without a key means its bucket
-pub bucket_meant : (settings : Settings) (head : HeadParts) (target : TargetParts) (name : List ℕ) (asked : BucketPlan) → bucket_named target ≡ Ok name → (length target.key == 0) ≡ true
-    → bucket_plan settings head target ≡ Ok asked → named_plan settings head target ≡ Ok (plans.Bucket name asked)
-unfolding named_plan
-bucket_meant settings head target name asked named empty is = rw (named, empty, is) refl
-
--- another means its key, in the dialect of the settings
+-- a target with a key means that, in the dialect of the settings
 pub key_meant : (settings : Settings) (head : HeadParts) (target : TargetParts) (dialect : Dialect) (name key : List ℕ) (asked : KeyAsked)
     → dialect ≡ settings.dialect → bucket_named target ≡ Ok name → (length target.key == 0) ≡ false
     → object_key target.key ≡ Ok key → key_plan dialect head target ≡ Ok asked → named_plan settings head target ≡ Ok (plan_under name key asked)

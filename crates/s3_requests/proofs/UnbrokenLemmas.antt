@@ -12,6 +12,7 @@ use Rattle.s3_text.specs.Order.{byte_order}
 use Rattle.s3_text.specs.Sorting.{insert_by, sorted_by}
 use Rattle.s3_terms.specs.Fault.{refuse, ◌>>◌, ◌>>=◌}
 use Rattle.s3_terms.specs.declared.code.Code.{Code}
+use Rattle.s3_terms.specs.declared.code.Code.TheVariants.{InvalidRequest}
 use Rattle.s3_terms.specs.declared.dialect.Dialect.{Dialect}
 use Rattle.s3_config.specs.Settings.{Settings}
 use Rattle.s3_http_heads.specs.Method.{method_of}
@@ -40,13 +41,14 @@ use Rattle.s3_names.specs.declared.ids.VersionId.{VersionId}
 use Rattle.s3_requests.specs.Arguments.{version_argument}
 use Rattle.s3_requests.specs.ReadConditions.{conditions_of}
 use Rattle.s3_requests.specs.WriteCondition.{absence_of}
-use Rattle.s3_requests.specs.Operations.{service_operation, key_operation}
+use Rattle.s3_requests.specs.Operations.{service_operation, bucket_operation, key_operation}
+use Rattle.s3_requests.specs.Protection.{is_protected}
 use Rattle.s3_requests.specs.Addresses.{is_service, address_at}
 use Rattle.s3_requests.specs.Copies.{directive_of, description_by, source_for, object_copy_of, part_copy_of}
 use Rattle.s3_requests.specs.Description.{type_sent, content_type_of, front, name_in, names_of, entry_of, metadata_of, description_of}
 use Rattle.s3_requests.specs.ListArguments.{parts_asked_of}
 use Rattle.s3_requests.specs.UploadArguments.{upload_argument, part_argument}
-use Rattle.s3_requests.specs.Routing.{KeyPlan, served, service_plan_for, service_plan, bucket_named, bucket_plan, putting, put_plan, read_plan, delete_plan, key_plan_for, complete_plan, upload_plan, part_copy_plan, parts_plan, asked_for, key_plan, plan_of_bucket, plan_under, plan_of_key, named_plan, route_of}
+use Rattle.s3_requests.specs.Routing.{KeyPlan, served, service_plan_for, service_plan, bucket_named, bucket_plan_for, plan_in_bucket, plan_of_bucket, putting, put_plan, read_plan, delete_plan, key_plan_for, complete_plan, upload_plan, part_copy_plan, parts_plan, asked_for, key_plan, plan_under, plan_of_key, named_plan, route_of}
 use Rattle.s3_requests.specs.Laws.{is_unbroken_entry, AreUnbroken, IsUnbrokenSaid, IsUnbrokenAsk, IsUnbrokenPlan, PlansAreUnbroken}
 
 both : (a b : Bool) → (a && b) ≡ true → (a ≡ true) × (b ≡ true)
@@ -335,11 +337,20 @@ module _ (head : HeadParts) (lines : list_all is_whole_line head.headers ≡ tru
       let one = bound (served dialect (service_operation (method_of head.method))) service_plan_for plan is in
       service_planned one.0 plan one.2
 
-  bucket_unbroken : (settings : Settings) (name : List ℕ) (target : TargetParts) (plan : Plan) → plan_of_bucket settings name head target ≡ Ok plan → IsUnbrokenPlan plan
-  bucket_unbroken settings name target plan is =
-      let one = bound (bucket_plan settings head target) (λ (asked : BucketPlan). Ok (plans.Bucket name asked)) plan is in
+  bucket_unbroken_for : (settings : Settings) (name : List ℕ) (operation : Operation) (target : TargetParts) (plan : Plan) → plan_in_bucket settings name operation head target ≡ Ok plan → IsUnbrokenPlan plan
+  bucket_unbroken_for settings name operations.DeleteObjects target plan is =
+      let same : plans.DeleteObjects name ≡ plan = passed (not (is_protected head)) InvalidRequest (plans.DeleteObjects name) plan is in
+      subst IsUnbrokenPlan same tt
+  bucket_unbroken_for settings name operation target plan is =
+      let one = bound (bucket_plan_for settings operation target) (λ (asked : BucketPlan). Ok (plans.Bucket name asked)) plan is in
       let same : plans.Bucket name one.0 ≡ plan = cc in
       subst IsUnbrokenPlan same tt
+
+  bucket_unbroken : (settings : Settings) (name : List ℕ) (target : TargetParts) (plan : Plan) → plan_of_bucket settings name head target ≡ Ok plan → IsUnbrokenPlan plan
+  unfolding plan_of_bucket
+  bucket_unbroken settings name target plan is =
+      let one = bound (served settings.dialect (bucket_operation (method_of head.method) target)) (λ (operation : Operation). plan_in_bucket settings name operation head target) plan is in
+      bucket_unbroken_for settings name one.0 target plan one.2
 
   key_unbroken : (dialect : Dialect) (name : List ℕ) (target : TargetParts) (plan : Plan) → plan_of_key dialect name head target ≡ Ok plan → IsUnbrokenPlan plan
   key_unbroken dialect name target plan is =

@@ -12,14 +12,14 @@ use Rattle.s3_terms.specs.declared.dialect.Dialect.{Dialect}
 use Rattle.s3_http_heads.specs.Head.{HeadParts}
 use Rattle.s3_http_heads.specs.Method.{method_of}
 use Rattle.s3_http_heads.specs.declared.method.Method.{Method}
-use Rattle.s3_http_heads.specs.declared.method.Method.TheVariants.{Get}
+use Rattle.s3_http_heads.specs.declared.method.Method.TheVariants.{Get, Post}
 use Rattle.s3_http_heads.specs.Target.{TargetParts, target_of, has_parameter}
 use Rattle.s3_requests.specs.Operations.{is_xml}
 
 -- the sub-resources of S3 that this server doesn't have
 abbrev pub lacking : List (List ℕ)
 lacking =
-    parts_at space (codes "accelerate acl analytics attributes delete intelligent-tiering inventory legal-hold logging metrics notification policyStatus requestPayment restore retention select torrent")
+    parts_at space (codes "accelerate acl analytics attributes intelligent-tiering inventory legal-hold logging metrics notification policyStatus requestPayment restore retention select torrent")
 
 -- those that it answers where a bucket is read in XML: where the bucket is, and its configurations
 abbrev pub answered : List (List ℕ)
@@ -43,14 +43,25 @@ abbrev pub is_get : Method → Bool
 is_get Get = true
 is_get _ = false
 
+-- it is POST
+abbrev pub is_post : Method → Bool
+is_post Post = true
+is_post _ = false
+
 -- a bucket is read, and documents are XML
 abbrev pub reads_bucket : Dialect → HeadParts → TargetParts → Bool
 reads_bucket dialect head target = is_xml dialect && is_get (method_of head.method) && is_bucket target
 
--- the query names a sub-resource that isn't there
+-- a bucket is posted to, and documents are XML
+abbrev pub posts_to_bucket : Dialect → HeadParts → TargetParts → Bool
+posts_to_bucket dialect head target = is_xml dialect && is_post (method_of head.method) && is_bucket target
+
+-- the query names a sub-resource that isn't there; `delete` is there where a bucket is posted to in XML
 abbrev pub names_lacking : Dialect → HeadParts → TargetParts → Bool
 names_lacking dialect head target =
-    names_one_of lacking target || (names_one_of answered target && not (reads_bucket dialect head target))
+    names_one_of lacking target
+    || (names_one_of answered target && not (reads_bucket dialect head target))
+    || (has_parameter (codes "delete") target && not (posts_to_bucket dialect head target))
 
 -- the target of a head, which names no sub-resource that isn't there
 unfoldable pub address_at : Dialect → HeadParts → Result TargetParts Code

@@ -19,6 +19,7 @@ use Rattle.s3_machine.specs.declared.command.ObjectPut.{ObjectPut}
 use Rattle.s3_machine.specs.declared.command.UploadCommand.{UploadCommand}
 use Rattle.s3_machine.specs.declared.command.UploadCommand.TheVariants as upload_commands
 use Rattle.s3_request_documents.specs.Completion.{completion_read}
+use Rattle.s3_request_documents.specs.Deletion.{deletion_read}
 use Rattle.s3_request_documents.specs.Location.{location_read}
 use Rattle.s3_request_documents.specs.Versioning.{versioning_read}
 use Rattle.s3_requests.specs.Routing.{KeyPlan}
@@ -76,6 +77,12 @@ upload_command_of (upload_plans.Complete dialect if_absent) body = completion_co
 upload_command_of upload_plans.Abort body = Ok upload_commands.Abort
 upload_command_of (upload_plans.ListParts asked) body = Ok (upload_commands.ListParts asked)
 
+-- DeleteObjects, with the objects that the body names
+abbrev pub deletion_command_of : List ℕ → List ℕ → Result Command Code
+deletion_command_of bucket body = do
+  deletion ← deletion_read body
+  Ok (commands.DeleteObjects bucket deletion)
+
 -- the operation with the body that came, if it can use the body
 unfoldable pub command_of : Plan → List ℕ → Result Command Code
 command_of plans.ListBuckets body = Ok commands.ListBuckets
@@ -86,6 +93,7 @@ command_of (plans.Key bucket key asked) body = Ok (commands.Key bucket key (key_
 command_of (plans.Upload bucket key id asked) body = do
   command ← upload_command_of asked body
   Ok (commands.Upload bucket key id command)
+command_of (plans.DeleteObjects bucket) body = deletion_command_of bucket body
 
 -- the bucket's versioning is to be set, or it is to be made, where that reads its body
 abbrev pub reads_bucket_body : BucketPlan → Bool
@@ -98,8 +106,10 @@ abbrev pub is_completion : UploadPlan → Bool
 is_completion (upload_plans.Complete dialect if_absent) = true
 is_completion other = false
 
--- the operation reads a document from its body: a PutBucketVersioning, a CompleteMultipartUpload, or in XML a CreateBucket
+-- the operation reads a document from its body: a PutBucketVersioning, a CompleteMultipartUpload, a DeleteObjects, or in XML a
+-- CreateBucket
 abbrev pub reads_body : Plan → Bool
 reads_body (plans.Bucket name asked) = reads_bucket_body asked
 reads_body (plans.Upload bucket key id asked) = is_completion asked
+reads_body (plans.DeleteObjects bucket) = true
 reads_body other = false

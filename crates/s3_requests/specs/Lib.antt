@@ -8,6 +8,7 @@ pub mod Laws
 pub mod ListArguments
 pub mod Name
 pub mod Operations
+pub mod Protection
 pub mod ReadConditions
 pub mod Routing
 pub mod UploadArguments
@@ -22,5 +23,6 @@ pub use Rattle.s3_names.specs.Names
 pub use Rattle.s3_versions.specs.ContentType
 pub use Rattle.s3_versions.specs.Metadata
 pub use Rattle.s3_request_documents.specs.Completion
+pub use Rattle.s3_request_documents.specs.Deletion
 pub use Rattle.s3_request_documents.specs.Location
 pub use Rattle.s3_request_documents.specs.Versioning

@@ -3,7 +3,7 @@ use Rattle.std.specs.Prelude.{ℕ, Bool, not, ◌==◌, if◌then◌else◌, Lis
 use Rattle.s3_names.specs.Names.{bucket_name, object_key}
 use Rattle.s3_terms.specs.Fault.{refuse, ◌>>◌, ◌>>=◌}
 use Rattle.s3_terms.specs.declared.code.Code.{Code}
-use Rattle.s3_terms.specs.declared.code.Code.TheVariants.{NotImplemented, MethodNotAllowed}
+use Rattle.s3_terms.specs.declared.code.Code.TheVariants.{InvalidRequest, NotImplemented, MethodNotAllowed}
 use Rattle.s3_terms.specs.declared.dialect.Dialect.{Dialect}
 use Rattle.s3_terms.specs.declared.dialect.Dialect.TheVariants.{Json, S3}
 use Rattle.s3_config.specs.Settings.{Settings}
@@ -30,6 +30,7 @@ use Rattle.s3_requests.specs.Arguments.{version_argument}
 use Rattle.s3_requests.specs.ListArguments.{objects_asked_of, versions_asked_of, uploads_asked_of, parts_asked_of}
 use Rattle.s3_requests.specs.UploadArguments.{upload_argument, part_argument}
 use Rattle.s3_requests.specs.Copies.{object_copy_of, part_copy_of}
+use Rattle.s3_requests.specs.Protection.{is_protected}
 use Rattle.s3_requests.specs.ReadConditions.{conditions_of}
 use Rattle.s3_requests.specs.WriteCondition.{absence_of}
 use Rattle.s3_requests.specs.Description.{description_of}
@@ -101,11 +102,28 @@ bucket_plan_for settings operations.ListObjectVersions target = versions_plan se
 bucket_plan_for settings operations.ListMultipartUploads target = uploads_plan settings.dialect target
 bucket_plan_for settings other target = Err NotImplemented
 
--- what is asked of a bucket
-unfoldable pub bucket_plan : Settings → HeadParts → TargetParts → Result BucketPlan Code
-bucket_plan settings head target = do
+-- DeleteObjects in the bucket of this name, where its body is protected
+abbrev pub deletion_plan : List ℕ → HeadParts → Result Plan Code
+deletion_plan name head = do
+  refuse (not (is_protected head)) InvalidRequest
+  Ok (plans.DeleteObjects name)
+
+-- what is asked of the bucket itself
+abbrev pub of_bucket : List ℕ → Result BucketPlan Code → Result Plan Code
+of_bucket name plan = do
+  asked ← plan
+  Ok (plans.Bucket name asked)
+
+-- an operation on the bucket of this name, or on objects in it, with its arguments
+abbrev pub plan_in_bucket : Settings → List ℕ → Operation → HeadParts → TargetParts → Result Plan Code
+plan_in_bucket settings name operations.DeleteObjects head target = deletion_plan name head
+plan_in_bucket settings name other head target = of_bucket name (bucket_plan_for settings other target)
+
+-- what is asked of the bucket of this name, or of objects in it
+unfoldable pub plan_of_bucket : Settings → List ℕ → HeadParts → TargetParts → Result Plan Code
+plan_of_bucket settings name head target = do
   operation ← served settings.dialect (bucket_operation (method_of head.method) target)
-  bucket_plan_for settings operation target
+  plan_in_bucket settings name operation head target
 
 -- what is asked of a key before the body is read
 abbrev pub KeyPlan : Type 0
@@ -210,12 +228,6 @@ unfoldable pub key_plan : Dialect → HeadParts → TargetParts → Result KeyAs
 key_plan dialect head target = do
   operation ← served dialect (key_operation (method_of head.method) head target)
   asked_for dialect operation head target
-
--- what is asked of the bucket of this name
-abbrev pub plan_of_bucket : Settings → List ℕ → HeadParts → TargetParts → Result Plan Code
-plan_of_bucket settings name head target = do
-  asked ← bucket_plan settings head target
-  Ok (plans.Bucket name asked)
 
 -- the plan of what is asked of this key
 abbrev pub plan_under : List ℕ → List ℕ → KeyAsked → Plan

@@ -12,7 +12,7 @@ use s3_terms::{Code, Dialect};
 
 /// The sub-resources of S3 that this server doesn't have, with a space between each two.
 const LACKING: &[u8] =
-    b"accelerate acl analytics attributes delete intelligent-tiering inventory legal-hold logging metrics notification policyStatus requestPayment restore retention select torrent";
+    b"accelerate acl analytics attributes intelligent-tiering inventory legal-hold logging metrics notification policyStatus requestPayment restore retention select torrent";
 
 /// Those that it answers where a bucket is read in XML, with a space between each two.
 const ANSWERED: &[u8] =
@@ -37,6 +37,7 @@ fn names_lacking(dialect: Dialect, head: &Head, target: &Target) -> bool
 {
     names_one_of(target, LACKING)
         || (names_one_of(target, ANSWERED) && !reads_bucket(dialect, head, target))
+        || (target.has_parameter(b"delete") && !posts_to_bucket(dialect, head, target))
 }
 
 // Whether a bucket is read, and documents are XML.
@@ -44,6 +45,13 @@ fn reads_bucket(dialect: Dialect, head: &Head, target: &Target) -> bool
     ensures { result ≡ rules.reads_bucket dialect head.now target.now }
 {
     is_xml(dialect) && matches!(head.method(), Method::Get) && is_bucket(target)
+}
+
+// Whether a bucket is posted to, and documents are XML.
+fn posts_to_bucket(dialect: Dialect, head: &Head, target: &Target) -> bool
+    ensures { result ≡ rules.posts_to_bucket dialect head.now target.now }
+{
+    is_xml(dialect) && matches!(head.method(), Method::Post) && is_bucket(target)
 }
 
 // Whether a bucket is meant.

@@ -6,16 +6,18 @@ ghost use Rattle.s3_requests.specs.Commands as rules;
 use crate::routing::{BucketPlan, Plan, UploadPlan};
 use s3_bodies::Payload;
 use s3_machine::{BucketCommand, Command, KeyCommand, ObjectPut, UploadCommand};
+use s3_names::BucketName;
 use s3_prefixes::Text;
-use s3_request_documents::{read_completion, read_location, read_versioning};
+use s3_request_documents::{read_completion, read_deletion, read_location, read_versioning};
 use s3_terms::{Code, Dialect, NoMemory};
 use std::alloc::Global;
 
 /// The command of an operation and the body that came with its message, where the operation can use the body:
 /// `MalformedBody` or `MalformedXML`, by the dialect, where it can't, `InvalidArgument` where a completion lists a number that
-/// no part has, and `InvalidLocationConstraint` where a bucket is to be made in another region. A body that the operation has
-/// no use for is dropped. Memory is taken for the document of a PutBucketVersioning, of a CompleteMultipartUpload or of a
-/// CreateBucket that reads one alone, of a body that isn't empty; `InternalError` says that there was none.
+/// no part has, `InvalidLocationConstraint` where a bucket is to be made in another region, and `NotImplemented` where objects
+/// are to be deleted on conditions. A body that the operation has no use for is dropped. Memory is taken for the document of a
+/// PutBucketVersioning, of a CompleteMultipartUpload, of a DeleteObjects or of a CreateBucket that reads one alone, of a body
+/// that isn't empty; `InternalError` says that there was none.
 #[tactic(auto, unfolding(crate::specs::Commands::command_of))]
 pub fn command(alloc: Global, plan: Plan, payload: Payload) -> Result<Command, Code>
     ensures rule { Follows result (rules.command_of plan payload) }
@@ -46,6 +48,7 @@ pub fn command(alloc: Global, plan: Plan, payload: Payload) -> Result<Command, C
             }),
             Err(code) => Err(code),
         },
+        Plan::DeleteObjects { bucket } => deletion_command(alloc, bucket, payload),
     }
 }
 
@@ -112,6 +115,18 @@ fn versioning_command(
     let text = text_of(alloc, payload)?;
     match read_versioning(alloc, dialect, text.as_slice()) {
         Ok(status) => Ok(BucketCommand::PutVersioning { status }),
+        Err(code) => Err(code),
+    }
+}
+
+// DeleteObjects, with the objects that the body names.
+fn deletion_command(alloc: Global, bucket: BucketName, payload: Payload) -> Result<Command, Code>
+    ensures rule { Follows result (rules.deletion_command_of bucket payload) }
+    ensures memory { IfErr result (λ code. code ≡ Code.InternalError → 0 < length payload) }
+{
+    let text = text_of(alloc, payload)?;
+    match read_deletion(alloc, text.as_slice()) {
+        Ok(deletion) => Ok(Command::DeleteObjects { bucket, deletion }),
         Err(code) => Err(code),
     }
 }

@@ -11,6 +11,7 @@ mod description;
 mod laws;
 mod list_arguments;
 mod operations;
+mod protection;
 mod read_conditions;
 mod routing;
 mod upload_arguments;

@@ -23,6 +23,7 @@ pub(crate) enum Operation {
     ListObjectsV2,
     ListObjectVersions,
     ListMultipartUploads,
+    DeleteObjects,
     PostObject,
     PutObject,
     CopyObject,
@@ -59,6 +60,7 @@ pub(crate) fn bucket_operation(method: Method, target: &Target) -> Option<Operat
         Method::Head => Some(Operation::HeadBucket),
         Method::Put if target.has_parameter(b"versioning") => Some(Operation::PutBucketVersioning),
         Method::Put => Some(Operation::CreateBucket),
+        Method::Post if target.has_parameter(b"delete") => Some(Operation::DeleteObjects),
         Method::Post => Some(Operation::PostObject),
         Method::Delete => Some(Operation::DeleteBucket),
         Method::Other => None,
@@ -206,6 +208,7 @@ pub(crate) fn is_served(dialect: Dialect, operation: Operation) -> bool
         Operation::ListObjects
         | Operation::GetBucketLocation
         | Operation::GetBucketConfiguration(_)
+        | Operation::DeleteObjects
         | Operation::UploadPartCopy => is_xml(dialect),
         Operation::PostObject | Operation::GetObjectPart | Operation::HeadObjectPart => false,
         Operation::ListBuckets

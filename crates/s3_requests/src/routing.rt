@@ -9,6 +9,7 @@ use crate::copies::{object_copy, part_copy};
 use crate::description::description_of;
 use crate::list_arguments::{objects_asked, parts_asked, uploads_asked, versions_asked};
 use crate::operations::{Operation, bucket_operation, is_served, key_operation, service_operation};
+use crate::protection::is_protected;
 use crate::read_conditions::conditions_of;
 use crate::upload_arguments::{part_argument, upload_argument};
 use crate::write_condition::absence_of;
@@ -43,6 +44,10 @@ pub enum Plan {
         key: Key,
         id: UploadId,
         asked: UploadPlan,
+    },
+    /// Delete the objects of a bucket that the body names (DeleteObjects).
+    DeleteObjects {
+        bucket: BucketName,
     },
 }
 
@@ -161,8 +166,7 @@ fn named_plan(alloc: Global, config: &Config, head: &Head, target: &Target) -> R
 {
     let name = BucketName::read(alloc, target.bucket())?;
     if target.key().is_empty() {
-        let asked = bucket_plan(alloc, config, head, target)?;
-        return Ok(Plan::Bucket { name, asked });
+        return plan_of_bucket(alloc, config, head, target, name);
     }
     let key = Key::read(alloc, target.key())?;
     let asked = key_plan(alloc, config.dialect(), head, target)?;
@@ -184,21 +188,52 @@ fn plan_under(bucket: BucketName, key: Key, asked: KeyAsked) -> Plan
     }
 }
 
-// What is asked of a bucket.
-#[tactic(auto, unfolding(crate::specs::Routing::bucket_plan))]
-fn bucket_plan(
+// What is asked of the bucket of this name, or of objects in it.
+#[tactic(auto, unfolding(crate::specs::Routing::plan_of_bucket))]
+fn plan_of_bucket(
     alloc: Global,
     config: &Config,
     head: &Head,
     target: &Target,
-) -> Result<BucketPlan, Code>
-    ensures { Follows result (rules.bucket_plan config.now head.now target.now) }
+    name: BucketName,
+) -> Result<Plan, Code>
+    ensures { Follows result (rules.plan_of_bucket config.now name head.now target.now) }
 {
     let operation = served(config.dialect(), bucket_operation(head.method(), target))?;
-    bucket_plan_for(alloc, config, target, operation)
+    plan_in_bucket(alloc, config, head, target, name, operation)
 }
 
 // The same by its operation.
+fn plan_in_bucket(
+    alloc: Global,
+    config: &Config,
+    head: &Head,
+    target: &Target,
+    name: BucketName,
+    operation: Operation,
+) -> Result<Plan, Code>
+    ensures { Follows result (rules.plan_in_bucket config.now name operation head.now target.now) }
+{
+    match operation {
+        Operation::DeleteObjects => deletion_plan(head, name),
+        _ => match bucket_plan_for(alloc, config, target, operation) {
+            Ok(asked) => Ok(Plan::Bucket { name, asked }),
+            Err(code) => Err(code),
+        },
+    }
+}
+
+// DeleteObjects: `InvalidRequest` where its body isn't protected.
+fn deletion_plan(head: &Head, bucket: BucketName) -> Result<Plan, Code>
+    ensures { result ≡ rules.deletion_plan bucket head.now }
+{
+    if !is_protected(head) {
+        return Err(Code::InvalidRequest);
+    }
+    Ok(Plan::DeleteObjects { bucket })
+}
+
+// What is asked of a bucket itself.
 fn bucket_plan_for(
     alloc: Global,
     config: &Config,

@@ -23,6 +23,7 @@ use Rattle.s3_requests.specs.Commands.{bucket_command_of, upload_command_of, com
 use Rattle.s3_conditions.specs.declared.conditions.Selection.{Selection}
 use Rattle.s3_conditions.specs.declared.conditions.Selection.TheVariants.{Whole, Part, Unchanged, Outside}
 use Rattle.s3_machine.specs.declared.command.Command.{Command}
+use Rattle.s3_machine.specs.declared.command.Command.TheVariants as commands
 use Rattle.s3_machine.specs.declared.command.Description.{Description}
 use Rattle.s3_machine.specs.declared.command.Found.{Found}
 use Rattle.s3_machine.specs.declared.command.Outcome.{Outcome}
@@ -43,7 +44,7 @@ use Rattle.s3_session.proofs.ReplayLemmas.{replayed_legal, replayed_walk}
 use Rattle.s3_session.proofs.ServesLemmas.{all_of_two}
 use Rattle.s3_session.proofs.SoundLemmas.{admitted_length, one_count}
 use Rattle.s3_session.proofs.SentLemmas.{all_put}
-use Rattle.s3_session.proofs.UnbrokenLemmas.{BringsUnbroken, bucket_command, upload_command, walked_unbroken}
+use Rattle.s3_session.proofs.UnbrokenLemmas.{BringsUnbroken, made_of, walked_unbroken}
 
 -- ---- what a reply shows of its entry
 
@@ -417,10 +418,13 @@ CameAs bytes_of =
 came_brought : CameAs brings
 unfolding command_of
 came_brought (plans.Bucket name asked) came taken command made is =
-    let same = bucket_command (bucket_command_of asked came) name command made in
-    let none : None ≡ Some taken = ap brings same.1 ∙ is in absurd (cc)
+    let same = made_of (bucket_command_of asked came) (commands.Bucket name) command made in
+    let none : None ≡ Some taken = ap brings same.2 ∙ is in absurd (cc)
 came_brought (plans.Upload bucket key id asked) came taken command made is =
-    let same = upload_command (upload_command_of asked came) bucket key id command made in
+    let same = made_of (upload_command_of asked came) (commands.Upload bucket key id) command made in
+    let none : None ≡ Some taken = ap brings same.2 ∙ is in absurd (cc)
+came_brought (plans.DeleteObjects bucket) came taken command made is =
+    let same = made_of _ (commands.DeleteObjects bucket) command made in
     let none : None ≡ Some taken = ap brings same.2 ∙ is in absurd (cc)
 came_brought (plans.Key bucket key (key_commands.Put put)) came taken command made is = cc
 came_brought _ came taken command made is = absurd (cc)
@@ -442,11 +446,14 @@ part_came _ came taken asked made is = absurd (cc)
 came_sent : CameAs sent
 unfolding command_of
 came_sent (plans.Bucket name asked) came taken command made is =
-    let same = bucket_command (bucket_command_of asked came) name command made in
-    let none : None ≡ Some taken = ap sent same.1 ∙ is in absurd (cc)
+    let same = made_of (bucket_command_of asked came) (commands.Bucket name) command made in
+    let none : None ≡ Some taken = ap sent same.2 ∙ is in absurd (cc)
 came_sent (plans.Upload bucket key id asked) came taken command made is =
-    let same = upload_command (upload_command_of asked came) bucket key id command made in
+    let same = made_of (upload_command_of asked came) (commands.Upload bucket key id) command made in
     part_came asked came taken same.0 same.1 (ap sent same.2 ∙ is)
+came_sent (plans.DeleteObjects bucket) came taken command made is =
+    let same = made_of _ (commands.DeleteObjects bucket) command made in
+    let none : None ≡ Some taken = ap sent same.2 ∙ is in absurd (cc)
 came_sent _ came taken command made is = absurd (cc)
 
 payloads : (bytes_of : Command → Option (List ℕ)) → CameAs bytes_of → WholePayloadsAreBodies → ArePayloads bytes_of

@@ -10,9 +10,7 @@ use Rattle.s3_versions.specs.declared.version.Data.{Data}
 use Rattle.s3_machine.specs.declared.command.Command.{Command}
 use Rattle.s3_terms.specs.Fault.{◌>>=◌}
 use Rattle.s3_terms.specs.declared.code.Code.{Code}
-use Rattle.s3_machine.specs.declared.command.BucketCommand.{BucketCommand}
 use Rattle.s3_machine.specs.declared.command.Description.{Description}
-use Rattle.s3_machine.specs.declared.command.UploadCommand.{UploadCommand}
 use Rattle.s3_machine.specs.declared.command.Command.TheVariants as commands
 use Rattle.s3_requests.specs.declared.routing.Plan.{Plan}
 use Rattle.s3_requests.specs.declared.routing.Plan.TheVariants as plans
@@ -47,28 +45,28 @@ copy_said : (found : Option Description) → IsUnbrokenSaid found → (said : De
 copy_said (Some found) unbroken said is = subst SaysUnbroken (same_Some found said is) (unbroken.0, told_whole found.metadata unbroken.1)
 copy_said None unbroken said is = absurd (cc)
 
--- a plan for a bucket makes a command on it
-pub bucket_command : (rule : Result BucketCommand Code) (name : List ℕ) (command : Command)
-    → (rule >>= (λ (asked : BucketCommand). Ok (commands.Bucket name asked))) ≡ Ok command → (asked : BucketCommand) × (commands.Bucket name asked ≡ command)
-bucket_command (Ok asked) name command made = (asked, cc)
-bucket_command (Err code) name command made = absurd (cc)
+-- a command that is made of what a body tells is made of something that it tells
+pub made_of : {A : Type 0} (rule : Result A Code) (make : A → Command) (command : Command) → (rule >>= (λ (a : A). Ok (make a))) ≡ Ok command
+    → (a : A) × (rule ≡ Ok a) × (make a ≡ command)
+made_of (Ok a) make command made = (a, refl, cc)
+made_of (Err code) make command made = absurd (cc)
 
--- and one for an upload a command on that
-pub upload_command : (rule : Result UploadCommand Code) (bucket key : List ℕ) (id : ℕ) (command : Command)
-    → (rule >>= (λ (asked : UploadCommand). Ok (commands.Upload bucket key id asked))) ≡ Ok command
-    → (asked : UploadCommand) × (rule ≡ Ok asked) × (commands.Upload bucket key id asked ≡ command)
-upload_command (Ok asked) bucket key id command made = (asked, refl, cc)
-upload_command (Err code) bucket key id command made = absurd (cc)
+brings_nothing : (command : Command) → brought command ≡ None → begins command ≡ None → copies command ≡ None → BringsUnbroken command
+brings_nothing command whole begun said =
+    record { whole = λ what is. absurd (cc); begun = λ address asked is. absurd (cc); said = λ asked told is. absurd (cc) }
 
 planned : TagsAreUnbroken → (plan : Plan) (payload : List ℕ) (command : Command) → IsUnbrokenPlan plan
     → command_of plan payload ≡ Ok command → BringsUnbroken command
 unfolding command_of
 planned tags (plans.Bucket name asked) payload command unbroken made =
-    subst BringsUnbroken (bucket_command (bucket_command_of asked payload) name command made).1
-    (record { whole = λ what is. absurd (cc); begun = λ address began is. absurd (cc); said = λ asked said is. absurd (cc) })
+    let made_command = made_of (bucket_command_of asked payload) (commands.Bucket name) command made in
+    subst BringsUnbroken made_command.2 (brings_nothing (commands.Bucket name made_command.0) refl refl refl)
 planned tags (plans.Upload bucket key id asked) payload command unbroken made =
-    subst BringsUnbroken (upload_command (upload_command_of asked payload) bucket key id command made).2
-    (record { whole = λ what is. absurd (cc); begun = λ address began is. absurd (cc); said = λ asked said is. absurd (cc) })
+    let made_command = made_of (upload_command_of asked payload) (commands.Upload bucket key id) command made in
+    subst BringsUnbroken made_command.2 (brings_nothing (commands.Upload bucket key id made_command.0) refl refl refl)
+planned tags (plans.DeleteObjects bucket) payload command unbroken made =
+    let made_command = made_of _ (commands.DeleteObjects bucket) command made in
+    subst BringsUnbroken made_command.2 (brings_nothing (commands.DeleteObjects bucket made_command.0) refl refl refl)
 planned tags (plans.Key bucket key (key_commands.Put put)) payload command unbroken made =
     let same : commands.Key bucket key (key_commands.Put (put_with put payload)) ≡ command = cc in
     let all : IsUnbroken (data_of (put_with put payload)) =

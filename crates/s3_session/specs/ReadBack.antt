@@ -1,6 +1,6 @@
 -- What a client reads back over one connection, in the bytes of its replies: what was stored, and nothing else (Amazon S3
 -- User Guide, "Amazon S3 data consistency model" and "Using versioning in S3 buckets").
-use Rattle.std.specs.Prelude.{◌≡◌, ◌≢◌, ℕ, true, false, List, ◌∷◌, ◌++◌, map, Option, Some, None, Ok}
+use Rattle.std.specs.Prelude.{◌≡◌, ℕ, true, false, List, [], ◌∷◌, ◌++◌, map, Contains, Option, Some, None, Ok}
 use Rattle.std.specs.List.{AllByRecursion, AllZip, concat}
 use Rattle.s3_config.specs.Settings.{Settings}
 use Rattle.s3_names.specs.declared.ids.VersionId.{VersionId}
@@ -51,13 +51,13 @@ Shows Outside body reply = ⊥
 
 -- the message puts these bytes under the address, and its reply tells of success
 pub record Wrote (address : Address) (body : List ℕ) (x : Exchange) : Type 0 where
-  pub written : writes x.command ≡ Some address
+  pub written : writes x.command ≡ address ∷ []
   pub brought : brings x.command ≡ Some body
   pub answered : tells_success x.reply ≡ true
 
 -- the message copies this version to the address by these conditions, says this of it, and its reply tells of success
 pub record WroteCopy (address : Address) (asked : Read) (said : Option Description) (x : Exchange) : Type 0 where
-  pub written : writes x.command ≡ Some address
+  pub written : writes x.command ≡ address ∷ []
   pub from : copies x.command ≡ Some (asked, said)
   pub answered : tells_success x.reply ≡ true
 
@@ -113,12 +113,13 @@ pub record CarriesParts (settings : Settings) (messages : List Exchange) (upload
 
 -- the message doesn't write under the address, or its reply doesn't tell of success
 abbrev pub LeavesAlone : Address → Exchange → Type 0
-LeavesAlone address x = writes x.command ≡ Some address → tells_success x.reply ≡ false
+LeavesAlone address x = Contains (writes x.command) address → tells_success x.reply ≡ false
 
 -- the message, if it writes under the address with success, makes, replaces and deletes no version of this id there
 abbrev pub SparesId : Address → VersionId → Exchange → Type 0
 SparesId address id x =
-    writes x.command ≡ Some address → tells_success x.reply ≡ true → touched x.command x.answer.outcome ≢ Some id
+    Contains (writes x.command) address → tells_success x.reply ≡ true
+    → ¬ Contains (touched x.command x.answer.outcome address) id
 
 -- What holds of the messages of every replay.
 abbrev pub EveryReplay : (Settings → List Exchange → Type 0) → Type 0
@@ -192,7 +193,7 @@ module _ (settings : Settings) (exchanges : List Exchange) where
       (before between later : List Exchange) (put read : Exchange) (address : Address) (id : VersionId) (body : List ℕ)
       → exchanges ≡ before ++ put ∷ between ++ read ∷ later
       → Wrote address body put
-      → touched put.command put.answer.outcome ≡ Some id
+      → touched put.command put.answer.outcome address ≡ id ∷ []
       → AllByRecursion (SparesId address id) between
       → AsksFor (whole address (Some id)) read
       → Carries body read.reply
@@ -216,7 +217,7 @@ module _ (settings : Settings) (exchanges : List Exchange) where
       (said : Option Description) (id : VersionId)
       → exchanges ≡ before ++ copy ∷ between ++ read ∷ later
       → WroteCopy address asked said copy
-      → touched copy.command copy.answer.outcome ≡ Some id
+      → touched copy.command copy.answer.outcome address ≡ id ∷ []
       → AllByRecursion (SparesId address id) between
       → AsksFor (whole address (Some id)) read
       → (what : Data (List ℕ)) × WouldGive (state_behind settings before) asked what × Carries what.body read.reply
@@ -240,7 +241,7 @@ module _ (settings : Settings) (exchanges : List Exchange) where
       (id : VersionId)
       → exchanges ≡ before ++ complete ∷ between ++ read ∷ later
       → WroteParts upload listed complete
-      → touched complete.command complete.answer.outcome ≡ Some id
+      → touched complete.command complete.answer.outcome upload.address ≡ id ∷ []
       → AllByRecursion (SparesId upload.address id) between
       → AsksFor (whole upload.address (Some id)) read
       → CarriesParts settings before upload listed read.reply

@@ -14,11 +14,14 @@ use Rattle.s3_versions.specs.declared.version.Data.{Data}
 use Rattle.s3_versions.specs.declared.version.Version.{Version}
 use Rattle.s3_versions.specs.declared.version.Versioning.{Versioning}
 use Rattle.s3_versions.specs.Rules.{new_id, VersionPut}
+use Rattle.s3_deletions.specs.Deletions.{rows_told}
+use Rattle.s3_deletions.specs.declared.named.Deletion.{Deletion}
 use Rattle.s3_uploads.specs.Parts.{part_tag}
 use Rattle.s3_uploads.specs.declared.upload.Upload.{Upload}
 use Rattle.s3_records.specs.Catalogue.{has_bucket, versioning_of}
 use Rattle.s3_records.specs.Changes.{KeyChanged, PartPut, UploadCompleted, changed}
 use Rattle.s3_records.specs.Codes.{coded_catalogue}
+use Rattle.s3_records.specs.Deletions.{all_deleted, markers_of}
 use Rattle.s3_records.specs.Places.{AreBelow}
 use Rattle.s3_documents.specs.Document as documents
 use Rattle.s3_machine.specs.declared.command.BucketCommand.{BucketCommand}
@@ -162,6 +165,14 @@ completed_as s n t name key id (Err code) = (s, outcomes.Refused code false)
 abbrev pub barred_code : Option (Upload (List ℕ)) → Code
 barred_code None = NoSuchUpload
 barred_code (Some u) = PreconditionFailed
+
+-- what the deletion of several objects does in a bucket that is there
+abbrev pub deletion_step : State → ℕ → ℕ → List ℕ → Deletion → Stepped
+deletion_step s n t name deletion = (
+  all_deleted s name n t deletion.objects,
+  outcomes.Told
+      (documents.deletions deletion.is_quiet (rows_told deletion.objects (markers_of s name n t deletion.objects))),
+)
 
 -- how std numbers it
 abbrev pub coded_standing : Coded Standing

@@ -6,6 +6,7 @@ mod bucket_steps;
 mod completing;
 mod conditions;
 mod copying;
+mod deletions;
 mod key_steps;
 mod list_steps;
 mod part_copies;

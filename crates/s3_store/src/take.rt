@@ -5,6 +5,7 @@ ghost use Rattle.s3_machine.specs.Effects.{is_refused, takes_room};
 ghost use Rattle.s3_machine.specs.Step.{step};
 
 use crate::bucket_steps::take_on_bucket;
+use crate::deletions::delete_objects;
 use crate::key_steps::take_on_key;
 use crate::list_steps::tell_buckets;
 use crate::upload_steps::take_on_upload;
@@ -47,5 +48,8 @@ pub(crate) fn take<R: Records>(
         } => take_on_upload(
             records, alloc, least_part, &bucket, key, id, asked, number, moment,
         ),
+        Command::DeleteObjects { bucket, deletion } => {
+            delete_objects(records, alloc, &bucket, deletion, number, moment)
+        }
     }
 }

@@ -34,7 +34,7 @@ part_put n part parts = insert_entry nat_cmp parts n part
 abbrev pub part_sent : ℕ → List ℕ → Part (List ℕ)
 part_sent t bytes = record { digest = md5 bytes; moment = t; size = length bytes; body = bytes }
 
--- a part's entity tag: the MD5 of its bytes in lower-case hexadecimal digits
+-- a part's entity tag: its digest in lower-case hexadecimal digits, which is the MD5 of its bytes where they were sent
 abbrev pub part_tag : {B : Type 0} → Part B → List ℕ
 part_tag part = encode_lower part.digest
 

@@ -5,12 +5,12 @@ use s3_calendar::Moment;
 use s3_names::Tag;
 use s3_terms::NoMemory;
 
-/// A part, as it was sent. `B` is what stands for the bytes.
+/// A part, as it was sent or copied. `B` is what stands for the bytes.
 #[derive(Drop)]
 pub struct Part<B> {
-    /// The MD5 of its bytes.
+    /// What its tag is made of: the MD5 of its bytes, or of what names them where it was copied.
     pub digest: [u8; 16],
-    /// When it was sent.
+    /// When it was put.
     pub moment: Moment,
     /// How many bytes there are.
     pub size: u64,

@@ -68,6 +68,7 @@ pub(crate) fn operation(plan: &Plan) -> &'static str {
         Plan::Bucket { asked, .. } => bucket_operation(asked),
         Plan::Key { asked, .. } => key_operation(asked).0,
         Plan::Upload { asked, .. } => upload_operation(asked),
+        Plan::DeleteObjects { .. } => "DeleteObjects",
     }
 }
 
@@ -228,6 +229,7 @@ pub(crate) fn plan_text(alloc: Global, plan: &Plan) -> Told {
             let text = with_key(alloc, operation, bucket.as_bytes(), key.as_bytes())?;
             with_upload(alloc, &text, *id, asked)
         }
+        Plan::DeleteObjects { bucket } => with_bucket(alloc, b"DeleteObjects", bucket.as_bytes()),
     }
 }
 
@@ -298,6 +300,7 @@ pub(crate) fn command_text(command: &Command) -> &'static str {
         Command::Bucket { asked, .. } => bucket_text(asked),
         Command::Key { asked, .. } => key_text(asked),
         Command::Upload { asked, .. } => upload_text(asked),
+        Command::DeleteObjects { .. } => "DeleteObjects",
     }
 }
 

@@ -1,8 +1,8 @@
-use Rattle.std.proofs.Common.{sym, ap, ◌∙◌, Some, None, []}
+use Rattle.std.proofs.Common.{refl, sym, ap, subst, ◌∙◌, Some, None, []}
 use Rattle.std.specs.FinMap as map
 use Rattle.s3_versions.specs.Rules.{after_adding, replaced}
-use Rattle.s3_records.specs.Catalogue.{found_versions}
-use Rattle.s3_records.proofs.KeyLemmas.{then_ok, then_err, on_err, written, left}
+use Rattle.s3_records.specs.Catalogue.{HaveVersions, found_versions}
+use Rattle.s3_records.proofs.KeyLemmas.{then_ok, then_err, on_err, written, left, held_after, held_after_put}
 use Rattle.s3_text.proofs.MapLemmas.{get_by_tree, made_by_insert}
 use Rattle.s3_records.proofs.keys.KeyMap.add.Goals as goal
 
@@ -53,3 +53,20 @@ pub returns-in-None-clause-memory : goal.returns-in-None-clause-memory
 returns-in-None-clause-memory c =
     let absent = get_by_tree c.self.inside.by_key.entries c.args.self.now c.args.key None c.self.view_is c.in-None.ensures.value in
     on_err c.put.result (ap (λ found. replaced c.args.versioning c.args.number (found_versions found)) absent)
+
+-- no key is there without versions
+pub invariant_of-self : goal.invariant_of-self
+invariant_of-self c =
+    let m = map.from_entries c.self.inside.by_key.entries in
+    let new = c.add.new.self in
+    held_after c.add.result m _ c.args.key c.in-Some.versions.now new _ _ c.self.invariant
+    (get_by_tree c.self.inside.by_key.entries m c.args.key (Some c.in-Some.versions.now) refl c.in-Some.ensures.value)
+    (written c.self.inside.by_key (c.get_mut.follows.lender new) m c.args.key c.in-Some.versions.now new new refl c.in-Some.ensures.value (c.get_mut.follows.holds new) refl)
+    c.add.ensures.ok c.add.ensures.err
+
+pub invariant_of-self-in-None : goal.invariant_of-self-in-None
+invariant_of-self-in-None c =
+    let added = after_adding c.args.versioning c.args.number c.args.moment c.args.content [] in
+    let before = subst (λ tree. HaveVersions (map.from_entries tree.entries)) (sym c.get_mut.follows.holds-at-none) c.self.invariant in
+    held_after_put c.put.result c.get_mut.follows.lender-at-none c.put.new.tree c.args.key added (λ none. cc) before
+    (c.put.ensures.ok added c.first_version-first.ensures) c.put.ensures.err

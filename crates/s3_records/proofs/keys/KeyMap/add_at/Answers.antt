@@ -1,8 +1,8 @@
-use Rattle.std.proofs.Common.{sym, ap, ◌∙◌, Some, None}
+use Rattle.std.proofs.Common.{refl, sym, ap, ◌∙◌, Some, None}
 use Rattle.std.specs.FinMap as map
 use Rattle.s3_versions.specs.Rules.{after_adding, replaced}
 use Rattle.s3_records.specs.Catalogue.{found_versions}
-use Rattle.s3_records.proofs.KeyLemmas.{then_ok, then_err, written, left}
+use Rattle.s3_records.proofs.KeyLemmas.{then_ok, then_err, written, left, held_after}
 use Rattle.s3_text.proofs.MapLemmas.{get_by_tree}
 use Rattle.s3_records.proofs.keys.KeyMap.add_at.Goals as goal
 
@@ -40,3 +40,13 @@ pub returns-in-Err-clause-memory : goal.returns-in-Err-clause-memory
 returns-in-Err-clause-memory c =
     let absent = get_by_tree c.self.inside.by_key.entries c.args.self.now c.args.key.now None c.self.view_is c.in-None.ensures.value in
     ap (λ found. replaced c.args.versioning c.args.number (found_versions found)) absent
+
+-- no key is there without versions
+pub invariant_of-self : goal.invariant_of-self
+invariant_of-self c =
+    let m = map.from_entries c.self.inside.by_key.entries in
+    let new = c.add.new.self in
+    held_after c.add.result m _ c.args.key.now c.in-Some.versions.now new _ _ c.self.invariant
+    (get_by_tree c.self.inside.by_key.entries m c.args.key.now (Some c.in-Some.versions.now) refl c.in-Some.ensures.value)
+    (written c.self.inside.by_key (c.get_mut.follows.lender new) m c.args.key.now c.in-Some.versions.now new new refl c.in-Some.ensures.value (c.get_mut.follows.holds new) refl)
+    c.add.ensures.ok c.add.ensures.err

@@ -1,0 +1,72 @@
+"""Replies by their facts, printed: the table "Replies" of docs/PROTOCOL.md."""
+
+import time
+
+from .bodies import Body
+from .codes import REASONS
+from .documents import CONTENT_TYPES
+
+# The moment of a reply, where none is said.
+START = 1369353600
+# The headers that replies have, in their order.
+METADATA = "x-amz-meta-"
+ORDER = (
+    "Date",
+    "Connection",
+    "x-amz-request-id",
+    "x-amz-version-id",
+    "x-amz-copy-source-version-id",
+    "x-amz-delete-marker",
+    "Location",
+    "ETag",
+    "Last-Modified",
+    "Accept-Ranges",
+    "Content-Range",
+    "Content-Type",
+    METADATA,
+    "Content-Length",
+)
+
+
+def date(moment):
+    """A moment as header lines tell it."""
+    return time.strftime("%a, %d %b %Y %H:%M:%S GMT", time.gmtime(moment))
+
+
+def place(name):
+    """Where a header stands among others. Those of metadata are sorted by their names."""
+    return ORDER.index(METADATA if name.startswith(METADATA) else name), name
+
+
+def reply(status, number, lines=(), body=Body(), moment=START):
+    """The lines of a reply: its headers in the table's order, which are those that each reply has, and these, which may
+    stand in the place of others with their names; and its body, each line of which has a bar at its end."""
+    told = {"Date": date(moment), "x-amz-request-id": f"{number:016x}"}
+    told |= {} if status in (204, 304) else {"Content-Length": str(body.size)}
+    for name, _, value in (line.partition(":") for line in lines):
+        told[name] = value.removeprefix(" ")
+    head = [f"{name}: {told[name]}" for name in sorted(told, key=place)]
+    return [f"HTTP/1.1 {status} {REASONS[status]}", *head, "", *(f"{line}|" for line in body.lines())]
+
+
+# The header lines that each reply of a kind has beside those of all.
+
+
+def of_stored(tag):
+    """Those about an object or a part that was stored."""
+    return [f'ETag: "{tag}"']
+
+
+def of_unmodified(tag, moment):
+    """Those about an object that a condition holds back."""
+    return [f'ETag: "{tag}"', f"Last-Modified: {date(moment)}"]
+
+
+def of_got(tag, moment, content_type):
+    """Those about an object that is sent, or a range of it."""
+    return [*of_unmodified(tag, moment), "Accept-Ranges: bytes", f"Content-Type: {content_type}"]
+
+
+def of_told(dialect):
+    """Those about a document."""
+    return [f"Content-Type: {CONTENT_TYPES[dialect]}"]
