@@ -55,7 +55,7 @@ module _ {P : Type 0} (fits : P → List Entry → Type 0) (base : Base) (all : 
         most = room.most;
         continues = record {
           origin = answered.origin ∙ room.continues.origin;
-          least = answered.least ∙ room.continues.least;
+          rules = answered.rules ∙ room.continues.rules;
           store = answered.opening ∙ room.continues.store;
         };
         count = omega (arith, longer, count, more);

@@ -4,23 +4,24 @@ use Rattle.std.specs.Prelude.{◌≡◌, ◌≢◌, IsTrue, ℕ, ◌+◌, Bool, 
 use Rattle.s3_history.specs.Log.{Origin}
 use Rattle.s3_machine.specs.Effects.{is_refused, takes_room}
 use Rattle.s3_machine.specs.History.{Legal, after}
+use Rattle.s3_machine.specs.declared.rules.Rules.{Rules}
 use Rattle.s3_machine.specs.declared.turn.Turn.{Turn}
 use Rattle.s3_store.specs.Steps.{Standing, outcome_of}
 use Rattle.s3_journal.specs.Recorded.{Recorded, history_of}
 
--- a book: which history it is, the least size of a part that is not the last, the store as it was when the book was opened,
+-- a book: which history it is, the rules of its server, the store as it was when the book was opened,
 -- the entries since then, and the store as it is
 pub record Journal : Type 0 where
   pub origin : Origin
-  pub least : ℕ
+  pub rules : Rules
   pub opening : Standing
   pub entries : List Recorded
   pub store : Standing
 
 -- the entries are a legal history from the opening, which leaves the store as it is
 pub record KeepsHistory (book : Journal) : Type 0 where
-  pub legal : Legal book.least book.opening.state book.opening.number (history_of book.entries)
-  pub leaves : after book.least book.opening.state (history_of book.entries) ≡ book.store.state
+  pub legal : Legal book.rules book.opening.state book.opening.number (history_of book.entries)
+  pub leaves : after book.rules book.opening.state (history_of book.entries) ≡ book.store.state
   pub counts : book.store.number ≡ book.opening.number + length book.entries
 
 -- the store that was told at the opening; if none was, this one
@@ -30,6 +31,6 @@ told_or (opening ∷ more) store = opening
 
 -- where the rows are in memory, and the numbers are not used up, memory may be lacking at a store only for a turn that it doesn't refuse
 -- and that takes room
-pub record MayLack (in_memory : Bool) (least : ℕ) (store : Standing) (turn : Turn) : Type 0 where
-  pub memory : in_memory ≡ true → store.number ≢ 18446744073709551615 → is_refused (outcome_of least store turn.moment turn.command) ≡ false
+pub record MayLack (in_memory : Bool) (rules : Rules) (store : Standing) (turn : Turn) : Type 0 where
+  pub memory : in_memory ≡ true → store.number ≢ 18446744073709551615 → is_refused (outcome_of rules store turn.moment turn.command) ≡ false
   pub room : in_memory ≡ true → store.number ≢ 18446744073709551615 → IsTrue (takes_room store.state turn.command)

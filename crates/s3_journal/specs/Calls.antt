@@ -4,6 +4,7 @@ use mathlib.Core.List.{IsPrefix}
 use Rattle.s3_machine.specs.declared.command.Answer.{Answer}
 use Rattle.s3_machine.specs.declared.turn.Turn.{Turn}
 use Rattle.s3_machine.specs.History.{after}
+use Rattle.s3_machine.specs.Rules.{rules_of}
 use Rattle.s3_store.specs.Steps.{Standing}
 use Rattle.s3_journal.specs.Book.{Journal, KeepsHistory, MayLack}
 use Rattle.s3_journal.specs.Recorded.{Recorded, entries_of_seat, entry_of, history_of, recorded}
@@ -12,7 +13,7 @@ use Rattle.s3_journal.specs.Desk.{Base, IsAmong, IsLegal, Seated}
 -- A book has answered a seat's turn, which is one entry more, and goes on to keep its history.
 pub record HasAnswered (old new : Journal) (seat : ℕ) (turn : Turn) (answer : Answer) : Type 0 where
   pub origin : new.origin ≡ old.origin
-  pub least : new.least ≡ old.least
+  pub rules : new.rules ≡ old.rules
   pub opening : new.opening ≡ old.opening
   pub entry : new.entries ≡ old.entries ++ recorded seat turn answer ∷ []
   pub number : answer.number ≡ old.store.number
@@ -34,7 +35,7 @@ pub record IsAnswered (base : Base) (old new : Seated) (turn : Turn) (answer : A
 -- the store that these entries leave
 abbrev pub left_by : Base → List Recorded → Standing
 left_by base entries = record {
-  state = after base.settings.min_part base.store.state (history_of entries);
+  state = after (rules_of base.settings) base.store.state (history_of entries);
   number = base.store.number + length entries;
 }
 
@@ -45,4 +46,4 @@ pub record LacksMemory (in_memory : Bool) (base : Base) (old new : Seated) (turn
   pub mine : new.mine ≡ old.mine
   pub begins : IsPrefix old.seen new.seen
   pub legal : IsLegal base new.seen
-  pub lacks : MayLack in_memory base.settings.min_part (left_by base new.seen) turn
+  pub lacks : MayLack in_memory (rules_of base.settings) (left_by base new.seen) turn

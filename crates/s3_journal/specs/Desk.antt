@@ -4,6 +4,7 @@ use Rattle.s3_config.specs.Settings.{Settings}
 use Rattle.s3_terms.specs.declared.dialect.Dialect.TheVariants.{Json}
 use Rattle.s3_history.specs.Log.{Origin}
 use Rattle.s3_machine.specs.History.{Entry, Legal}
+use Rattle.s3_machine.specs.Rules.{rules_of}
 use Rattle.s3_records.specs.Catalogue.{opening}
 use Rattle.s3_store.specs.Steps.{Standing, opened}
 use Rattle.s3_journal.specs.Book.{Journal}
@@ -26,12 +27,12 @@ no_base = record {
 -- the book is that of the base, with what was answered since
 pub record Continues (base : Base) (book : Journal) : Type 0 where
   pub origin : book.origin ≡ base.origin
-  pub least : book.least ≡ base.settings.min_part
+  pub rules : book.rules ≡ rules_of base.settings
   pub store : book.opening ≡ base.store
 
 -- entries from the opening, each with the answer that those before it settle
 abbrev pub IsLegal : Base → List Recorded → Type 0
-IsLegal base entries = Legal base.settings.min_part base.store.state base.store.number (history_of entries)
+IsLegal base entries = Legal (rules_of base.settings) base.store.state base.store.number (history_of entries)
 
 -- how many may have a seat at a time
 abbrev pub most_seats : ℕ

@@ -7,7 +7,7 @@ ghost use Rattle.s3_store.specs.Steps.{after_step, outcome_of};
 
 use crate::entry::Entry;
 use s3_history::{AsItself, Recorder};
-use s3_machine::{Answer, Turn, one_more_entry};
+use s3_machine::{Answer, Rules, Turn, one_more_entry};
 use s3_records::Records;
 use s3_store::Store;
 use s3_terms::NoMemory;
@@ -20,13 +20,13 @@ pub type Prefix = s3_history::Prefix<Entry>;
 
 /// A store, and the history of the commands that it answered, which no memory holds.
 ///
-/// Contracts see which history it is, and the least size of a part. They see the store as it was when the book was
-/// opened, the entries since then, and the store as it is. Its type keeps that the entries are a legal history, which
+/// Contracts see which history it is, and the rules of its server. They see the store as it was when the book was opened,
+/// the entries since then, and the store as it is. Its type keeps that the entries are a legal history, which
 /// leads from the one to the other.
 #[derive(Drop)]
 pub struct Book<R: Records + Drop> {
     store: Store<R>,
-    least_part: u64,
+    rules: Rules,
     alloc: Global,
     recorder: Recorder<Entry>,
     // The store at the opening, as the one entry of a history of its own.
@@ -44,19 +44,19 @@ impl<R: Records + Drop> Model for Book<R> {
 
     ghost coded = { Prim.hlevel (codes, coded_standing) };
 
-    ghost view = { λ b. record { origin = b.recorder.origin; least = b.least_part; opening = told_or b.opening.entries b.store; entries = b.recorder.entries; store = b.store } };
+    ghost view = { λ b. record { origin = b.recorder.origin; rules = b.rules; opening = told_or b.opening.entries b.store; entries = b.recorder.entries; store = b.store } };
 
     ghost invariant = { λ b. (b.opening.entries ≡ told_or b.opening.entries b.store ∷ [])
-        × KeepsHistory (record { origin = b.recorder.origin; least = b.least_part; opening = told_or b.opening.entries b.store; entries = b.recorder.entries; store = b.store })
+        × KeepsHistory (record { origin = b.recorder.origin; rules = b.rules; opening = told_or b.opening.entries b.store; entries = b.recorder.entries; store = b.store })
         × (b.first ≡ (told_or b.opening.entries b.store).number) };
 }
 
 impl<R: Records + Drop> Book<R> {
-    /// A book that opens with this store, with no entry. `least_part` is the least size, in bytes, of a part that isn't
-    /// the last; all commands have the same. The error never comes, though no contract can say so.
-    pub fn new(alloc: Global, least_part: u64, store: Store<R>) -> Result<Book<R>, NoMemory>
+    /// A book that opens with this store, with no entry. All commands go by these rules. The error never comes, though no
+    /// contract can say so.
+    pub fn new(alloc: Global, rules: Rules, store: Store<R>) -> Result<Book<R>, NoMemory>
         ensures { IfOk result (λ book.
-            book ≡ record { origin = book.origin; least = least_part; opening = store; entries = []; store = store }) }
+            book ≡ record { origin = book.origin; rules = rules; opening = store; entries = []; store = store }) }
     {
         let Some(recorder) = Recorder::new() else {
             return Err(NoMemory);
@@ -69,7 +69,7 @@ impl<R: Records + Drop> Book<R> {
             first: store.number(),
             opening: opening.prefix(),
             store,
-            least_part,
+            rules,
             alloc,
             recorder,
         })
@@ -88,20 +88,18 @@ impl<R: Records + Drop> Book<R> {
     pub fn enter(&mut self, seat: u64, turn: Turn) -> Result<Answer, NoMemory>
         ensures entry { IfOk result (λ answer. self.new.entries ≡ self.old.entries ++ recorded seat turn answer ∷ []) }
         ensures answer { IfOk result (λ answer. answer
-            ≡ record { number = self.old.store.number; outcome = outcome_of self.old.least self.old.store turn.moment turn.command }) }
-        ensures store { IfOk result (λ answer. self.new.store ≡ after_step self.old.least self.old.store turn.moment turn.command) }
-        ensures least { self.new.least ≡ self.old.least }
+            ≡ record { number = self.old.store.number; outcome = outcome_of self.old.rules self.old.store turn.moment turn.command }) }
+        ensures store { IfOk result (λ answer. self.new.store ≡ after_step self.old.rules self.old.store turn.moment turn.command) }
+        ensures rules { self.new.rules ≡ self.old.rules }
         ensures opening { self.new.opening ≡ self.old.opening }
         ensures origin { self.new.origin ≡ self.old.origin }
         ensures err { OnErr result (self.new ≡ self.old) }
-        ensures memory { OnErr result (MayLack R.is_in_memory self.old.least self.old.store turn) }
+        ensures memory { OnErr result (MayLack R.is_in_memory self.old.rules self.old.store turn) }
     {
         one_more_entry();
         let asked = Snapshot::of(&turn);
         let Turn { command, moment } = turn;
-        let answer = self
-            .store
-            .apply(self.alloc, self.least_part, command, moment)?;
+        let answer = self.store.apply(self.alloc, &self.rules, command, moment)?;
         let entry = Entry {
             seat,
             turn: asked,

@@ -5,6 +5,7 @@ ghost use Rattle.s3_journal.specs.Desk.{Continues, most_seats};
 
 use crate::book::Book;
 use s3_config::Config;
+use s3_machine::Rules;
 use s3_records::Records;
 use s3_store::Store;
 use s3_terms::NoMemory;
@@ -40,6 +41,7 @@ impl<R: Records + Drop> Model for Start<R> {
     ghost use Rattle.std.specs.Prelude.{◌≡◌, []};
     ghost use Rattle.std.specs.Coded.{codes};
     ghost use Rattle.s3_store.specs.Steps.{coded_standing};
+    ghost use Rattle.s3_machine.specs.Rules.{rules_of};
     ghost use Rattle.s3_journal.specs.Desk.{Opening, most_seats};
 
     ghost Value = { Opening };
@@ -48,16 +50,21 @@ impl<R: Records + Drop> Model for Start<R> {
 
     ghost view = { λ s. record { name = s.blank.name; base = record { origin = s.book.origin; settings = s.settings.value; store = s.book.opening } } };
 
-    ghost invariant = { λ s. (s.blank.parts ≡ most_seats) × (s.book.entries ≡ []) × (s.book.least ≡ s.settings.value.min_part) };
+    ghost invariant = { λ s. (s.blank.parts ≡ most_seats) × (s.book.entries ≡ []) × (s.book.rules ≡ rules_of s.settings.value) };
 }
 
 impl<R: Records + Drop> Start<R> {
-    /// What a desk over this store is opened with, with these settings. The error never comes, though no contract can say so.
+    /// What a desk over this store is opened with, with these settings.
+    ///
+    /// # Errors
+    ///
+    /// `NoMemory` where there is no memory for a copy of the region's name.
     pub fn new(alloc: Global, config: &Config, store: Store<R>) -> Result<Start<R>, NoMemory>
         ensures settings { IfOk result (λ start. start.base.settings ≡ config.now) }
         ensures store { IfOk result (λ start. start.base.store ≡ store) }
     {
-        let book = Book::new(alloc, config.min_part(), store)?;
+        let rules = Rules::of(alloc, config)?;
+        let book = Book::new(alloc, rules, store)?;
         Ok(Start {
             book,
             blank: Blank::new(u64::MAX),

@@ -62,7 +62,7 @@ fn answer_turn<R: Records + Drop>(
     ensures begins { IsPrefix known.now.entries book.old.entries }
     ensures keeps { KeepsHistory book.old }
     ensures err { OnErr result (book.new ≡ book.old) }
-    ensures memory { OnErr result (MayLack R.is_in_memory book.old.least book.old.store turn) }
+    ensures memory { OnErr result (MayLack R.is_in_memory book.old.rules book.old.store turn) }
 {
     book.check(known);
     let _ = book.store();

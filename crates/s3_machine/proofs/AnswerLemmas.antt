@@ -34,6 +34,7 @@ use Rattle.s3_machine.specs.declared.command.Found.{Found}
 use Rattle.s3_machine.specs.declared.command.ObjectCopy.{ObjectCopy}
 use Rattle.s3_machine.specs.declared.command.Source.{Source as CopySource}
 use Rattle.s3_machine.specs.declared.command.Outcome.TheVariants as outcomes
+use Rattle.s3_machine.specs.declared.rules.Rules.{Rules}
 use Rattle.s3_terms.specs.Fault.{◌>>◌, ◌>>=◌}
 use Rattle.s3_machine.specs.Fault.{refuse, as_refusal}
 use Rattle.s3_machine.specs.Effects.{Address, Object, UploadPlace, Read, place_of, open_at, upload_stored, joined_at, writes, copies, completes, source_read, brought, brings, object_of, stored_by, whole, read_at, reads, given_whole, is_refused, succeeds, shown_as, by_conditions}
@@ -41,7 +42,7 @@ use Rattle.s3_machine.specs.History.{Entry, IsAnswer, after, after_entry}
 use Rattle.s3_machine.specs.Kept.{SparesVersion, ReadsVersion, Stores, Copies, WouldGive, WouldMake, Source, Put, Copy, Completion, Marks, EveryHistory, StoredIsKept, VersionsAreKept, StoredIsTold, ReadsGiveOrFail, MarkersHide, QuietEntriesChangeNothing, PutsAreKept, PutVersionsAreKept, CopiesAreKept, CopyVersionsAreKept, BodiesAreTagged, PutsStoreTheirContents, CopiesStoreTheirSource, CompletionsStoreTheirParts, StoredHasSource}
 use Rattle.s3_machine.specs.Laws.{QuietStepsChangeNothing, ConditionsJudgeReads}
 use Rattle.s3_machine.specs.Step.{State, Stepped, read_for_copy, shows_all, may_be_copied, source_found, described, copied, data_of, shown_in, makes_marker, found_in, outcome_shown, shown_by, key_done, done, stepped, step}
-use Rattle.s3_machine.proofs.EffectLemmas.{Rules, versions_at, shown, after_line, copy_done}
+use Rattle.s3_machine.proofs.EffectLemmas.{FollowRules, versions_at, shown, after_line, copy_done}
 use Rattle.s3_machine.proofs.HistoryLemmas.{after-push, parts_of, right_at}
 use Rattle.s3_machine.proofs.KeptLemmas.{outcome_is, picked, got, plain_shown, step_reads, stored_there, stored_writes, key_left}
 
@@ -56,29 +57,29 @@ gives_or_refuses s name conditions (Ok read) is =
     subst P (sym (ap (λ (c : Conditions). shown_by c (facts_of read)) is ∙ plain_shown (facts_of read))) refl
 gives_or_refuses s name conditions (Err refusal) is = refl
 
-step_gives_or_refuses : (least : ℕ) (s : State) (n t : ℕ) (command : Command) (a : Address) (version : Option VersionId)
-    → reads command ≡ Some (whole a version) → GivesOrRefuses (step least s n t command)
+step_gives_or_refuses : (rules : Rules) (s : State) (n t : ℕ) (command : Command) (a : Address) (version : Option VersionId)
+    → reads command ≡ Some (whole a version) → GivesOrRefuses (step rules s n t command)
 unfolding done key_done
-step_gives_or_refuses least s n t (commands.Key name key (key_commands.Read asked)) a version is =
+step_gives_or_refuses rules s n t (commands.Key name key (key_commands.Read asked)) a version is =
     let same : read_at (record { bucket = name; key = key }) asked ≡ whole a version = cc in
     after_line GivesOrRefuses s (not (has_bucket s name)) NoSuchBucket (key_done s n t name key (key_commands.Read asked)) refl
     (λ there. gives_or_refuses s name asked.conditions (pick asked.version (versions_of s name key)) (ap (λ (q : Read). q.conditions) same))
-step_gives_or_refuses least s n t _ a version is = absurd (cc)
+step_gives_or_refuses rules s n t _ a version is = absurd (cc)
 
 pub reads_give_or_fail : EveryHistory ReadsGiveOrFail
-reads_give_or_fail least s n entries legal before later e address version parts is =
-    let there = after least s before in
-    let outcome = outcome_is least there _ e (right_at least s n entries before later e legal parts) in
+reads_give_or_fail rules s n entries legal before later e address version parts is =
+    let there = after rules s before in
+    let outcome = outcome_is rules there _ e (right_at rules s n entries before later e legal parts) in
     ap (λ o. is_some (given_whole o)) outcome
-    ∙ step_gives_or_refuses least there e.answer.number e.moment e.command address version is
+    ∙ step_gives_or_refuses rules there e.answer.number e.moment e.command address version is
     ∙ sym (ap succeeds outcome)
 
 pub quiet_entries_change_nothing : QuietStepsChangeNothing → EveryHistory QuietEntriesChangeNothing
-quiet_entries_change_nothing steps least s n entries legal before later e parts quiet =
-    let there = after least s before in
-    let outcome = outcome_is least there _ e (right_at least s n entries before later e legal parts) in
-    after-push least s before e
-    ∙ steps least there e.answer.number e.moment e.command (⊎_elim (λ is. inl (sym (ap is_refused outcome) ∙ is)) inr quiet)
+quiet_entries_change_nothing steps rules s n entries legal before later e parts quiet =
+    let there = after rules s before in
+    let outcome = outcome_is rules there _ e (right_at rules s n entries before later e legal parts) in
+    after-push rules s before e
+    ∙ steps rules there e.answer.number e.moment e.command (⊎_elim (λ is. inl (sym (ap is_refused outcome) ∙ is)) inr quiet)
 
 -- ---- conditions
 
@@ -97,7 +98,7 @@ read_judged s name conditions (Err refusal) = refl
 
 pub conditions_judge_reads : ConditionsJudgeReads
 unfolding done key_done
-conditions_judge_reads least s n t name key version conditions =
+conditions_judge_reads rules s n t name key version conditions =
     let read = pick version (versions_of s name key) in
     behind_line s conditions (not (has_bucket s name))
     (key_done s n t name key (key_commands.Read (record { version = version; conditions = conditions })))
@@ -169,8 +170,8 @@ would_give s source found is =
     all_shown (judged_by source.conditions facts.moment facts.tag facts.size) by.meets in
     record {
       found = found;
-      gives = λ least n t command reading.
-          ap given_whole (step_reads least s n t command (source_read source) first.0 reading first.1)
+      gives = λ rules n t command reading.
+          ap given_whole (step_reads rules s n t command (source_read source) first.0 reading first.1)
           ∙ ap (λ (r : Result (Version (List ℕ) × Data (List ℕ)) Refusal). given_whole (picked s source.bucket source.conditions r)) by.is
           ∙ ap (λ (r : Result Selection Refusal). given_whole (shown_as (found_in (versioning_of s source.bucket) by.picks) r)) shown
           ∙ ap Some by.holds;
@@ -239,18 +240,18 @@ source_there s n t name key true source accepted = absurd (cc)
 source_there s n t name key false (Ok what) accepted = (what, refl)
 source_there s n t name key false (Err refusal) accepted = absurd (cc)
 
-copy_stores : (least : ℕ) (s : State) (n t : ℕ) (command : Command) (a : Address) (asked : Read) (said : Option Description)
-    → writes command ≡ a ∷ [] → copies command ≡ Some (asked, said) → succeeds (step least s n t command).1 ≡ true
+copy_stores : (rules : Rules) (s : State) (n t : ℕ) (command : Command) (a : Address) (asked : Read) (said : Option Description)
+    → writes command ≡ a ∷ [] → copies command ≡ Some (asked, said) → succeeds (step rules s n t command).1 ≡ true
     → StoresSome s n t a command
 unfolding done key_done copy_done
-copy_stores least s n t (commands.Key bucket key (key_commands.Copy copy)) a asked said written from accepted =
+copy_stores rules s n t (commands.Key bucket key (key_commands.Copy copy)) a asked said written from accepted =
     let same : record { bucket = bucket; key = key } ≡ a = cc in
     let known = source_there s n t bucket key (not (has_bucket s bucket)) (copied s copy) accepted in (
       known.0,
       ap (λ (r : Result (Data (List ℕ)) Refusal). option_map (object_of s n t (record { bucket = bucket; key = key })) (result_ok r)) known.1
           ∙ ap (λ (b : Address). Some (object_of s n t b known.0)) same,
     )
-copy_stores least s n t _ a asked said written from accepted = absurd (cc)
+copy_stores rules s n t _ a asked said written from accepted = absurd (cc)
 
 -- what an accepted copy stores, as an object, is what it says of its source
 pub record Copied (s : State) (e : Entry) (address : Address) (asked : Read) (said : Option Description) : Type 0 where
@@ -258,34 +259,34 @@ pub record Copied (s : State) (e : Entry) (address : Address) (asked : Read) (sa
   pub gives : WouldGive s asked source
   pub stores : Stores s e (object_of s e.answer.number e.moment address (described said source))
 
-entry_copies : (least : ℕ) (s : State) (n : ℕ) (e : Entry) (address : Address) (asked : Read) (said : Option Description) → IsAnswer least s n e
+entry_copies : (rules : Rules) (s : State) (n : ℕ) (e : Entry) (address : Address) (asked : Read) (said : Option Description) → IsAnswer rules s n e
     → Copies address asked said e → Copied s e address asked said
-entry_copies least s n e address asked said answer copy =
-    let some = copy_stores least s e.answer.number e.moment e.command address asked said copy.written copy.from
-    (sym (ap succeeds (outcome_is least s n e answer)) ∙ copy.accepted) in
+entry_copies rules s n e address asked said answer copy =
+    let some = copy_stores rules s e.answer.number e.moment e.command address asked said copy.written copy.from
+    (sym (ap succeeds (outcome_is rules s n e answer)) ∙ copy.accepted) in
     let object = object_of s e.answer.number e.moment address in
     let stores : Stores s e (object some.0) = record { by = some.1; accepted = copy.accepted } in
     let from = source_stored s e.answer.number e.moment e.command asked said (object some.0) copy.from some.1 in
     record { source = from.source; gives = from.gives; stores = subst (λ (d : Data (List ℕ)). Stores s e (object d)) from.is stores }
 
 pub copies_are_kept : EveryHistory StoredIsKept → EveryHistory CopiesAreKept
-copies_are_kept law least s n entries legal before between later copy read address asked said parts is leaves reading =
-    let here = after least s before in
-    let there = right_at least s n entries before (between ++ read ∷ later) copy legal (parts ∙ append_assoc before (copy ∷ between) (read ∷ later)) in
-    let stored = entry_copies least here _ copy address asked said there is in
-    (stored.source, stored.gives, law least s n entries legal before between later copy read _ parts stored.stores leaves reading)
+copies_are_kept law rules s n entries legal before between later copy read address asked said parts is leaves reading =
+    let here = after rules s before in
+    let there = right_at rules s n entries before (between ++ read ∷ later) copy legal (parts ∙ append_assoc before (copy ∷ between) (read ∷ later)) in
+    let stored = entry_copies rules here _ copy address asked said there is in
+    (stored.source, stored.gives, law rules s n entries legal before between later copy read _ parts stored.stores leaves reading)
 
 pub copy_versions_are_kept : EveryHistory StoredIsTold → EveryHistory VersionsAreKept → EveryHistory CopyVersionsAreKept
-copy_versions_are_kept tells law least s n entries legal before between later copy read address asked said id parts is touches spares reading =
-    let here = after least s before in
+copy_versions_are_kept tells law rules s n entries legal before between later copy read address asked said id parts is touches spares reading =
+    let here = after rules s before in
     let split = parts ∙ append_assoc before (copy ∷ between) (read ∷ later) in
-    let stored = entry_copies least here _ copy address asked said (right_at least s n entries before (between ++ read ∷ later) copy legal split) is in
+    let stored = entry_copies rules here _ copy address asked said (right_at rules s n entries before (between ++ read ∷ later) copy legal split) is in
     let object = object_of here copy.answer.number copy.moment address (described said stored.source) in
-    let told = tells least s n entries legal before (between ++ read ∷ later) copy object split stored.stores in
+    let told = tells rules s n entries legal before (between ++ read ∷ later) copy object split stored.stores in
     let same : id ≡ object.id = cc (touches, told.under) in (
       stored.source,
       stored.gives,
-      law least s n entries legal before between later copy read object parts stored.stores
+      law rules s n entries legal before between later copy read object parts stored.stores
           (subst (λ (i : VersionId). SparesVersion address i between) same spares)
           (subst (λ (i : VersionId). ReadsVersion address i read) same reading),
     )
@@ -351,18 +352,18 @@ stored_has_source s e object stores = source_of s e e.command object refl stores
 
 -- what holds of what is stored holds of puts
 pub puts_are_kept : EveryHistory StoredIsKept → EveryHistory PutsAreKept
-puts_are_kept law least s n entries legal before between later put read address what parts puts =
-    law least s n entries legal before between later put read _ parts
-    (puts_store_their_contents (after least s before) put address what puts)
+puts_are_kept law rules s n entries legal before between later put read address what parts puts =
+    law rules s n entries legal before between later put read _ parts
+    (puts_store_their_contents (after rules s before) put address what puts)
 
 pub put_versions_are_kept : EveryHistory StoredIsTold → EveryHistory VersionsAreKept → EveryHistory PutVersionsAreKept
-put_versions_are_kept tells law least s n entries legal before between later put read address what id parts puts touches spares reading =
-    let object = object_of (after least s before) put.answer.number put.moment address what in
-    let stores = puts_store_their_contents (after least s before) put address what puts in
-    let told = tells least s n entries legal before (between ++ read ∷ later) put object
+put_versions_are_kept tells law rules s n entries legal before between later put read address what id parts puts touches spares reading =
+    let object = object_of (after rules s before) put.answer.number put.moment address what in
+    let stores = puts_store_their_contents (after rules s before) put address what puts in
+    let told = tells rules s n entries legal before (between ++ read ∷ later) put object
     (parts ∙ append_assoc before (put ∷ between) (read ∷ later)) stores in
     let same : id ≡ object.id = cc (touches, told.under) in
-    law least s n entries legal before between later put read object parts stores
+    law rules s n entries legal before between later put read object parts stores
     (subst (λ (i : VersionId). SparesVersion address i between) same spares)
     (subst (λ (i : VersionId). ReadsVersion address i read) same reading)
 
@@ -375,11 +376,11 @@ brought_tag (commands.Key bucket key (key_commands.Put put)) body is =
 brought_tag _ body is = absurd (cc)
 
 pub bodies_are_tagged : EveryHistory StoredIsTold → EveryHistory BodiesAreTagged
-bodies_are_tagged tells least s n entries legal before later e body parts is accepted =
+bodies_are_tagged tells rules s n entries legal before later e body parts is accepted =
     let put = brought_tag e.command body is in
-    let stores = puts_store_their_contents (after least s before) e put.0 put.1
+    let stores = puts_store_their_contents (after rules s before) e put.0 put.1
     (record { written = put.2; brings = put.3; accepted = accepted }) in
-    (tells least s n entries legal before later e _ parts stores).tagged ∙ ap Some put.4
+    (tells rules s n entries legal before later e _ parts stores).tagged ∙ ap Some put.4
 
 -- ---- delete markers
 
@@ -400,32 +401,32 @@ told_shown : (b : Versioning) (n : ℕ) (id : VersionId) → outcomes.Deleted (s
 told_shown b n id is = cc
 
 -- a delete that makes a marker hides
-step_marks : versions.MarkersHide (List ℕ) → ChangesFollowRules (List ℕ) → (least : ℕ) (s : State) (n t : ℕ) (a : Address) (id : VersionId)
-    → (step least s n t (commands.Key a.bucket a.key (key_commands.Delete None))).1 ≡ outcomes.Deleted (Some id) true
-    → IsHidden (step least s n t (commands.Key a.bucket a.key (key_commands.Delete None))).0 a
+step_marks : versions.MarkersHide (List ℕ) → ChangesFollowRules (List ℕ) → (rules : Rules) (s : State) (n t : ℕ) (a : Address) (id : VersionId)
+    → (step rules s n t (commands.Key a.bucket a.key (key_commands.Delete None))).1 ≡ outcomes.Deleted (Some id) true
+    → IsHidden (step rules s n t (commands.Key a.bucket a.key (key_commands.Delete None))).0 a
 unfolding done key_done
-step_marks hide rules least s n t a id is =
+step_marks hide follow rules s n t a id is =
     after_line (λ st. st.1 ≡ outcomes.Deleted (Some id) true → IsHidden st.0 a) s (not (has_bucket s a.bucket)) NoSuchBucket (key_done s n t a.bucket a.key (key_commands.Delete None))
     (λ none. absurd (cc))
-    (λ there marked. hidden_by hide _ a (versioning_of s a.bucket) n t (versions_at s a) id (rules s a.bucket a.key (KeyDeleted n t) (not-false (has_bucket s a.bucket) there)) (told_shown (versioning_of s a.bucket) n id marked))
+    (λ there marked. hidden_by hide _ a (versioning_of s a.bucket) n t (versions_at s a) id (follow s a.bucket a.key (KeyDeleted n t) (not-false (has_bucket s a.bucket) there)) (told_shown (versioning_of s a.bucket) n id marked))
     is
 
-module _ (places : ChangesAreByPlace (List ℕ)) (rules : Rules) (hide : versions.MarkersHide (List ℕ)) where
-  entry_marks : (least : ℕ) (s : State) (n : ℕ) (e : Entry) (a : Address) → IsAnswer least s n e → Marks a e → IsHidden (after_entry least s e) a
-  entry_marks least s n e a answer marks =
+module _ (places : ChangesAreByPlace (List ℕ)) (follow : FollowRules) (hide : versions.MarkersHide (List ℕ)) where
+  entry_marks : (rules : Rules) (s : State) (n : ℕ) (e : Entry) (a : Address) → IsAnswer rules s n e → Marks a e → IsHidden (after_entry rules s e) a
+  entry_marks rules s n e a answer marks =
       let deletes = commands.Key a.bucket a.key (key_commands.Delete None) in
-      let outcome = ap (λ c. (step least s e.answer.number e.moment c).1) (sym marks.deletes) ∙ sym (outcome_is least s n e answer) ∙ marks.marked in
-      subst (λ c. IsHidden (step least s e.answer.number e.moment c).0 a) (sym marks.deletes)
-      (step_marks hide rules.keys least s e.answer.number e.moment a marks.id outcome)
+      let outcome = ap (λ c. (step rules s e.answer.number e.moment c).1) (sym marks.deletes) ∙ sym (outcome_is rules s n e answer) ∙ marks.marked in
+      subst (λ c. IsHidden (step rules s e.answer.number e.moment c).0 a) (sym marks.deletes)
+      (step_marks hide follow.keys rules s e.answer.number e.moment a marks.id outcome)
 
   pub markers_hide : EveryHistory MarkersHide
-  markers_hide least s n entries legal before between later mark read address parts marks leaves reads =
-      let at = parts_of least s n entries before between later mark read legal parts in
-      let here = after least s before in
-      let there = after least (after_entry least here mark) between in
-      let left = key_left places rules least (after_entry least here mark) at.k between address at.legal leaves in
-      let hidden = entry_marks least here at.m mark address at.right marks in
-      outcome_is least there at.j read at.right_last
-      ∙ step_reads least there read.answer.number read.moment read.command _ hidden.marker reads.read
+  markers_hide rules s n entries legal before between later mark read address parts marks leaves reads =
+      let at = parts_of rules s n entries before between later mark read legal parts in
+      let here = after rules s before in
+      let there = after rules (after_entry rules here mark) between in
+      let left = key_left places follow rules (after_entry rules here mark) at.k between address at.legal leaves in
+      let hidden = entry_marks rules here at.m mark address at.right marks in
+      outcome_is rules there at.j read at.right_last
+      ∙ step_reads rules there read.answer.number read.moment read.command _ hidden.marker reads.read
       (ap current left ∙ hidden.is_current)
       ∙ ap (picked there address.bucket reads.conditions) (ap (pick None) left ∙ hidden.told)

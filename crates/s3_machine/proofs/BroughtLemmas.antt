@@ -13,6 +13,7 @@ use Rattle.s3_machine.specs.declared.command.Description.{Description}
 use Rattle.s3_machine.specs.declared.command.Found.{Found}
 use Rattle.s3_machine.specs.declared.command.Outcome.{Outcome}
 use Rattle.s3_machine.specs.declared.command.Outcome.TheVariants as outcomes
+use Rattle.s3_machine.specs.declared.rules.Rules.{Rules}
 use Rattle.s3_conditions.specs.declared.conditions.Selection.TheVariants.{Whole}
 use Rattle.s3_machine.specs.Effects.{Address, Object, Read, object_of, reads, given, given_whole, found_object}
 use Rattle.s3_machine.specs.History.{Entry, Legal, after}
@@ -21,7 +22,7 @@ use Rattle.s3_machine.specs.Step.{State, described}
 use Rattle.s3_machine.specs.Uploads.{AreJoined, WasJoined}
 use Rattle.s3_machine.specs.UploadsKept.{CompletionsJoinWhatWasSent}
 use Rattle.s3_machine.proofs.AnswerLemmas.{stored_has_source}
-use Rattle.s3_machine.proofs.EffectLemmas.{Rules}
+use Rattle.s3_machine.proofs.EffectLemmas.{FollowRules}
 use Rattle.s3_machine.proofs.HistoryLemmas.{Legal-append}
 use Rattle.s3_machine.proofs.OriginLemmas.{only_stored_stands, reads_found}
 use Rattle.s3_machine.proofs.StateLemmas.{Numbers}
@@ -51,9 +52,9 @@ put_before entries before more what parts was = record {
 }
 
 -- and so is what was joined before
-joined_before : (least : ℕ) (s : State) (entries before more : List Entry) (what : Data (List ℕ)) → entries ≡ before ++ more
-    → WasJoined least s before what → WasJoined least s entries what
-joined_before least s entries before more what parts was = record {
+joined_before : (rules : Rules) (s : State) (entries before more : List Entry) (what : Data (List ℕ)) → entries ≡ before ++ more
+    → WasJoined rules s before what → WasJoined rules s entries what
+joined_before rules s entries before more what parts was = record {
   before = was.before;
   complete = was.complete;
   later = was.later ++ more;
@@ -80,17 +81,17 @@ described_before entries before more origin what parts was = record {
 }
 
 -- these data have an origin that was put or joined: they are it, or it as a copy said of it
-pub record WasBrought (least : ℕ) (s : State) (entries : List Entry) (what : Data (List ℕ)) : Type 0 where
+pub record WasBrought (rules : Rules) (s : State) (entries : List Entry) (what : Data (List ℕ)) : Type 0 where
   pub origin : Data (List ℕ)
-  pub brought : WasPut entries origin ⊎ WasJoined least s entries origin
+  pub brought : WasPut entries origin ⊎ WasJoined rules s entries origin
   pub since : (what ≡ origin) ⊎ WasDescribed entries origin what
 
-brought_before : (least : ℕ) (s : State) (entries before more : List Entry) (what : Data (List ℕ)) → entries ≡ before ++ more
-    → WasBrought least s before what → WasBrought least s entries what
-brought_before least s entries before more what parts was = record {
+brought_before : (rules : Rules) (s : State) (entries before more : List Entry) (what : Data (List ℕ)) → entries ≡ before ++ more
+    → WasBrought rules s before what → WasBrought rules s entries what
+brought_before rules s entries before more what parts was = record {
   origin = was.origin;
   brought = ⊎_elim (λ put. inl (put_before entries before more was.origin parts put))
-      (λ joined. inr (joined_before least s entries before more was.origin parts joined)) was.brought;
+      (λ joined. inr (joined_before rules s entries before more was.origin parts joined)) was.brought;
   since = ⊎_elim (λ is. inl is) (λ said. inr (described_before entries before more was.origin what parts said)) was.since;
 }
 
@@ -106,14 +107,14 @@ same_stored : (s : State) (e : Entry) (n t : ℕ) (address : Address) (what : Da
 same_stored s e n t address what object stores others =
     ap (λ (o : Object). o.stored) (same_Some (object_of s n t address what) object (sym others.by ∙ stores.by))
 
-module _ (places : ChangesAreByPlace (List ℕ)) (rules : Rules) (numbers : Numbers) (empty : OpeningIsEmpty (List ℕ))
-    (ids : IdsAreTold (List ℕ)) (joins : EveryHistory CompletionsJoinWhatWasSent) (least : ℕ) (s : State) (n : ℕ) (names : List (List ℕ)) (opens : s ≡ opening names) where
+module _ (places : ChangesAreByPlace (List ℕ)) (follow : FollowRules) (numbers : Numbers) (empty : OpeningIsEmpty (List ℕ))
+    (ids : IdsAreTold (List ℕ)) (joins : EveryHistory CompletionsJoinWhatWasSent) (rules : Rules) (s : State) (n : ℕ) (names : List (List ℕ)) (opens : s ≡ opening names) where
   -- what a copy stores has the origin of its source
-  by_copy : (earlier : List Entry) (object : Object) (was : WasStored least s earlier object) (asked : Read) (said : Option Description)
+  by_copy : (earlier : List Entry) (object : Object) (was : WasStored rules s earlier object) (asked : Read) (said : Option Description)
       (source : Data (List ℕ))
-      → Copies object.address asked said was.write → object.stored ≡ described said source → WasBrought least s earlier source
-      → WasBrought least s earlier object.stored
-  by_copy earlier object was asked None source copies is old = subst (WasBrought least s earlier) (sym is) old
+      → Copies object.address asked said was.write → object.stored ≡ described said source → WasBrought rules s earlier source
+      → WasBrought rules s earlier object.stored
+  by_copy earlier object was asked None source copies is old = subst (WasBrought rules s earlier) (sym is) old
   by_copy earlier object was asked (Some said) source copies is old =
       let copied : WasDescribed earlier old.origin object.stored =
       record {
@@ -130,17 +131,17 @@ module _ (places : ChangesAreByPlace (List ℕ)) (rules : Rules) (numbers : Numb
       record { origin = old.origin; brought = old.brought; since = inr copied }
 
   -- what an entry stored was put or joined, if all that was stored before it was
-  from_source : (earlier : List Entry) (object : Object) (was : WasStored least s earlier object) → Legal least s n earlier → Legal least s n was.before
-      → ((o : Object) → WasStored least s was.before o → WasBrought least s was.before o.stored)
-      → Source (after least s was.before) was.write object → WasBrought least s earlier object.stored
+  from_source : (earlier : List Entry) (object : Object) (was : WasStored rules s earlier object) → Legal rules s n earlier → Legal rules s n was.before
+      → ((o : Object) → WasStored rules s was.before o → WasBrought rules s was.before o.stored)
+      → Source (after rules s was.before) was.write object → WasBrought rules s earlier object.stored
   from_source earlier object was all legal known (Put puts) =
       let put : WasPut earlier object.stored =
       record { before = was.before; put = was.write; later = was.between; parts = was.parts; address = object.address; puts = puts } in
       record { origin = object.stored; brought = inl put; since = inl refl }
   from_source earlier object was all legal known (Completion upload listed at completes makes) =
-      let made = joins least s n earlier all names was.before was.between was.write upload listed opens was.parts completes in
-      let same = same_stored (after least s was.before) was.write was.write.answer.number was.write.moment upload.address made.0 object was.stores made.2 in
-      let joined : WasJoined least s earlier object.stored =
+      let made = joins rules s n earlier all names was.before was.between was.write upload listed opens was.parts completes in
+      let same = same_stored (after rules s was.before) was.write was.write.answer.number was.write.moment upload.address made.0 object was.stores made.2 in
+      let joined : WasJoined rules s earlier object.stored =
       record {
         before = was.before;
         complete = was.write;
@@ -149,35 +150,35 @@ module _ (places : ChangesAreByPlace (List ℕ)) (rules : Rules) (numbers : Numb
         upload = upload;
         listed = listed;
         completes = completes;
-        joined = subst (AreJoined least s was.before upload listed) same made.1;
+        joined = subst (AreJoined rules s was.before upload listed) same made.1;
       } in
       record { origin = object.stored; brought = inr joined; since = inl refl }
   from_source earlier object was all legal known (Copy asked said source copies gives is) =
-      let here = after least s was.before in
-      let read = reads_found ids least here 0 0 (read_of asked) asked gives.found (reads_it asked)
-      (whole_given _ gives.found (gives.gives least 0 0 (read_of asked) (reads_it asked))) in
+      let here = after rules s was.before in
+      let read = reads_found ids rules here 0 0 (read_of asked) asked gives.found (reads_it asked)
+      (whole_given _ gives.found (gives.gives rules 0 0 (read_of asked) (reads_it asked))) in
       let from = found_object asked.address read.0 gives.found in
-      let stored = only_stored_stands places rules numbers empty least s n was.before legal names from opens read.2 in
+      let stored = only_stored_stands places follow numbers empty rules s n was.before legal names from opens read.2 in
       by_copy earlier object was asked said source copies is
-      (brought_before least s earlier was.before (was.write ∷ was.between) source was.parts
-      (subst (WasBrought least s was.before) gives.holds (known from stored)))
+      (brought_before rules s earlier was.before (was.write ∷ was.between) source was.parts
+      (subst (WasBrought rules s was.before) gives.holds (known from stored)))
 
-  brought_within : (k : ℕ) (earlier : List Entry) (object : Object) → length earlier ≤ k → Legal least s n earlier
-      → WasStored least s earlier object → WasBrought least s earlier object.stored
+  brought_within : (k : ℕ) (earlier : List Entry) (object : Object) → length earlier ≤ k → Legal rules s n earlier
+      → WasStored rules s earlier object → WasBrought rules s earlier object.stored
   brought_within zero earlier object within legal was =
       let size : length earlier ≡ length was.before + suc (length was.between) = ap length was.parts ∙ length-append was.before (was.write ∷ was.between) in
       absurd (omega arith)
   brought_within (suc k) earlier object within legal was =
       let size : length earlier ≡ length was.before + suc (length was.between) = ap length was.parts ∙ length-append was.before (was.write ∷ was.between) in
       let fewer : length was.before ≤ k = omega arith in
-      let before = (Legal-append least s n was.before (was.write ∷ was.between) (subst (Legal least s n) was.parts legal)).0 in
+      let before = (Legal-append rules s n was.before (was.write ∷ was.between) (subst (Legal rules s n) was.parts legal)).0 in
       from_source earlier object was legal before
       (λ (o : Object) stored. brought_within k was.before o fewer before stored)
-      (stored_has_source (after least s was.before) was.write object was.stores)
+      (stored_has_source (after rules s was.before) was.write object was.stores)
 
-pub stored_was_brought : ChangesAreByPlace (List ℕ) → Rules → Numbers → OpeningIsEmpty (List ℕ) → IdsAreTold (List ℕ)
+pub stored_was_brought : ChangesAreByPlace (List ℕ) → FollowRules → Numbers → OpeningIsEmpty (List ℕ) → IdsAreTold (List ℕ)
     → EveryHistory CompletionsJoinWhatWasSent → EveryHistory StoredWasBrought
-stored_was_brought places rules numbers empty ids joins least s n entries legal names earlier later object opens parts was =
-    let brought = brought_within places rules numbers empty ids joins least s n names opens (length earlier) earlier object (omega arith)
-    (Legal-append least s n earlier later (subst (Legal least s n) parts legal)).0 was in
+stored_was_brought places follow numbers empty ids joins rules s n entries legal names earlier later object opens parts was =
+    let brought = brought_within places follow numbers empty ids joins rules s n names opens (length earlier) earlier object (omega arith)
+    (Legal-append rules s n earlier later (subst (Legal rules s n) parts legal)).0 was in
     (brought.origin, brought.brought, brought.since)

@@ -13,7 +13,7 @@ use Rattle.s3_names.specs.declared.ids.VersionId.{VersionId}
 use Rattle.s3_names.specs.declared.ids.VersionId.TheVariants.{Null}
 use Rattle.s3_versions.specs.declared.version.Version.{Version}
 use Rattle.s3_versions.specs.declared.version.Versioning.{Versioning}
-use Rattle.s3_versions.specs.declared.version.Versioning.TheVariants.{Unversioned, Enabled, Suspended}
+use Rattle.s3_versions.specs.declared.version.Versioning.TheVariants.{Unversioned}
 use Rattle.s3_versions.specs.declared.version.VersioningStatus.{VersioningStatus}
 use Rattle.s3_versions.specs.declared.version.VersioningStatus.TheVariants as status
 use Rattle.s3_versions.specs.Rules.{is_under, without, KeyChange, VersionPut, KeyDeleted, VersionDropped, after_change}

@@ -26,6 +26,7 @@ use Rattle.s3_machine.specs.declared.command.KeyCommand.TheVariants as key_comma
 use Rattle.s3_machine.specs.declared.command.UploadCommand.TheVariants as upload_commands
 use Rattle.s3_machine.specs.declared.command.Outcome.{Outcome}
 use Rattle.s3_machine.specs.declared.command.Outcome.TheVariants as outcomes
+use Rattle.s3_machine.specs.declared.rules.Rules.{Rules}
 use Rattle.s3_machine.specs.Fault.{refuse, as_refusal}
 use Rattle.s3_machine.specs.Effects.{Address, place_of, object_of, stored_by, where_absent, wants_absent, writes, is_refused, succeeds}
 use Rattle.s3_machine.specs.Conditional.{has_object, IsTakenAway, AcceptedFindsNone, RefusedFindsOne, StoredKeepsOthersOut, OneIsAccepted}
@@ -34,7 +35,7 @@ use Rattle.s3_machine.specs.Kept.{EveryHistory}
 use Rattle.s3_machine.specs.Laws.{QuietStepsChangeNothing}
 use Rattle.s3_machine.specs.Step.{State, Stepped, is_taken, data_of, key_done, upload_done, done, stepped, step}
 use Rattle.s3_machine.proofs.ContainsLemmas.{contains_or}
-use Rattle.s3_machine.proofs.EffectLemmas.{Rules, versions_at, address_or, completing}
+use Rattle.s3_machine.proofs.EffectLemmas.{FollowRules, versions_at, address_or, completing}
 use Rattle.s3_machine.proofs.HistoryLemmas.{after-push, parts_of, right_at}
 use Rattle.s3_machine.proofs.JoinedLemmas.{command_completed}
 use Rattle.s3_machine.proofs.KeptLemmas.{outcome_is, entry_does, entry_stores}
@@ -64,27 +65,27 @@ past_open s None next success = absurd (false≢true success)
 past_open s (Some u) next success = (u, success)
 
 -- a write that wants no object finds none where it succeeds
-none_found : (least : ℕ) (s : State) (n t : ℕ) (command : Command) (a : Address) → wants_absent command ≡ Some a
-    → succeeds (step least s n t command).1 ≡ true → has_object s a ≡ false
+none_found : (rules : Rules) (s : State) (n t : ℕ) (command : Command) (a : Address) → wants_absent command ≡ Some a
+    → succeeds (step rules s n t command).1 ≡ true → has_object s a ≡ false
 unfolding done key_done upload_done
-none_found least s n t (commands.Key name key (key_commands.Put put)) a wants success =
+none_found rules s n t (commands.Key name key (key_commands.Put put)) a wants success =
     let asked = wanted put.if_absent (record { bucket = name; key = key }) a wants in
     let there = past s (not (has_bucket s name)) NoSuchBucket (key_done s n t name key (key_commands.Put put)) success in
     let free = past s (put.if_absent && is_taken s name key) PreconditionFailed _ there.1 in
     sym (ap (has_object s) asked.1) ∙ sym (unmet put.if_absent (is_taken s name key) asked.0) ∙ free.0
-none_found least s n t (commands.Upload name key id (upload_commands.Complete listed if_absent)) a wants success =
+none_found rules s n t (commands.Upload name key id (upload_commands.Complete listed if_absent)) a wants success =
     let asked = wanted if_absent (record { bucket = name; key = key }) a wants in
-    let there = past s (not (has_bucket s name)) NoSuchBucket (upload_done least s n t name key id (upload_commands.Complete listed if_absent)) success in
+    let there = past s (not (has_bucket s name)) NoSuchBucket (upload_done rules s n t name key id (upload_commands.Complete listed if_absent)) success in
     let found = past_open s (upload_at s name key id) _ there.1 in
     let free = past s (if_absent && is_taken s name key) PreconditionFailed _ found.1 in
     sym (ap (has_object s) asked.1) ∙ sym (unmet if_absent (is_taken s name key) asked.0) ∙ free.0
-none_found least s n t _ a wants success = absurd (cc)
+none_found rules s n t _ a wants success = absurd (cc)
 
 pub accepted_finds_none : EveryHistory AcceptedFindsNone
-accepted_finds_none least s n entries legal before later put address parts puts =
-    let here = after least s before in
-    none_found least here put.answer.number put.moment put.command address puts.wants
-    (sym (ap succeeds (outcome_is least here _ put (right_at least s n entries before later put legal parts))) ∙ puts.accepted)
+accepted_finds_none rules s n entries legal before later put address parts puts =
+    let here = after rules s before in
+    none_found rules here put.answer.number put.moment put.command address puts.wants
+    (sym (ap succeeds (outcome_is rules here _ put (right_at rules s n entries before later put legal parts))) ∙ puts.accepted)
 
 -- ---- what is refused
 
@@ -141,30 +142,30 @@ completing_unconditional s n t name key id marker (Ok what) other fails = cc
 completing_unconditional s n t name key id marker (Err code) other fails = other (cc)
 
 -- a write that wants no object finds one where it is refused for that
-one_found : (least : ℕ) (s : State) (n t : ℕ) (command : Command) (a : Address) (marker : Bool) → wants_absent command ≡ Some a
-    → Fails marker (step least s n t command).1 → has_object s a ≡ true
+one_found : (rules : Rules) (s : State) (n t : ℕ) (command : Command) (a : Address) (marker : Bool) → wants_absent command ≡ Some a
+    → Fails marker (step rules s n t command).1 → has_object s a ≡ true
 unfolding done key_done upload_done
-one_found least s n t (commands.Key name key (key_commands.Put put)) a marker wants fails =
+one_found rules s n t (commands.Key name key (key_commands.Put put)) a marker wants fails =
     let asked = wanted put.if_absent (record { bucket = name; key = key }) a wants in
     let there = fails_behind s marker (not (has_bucket s name)) NoSuchBucket (key_done s n t name key (key_commands.Put put)) (λ same. cc) fails in
     let unfree = fails_at s marker (put.if_absent && is_taken s name key) _ there (λ told. cc) in
     sym (ap (has_object s) asked.1) ∙ sym (unmet put.if_absent (is_taken s name key) asked.0) ∙ unfree
-one_found least s n t (commands.Upload name key id (upload_commands.Complete listed if_absent)) a marker wants fails =
+one_found rules s n t (commands.Upload name key id (upload_commands.Complete listed if_absent)) a marker wants fails =
     let asked = wanted if_absent (record { bucket = name; key = key }) a wants in
     let there = fails_behind s marker (not (has_bucket s name)) NoSuchBucket
-    (upload_done least s n t name key id (upload_commands.Complete listed if_absent)) (λ same. cc) fails in
+    (upload_done rules s n t name key id (upload_commands.Complete listed if_absent)) (λ same. cc) fails in
     let found = fails_open s marker (upload_at s name key id) _ there in
     let unfree = fails_at s marker (if_absent && is_taken s name key) _ found.1
-    (completing_unconditional s n t name key id marker (completed least listed found.0) (completed_unconditional least listed found.0)) in
+    (completing_unconditional s n t name key id marker (completed rules.least_part listed found.0) (completed_unconditional rules.least_part listed found.0)) in
     sym (ap (has_object s) asked.1) ∙ sym (unmet if_absent (is_taken s name key) asked.0) ∙ unfree
-one_found least s n t _ a marker wants fails = absurd (cc)
+one_found rules s n t _ a marker wants fails = absurd (cc)
 
 pub refused_finds_one : QuietStepsChangeNothing → EveryHistory RefusedFindsOne
-refused_finds_one quiet least s n entries legal before later put address marker parts wants fails =
-    let here = after least s before in
-    let outcome = sym (outcome_is least here _ put (right_at least s n entries before later put legal parts)) ∙ fails in (
-      one_found least here put.answer.number put.moment put.command address marker wants outcome,
-      after-push least s before put ∙ quiet least here put.answer.number put.moment put.command (inl (ap is_refused outcome)),
+refused_finds_one quiet rules s n entries legal before later put address marker parts wants fails =
+    let here = after rules s before in
+    let outcome = sym (outcome_is rules here _ put (right_at rules s n entries before later put legal parts)) ∙ fails in (
+      one_found rules here put.answer.number put.moment put.command address marker wants outcome,
+      after-push rules s before put ∙ quiet rules here put.answer.number put.moment put.command (inl (ap is_refused outcome)),
     )
 
 -- ---- what stands between two of them
@@ -179,27 +180,27 @@ object_with s a v d is holds =
 same_object : (s after : State) (a : Address) → versions_at after a ≡ versions_at s a → has_object after a ≡ has_object s a
 same_object s after a same = ap (λ (vs : List (Version (List ℕ))). is_some (option_and_then stored (current vs))) same
 
-module _ (places : ChangesAreByPlace (List ℕ)) (rules : Rules) (least : ℕ) where
+module _ (places : ChangesAreByPlace (List ℕ)) (follow : FollowRules) (rules : Rules) where
   -- an entry behind which no object is at an address where one was wrote there
-  entry_takes : (s : State) (n : ℕ) (e : Entry) (a : Address) → IsAnswer least s n e → has_object s a ≡ true
-      → has_object (after_entry least s e) a ≡ false → Contains (writes e.command) a × (succeeds e.answer.outcome ≡ true)
+  entry_takes : (s : State) (n : ℕ) (e : Entry) (a : Address) → IsAnswer rules s n e → has_object s a ≡ true
+      → has_object (after_entry rules s e) a ≡ false → Contains (writes e.command) a × (succeeds e.answer.outcome ≡ true)
   entry_takes s n e a answer found leaves =
-      elim (entry_does places rules least s n e answer).effect [
+      elim (entry_does places follow rules s n e answer).effect [
         | inl same ↦
-            absurd (false≢true (sym leaves ∙ same_object s (after_entry least s e) a (same.versions a.bucket a.key) ∙ found))
+            absurd (false≢true (sym leaves ∙ same_object s (after_entry rules s e) a (same.versions a.bucket a.key) ∙ found))
         | inr changes ↦
             elim (contains_or address_or (writes e.command) a) [
-              | inl written ↦ (written, ap succeeds (outcome_is least s n e answer) ∙ changes.accepted)
+              | inl written ↦ (written, ap succeeds (outcome_is rules s n e answer) ∙ changes.accepted)
               | inr never ↦
-                  absurd (false≢true (sym leaves ∙ same_object s (after_entry least s e) a (changes.other_keys a never) ∙ found))
+                  absurd (false≢true (sym leaves ∙ same_object s (after_entry rules s e) a (changes.other_keys a never) ∙ found))
             ]
       ]
 
   -- where an object is and won't be, the first of some entries takes it away, or one behind it
-  taken_first : (s : State) (n : ℕ) (e : Entry) (es : List Entry) (a : Address) (now : Bool) → has_object (after_entry least s e) a ≡ now
-      → IsAnswer least s n e → has_object s a ≡ true
-      → (has_object (after_entry least s e) a ≡ true → IsTakenAway least (after_entry least s e) es a)
-      → IsTakenAway least s (e ∷ es) a
+  taken_first : (s : State) (n : ℕ) (e : Entry) (es : List Entry) (a : Address) (now : Bool) → has_object (after_entry rules s e) a ≡ now
+      → IsAnswer rules s n e → has_object s a ≡ true
+      → (has_object (after_entry rules s e) a ≡ true → IsTakenAway rules (after_entry rules s e) es a)
+      → IsTakenAway rules s (e ∷ es) a
   taken_first s n e es a true now answer found behind =
       let rest = behind now in
       record {
@@ -219,48 +220,48 @@ module _ (places : ChangesAreByPlace (List ℕ)) (rules : Rules) (least : ℕ) w
         takes = record { written = does.0; accepted = does.1; found = found; leaves = now };
       }
 
-  taken_away : (s : State) (n : ℕ) (es : List Entry) (a : Address) → Legal least s n es → has_object s a ≡ true
-      → has_object (after least s es) a ≡ false → IsTakenAway least s es a
+  taken_away : (s : State) (n : ℕ) (es : List Entry) (a : Address) → Legal rules s n es → has_object s a ≡ true
+      → has_object (after rules s es) a ≡ false → IsTakenAway rules s es a
   taken_away s n [] a legal found leaves = absurd (false≢true (sym leaves ∙ found))
   taken_away s n (e ∷ es) a legal found leaves =
-      taken_first s n e es a (has_object (after_entry least s e) a) refl legal.0 found
-      (λ now. taken_away (after_entry least s e) (suc n) es a legal.1 now leaves)
+      taken_first s n e es a (has_object (after_entry rules s e) a) refl legal.0 found
+      (λ now. taken_away (after_entry rules s e) (suc n) es a legal.1 now leaves)
 
-module _ (places : ChangesAreByPlace (List ℕ)) (rules : Rules) (puts : PutsAreCurrent (List ℕ)) where
+module _ (places : ChangesAreByPlace (List ℕ)) (follow : FollowRules) (puts : PutsAreCurrent (List ℕ)) where
   pub stored_keeps_others_out : EveryHistory StoredKeepsOthersOut
-  stored_keeps_others_out least s n entries legal before between later first second object parts stores absent =
-      let at = parts_of least s n entries before between later first second legal parts in
-      let here = after least s before in
-      let there = after_entry least here first in
-      let added = entry_stores places rules least here at.m first object at.right stores in
+  stored_keeps_others_out rules s n entries legal before between later first second object parts stores absent =
+      let at = parts_of rules s n entries before between later first second legal parts in
+      let here = after rules s before in
+      let there = after_entry rules here first in
+      let added = entry_stores places follow rules here at.m first object at.right stores in
       let now = puts added.versioning first.answer.number object.moment object.stored (versions_at here object.address) in
       let found = object_with there object.address _ object.stored (ap current added.versions ∙ now.0) refl in
-      let last = after least there between in
-      let leaves = none_found least last second.answer.number second.moment second.command object.address absent.wants
-      (sym (ap succeeds (outcome_is least last at.j second at.right_last)) ∙ absent.accepted) in
-      subst (λ (state : State). IsTakenAway least state between object.address) (sym (after-push least s before first))
-      (taken_away places rules least there at.k between object.address at.legal found leaves)
+      let last = after rules there between in
+      let leaves = none_found rules last second.answer.number second.moment second.command object.address absent.wants
+      (sym (ap succeeds (outcome_is rules last at.j second at.right_last)) ∙ absent.accepted) in
+      subst (λ (state : State). IsTakenAway rules state between object.address) (sym (after-push rules s before first))
+      (taken_away places follow rules there at.k between object.address at.legal found leaves)
 
 -- a write that wants no object stores one where it succeeds
-stores_one : (least : ℕ) (s : State) (n t : ℕ) (command : Command) (a : Address) → wants_absent command ≡ Some a
-    → succeeds (step least s n t command).1 ≡ true → (what : Data (List ℕ)) × (stored_by s n t command ≡ Some (object_of s n t a what))
-stores_one least s n t (commands.Key name key (key_commands.Put put)) a wants success =
+stores_one : (rules : Rules) (s : State) (n t : ℕ) (command : Command) (a : Address) → wants_absent command ≡ Some a
+    → succeeds (step rules s n t command).1 ≡ true → (what : Data (List ℕ)) × (stored_by s n t command ≡ Some (object_of s n t a what))
+stores_one rules s n t (commands.Key name key (key_commands.Put put)) a wants success =
     let asked = wanted put.if_absent (record { bucket = name; key = key }) a wants in
     (data_of put, ap (λ (b : Address). Some (object_of s n t b (data_of put))) asked.1)
-stores_one least s n t (commands.Upload name key id (upload_commands.Complete listed if_absent)) a wants success =
+stores_one rules s n t (commands.Upload name key id (upload_commands.Complete listed if_absent)) a wants success =
     let asked = wanted if_absent (record { bucket = name; key = key }) a wants in
-    let done = command_completed least s n t (commands.Upload name key id (upload_commands.Complete listed if_absent))
+    let done = command_completed rules s n t (commands.Upload name key id (upload_commands.Complete listed if_absent))
     (place_of name key id) listed refl success in
     (done.what, done.by ∙ ap (λ (b : Address). Some (object_of s n t b done.what)) asked.1)
-stores_one least s n t _ a wants success = absurd (cc)
+stores_one rules s n t _ a wants success = absurd (cc)
 
 pub one_is_accepted : EveryHistory StoredKeepsOthersOut → EveryHistory OneIsAccepted
-one_is_accepted law least s n entries legal before between later first second address parts one another =
-    let here = after least s before in
-    let right = right_at least s n entries before (between ++ second ∷ later) first legal
+one_is_accepted law rules s n entries legal before between later first second address parts one another =
+    let here = after rules s before in
+    let right = right_at rules s n entries before (between ++ second ∷ later) first legal
     (parts ∙ append_assoc before (first ∷ between) (second ∷ later)) in
-    let stores = stores_one least here first.answer.number first.moment first.command address one.wants
-    (sym (ap succeeds (outcome_is least here _ first right)) ∙ one.accepted) in
-    law least s n entries legal before between later first second
+    let stores = stores_one rules here first.answer.number first.moment first.command address one.wants
+    (sym (ap succeeds (outcome_is rules here _ first right)) ∙ one.accepted) in
+    law rules s n entries legal before between later first second
     (object_of here first.answer.number first.moment address stores.0) parts
     (record { by = stores.1; accepted = one.accepted }) another

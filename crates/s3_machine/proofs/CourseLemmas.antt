@@ -16,6 +16,7 @@ use Rattle.s3_machine.specs.declared.command.Command.TheVariants as commands
 use Rattle.s3_machine.specs.declared.command.KeyCommand.TheVariants as key_commands
 use Rattle.s3_machine.specs.declared.command.Description.{Description}
 use Rattle.s3_machine.specs.declared.command.UploadCommand.TheVariants as upload_commands
+use Rattle.s3_machine.specs.declared.rules.Rules.{Rules}
 use Rattle.s3_machine.specs.Effects.{Address, UploadPlace, PartPlace, open_at, begins, sends, puts_part, ends, succeeds}
 use Rattle.s3_machine.specs.History.{Entry, IsAnswer, Legal, after, after_entry}
 use Rattle.s3_machine.specs.Step.{State, upload_begun, step}
@@ -33,21 +34,21 @@ abbrev pub part_of : UploadPlace → ℕ → PartPlace
 part_of upload number = record { upload = upload; number = number }
 
 -- an upload that is open was begun, and its parts were put since
-pub record Course (least : ℕ) (s : State) (past : List Entry) (upload : UploadPlace) (u : Upload (List ℕ)) : Type 0 where
+pub record Course (rules : Rules) (s : State) (past : List Entry) (upload : UploadPlace) (u : Upload (List ℕ)) : Type 0 where
   pub begun : WasBegun past upload u.moment (asked_of u)
   pub sent : (number : ℕ) (p : Part (List ℕ)) → part_at number u.parts ≡ Some p
-      → WasSent least (begun_state least s begun) begun.since (part_of upload number) p
+      → WasSent rules (begun_state rules s begun) begun.since (part_of upload number) p
 
-abbrev pub AllCourses : ℕ → State → List Entry → Type 0
-AllCourses least s past =
-    (upload : UploadPlace) (u : Upload (List ℕ)) → open_at (after least s past) upload ≡ Some u → Course least s past upload u
+abbrev pub AllCourses : Rules → State → List Entry → Type 0
+AllCourses rules s past =
+    (upload : UploadPlace) (u : Upload (List ℕ)) → open_at (after rules s past) upload ≡ Some u → Course rules s past upload u
 
 -- what the entries leave is what those behind the beginning leave
-since_begun : (least : ℕ) (s : State) (past : List Entry) (upload : UploadPlace) (t : ℕ) (asked : Description)
-    (begun : WasBegun past upload t asked) → after least s past ≡ after least (begun_state least s begun) begun.since
-since_begun least s past upload t asked begun =
-    ap (after least s) (begun.parts ∙ sym (append_assoc begun.before (begun.begin ∷ []) begun.since))
-    ∙ after-append least s (begun.before ++ begun.begin ∷ []) begun.since
+since_begun : (rules : Rules) (s : State) (past : List Entry) (upload : UploadPlace) (t : ℕ) (asked : Description)
+    (begun : WasBegun past upload t asked) → after rules s past ≡ after rules (begun_state rules s begun) begun.since
+since_begun rules s past upload t asked begun =
+    ap (after rules s) (begun.parts ∙ sym (append_assoc begun.before (begun.begin ∷ []) begun.since))
+    ∙ after-append rules s (begun.before ++ begun.begin ∷ []) begun.since
 
 -- ---- one more entry
 
@@ -67,9 +68,9 @@ begun_push past e upload t asked was keeps = record {
   stays = all_push (KeepsOpen upload) was.since e was.stays keeps;
 }
 
-sent_push : (least : ℕ) (s : State) (past : List Entry) (e : Entry) (part : PartPlace) (what : Part (List ℕ)) → WasSent least s past part what
-    → KeepsPart part e → KeepsOpen part.upload e → WasSent least s (past ++ e ∷ []) part what
-sent_push least s past e part what was keeps stays = record {
+sent_push : (rules : Rules) (s : State) (past : List Entry) (e : Entry) (part : PartPlace) (what : Part (List ℕ)) → WasSent rules s past part what
+    → KeepsPart part e → KeepsOpen part.upload e → WasSent rules s (past ++ e ∷ []) part what
+sent_push rules s past e part what was keeps stays = record {
   before = was.before;
   send = was.send;
   later = was.later ++ e ∷ [];
@@ -93,17 +94,17 @@ sends_alone _ part is = absurd (cc)
 no_part : (number : ℕ) (p : Part (List ℕ)) → part_at {B = List ℕ} number [] ≡ Some p → ⊥
 no_part number p is = absurd (cc)
 
-module _ (law : ChangesAreByUpload (List ℕ)) (puts : PutsAreUnderOneNumber (List ℕ)) (least : ℕ) where
+module _ (law : ChangesAreByUpload (List ℕ)) (puts : PutsAreUnderOneNumber (List ℕ)) (rules : Rules) where
   pub fate_of : (s : State) (e : Entry) (upload : UploadPlace)
-      → Fate s e.answer.number e.moment e.command (step least s e.answer.number e.moment e.command) upload
-  fate_of s e upload = step_fate law least s e.answer.number e.moment e.command upload
+      → Fate s e.answer.number e.moment e.command (step rules s e.answer.number e.moment e.command) upload
+  fate_of s e upload = step_fate law rules s e.answer.number e.moment e.command upload
 
   -- an entry that leaves an upload keeps it open, and its parts
-  left_keeps : (s : State) (n : ℕ) (e : Entry) (upload : UploadPlace) → IsAnswer least s n e
-      → IsLeft s e.answer.number e.command (step least s e.answer.number e.moment e.command) upload
+  left_keeps : (s : State) (n : ℕ) (e : Entry) (upload : UploadPlace) → IsAnswer rules s n e
+      → IsLeft s e.answer.number e.command (step rules s e.answer.number e.moment e.command) upload
       → KeepsOpen upload e × ((number : ℕ) → KeepsPart (part_of upload number) e)
   left_keeps s n e upload answer left =
-      let outcome = ap succeeds (outcome_is least s n e answer) in
+      let outcome = ap succeeds (outcome_is rules s n e answer) in
       (λ at. outcome ∙ left.unended at, λ number at. outcome ∙ left.unsent number at)
 
   -- so does one that puts a part to it, but for the part of this number
@@ -118,39 +119,39 @@ module _ (law : ChangesAreByUpload (List ℕ)) (puts : PutsAreUnderOneNumber (Li
 
   -- the part that an entry puts was put by it, and the others before
   sent_parts : (s : State) (past : List Entry) (e : Entry) (upload : UploadPlace) (number : ℕ) (what : Part (List ℕ)) (found : Upload (List ℕ))
-      → Sends (after least s past) (part_of upload number) what e
-      → ((m : ℕ) (p : Part (List ℕ)) → part_at m found.parts ≡ Some p → WasSent least s past (part_of upload m) p)
+      → Sends (after rules s past) (part_of upload number) what e
+      → ((m : ℕ) (p : Part (List ℕ)) → part_at m found.parts ≡ Some p → WasSent rules s past (part_of upload m) p)
       → (m : ℕ) (p : Part (List ℕ)) → part_at m (part_put number what found.parts) ≡ Some p
-      → WasSent least s (past ++ e ∷ []) (part_of upload m) p
+      → WasSent rules s (past ++ e ∷ []) (part_of upload m) p
   sent_parts s past e upload number what found sends known m p is =
       elim (eqb_tells m number) [
         | inl same ↦
             let there = (puts number what found.parts).0 in
             let part = same_Some what p (sym there ∙ sym (ap (λ (k : ℕ). part_at k (part_put number what found.parts)) same.1) ∙ is) in
-            subst (WasSent least s (past ++ e ∷ []) (part_of upload m)) part (record {
+            subst (WasSent rules s (past ++ e ∷ []) (part_of upload m)) part (record {
               before = past;
               send = e;
               later = [];
               parts = refl;
-              sends = subst (λ (k : ℕ). Sends (after least s past) (part_of upload k) what e) (sym same.1) sends;
+              sends = subst (λ (k : ℕ). Sends (after rules s past) (part_of upload k) what e) (sym same.1) sends;
               last = tt;
               stays = tt;
             })
         | inr other ↦
-            sent_push least s past e (part_of upload m) p
+            sent_push rules s past e (part_of upload m) p
             (known m p (sym ((puts number what found.parts).1 m other.1) ∙ is))
             (sent_keeps_others e upload number m sends.at other.1)
             (sent_keeps_open e upload number sends.at)
       ]
 
   -- what is open behind an entry was begun by it, or before it
-  course_push : (s : State) (n : ℕ) (past : List Entry) (e : Entry) → AllCourses least s past → IsAnswer least (after least s past) n e
-      → AllCourses least s (past ++ e ∷ [])
+  course_push : (s : State) (n : ℕ) (past : List Entry) (e : Entry) → AllCourses rules s past → IsAnswer rules (after rules s past) n e
+      → AllCourses rules s (past ++ e ∷ [])
   unfolding begun_push
   course_push s n past e known answer upload u is =
-      let here = after least s past in
-      let now : open_at (after_entry least here e) upload ≡ Some u = sym (ap (λ (t : State). open_at t upload) (after-push least s past e)) ∙ is in
-      let outcome = ap succeeds (outcome_is least here n e answer) in
+      let here = after rules s past in
+      let now : open_at (after_entry rules here e) upload ≡ Some u = sym (ap (λ (t : State). open_at t upload) (after-push rules s past e)) ∙ is in
+      let outcome = ap succeeds (outcome_is rules here n e answer) in
       elim (fate_of here e upload) [
         | Left left ↦
             let course = known upload u (sym left.same ∙ now) in
@@ -158,12 +159,12 @@ module _ (law : ChangesAreByUpload (List ℕ)) (puts : PutsAreUnderOneNumber (Li
             record {
               begun = begun_push past e upload u.moment (asked_of u) course.begun keeps.0;
               sent = λ number p at.
-                  sent_push least (begun_state least s course.begun) course.begun.since e (part_of upload number) p
+                  sent_push rules (begun_state rules s course.begun) course.begun.since e (part_of upload number) p
                   (course.sent number p at) (keeps.1 number) keeps.0;
             }
         | Begun begun ↦
             let what = same_Some (upload_begun e.moment begun.asked) u (sym begun.now ∙ now) in
-            subst (Course least s (past ++ e ∷ []) upload) what (record {
+            subst (Course rules s (past ++ e ∷ []) upload) what (record {
               begun = record {
                 before = past;
                 begin = e;
@@ -178,31 +179,31 @@ module _ (law : ChangesAreByUpload (List ℕ)) (puts : PutsAreUnderOneNumber (Li
         | Sent send ↦
             let what = same_Some (with_part send.number send.part send.found) u (sym send.now ∙ now) in
             let course = known upload send.found send.there in
-            let start = begun_state least s course.begun in
-            let state = since_begun least s past upload send.found.moment (asked_of send.found) course.begun in
-            let sends : Sends (after least start course.begun.since) (part_of upload send.number) send.part e =
+            let start = begun_state rules s course.begun in
+            let state = since_begun rules s past upload send.found.moment (asked_of send.found) course.begun in
+            let sends : Sends (after rules start course.begun.since) (part_of upload send.number) send.part e =
             record {
               at = send.at;
               puts = sym (ap (λ (before : State). puts_part before e.moment e.command) state) ∙ send.puts;
               accepted = outcome ∙ send.accepted;
             } in
-            subst (Course least s (past ++ e ∷ []) upload) what (record {
+            subst (Course rules s (past ++ e ∷ []) upload) what (record {
               begun = begun_push past e upload send.found.moment (asked_of send.found) course.begun (sent_keeps_open e upload send.number send.at);
               sent = sent_parts start course.begun.since e upload send.number send.part send.found sends course.sent;
             })
         | Ended ended ↦ let none = ended.now in absurd (cc)
       ]
 
-  course_after : (s : State) (n : ℕ) (past es : List Entry) → AllCourses least s past → Legal least (after least s past) n es
-      → AllCourses least s (past ++ es)
-  course_after s n past [] known legal = subst (AllCourses least s) (sym (append-nil past)) known
+  course_after : (s : State) (n : ℕ) (past es : List Entry) → AllCourses rules s past → Legal rules (after rules s past) n es
+      → AllCourses rules s (past ++ es)
+  course_after s n past [] known legal = subst (AllCourses rules s) (sym (append-nil past)) known
   course_after s n past (e ∷ es) known legal =
-      subst (AllCourses least s) (append_assoc past (e ∷ []) es)
+      subst (AllCourses rules s) (append_assoc past (e ∷ []) es)
       (course_after s (suc n) (past ++ e ∷ []) es (course_push s n past e known legal.0)
-      (subst (λ (t : State). Legal least t (suc n) es) (sym (after-push least s past e)) legal.1))
+      (subst (λ (t : State). Legal rules t (suc n) es) (sym (after-push rules s past e)) legal.1))
 
-  pub courses : OpeningIsEmpty (List ℕ) → (s : State) (n : ℕ) (names : List (List ℕ)) (es : List Entry) → s ≡ opening names → Legal least s n es
-      → AllCourses least s es
+  pub courses : OpeningIsEmpty (List ℕ) → (s : State) (n : ℕ) (names : List (List ℕ)) (es : List Entry) → s ≡ opening names → Legal rules s n es
+      → AllCourses rules s es
   courses empty s n names es opens =
-      subst (λ (t : State). Legal least t n es → AllCourses least t es) (sym opens) (course_after (opening names) n [] es
+      subst (λ (t : State). Legal rules t n es → AllCourses rules t es) (sym opens) (course_after (opening names) n [] es
       (λ upload u is. let none = (empty names upload.address.bucket).no_uploads upload.address.key upload.id in absurd (cc)))

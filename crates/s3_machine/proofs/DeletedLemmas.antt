@@ -1,5 +1,5 @@
 -- What becomes of the objects that one entry deletes together.
-use Rattle.std.proofs.Common.{◌≡◌, ◌≢◌, refl, sym, ap, subst, ◌∙◌, Bool, true, false, not, cond, ◌||◌, ℕ, ◌+◌, ◌⊎◌, ⊎_elim, inl, inr, List, [], ◌∷◌, ◌++◌, append_assoc, Contains, Option, Some, None, Ok, Err}
+use Rattle.std.proofs.Common.{◌≡◌, ◌≢◌, refl, sym, ap, subst, ◌∙◌, Bool, true, false, not, cond, ◌||◌, ℕ, ◌⊎◌, ⊎_elim, inl, inr, List, [], ◌∷◌, ◌++◌, append_assoc, Contains, Option, Some, None, Ok, Err}
 use Rattle.std.proofs.lemmas.Bool.{false≢true, not-true, not-false}
 use Rattle.std.proofs.lemmas.Option.{same_Some}
 use Rattle.std.proofs.lemmas.List.Elements.{Contains-append_right}
@@ -31,6 +31,7 @@ use Rattle.s3_documents.specs.Document as documents
 use Rattle.s3_machine.specs.declared.command.Command.{Command}
 use Rattle.s3_machine.specs.declared.command.Command.TheVariants as commands
 use Rattle.s3_machine.specs.declared.command.Outcome.TheVariants as outcomes
+use Rattle.s3_machine.specs.declared.rules.Rules.{Rules}
 use Rattle.s3_machine.specs.Deleted.{Deletes, Reaches, TellsMarker, NamedKeysAreGone, NamedVersionsAreGone, OtherVersionsStay, DeletionsAreTold, MarkersAreToldOnce}
 use Rattle.s3_machine.specs.Effects.{Address, deletes, succeeds}
 use Rattle.s3_machine.specs.Fault.{refuse}
@@ -41,7 +42,7 @@ use Rattle.s3_machine.proofs.ChangeLemmas.{AllNull, none_null}
 use Rattle.s3_machine.proofs.ContainsLemmas.{nothing_in, first_or_later, contains_first}
 use Rattle.s3_machine.proofs.DeletionLemmas.{deed, IsIn, stays_in, row_of, rows_of, all_meet, reached, own_is, own_number, found_made, none_made, not_made, rests_made, acts_unmade, same_deletion, placed, makes_or_leaves, rests_or_made, other_key, all_others}
 use Rattle.s3_machine.proofs.DeletionRowLemmas.{same_row}
-use Rattle.s3_machine.proofs.EffectLemmas.{Rules, versions_at}
+use Rattle.s3_machine.proofs.EffectLemmas.{FollowRules, versions_at}
 use Rattle.s3_machine.proofs.HistoryLemmas.{after-push, after-append, Legal-append, parts_of, right_at}
 use Rattle.s3_machine.proofs.KeptLemmas.{outcome_is, picked, read_there, key_left}
 use Rattle.s3_machine.proofs.StateLemmas.{Numbers, numbered_by, opened_below, opened_null}
@@ -83,7 +84,7 @@ gone_rests : (b : Versioning) (n : ℕ) (vs : List (Version (List ℕ))) → has
 gone_rests b n vs is (inl fresh) = absurd (false≢true (sym fresh.unmade ∙ is))
 gone_rests b n vs is (inr gone) = gone
 
-module _ (places : ChangesAreByPlace (List ℕ)) (rules : ChangesFollowRules (List ℕ)) (hide : versions.MarkersHide (List ℕ))
+module _ (places : ChangesAreByPlace (List ℕ)) (follow : ChangesFollowRules (List ℕ)) (hide : versions.MarkersHide (List ℕ))
     (b : Versioning) (name : List ℕ) (n t : ℕ) where
   gone_now : (c : State) (d : KeyDeletion) → IsIn b name c → d.version ≡ None
       → IsFresh b n (versions_of c name d.key) ⊎ IsGone b n (versions_of c name d.key)
@@ -94,7 +95,7 @@ module _ (places : ChangesAreByPlace (List ℕ)) (rules : ChangesFollowRules (Li
       (λ rests. gone_rests b n vs (rests_made n vs (sym (ap (λ (v : Option VersionId). acts n v vs) alone) ∙ rests)) before)
       (λ does.
       let unmade = acts_unmade n vs (sym (ap (λ (v : Option VersionId). acts n v vs) alone) ∙ does) in
-      let now = rules c name d.key (change_named n t d.version) is.there
+      let now = follow c name d.key (change_named n t d.version) is.there
       ∙ ap (λ (x : Versioning). after_change x (change_named n t d.version) vs) is.versioning
       ∙ ap (λ (v : Option VersionId). after_change b (change_named n t v) vs) alone in
       subst (IsGone b n) (sym now)
@@ -290,30 +291,30 @@ done_line : (s : State) (n t : ℕ) (bucket : List ℕ) (deletion : Deletion) (f
 done_line s n t bucket deletion true there success = record { there = there; state = refl; told = refl }
 done_line s n t bucket deletion false there success = absurd (false≢true success)
 
-step_deletes : (least : ℕ) (s : State) (n t : ℕ) (command : Command) (bucket : List ℕ) (deletion : Deletion) → deletes command ≡ Some (bucket, deletion)
-    → succeeds (step least s n t command).1 ≡ true → IsDone s n t bucket deletion (step least s n t command)
+step_deletes : (rules : Rules) (s : State) (n t : ℕ) (command : Command) (bucket : List ℕ) (deletion : Deletion) → deletes command ≡ Some (bucket, deletion)
+    → succeeds (step rules s n t command).1 ≡ true → IsDone s n t bucket deletion (step rules s n t command)
 unfolding done
-step_deletes least s n t (commands.DeleteObjects name asked) bucket deletion asks success =
+step_deletes rules s n t (commands.DeleteObjects name asked) bucket deletion asks success =
     let same = same_Some (name, asked) (bucket, deletion) asks in
-    subst (λ (p : List ℕ × Deletion). IsDone s n t p.0 p.1 (step least s n t (commands.DeleteObjects name asked))) same
+    subst (λ (p : List ℕ × Deletion). IsDone s n t p.0 p.1 (step rules s n t (commands.DeleteObjects name asked))) same
     (done_line s n t name asked (has_bucket s name) refl success)
-step_deletes least s n t _ bucket deletion asks success = absurd (cc)
+step_deletes rules s n t _ bucket deletion asks success = absurd (cc)
 
-entry_deletes : (least : ℕ) (s : State) (n : ℕ) (e : Entry) (bucket : List ℕ) (deletion : Deletion) → IsAnswer least s n e → Deletes bucket deletion e
-    → IsDone s e.answer.number e.moment bucket deletion (step least s e.answer.number e.moment e.command)
-entry_deletes least s n e bucket deletion answer asked =
-    step_deletes least s e.answer.number e.moment e.command bucket deletion asked.asks
-    (sym (ap succeeds (outcome_is least s n e answer)) ∙ asked.accepted)
+entry_deletes : (rules : Rules) (s : State) (n : ℕ) (e : Entry) (bucket : List ℕ) (deletion : Deletion) → IsAnswer rules s n e → Deletes bucket deletion e
+    → IsDone s e.answer.number e.moment bucket deletion (step rules s e.answer.number e.moment e.command)
+entry_deletes rules s n e bucket deletion answer asked =
+    step_deletes rules s e.answer.number e.moment e.command bucket deletion asked.asks
+    (sym (ap succeeds (outcome_is rules s n e answer)) ∙ asked.accepted)
 
 -- the bucket, as the deletion finds it
 found_in_bucket : (s : State) (bucket : List ℕ) → has_bucket s bucket ≡ true → IsIn (versioning_of s bucket) bucket s
 found_in_bucket s bucket there = record { there = there; versioning = refl }
 
 pub deletions_are_told : EveryHistory DeletionsAreTold
-deletions_are_told least s n entries legal before later e bucket deletion parts asked =
-    let here = after least s before in
-    let answer = right_at least s n entries before later e legal parts in
-    outcome_is least here _ e answer ∙ (entry_deletes least here _ e bucket deletion answer asked).told
+deletions_are_told rules s n entries legal before later e bucket deletion parts asked =
+    let here = after rules s before in
+    let answer = right_at rules s n entries before later e legal parts in
+    outcome_is rules here _ e answer ∙ (entry_deletes rules here _ e bucket deletion answer asked).told
 
 -- the rows of a document
 rows_in : (quiet other : Bool) (xs ys : List DeletionRow) → outcomes.Told (documents.deletions quiet xs) ≡ outcomes.Told (documents.deletions other ys) → xs ≡ ys
@@ -321,13 +322,13 @@ rows_in quiet other xs ys is = cc
 
 module _ (places : ChangesAreByPlace (List ℕ)) where
   pub markers_are_told_once : EveryHistory MarkersAreToldOnce
-  markers_are_told_once least s n entries legal before later e bucket deletion is_quiet front middle rest one another key parts asked outcome tells =
-      let here = after least s before in
-      let answer = right_at least s n entries before later e legal parts in
-      let whole = entry_deletes least here _ e bucket deletion answer asked in
+  markers_are_told_once rules s n entries legal before later e bucket deletion is_quiet front middle rest one another key parts asked outcome tells =
+      let here = after rules s before in
+      let answer = right_at rules s n entries before later e legal parts in
+      let whole = entry_deletes rules here _ e bucket deletion answer asked in
       let told_rows = rows_told deletion.objects (markers_of here bucket e.answer.number e.moment deletion.objects) in
       let rows_are = rows_in deletion.is_quiet is_quiet told_rows (front ++ one ∷ middle ++ another ∷ rest)
-      (sym (outcome_is least here _ e answer ∙ whole.told) ∙ outcome)
+      (sym (outcome_is rules here _ e answer ∙ whole.told) ∙ outcome)
       ∙ append_assoc front (one ∷ middle) (another ∷ rest) in
       told_once places (versioning_of here bucket) bucket e.answer.number e.moment key deletion.objects here front one (middle ++ another ∷ rest) another
       (found_in_bucket here bucket whole.there) rows_are tells
@@ -344,33 +345,33 @@ module _ (places : ChangesAreByPlace (List ℕ)) where
       (ap Object (same_deletion d (record { key = a.key; version = Some id }) (sym key) (is ∙ ap (λ (i : VersionId). Some i) (sym same)))) within)
 
   pub other_versions_stay : EveryHistory OtherVersionsStay
-  other_versions_stay least s n entries legal before later e bucket deletion a id parts asked other =
-      let here = after least s before in
-      let answer = right_at least s n entries before later e legal parts in
-      let whole = entry_deletes least here _ e bucket deletion answer asked in
-      ap (λ (state : State). version_at state a.bucket a.key id) (after-push least s before e ∙ whole.state)
+  other_versions_stay rules s n entries legal before later e bucket deletion a id parts asked other =
+      let here = after rules s before in
+      let answer = right_at rules s n entries before later e legal parts in
+      let whole = entry_deletes rules here _ e bucket deletion answer asked in
+      ap (λ (state : State). version_at state a.bucket a.key id) (after-push rules s before e ∙ whole.state)
       ∙ all_others places (versioning_of here bucket) bucket e.answer.number e.moment here deletion.objects a id
       (found_in_bucket here bucket whole.there)
       (λ d marker within row made there key same.
       other there (unreached here e.answer.number bucket deletion a id d d.version refl within key same))
 
-module _ (places : ChangesAreByPlace (List ℕ)) (rules : Rules) (numbers : Numbers) where
+module _ (places : ChangesAreByPlace (List ℕ)) (follow : FollowRules) (numbers : Numbers) where
   -- the number of an entry is above those of all versions before it
-  below_before : (least : ℕ) (s : State) (n : ℕ) (entries : List Entry) (names : List (List ℕ)) (before later : List Entry) (e : Entry)
-      → Legal least s n entries → s ≡ opening names → entries ≡ before ++ e ∷ later → AreBelow e.answer.number (after least s before)
-  below_before least s n entries names before later e legal opens parts =
-      let joined = Legal-append least s n before (e ∷ later) (subst (Legal least s n) parts legal) in
-      subst (λ (m : ℕ). AreBelow m (after least s before)) (sym (numbered_by least (after least s before) _ e joined.1.0))
-      (opened_below places rules least numbers s n names before opens joined.0)
+  below_before : (rules : Rules) (s : State) (n : ℕ) (entries : List Entry) (names : List (List ℕ)) (before later : List Entry) (e : Entry)
+      → Legal rules s n entries → s ≡ opening names → entries ≡ before ++ e ∷ later → AreBelow e.answer.number (after rules s before)
+  below_before rules s n entries names before later e legal opens parts =
+      let joined = Legal-append rules s n before (e ∷ later) (subst (Legal rules s n) parts legal) in
+      subst (λ (m : ℕ). AreBelow m (after rules s before)) (sym (numbered_by rules (after rules s before) _ e joined.1.0))
+      (opened_below places follow rules numbers s n names before opens joined.0)
 
   pub named_versions_are_gone : EveryHistory NamedVersionsAreGone
-  named_versions_are_gone least s n entries legal names before later e bucket key deletion id opens parts asked named unmade =
-      let here = after least s before in
-      let answer = right_at least s n entries before later e legal parts in
-      let whole = entry_deletes least here _ e bucket deletion answer asked in
-      ap (λ (state : State). version_at state bucket key id) (after-push least s before e ∙ whole.state)
+  named_versions_are_gone rules s n entries legal names before later e bucket key deletion id opens parts asked named unmade =
+      let here = after rules s before in
+      let answer = right_at rules s n entries before later e legal parts in
+      let whole = entry_deletes rules here _ e bucket deletion answer asked in
+      ap (λ (state : State). version_at state bucket key id) (after-push rules s before e ∙ whole.state)
       ∙ all_absent places (versioning_of here bucket) bucket e.answer.number e.moment here deletion.objects key id
-      (found_in_bucket here bucket whole.there) (below_before least s n entries names before later e legal opens parts)
+      (found_in_bucket here bucket whole.there) (below_before rules s n entries names before later e legal opens parts)
       (λ d within there alone is.
       unmade (record {
         named = subst (Contains deletion.objects) (ap Object (same_deletion d (record { key = key; version = None }) there alone)) within;
@@ -379,22 +380,22 @@ module _ (places : ChangesAreByPlace (List ℕ)) (rules : Rules) (numbers : Numb
       named
 
   pub named_keys_are_gone : OpeningIsEmpty (List ℕ) → versions.MarkersHide (List ℕ) → EveryHistory NamedKeysAreGone
-  named_keys_are_gone empty hide least s n entries legal names before between later e read a deletion opens parts asked named leaves reads found =
-      let here = after least s before in
+  named_keys_are_gone empty hide rules s n entries legal names before between later e read a deletion opens parts asked named leaves reads found =
+      let here = after rules s before in
       let split = parts ∙ append_assoc before (e ∷ between) (read ∷ later) in
-      let answer = right_at least s n entries before (between ++ read ∷ later) e legal split in
-      let at = parts_of least s n entries before between later e read legal parts in
-      let joined = Legal-append least s n before (e ∷ between ++ read ∷ later) (subst (Legal least s n) split legal) in
-      let whole = entry_deletes least here _ e a.bucket deletion answer asked in
+      let answer = right_at rules s n entries before (between ++ read ∷ later) e legal split in
+      let at = parts_of rules s n entries before between later e read legal parts in
+      let joined = Legal-append rules s n before (e ∷ between ++ read ∷ later) (subst (Legal rules s n) split legal) in
+      let whole = entry_deletes rules here _ e a.bucket deletion answer asked in
       let b = versioning_of here a.bucket in
-      let there = after least (after_entry least here e) between in
-      let below = below_before least s n entries names before (between ++ read ∷ later) e legal opens split in
+      let there = after rules (after_entry rules here e) between in
+      let below = below_before rules s n entries names before (between ++ read ∷ later) e legal opens split in
       let fresh : IsFresh b e.answer.number (versions_at here a) =
       record {
         unmade = not_made e.answer.number (versions_at here a) (below a.bucket a.key);
-        null = λ is. opened_null places rules least empty s n names before opens joined.0 a.bucket is a.key;
+        null = λ is. opened_null places follow rules empty s n names before opens joined.0 a.bucket is a.key;
       } in
-      let gone = all_gone places rules.keys hide b a.bucket e.answer.number e.moment here deletion.objects a.key
+      let gone = all_gone places follow.keys hide b a.bucket e.answer.number e.moment here deletion.objects a.key
       (found_in_bucket here a.bucket whole.there)
       (λ d within same.
       elim d.version as (λ version. d.version ≡ version → version ≡ None) [
@@ -403,9 +404,9 @@ module _ (places : ChangesAreByPlace (List ℕ)) (rules : Rules) (numbers : Numb
             absurd (named.alone id (subst (Contains deletion.objects) (ap Object (same_deletion d (record { key = a.key; version = Some id }) same is)) within))
       ] refl)
       named.named fresh in
-      let left = key_left places rules least (after_entry least here e) at.k between a at.legal leaves
+      let left = key_left places follow rules (after_entry rules here e) at.k between a at.legal leaves
       ∙ ap (λ (state : State). versions_at state a) whole.state in
-      let is_there = sym (ap (λ (state : State). has_bucket state a.bucket) (after-append least s before (e ∷ between))) ∙ found in
-      outcome_is least there at.j read at.right_last
-      ∙ read_there least there read.answer.number read.moment read.command _ reads.read is_there
+      let is_there = sym (ap (λ (state : State). has_bucket state a.bucket) (after-append rules s before (e ∷ between))) ∙ found in
+      outcome_is rules there at.j read at.right_last
+      ∙ read_there rules there read.answer.number read.moment read.command _ reads.read is_there
       ∙ ap (picked there a.bucket reads.conditions) (ap (pick None) left ∙ gone_told b e.answer.number (versions_of (all_deleted here a.bucket e.answer.number e.moment deletion.objects) a.bucket a.key) gone)

@@ -395,23 +395,23 @@ module _ (places : ChangesAreByPlace (List ℕ)) (b : Versioning) (name : List �
     new : has_made n (versions_of c name key) ≡ true → IsClean c key (new_id b n)
 
   -- a deletion that names a version makes none
-  pub made_before : (rules : ChangesFollowRules (List ℕ)) (c : State) (d : KeyDeletion) (id : VersionId) → IsIn b name c → d.version ≡ Some id
+  pub made_before : (follow : ChangesFollowRules (List ℕ)) (c : State) (d : KeyDeletion) (id : VersionId) → IsIn b name c → d.version ≡ Some id
       → has_made n (versions_of (deleted c name n t (Object d)) name d.key) ≡ true → has_made n (versions_of c name d.key) ≡ true
-  made_before rules c d id is named =
+  made_before follow c d id is named =
       deed c name n t d (λ after marker. has_made n (versions_of after name d.key) ≡ true → has_made n (versions_of c name d.key) ≡ true)
       (λ rests made. made)
       (λ does made.
       let what : KeyChange (List ℕ) = change_named n t d.version in
-      let now = rules c name d.key what is.there
+      let now = follow c name d.key what is.there
       ∙ ap (λ (v : Option VersionId). after_change (versioning_of c name) (change_named n t v) (versions_of c name d.key)) named in
       yet_made n id (versions_of c name d.key) (sym (ap (has_made n) now) ∙ made))
 
-  new_here : (rules : ChangesFollowRules (List ℕ)) (c : State) (d : KeyDeletion) (version : Option VersionId) → d.version ≡ version → IsIn b name c
+  new_here : (follow : ChangesFollowRules (List ℕ)) (c : State) (d : KeyDeletion) (version : Option VersionId) → d.version ≡ version → IsIn b name c
       → OwnAreClean d.key c → has_made n (versions_of (deleted c name n t (Object d)) name d.key) ≡ true
       → IsClean (deleted c name n t (Object d)) d.key (new_id b n)
-  new_here rules c d (Some id) named is own made =
-      clean_stays c d d.key (new_id b n) is (own.new (made_before rules c d id is named made))
-  new_here rules c d None named is own made =
+  new_here follow c d (Some id) named is own made =
+      clean_stays c d d.key (new_id b n) is (own.new (made_before follow c d id is named made))
+  new_here follow c d None named is own made =
       elim (rests_or_made c d is) [
         | inl rests ↦
             clean_stays c d d.key (new_id b n) is
@@ -422,16 +422,16 @@ module _ (places : ChangesAreByPlace (List ℕ)) (b : Versioning) (name : List �
             (ap (λ (v : Option VersionId). version_at (deleted c name n t (Object d)) name d.key (reached b n v)) (sym named) ∙ now)
       ]
 
-  own_stays : (rules : ChangesFollowRules (List ℕ)) (key : List ℕ) (c : State) (d : KeyDeletion) → IsIn b name c → OwnAreClean key c
+  own_stays : (follow : ChangesFollowRules (List ℕ)) (key : List ℕ) (c : State) (d : KeyDeletion) → IsIn b name c → OwnAreClean key c
       → OwnAreClean key (deleted c name n t (Object d))
-  own_stays rules key c d is own =
+  own_stays follow key c d is own =
       let a : Address = record { bucket = name; key = key } in
       record {
         own = clean_stays c d key (Numbered n) is own.own;
         new = elim (same_or key d.key) [
           | inl there ↦
               subst (λ (k : List ℕ). has_made n (versions_of (deleted c name n t (Object d)) name k) ≡ true → IsClean (deleted c name n t (Object d)) k (new_id b n)) (sym there)
-              (new_here rules c d d.version refl is (subst (λ (k : List ℕ). OwnAreClean k c) there own))
+              (new_here follow c d d.version refl is (subst (λ (k : List ℕ). OwnAreClean k c) there own))
           | inr other ↦ λ made.
               clean_stays c d key (new_id b n) is (own.new (sym (ap (has_made n) (other_key c d a is (λ both. other both.1))) ∙ made))
         ];
@@ -442,13 +442,13 @@ module _ (places : ChangesAreByPlace (List ℕ)) (b : Versioning) (name : List �
   rests_clean c key None own rests = own.new (rests_made n (versions_of c name key) rests)
   rests_clean c key (Some id) own rests = subst (IsClean c key) (sym (own_is n id (not-false (is_own n id) rests))) own.own
 
-  pub reached_clean : (rules : ChangesFollowRules (List ℕ)) (c : State) (objects : List NamedObject) (d : KeyDeletion) → IsIn b name c → AreBelow n c
+  pub reached_clean : (follow : ChangesFollowRules (List ℕ)) (c : State) (objects : List NamedObject) (d : KeyDeletion) → IsIn b name c → AreBelow n c
       → Contains objects (Object d) → IsClean (all_deleted c name n t objects) d.key (reached b n d.version)
-  reached_clean rules c objects d is below within =
+  reached_clean follow c objects d is below within =
       let vs = versions_of c name d.key in
       let none = not_made n vs (below name d.key) in
       all_meet b name n t (OwnAreClean d.key) (λ after. IsClean after d.key (reached b n d.version)) objects c d is
-      (λ e f inside there own. own_stays rules d.key e f there own)
+      (λ e f inside there own. own_stays follow d.key e f there own)
       (λ e f inside there clean. clean_stays e f d.key (reached b n d.version) there clean)
       (λ e there own.
       elim (rests_or_made e d there) [

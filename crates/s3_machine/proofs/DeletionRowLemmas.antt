@@ -1,5 +1,5 @@
 -- What is told of several deletions by one entry, and what they touch by that.
-use Rattle.std.proofs.Common.{◌≡◌, ◌≢◌, refl, sym, ap, ap₂, subst, ◌∙◌, true, false, cond, ℕ, inl, inr, List, [], ◌∷◌, filter_map, Contains, Option, Some, None}
+use Rattle.std.proofs.Common.{◌≡◌, refl, sym, ap, ap₂, subst, ◌∙◌, true, false, cond, ℕ, inl, inr, List, [], ◌∷◌, filter_map, Contains, Option, Some, None}
 use Rattle.std.proofs.lemmas.Bool.{false≢true, false_from_ne_true}
 use Rattle.std.proofs.lemmas.Option.{same_Some}
 use Rattle.std.proofs.lemmas.Slice.Eq.{bytes_eq-Decides}
@@ -156,12 +156,12 @@ module _ (places : ChangesAreByPlace (List ℕ)) (b : Versioning) (name : List �
       there alone marker)
 
   -- where it isn't told of one deletion, none was made by that
-  told_or_later : (rules : ChangesFollowRules (List ℕ)) (objects : List NamedObject) (c : State) (key : List ℕ) (d : KeyDeletion) → IsIn b name c
+  told_or_later : (follow : ChangesFollowRules (List ℕ)) (objects : List NamedObject) (c : State) (key : List ℕ) (d : KeyDeletion) → IsIn b name c
       → has_made n (versions_of c name key) ≡ false
       → (has_made n (versions_of (deleted c name n t (Object d)) name key) ≡ false
       → Contains (rows_of b name n t (deleted c name n t (Object d)) objects) (rows.Deleted key None (marker_made_as b n)))
       → Contains (rows_of b name n t c (Object d ∷ objects)) (rows.Deleted key None (marker_made_as b n))
-  told_or_later rules objects c key d is none later =
+  told_or_later follow objects c key d is none later =
       let next = deleted c name n t (Object d) in
       let a : Address = record { bucket = name; key = key } in
       let row = rows.Deleted key None (marker_made_as b n) in
@@ -177,31 +177,31 @@ module _ (places : ChangesAreByPlace (List ℕ)) (b : Versioning) (name : List �
                   behind (false_from_ne_true (has_made n (versions_of next name key)) (λ made.
                   false≢true (sym none
                   ∙ ap (λ (k : List ℕ). has_made n (versions_of c name k)) there
-                  ∙ made_before places b name n t rules c d id is named (sym (ap (λ (k : List ℕ). has_made n (versions_of next name k)) there) ∙ made))))
+                  ∙ made_before places b name n t follow c d id is named (sym (ap (λ (k : List ℕ). has_made n (versions_of next name k)) there) ∙ made))))
             ] refl
         | inr other ↦ behind (ap (has_made n) (other_key places b name n t c d a is (λ both. other both.1)) ∙ none)
       ]
 
-  made_told : (rules : ChangesFollowRules (List ℕ)) (objects : List NamedObject) (c : State) (key : List ℕ) → IsIn b name c
+  made_told : (follow : ChangesFollowRules (List ℕ)) (objects : List NamedObject) (c : State) (key : List ℕ) → IsIn b name c
       → has_made n (versions_of c name key) ≡ false → Contains objects (Object (record { key = key; version = None }))
       → Contains (rows_of b name n t c objects) (rows.Deleted key None (marker_made_as b n))
-  made_told rules [] c key is none within = absurd (nothing_in [] (Object (record { key = key; version = None })) refl within)
-  made_told rules (Fault fault ∷ objects) c key is none within =
+  made_told follow [] c key is none within = absurd (nothing_in [] (Object (record { key = key; version = None })) refl within)
+  made_told follow (Fault fault ∷ objects) c key is none within =
       elim (first_or_later (Fault fault) (Object (record { key = key; version = None })) objects within) [
         | inl same ↦ absurd (cc)
         | inr later ↦
             contains_later (rows.Fault fault) (rows.Deleted key None (marker_made_as b n)) (rows_of b name n t c objects)
-            (made_told rules objects c key is none later)
+            (made_told follow objects c key is none later)
       ]
-  made_told rules (Object d ∷ objects) c key is none within =
+  made_told follow (Object d ∷ objects) c key is none within =
       let next = deleted c name n t (Object d) in
       elim (first_or_later (Object d) (Object (record { key = key; version = None })) objects within) [
         | inl same ↦
             contains_first (row_of b name n t c d) (rows.Deleted key None (marker_made_as b n)) (rows_of b name n t next objects)
             (told_here c key d is none same)
         | inr later ↦
-            told_or_later rules objects c key d is none
-            (λ unmade. made_told rules objects next key (stays_in b name n t c d is) unmade later)
+            told_or_later follow objects c key d is none
+            (λ unmade. made_told follow objects next key (stays_in b name n t c d is) unmade later)
       ]
 
   -- ---- what they touch
@@ -238,12 +238,12 @@ module _ (places : ChangesAreByPlace (List ℕ)) (b : Versioning) (name : List �
       (ap (λ (x : Address). Some x) (same_places name d.key a same.0 same.1))))
 
   -- and where they touch something nothing stored stands
-  pub touched_empty : (rules : ChangesFollowRules (List ℕ)) (c : State) (objects : List NamedObject) (a : Address) (id : VersionId)
+  pub touched_empty : (follow : ChangesFollowRules (List ℕ)) (c : State) (objects : List NamedObject) (a : Address) (id : VersionId)
       (v : Version (List ℕ))
       → IsIn b name c → AreBelow n c → Contains (filter_map (address_named name) objects) a
       → Contains (filter_map (id_named a.key (rows_of b name n t c objects)) objects) id
       → version_at (all_deleted c name n t objects) a.bucket a.key id ≡ Some v → stored v ≡ None
-  touched_empty rules c objects a id v is below wrote touches at =
+  touched_empty follow c objects a id v is below wrote touches at =
       let told_rows = rows_of b name n t c objects in
       let writer = made_of (address_named name) objects a wrote in
       let bucket = bucket_named name writer.0 a writer.2 in
@@ -253,9 +253,9 @@ module _ (places : ChangesAreByPlace (List ℕ)) (b : Versioning) (name : List �
       let within = subst (Contains objects) of_key.1 toucher.1 in
       let none = not_made n (versions_of c name a.key) (below name a.key) in
       let known = touches_reached objects c a.key d.version is (λ alone.
-      made_told rules objects c a.key is none
+      made_told follow objects c a.key is none
       (subst (Contains objects) (ap Object (same_deletion d (record { key = a.key; version = None }) of_key.2 alone)) within)) in
       let after = all_deleted c name n t objects in
-      reached_clean places b name n t rules c objects d is below within v
+      reached_clean places b name n t follow c objects d is below within v
       (ap (λ (k : List ℕ). version_at after name k (reached b n d.version)) of_key.2
       ∙ ap₂ (λ (q : List ℕ) (i : VersionId). version_at after q a.key i) (sym bucket) (sym known ∙ of_key.3) ∙ at)

@@ -44,6 +44,7 @@ use Rattle.s3_machine.specs.declared.command.UploadCommand.{UploadCommand}
 use Rattle.s3_machine.specs.declared.command.UploadCommand.TheVariants as upload_commands
 use Rattle.s3_machine.specs.declared.command.Outcome.{Outcome}
 use Rattle.s3_machine.specs.declared.command.Outcome.TheVariants as outcomes
+use Rattle.s3_machine.specs.declared.rules.Rules.{Rules}
 use Rattle.s3_terms.specs.Fault as faults
 use Rattle.s3_terms.specs.Fault.{◌>>◌, ◌>>=◌}
 use Rattle.s3_machine.specs.Fault.{refuse, as_refusal}
@@ -234,36 +235,24 @@ completing s n t name key id what =
     )
 
 -- the versions of a key that changes are those that the rules of its bucket give, where a completion changes it, too
-pub record Rules : Type 0 where
+pub record FollowRules : Type 0 where
   pub keys : ChangesFollowRules (List ℕ)
   pub completions : CompletionsFollowRules (List ℕ)
 
-module _ (places : ChangesAreByPlace (List ℕ)) (rules : Rules) where
-  bucket_does : (s : State) (n t : ℕ) (name : List ℕ) (asked : BucketCommand) → Does s n t (commands.Bucket name asked) (stepped s (bucket_done s t name asked))
+module _ (places : ChangesAreByPlace (List ℕ)) (follow : FollowRules) where
+  bucket_does : (rules : Rules) (s : State) (n t : ℕ) (name : List ℕ) (asked : BucketCommand) → Does s n t (commands.Bucket name asked) (stepped s (bucket_done rules s t name asked))
   unfolding bucket_done
-  bucket_does s n t name bucket_commands.Create =
+  bucket_does rules s n t name bucket_commands.Create =
       next_line s n t _ (has_bucket s name) BucketAlreadyOwnedByYou _ refl
       (λ none. same_versions s name (BucketAdded t) n t _ refl refl refl tt (places s name (BucketAdded t) (ap not none)))
-  bucket_does s n t name bucket_commands.Head =
-      next_line s n t _ (not (has_bucket s name)) NoSuchBucket _ refl (λ there. unwritten s n t _ refl)
-  bucket_does s n t name bucket_commands.Delete =
+  bucket_does rules s n t name bucket_commands.Delete =
       next_line s n t _ (not (has_bucket s name)) NoSuchBucket _ refl
       (λ there. next_line s n t _ (not (is_empty_bucket s name)) BucketNotEmpty _ refl
       (λ empty. same_versions s name BucketDropped n t _ refl refl refl tt (places s name BucketDropped (not-false (is_empty_bucket s name) empty))))
-  bucket_does s n t name (bucket_commands.PutVersioning status) =
+  bucket_does rules s n t name (bucket_commands.PutVersioning status) =
       next_line s n t _ (not (has_bucket s name)) NoSuchBucket _ refl
       (λ there. same_versions s name (VersioningSet status) n t _ refl refl refl tt (places s name (VersioningSet status) refl))
-  bucket_does s n t name bucket_commands.GetVersioning =
-      next_line s n t _ (not (has_bucket s name)) NoSuchBucket _ refl (λ there. unwritten s n t _ refl)
-  bucket_does s n t name (bucket_commands.GetLocation region) =
-      next_line s n t _ (not (has_bucket s name)) NoSuchBucket _ refl (λ there. unwritten s n t _ refl)
-  bucket_does s n t name (bucket_commands.GetConfiguration which) =
-      next_line s n t _ (not (has_bucket s name)) NoSuchBucket _ refl (λ there. unwritten s n t _ refl)
-  bucket_does s n t name (bucket_commands.ListObjects asked) =
-      next_line s n t _ (not (has_bucket s name)) NoSuchBucket _ refl (λ there. unwritten s n t _ refl)
-  bucket_does s n t name (bucket_commands.ListVersions asked) =
-      next_line s n t _ (not (has_bucket s name)) NoSuchBucket _ refl (λ there. unwritten s n t _ refl)
-  bucket_does s n t name (bucket_commands.ListUploads asked) =
+  bucket_does rules s n t name other =
       next_line s n t _ (not (has_bucket s name)) NoSuchBucket _ refl (λ there. unwritten s n t _ refl)
 
   -- a rule that only reads changes nothing
@@ -368,7 +357,7 @@ module _ (places : ChangesAreByPlace (List ℕ)) (rules : Rules) where
       → Does s n t command (changed s name (KeyChanged key (VersionPut n t what)), outcome)
   puts s n t name key command what outcome there =
       stores s n t name key command (KeyChanged key (VersionPut n t what)) what outcome
-      (places s name (KeyChanged key (VersionPut n t what)) there) (rules.keys s name key (VersionPut n t what) there) refl
+      (places s name (KeyChanged key (VersionPut n t what)) there) (follow.keys s name key (VersionPut n t what) there) refl
 
   -- a copy stores what its source has, or is refused
   key_copies : (s : State) (n t : ℕ) (name key : List ℕ) (copy : ObjectCopy) (source : Result (Data (List ℕ)) Refusal)
@@ -381,7 +370,7 @@ module _ (places : ChangesAreByPlace (List ℕ)) (rules : Rules) where
   key_copies s n t name key copy (Err refusal) is there =
       untouched s n t (commands.Key name key (key_commands.Copy copy)) _ (λ a written. refl)
 
-  key_does : (s : State) (n t : ℕ) (name key : List ℕ) (asked : KeyCommand (List ℕ)) → IsTrue (has_bucket s name)
+  key_does : (s : State) (n t : ℕ) (name key : List ℕ) (asked : KeyCommand) → IsTrue (has_bucket s name)
       → Does s n t (commands.Key name key asked) (stepped s (key_done s n t name key asked))
   unfolding key_done copy_done
   key_does s n t name key (key_commands.Copy copy) there = key_copies s n t name key copy (copied s copy) refl there
@@ -416,18 +405,18 @@ module _ (places : ChangesAreByPlace (List ℕ)) (rules : Rules) where
       ] refl
 
   -- a completion stores what the listed parts make, or is refused
-  upload_completes : (least : ℕ) (s : State) (n t : ℕ) (name key : List ℕ) (id : ℕ) (listed : List ListedPart) (if_absent : Bool)
+  upload_completes : (rules : Rules) (s : State) (n t : ℕ) (name key : List ℕ) (id : ℕ) (listed : List ListedPart) (if_absent : Bool)
       (u : Upload (List ℕ)) (rule : Result (Data (List ℕ)) Code)
-      → completed least listed u ≡ rule → upload_at s name key id ≡ Some u → IsTrue (has_bucket s name)
+      → completed rules.least_part listed u ≡ rule → upload_at s name key id ≡ Some u → IsTrue (has_bucket s name)
       → Does s n t (commands.Upload name key id (upload_commands.Complete listed if_absent)) (stepped s (as_refusal rule >>= completing s n t name key id))
-  upload_completes least s n t name key id listed if_absent u (Ok what) is found there =
+  upload_completes rules s n t name key id listed if_absent u (Ok what) is found there =
       let change = UploadCompleted key id (VersionPut n t what) in
       stores s n t name key (commands.Upload name key id (upload_commands.Complete listed if_absent)) change what _
-      (places s name change there) (rules.completions s name key id (VersionPut n t what) there) refl refl
+      (places s name change there) (follow.completions s name key id (VersionPut n t what) there) refl refl
       (ap (λ (f : Option (Upload (List ℕ))). option_map (object_of s n t (record { bucket = name; key = key })) (upload_stored f (upload_commands.Complete listed if_absent))) found
-      ∙ ap (λ (d : Data (List ℕ)). Some (object_of s n t (record { bucket = name; key = key }) d)) (completed_is least listed u what is))
+      ∙ ap (λ (d : Data (List ℕ)). Some (object_of s n t (record { bucket = name; key = key }) d)) (completed_is rules.least_part listed u what is))
       refl refl refl refl
-  upload_completes least s n t name key id listed if_absent u (Err code) is found there =
+  upload_completes rules s n t name key id listed if_absent u (Err code) is found there =
       untouched s n t (commands.Upload name key id (upload_commands.Complete listed if_absent)) _ (λ a written. refl)
 
   -- a part that is copied changes no versions
@@ -443,27 +432,27 @@ module _ (places : ChangesAreByPlace (List ℕ)) (rules : Rules) where
       (places s name (PartPut key id number part) there))
   part_copies s n t name key id number copy (Err refusal) there = unwritten s n t _ refl
 
-  upload_does : (least : ℕ) (s : State) (n t : ℕ) (name key : List ℕ) (id : ℕ) (asked : UploadCommand) → IsTrue (has_bucket s name)
-      → Does s n t (commands.Upload name key id asked) (stepped s (upload_done least s n t name key id asked))
+  upload_does : (rules : Rules) (s : State) (n t : ℕ) (name key : List ℕ) (id : ℕ) (asked : UploadCommand) → IsTrue (has_bucket s name)
+      → Does s n t (commands.Upload name key id asked) (stepped s (upload_done rules s n t name key id asked))
   unfolding upload_done
-  upload_does least s n t name key id (upload_commands.PutPart number payload) there =
+  upload_does rules s n t name key id (upload_commands.PutPart number payload) there =
       opened s n t name key id (upload_commands.PutPart number payload) _
       (λ u is. same_versions s name (PartPut key id number (part_sent t payload)) n t _ refl refl refl tt
       (places s name (PartPut key id number (part_sent t payload)) there))
-  upload_does least s n t name key id (upload_commands.CopyPart number copy) there =
+  upload_does rules s n t name key id (upload_commands.CopyPart number copy) there =
       opened s n t name key id (upload_commands.CopyPart number copy) _
       (λ u is. part_copies s n t name key id number copy (source_found s copy.source) there)
-  upload_does least s n t name key id (upload_commands.Complete listed if_absent) there =
+  upload_does rules s n t name key id (upload_commands.Complete listed if_absent) there =
       opened s n t name key id (upload_commands.Complete listed if_absent) _
       (λ u is. after_line (Does s n t (commands.Upload name key id (upload_commands.Complete listed if_absent)))
       s (if_absent && is_taken s name key) PreconditionFailed _
       (untouched s n t (commands.Upload name key id (upload_commands.Complete listed if_absent)) _ (λ a written. refl))
-      (λ free. upload_completes least s n t name key id listed if_absent u (completed least listed u) refl is there))
-  upload_does least s n t name key id upload_commands.Abort there =
+      (λ free. upload_completes rules s n t name key id listed if_absent u (completed rules.least_part listed u) refl is there))
+  upload_does rules s n t name key id upload_commands.Abort there =
       opened s n t name key id upload_commands.Abort _
       (λ u is. same_versions s name (UploadDropped key id) n t _ refl refl refl tt (places s name (UploadDropped key id) there))
-  upload_does least s n t name key id (upload_commands.ListParts asked) there =
-      opened s n t name key id (upload_commands.ListParts asked) _ (λ u is. unwritten s n t _ refl)
+  upload_does rules s n t name key id other there =
+      opened s n t name key id other _ (λ u is. unwritten s n t _ refl)
 
   -- several deletions store nothing
   all_delete : (s : State) (n t : ℕ) (name : List ℕ) (deletion : Deletion) → IsTrue (has_bucket s name)
@@ -484,37 +473,37 @@ module _ (places : ChangesAreByPlace (List ℕ)) (rules : Rules) where
           adds = inr (record {
             by = refl;
             empty = λ below a id v wrote touches at.
-                touched_empty places b name n t rules.keys s deletion.objects a id v is below wrote touches at;
+                touched_empty places b name n t follow.keys s deletion.objects a id v is below wrote touches at;
           });
         });
       }
 
-  pub step_does : (least : ℕ) (s : State) (n t : ℕ) (command : Command) → Does s n t command (step least s n t command)
+  pub step_does : (rules : Rules) (s : State) (n t : ℕ) (command : Command) → Does s n t command (step rules s n t command)
   unfolding done
-  step_does least s n t commands.ListBuckets = unwritten s n t commands.ListBuckets refl
-  step_does least s n t (commands.Bucket name asked) = bucket_does s n t name asked
-  step_does least s n t (commands.Key name key asked) =
+  step_does rules s n t commands.ListBuckets = unwritten s n t commands.ListBuckets refl
+  step_does rules s n t (commands.Bucket name asked) = bucket_does rules s n t name asked
+  step_does rules s n t (commands.Key name key asked) =
       after_line (Does s n t (commands.Key name key asked)) s (not (has_bucket s name)) NoSuchBucket (key_done s n t name key asked)
       (untouched s n t (commands.Key name key asked) _ (λ a is. refl))
       (λ there. key_does s n t name key asked (not-false (has_bucket s name) there))
-  step_does least s n t (commands.Upload name key id asked) =
-      after_line (Does s n t (commands.Upload name key id asked)) s (not (has_bucket s name)) NoSuchBucket (upload_done least s n t name key id asked)
+  step_does rules s n t (commands.Upload name key id asked) =
+      after_line (Does s n t (commands.Upload name key id asked)) s (not (has_bucket s name)) NoSuchBucket (upload_done rules s n t name key id asked)
       (untouched s n t (commands.Upload name key id asked) _ (λ a is. refl))
-      (λ there. upload_does least s n t name key id asked (not-false (has_bucket s name) there))
-  step_does least s n t (commands.DeleteObjects name deletion) =
+      (λ there. upload_does rules s n t name key id asked (not-false (has_bucket s name) there))
+  step_does rules s n t (commands.DeleteObjects name deletion) =
       after_line (Does s n t (commands.DeleteObjects name deletion)) s (not (has_bucket s name)) NoSuchBucket _
       (untouched s n t (commands.DeleteObjects name deletion) _ (λ a is. refl))
       (λ there. all_delete s n t name deletion (not-false (has_bucket s name) there))
 
   -- so a refusal and a command that only reads change nothing
   pub quiet_steps_change_nothing : QuietStepsChangeNothing
-  quiet_steps_change_nothing least s n t command quiet =
-      elim (step_does least s n t command).effect [
+  quiet_steps_change_nothing rules s n t command quiet =
+      elim (step_does rules s n t command).effect [
         | inl same ↦ same.quiet quiet
-        | inr changes ↦ not_quiet command (step least s n t command).1 (not_refused (step least s n t command).1 changes.accepted) changes.more quiet
+        | inr changes ↦ not_quiet command (step rules s n t command).1 (not_refused (step rules s n t command).1 changes.accepted) changes.more quiet
       ]
 
   -- and the next number is above those of all versions
   pub steps_stay_below : NumbersStayBelow (List ℕ) → LaterIsBelow (List ℕ) → StepsStayBelow
-  steps_stay_below stay later least s n t command below =
-      comes_below stay n s (step least s n t command).0 (step_does least s n t command).comes (later n (n + 1) s (omega arith) below)
+  steps_stay_below stay later rules s n t command below =
+      comes_below stay n s (step rules s n t command).0 (step_does rules s n t command).comes (later n (n + 1) s (omega arith) below)

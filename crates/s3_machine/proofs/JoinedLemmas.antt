@@ -28,6 +28,7 @@ use Rattle.s3_records.specs.Places.{ChangesAreByUpload}
 use Rattle.s3_machine.specs.declared.command.Command.{Command}
 use Rattle.s3_machine.specs.declared.command.Command.TheVariants as commands
 use Rattle.s3_machine.specs.declared.command.UploadCommand.TheVariants as upload_commands
+use Rattle.s3_machine.specs.declared.rules.Rules.{Rules}
 use Rattle.s3_machine.specs.Effects.{UploadPlace, place_of, open_at, upload_stored, completes, object_of, stored_by, succeeds}
 use Rattle.s3_machine.specs.Fault.{refuse, as_refusal}
 use Rattle.s3_machine.specs.History.{Entry, Legal, after}
@@ -84,34 +85,34 @@ pieces_joined f g parts listed same =
     ∙ flat_map-map f pick listed
     ∙ same_pieces (λ (part : ListedPart). f (pick part)) g same listed
 
-module _ (least : ℕ) (s : State) (since : List Entry) (upload : UploadPlace) (parts : PartList (List ℕ))
-    (known : (number : ℕ) (p : Part (List ℕ)) → part_at number parts ≡ Some p → WasSent least s since (part_of upload number) p) where
+module _ (rules : Rules) (s : State) (since : List Entry) (upload : UploadPlace) (parts : PartList (List ℕ))
+    (known : (number : ℕ) (p : Part (List ℕ)) → part_at number parts ≡ Some p → WasSent rules s since (part_of upload number) p) where
   -- a listed part was put last under its number
   part_listed : (listed : ListedPart) → is_sent parts listed ≡ true
-      → IsListedPart least s since upload listed (part_or_none (part_at listed.number parts))
+      → IsListedPart rules s since upload listed (part_or_none (part_at listed.number parts))
   part_listed listed is =
       let there = is_part (part_at listed.number parts) listed is in
-      subst (IsListedPart least s since upload listed) (sym (ap part_or_none there.1)) (record {
+      subst (IsListedPart rules s since upload listed) (sym (ap part_or_none there.1)) (record {
         last = known listed.number there.0 there.1;
         tag = sym ((bytes_eq-Decides (part_tag there.0) listed.tag).0 there.2);
       })
 
   all_listed : (listed : List ListedPart) → list_all (is_sent parts) listed ≡ true
-      → AllZip (IsListedPart least s since upload) listed (parts_made parts listed)
+      → AllZip (IsListedPart rules s since upload) listed (parts_made parts listed)
   all_listed [] is = tt
   all_listed (part ∷ rest) is =
       let both = and_parts (is_sent parts part) (list_all (is_sent parts) rest) is in
       (part_listed part both.0, all_listed rest both.1)
 
 -- what is joined of the parts of an upload that takes this course
-joined_of : (least : ℕ) (s : State) (past : List Entry) (upload : UploadPlace) (u : Upload (List ℕ)) (listed : List ListedPart)
+joined_of : (rules : Rules) (s : State) (past : List Entry) (upload : UploadPlace) (u : Upload (List ℕ)) (listed : List ListedPart)
     (what : Data (List ℕ))
-    → Course least s past upload u → Joins listed u what → AreJoined least s past upload listed what
-joined_of least s past upload u listed what course joins =
-    let start = begun_state least s course.begun in
+    → Course rules s past upload u → Joins listed u what → AreJoined rules s past upload listed what
+joined_of rules s past upload u listed what course joins =
+    let start = begun_state rules s course.begun in
     let since = course.begun.since in
     let made = parts_made u.parts listed in
-    let zip = all_listed least start since upload u.parts course.sent listed joins.sent in
+    let zip = all_listed rules start since upload u.parts course.sent listed joins.sent in
     let body = λ (part : Part (List ℕ)). part.body in
     let digest = λ (part : Part (List ℕ)). part.digest in
     let bodies : concat (each body made) ≡ flat_map (λ (part : ListedPart). bytes_at u.parts part.number) listed =
@@ -120,7 +121,7 @@ joined_of least s past upload u listed what course joins =
     let digests : concat (each digest made) ≡ flat_map (λ (part : ListedPart). digest_at u.parts part.number) listed =
     pieces_joined digest (λ (part : ListedPart). digest_at u.parts part.number) u.parts listed
     (λ (part : ListedPart). digest_found (part_at part.number u.parts)) in
-    let size : length made ≡ length listed = AllZip-long (IsListedPart least start since upload) listed made zip in
+    let size : length made ≡ length listed = AllZip-long (IsListedPart rules start since upload) listed made zip in
     record {
       moment = u.moment;
       asked = asked_of u;
@@ -138,103 +139,103 @@ joined_of least s past upload u listed what course joins =
 -- ---- a completion that succeeds
 
 -- the upload was open, and what it joins is stored
-pub record IsCompleted (least : ℕ) (s : State) (n t : ℕ) (command : Command) (upload : UploadPlace) (listed : List ListedPart) : Type 0 where
+pub record IsCompleted (rules : Rules) (s : State) (n t : ℕ) (command : Command) (upload : UploadPlace) (listed : List ListedPart) : Type 0 where
   pub found : Upload (List ℕ)
   pub there : open_at s upload ≡ Some found
   pub what : Data (List ℕ)
-  pub rule : completed least listed found ≡ Ok what
+  pub rule : completed rules.least_part listed found ≡ Ok what
   pub by : stored_by s n t command ≡ Some (object_of s n t upload.address what)
 
-rule_ok : (least : ℕ) (s : State) (n t : ℕ) (name key : List ℕ) (id : ℕ) (listed : List ListedPart) (if_absent : Bool) (found : Upload (List ℕ))
+rule_ok : (rules : Rules) (s : State) (n t : ℕ) (name key : List ℕ) (id : ℕ) (listed : List ListedPart) (if_absent : Bool) (found : Upload (List ℕ))
     (rule : Result (Data (List ℕ)) Code)
-    → upload_at s name key id ≡ Some found → completed least listed found ≡ rule
+    → upload_at s name key id ≡ Some found → completed rules.least_part listed found ≡ rule
     → succeeds (stepped s (as_refusal rule >>= completing s n t name key id)).1 ≡ true
-    → IsCompleted least s n t (commands.Upload name key id (upload_commands.Complete listed if_absent)) (place_of name key id) listed
-rule_ok least s n t name key id listed if_absent found (Ok what) there is success = record {
+    → IsCompleted rules s n t (commands.Upload name key id (upload_commands.Complete listed if_absent)) (place_of name key id) listed
+rule_ok rules s n t name key id listed if_absent found (Ok what) there is success = record {
   found = found;
   there = there;
   what = what;
   rule = is;
   by = ap (λ (u : Option (Upload (List ℕ))). option_map (object_of s n t (place_of name key id).address) (upload_stored u (upload_commands.Complete listed if_absent))) there
-      ∙ ap (λ (d : Data (List ℕ)). Some (object_of s n t (place_of name key id).address d)) (completed_is least listed found what is);
+      ∙ ap (λ (d : Data (List ℕ)). Some (object_of s n t (place_of name key id).address d)) (completed_is rules.least_part listed found what is);
 }
-rule_ok least s n t name key id listed if_absent found (Err code) there is success = absurd (false≢true success)
+rule_ok rules s n t name key id listed if_absent found (Err code) there is success = absurd (false≢true success)
 
 -- behind its condition
-free_ok : (least : ℕ) (s : State) (n t : ℕ) (name key : List ℕ) (id : ℕ) (listed : List ListedPart) (if_absent : Bool) (found : Upload (List ℕ))
+free_ok : (rules : Rules) (s : State) (n t : ℕ) (name key : List ℕ) (id : ℕ) (listed : List ListedPart) (if_absent : Bool) (found : Upload (List ℕ))
     (taken : Bool)
     → upload_at s name key id ≡ Some found
-    → succeeds (stepped s (refuse taken PreconditionFailed >> (as_refusal (completed least listed found) >>= completing s n t name key id))).1 ≡ true
-    → IsCompleted least s n t (commands.Upload name key id (upload_commands.Complete listed if_absent)) (place_of name key id) listed
-free_ok least s n t name key id listed if_absent found true there success = absurd (false≢true success)
-free_ok least s n t name key id listed if_absent found false there success =
-    rule_ok least s n t name key id listed if_absent found (completed least listed found) there refl success
+    → succeeds (stepped s (refuse taken PreconditionFailed >> (as_refusal (completed rules.least_part listed found) >>= completing s n t name key id))).1 ≡ true
+    → IsCompleted rules s n t (commands.Upload name key id (upload_commands.Complete listed if_absent)) (place_of name key id) listed
+free_ok rules s n t name key id listed if_absent found true there success = absurd (false≢true success)
+free_ok rules s n t name key id listed if_absent found false there success =
+    rule_ok rules s n t name key id listed if_absent found (completed rules.least_part listed found) there refl success
 
-open_ok : (least : ℕ) (s : State) (n t : ℕ) (name key : List ℕ) (id : ℕ) (listed : List ListedPart) (if_absent : Bool)
+open_ok : (rules : Rules) (s : State) (n t : ℕ) (name key : List ℕ) (id : ℕ) (listed : List ListedPart) (if_absent : Bool)
     (found : Option (Upload (List ℕ)))
     → upload_at s name key id ≡ found
     → succeeds (stepped s (as_refusal (ok_or found NoSuchUpload)
     >>= (λ (u : Upload (List ℕ)). refuse (if_absent && is_taken s name key) PreconditionFailed
-    >> (as_refusal (completed least listed u) >>= completing s n t name key id)))).1 ≡ true
-    → IsCompleted least s n t (commands.Upload name key id (upload_commands.Complete listed if_absent)) (place_of name key id) listed
-open_ok least s n t name key id listed if_absent None is success = absurd (false≢true success)
-open_ok least s n t name key id listed if_absent (Some found) is success =
-    free_ok least s n t name key id listed if_absent found (if_absent && is_taken s name key) is success
+    >> (as_refusal (completed rules.least_part listed u) >>= completing s n t name key id)))).1 ≡ true
+    → IsCompleted rules s n t (commands.Upload name key id (upload_commands.Complete listed if_absent)) (place_of name key id) listed
+open_ok rules s n t name key id listed if_absent None is success = absurd (false≢true success)
+open_ok rules s n t name key id listed if_absent (Some found) is success =
+    free_ok rules s n t name key id listed if_absent found (if_absent && is_taken s name key) is success
 
-step_completed : (least : ℕ) (s : State) (n t : ℕ) (name key : List ℕ) (id : ℕ) (listed : List ListedPart) (if_absent : Bool)
-    → succeeds (step least s n t (commands.Upload name key id (upload_commands.Complete listed if_absent))).1 ≡ true
-    → IsCompleted least s n t (commands.Upload name key id (upload_commands.Complete listed if_absent)) (place_of name key id) listed
+step_completed : (rules : Rules) (s : State) (n t : ℕ) (name key : List ℕ) (id : ℕ) (listed : List ListedPart) (if_absent : Bool)
+    → succeeds (step rules s n t (commands.Upload name key id (upload_commands.Complete listed if_absent))).1 ≡ true
+    → IsCompleted rules s n t (commands.Upload name key id (upload_commands.Complete listed if_absent)) (place_of name key id) listed
 unfolding done upload_done
-step_completed least s n t name key id listed if_absent =
+step_completed rules s n t name key id listed if_absent =
     let command = commands.Upload name key id (upload_commands.Complete listed if_absent) in
-    after_line (λ st. succeeds st.1 ≡ true → IsCompleted least s n t command (place_of name key id) listed)
-    s (not (has_bucket s name)) NoSuchBucket (upload_done least s n t name key id (upload_commands.Complete listed if_absent))
+    after_line (λ st. succeeds st.1 ≡ true → IsCompleted rules s n t command (place_of name key id) listed)
+    s (not (has_bucket s name)) NoSuchBucket (upload_done rules s n t name key id (upload_commands.Complete listed if_absent))
     (λ success. absurd (false≢true success))
-    (λ there success. open_ok least s n t name key id listed if_absent (upload_at s name key id) refl success)
+    (λ there success. open_ok rules s n t name key id listed if_absent (upload_at s name key id) refl success)
 
-pub command_completed : (least : ℕ) (s : State) (n t : ℕ) (command : Command) (upload : UploadPlace) (listed : List ListedPart)
-    → completes command ≡ Some (upload, listed) → succeeds (step least s n t command).1 ≡ true
-    → IsCompleted least s n t command upload listed
-command_completed least s n t (commands.Upload name key id (upload_commands.Complete parts if_absent)) upload listed asks success =
+pub command_completed : (rules : Rules) (s : State) (n t : ℕ) (command : Command) (upload : UploadPlace) (listed : List ListedPart)
+    → completes command ≡ Some (upload, listed) → succeeds (step rules s n t command).1 ≡ true
+    → IsCompleted rules s n t command upload listed
+command_completed rules s n t (commands.Upload name key id (upload_commands.Complete parts if_absent)) upload listed asks success =
     let same = same_Some (place_of name key id, parts) (upload, listed) asks in
-    subst (λ (p : UploadPlace × List ListedPart). IsCompleted least s n t (commands.Upload name key id (upload_commands.Complete parts if_absent)) p.0 p.1) same
-    (step_completed least s n t name key id parts if_absent success)
-command_completed least s n t _ upload listed asks success = absurd (cc)
+    subst (λ (p : UploadPlace × List ListedPart). IsCompleted rules s n t (commands.Upload name key id (upload_commands.Complete parts if_absent)) p.0 p.1) same
+    (step_completed rules s n t name key id parts if_absent success)
+command_completed rules s n t _ upload listed asks success = absurd (cc)
 
 module _ (law : ChangesAreByUpload (List ℕ)) (puts : PutsAreUnderOneNumber (List ℕ)) (empty : OpeningIsEmpty (List ℕ))
     (joins : CompletionsJoinTheListed) where
   pub completions_join_what_was_sent : EveryHistory CompletionsJoinWhatWasSent
-  completions_join_what_was_sent least s n entries legal names before later complete upload listed opens parts completes =
-      let here = after least s before in
-      let joined = Legal-append least s n before (complete ∷ later) (subst (Legal least s n) parts legal) in
-      let outcome = ap succeeds (outcome_is least here _ complete joined.1.0) in
-      let done = command_completed least here complete.answer.number complete.moment complete.command upload listed completes.asks
+  completions_join_what_was_sent rules s n entries legal names before later complete upload listed opens parts completes =
+      let here = after rules s before in
+      let joined = Legal-append rules s n before (complete ∷ later) (subst (Legal rules s n) parts legal) in
+      let outcome = ap succeeds (outcome_is rules here _ complete joined.1.0) in
+      let done = command_completed rules here complete.answer.number complete.moment complete.command upload listed completes.asks
       (sym outcome ∙ completes.accepted) in
-      let course = courses law puts least empty s n names before opens joined.0 upload done.found done.there in (
+      let course = courses law puts rules empty s n names before opens joined.0 upload done.found done.there in (
         done.what,
-        joined_of least s before upload done.found listed done.what course (joins least listed done.found done.what done.rule),
+        joined_of rules s before upload done.found listed done.what course (joins rules.least_part listed done.found done.what done.rule),
         record { by = done.by; accepted = completes.accepted },
       )
 
 module _ (law : EveryHistory CompletionsJoinWhatWasSent) where
   pub completions_are_kept : EveryHistory StoredIsKept → EveryHistory CompletionsAreKept
-  completions_are_kept kept least s n entries legal names before between later complete read upload listed opens parts completes leaves reads =
+  completions_are_kept kept rules s n entries legal names before between later complete read upload listed opens parts completes leaves reads =
       let split = parts ∙ append_assoc before (complete ∷ between) (read ∷ later) in
-      let stored = law least s n entries legal names before (between ++ read ∷ later) complete upload listed opens split completes in
-      (stored.0, stored.1, kept least s n entries legal before between later complete read _ parts stored.2 leaves reads)
+      let stored = law rules s n entries legal names before (between ++ read ∷ later) complete upload listed opens split completes in
+      (stored.0, stored.1, kept rules s n entries legal before between later complete read _ parts stored.2 leaves reads)
 
   pub completion_versions_are_kept : EveryHistory StoredIsTold → EveryHistory VersionsAreKept → EveryHistory CompletionVersionsAreKept
-  completion_versions_are_kept tells kept least s n entries legal names before between later complete read upload listed id opens parts completes
+  completion_versions_are_kept tells kept rules s n entries legal names before between later complete read upload listed id opens parts completes
       touches spares reads =
-      let here = after least s before in
+      let here = after rules s before in
       let split = parts ∙ append_assoc before (complete ∷ between) (read ∷ later) in
-      let stored = law least s n entries legal names before (between ++ read ∷ later) complete upload listed opens split completes in
+      let stored = law rules s n entries legal names before (between ++ read ∷ later) complete upload listed opens split completes in
       let object = object_of here complete.answer.number complete.moment upload.address stored.0 in
-      let told = tells least s n entries legal before (between ++ read ∷ later) complete object split stored.2 in
+      let told = tells rules s n entries legal before (between ++ read ∷ later) complete object split stored.2 in
       let same : id ≡ object.id = cc (touches, told.under) in (
         stored.0,
         stored.1,
-        kept least s n entries legal before between later complete read object parts stored.2
+        kept rules s n entries legal before between later complete read object parts stored.2
             (subst (λ (i : VersionId). SparesVersion upload.address i between) same spares)
             (subst (λ (i : VersionId). ReadsVersion upload.address i read) same reads),
       )

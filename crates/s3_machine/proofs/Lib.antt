@@ -15,6 +15,7 @@ pub mod ListLemmas
 pub mod OpenLemmas
 pub mod OriginLemmas
 pub mod PartLemmas
+pub mod RegionLemmas
 pub mod RowLemmas
 pub mod ShownLemmas
 pub mod StateLemmas

@@ -30,13 +30,14 @@ use Rattle.s3_machine.specs.declared.command.Command.TheVariants as commands
 use Rattle.s3_machine.specs.declared.command.KeyCommand.TheVariants as key_commands
 use Rattle.s3_machine.specs.declared.command.Outcome.{Outcome}
 use Rattle.s3_machine.specs.declared.command.Outcome.TheVariants as outcomes
+use Rattle.s3_machine.specs.declared.rules.Rules.{Rules}
 use Rattle.s3_machine.specs.Fault.{refuse}
 use Rattle.s3_machine.specs.Effects.{given_whole, facts_found, succeeds}
 use Rattle.s3_machine.specs.History.{Entry, Legal, after, after_entry}
 use Rattle.s3_machine.specs.Kept.{EveryHistory, facts_stored, StoredIsListed, ListedIsStored, ListsTellWhatIsThere, VersionListsTellWhatIsThere}
 use Rattle.s3_machine.specs.Laws.{reading, all_keys, IsListed, ListsShowWhatReadsGive, ListsAreTold, VersionListsAreTold}
 use Rattle.s3_machine.specs.Step.{State, Stepped, found_in, bucket_done, key_done, done, stepped, step}
-use Rattle.s3_machine.proofs.EffectLemmas.{Rules, versions_at}
+use Rattle.s3_machine.proofs.EffectLemmas.{FollowRules, versions_at}
 use Rattle.s3_machine.proofs.HistoryLemmas.{Legal-append, after-append, right_at}
 use Rattle.s3_machine.proofs.KeptLemmas.{outcome_is, picked, got, whole_given, past_line, key_left, entry_stores}
 use Rattle.s3_machine.proofs.OriginLemmas.{picked_stands, only_stored_stands}
@@ -76,10 +77,10 @@ in_bucket : (s : State) (name key : List ℕ) (there : Bool) (next : Result Step
 in_bucket s name key true next is goes = goes
 in_bucket s name key false next is goes = sym (ap facts_picked (none_there (map.get s name) key is))
 
-read_facts : (least : ℕ) (s : State) (n t : ℕ) (name key : List ℕ)
-    → facts_given (step least s n t (reading name key None plain)) ≡ facts_picked (versions_of s name key)
+read_facts : (rules : Rules) (s : State) (n t : ℕ) (name key : List ℕ)
+    → facts_given (step rules s n t (reading name key None plain)) ≡ facts_picked (versions_of s name key)
 unfolding done key_done
-read_facts least s n t name key =
+read_facts rules s n t name key =
     let read = pick None (versions_of s name key) in
     in_bucket s name key (has_bucket s name) (key_done s n t name key (key_commands.Read (record { version = None; conditions = plain }))) refl
     (ap (λ o. option_map facts_found (given_whole o)) (got s name plain read) ∙ picked_facts s name read)
@@ -89,8 +90,8 @@ ok_facts (Ok other) facts is = let same : other ≡ facts = cc in ap (λ (f : Fa
 ok_facts (Err refusal) facts is = absurd (cc)
 
 pub lists_show_what_reads_give : ListedIsCurrent → ListsShowWhatReadsGive
-lists_show_what_reads_give law least s n t a facts =
-    let is = read_facts least s n t a.bucket a.key in
+lists_show_what_reads_give law rules s n t a facts =
+    let is = read_facts rules s n t a.bucket a.key in
     let listed = law s a.bucket a.key facts in (
       λ stands. is ∙ ap result_ok (listed.0 stands),
       λ gives. listed.1 (ok_facts (facts_read (pick None (versions_of s a.bucket a.key))) facts (sym is ∙ gives)),
@@ -98,11 +99,11 @@ lists_show_what_reads_give law least s n t a facts =
 
 pub lists_are_told : ListsAreTold
 unfolding done bucket_done
-lists_are_told least s n t name asked there = ap (λ (st : Stepped). st.1) (past_line s (not (has_bucket s name)) _ (ap not there))
+lists_are_told rules s n t name asked there = ap (λ (st : Stepped). st.1) (past_line s (not (has_bucket s name)) _ (ap not there))
 
 pub version_lists_are_told : VersionListsAreTold
 unfolding done bucket_done
-version_lists_are_told least s n t name asked there = ap (λ (st : Stepped). st.1) (past_line s (not (has_bucket s name)) _ (ap not there))
+version_lists_are_told rules s n t name asked there = ap (λ (st : Stepped). st.1) (past_line s (not (has_bucket s name)) _ (ap not there))
 
 -- ---- histories
 
@@ -112,31 +113,31 @@ facts_known : (read : Result (Version (List ℕ) × Data (List ℕ)) Refusal) (f
 facts_known (Ok picks) facts is = (picks, refl, cc)
 facts_known (Err refusal) facts is = absurd (cc)
 
-module _ (law : ListedIsCurrent) (places : ChangesAreByPlace (List ℕ)) (rules : Rules) where
+module _ (law : ListedIsCurrent) (places : ChangesAreByPlace (List ℕ)) (follow : FollowRules) where
   pub stored_is_listed : PutsAreCurrent (List ℕ) → EveryHistory StoredIsListed
-  stored_is_listed current least s n entries legal before between write object parts stores leaves =
-      let here = after least s before in
+  stored_is_listed current rules s n entries legal before between write object parts stores leaves =
+      let here = after rules s before in
       let a = object.address in
-      let joined = Legal-append least s n before (write ∷ between) (subst (Legal least s n) parts legal) in
-      let added = entry_stores places rules least here _ write object joined.1.0 stores in
-      let versions = key_left places rules least (after_entry least here write) _ between a joined.1.1 leaves ∙ added.versions in
+      let joined = Legal-append rules s n before (write ∷ between) (subst (Legal rules s n) parts legal) in
+      let added = entry_stores places follow rules here _ write object joined.1.0 stores in
+      let versions = key_left places follow rules (after_entry rules here write) _ between a joined.1.1 leaves ∙ added.versions in
       let now = current added.versioning write.answer.number object.moment object.stored (versions_at here a) in
-      let is : after least s entries ≡ after least (after_entry least here write) between =
-      ap (after least s) parts ∙ after-append least s before (write ∷ between) in
+      let is : after rules s entries ≡ after rules (after_entry rules here write) between =
+      ap (after rules s) parts ∙ after-append rules s before (write ∷ between) in
       subst (λ (t : State). IsListed t a (facts_stored object)) (sym is)
-      ((law (after least (after_entry least here write) between) a.bucket a.key (facts_stored object)).1
+      ((law (after rules (after_entry rules here write) between) a.bucket a.key (facts_stored object)).1
       (ap (λ (vs : List (Version (List ℕ))). facts_read (pick None vs)) versions ∙ ap facts_read now.1))
 
   pub listed_is_stored : Numbers → IdsAreTold (List ℕ) → OpeningIsEmpty (List ℕ) → EveryHistory ListedIsStored
-  listed_is_stored numbers ids empty least s n entries legal names a facts opens stands =
-      let there = after least s entries in
+  listed_is_stored numbers ids empty rules s n entries legal names a facts opens stands =
+      let there = after rules s entries in
       let read = facts_known (pick None (versions_at there a)) facts ((law there a.bucket a.key facts).0 stands) in
       let picks = picked_stands ids there a None read.0 read.1 in
       record {
         object = record { address = a; id = id_of read.0.0; moment = read.0.0.moment; stored = read.0.1 };
         at = refl;
         known = read.2;
-        stored = only_stored_stands places rules numbers empty least s n entries legal names _ opens picks.1;
+        stored = only_stored_stands places follow numbers empty rules s n entries legal names _ opens picks.1;
       }
 
 -- ---- what lists tell
@@ -147,36 +148,36 @@ pub page_told : (s : State) (fault : Bool) (outcome : Outcome) → succeeds (ste
 page_told s true outcome success = absurd (false≢true success)
 page_told s false outcome success = refl
 
-objects_step : (least : ℕ) (s : State) (n t : ℕ) (name : List ℕ) (asked : ObjectsAsked)
-    → succeeds (step least s n t (commands.Bucket name (bucket_commands.ListObjects asked))).1 ≡ true
-    → (step least s n t (commands.Bucket name (bucket_commands.ListObjects asked))).1
+objects_step : (rules : Rules) (s : State) (n t : ℕ) (name : List ℕ) (asked : ObjectsAsked)
+    → succeeds (step rules s n t (commands.Bucket name (bucket_commands.ListObjects asked))).1 ≡ true
+    → (step rules s n t (commands.Bucket name (bucket_commands.ListObjects asked))).1
     ≡ outcomes.Told (documents.objects name asked (objects_told asked (key_rows s name)))
 unfolding done bucket_done
-objects_step least s n t name asked success = page_told s (not (has_bucket s name)) _ success
+objects_step rules s n t name asked success = page_told s (not (has_bucket s name)) _ success
 
-versions_step : (least : ℕ) (s : State) (n t : ℕ) (name : List ℕ) (asked : VersionsAsked)
-    → succeeds (step least s n t (commands.Bucket name (bucket_commands.ListVersions asked))).1 ≡ true
-    → (step least s n t (commands.Bucket name (bucket_commands.ListVersions asked))).1
+versions_step : (rules : Rules) (s : State) (n t : ℕ) (name : List ℕ) (asked : VersionsAsked)
+    → succeeds (step rules s n t (commands.Bucket name (bucket_commands.ListVersions asked))).1 ≡ true
+    → (step rules s n t (commands.Bucket name (bucket_commands.ListVersions asked))).1
     ≡ outcomes.Told (documents.versions name asked (versions_page asked s name))
 unfolding done bucket_done
-versions_step least s n t name asked success = page_told s (not (has_bucket s name)) _ success
+versions_step rules s n t name asked success = page_told s (not (has_bucket s name)) _ success
 
 -- an entry of this command has the outcome of its step
-pub command_outcome : (least : ℕ) (s : State) (n : ℕ) (entries before later : List Entry) (e : Entry) (command : Command)
-    → Legal least s n entries → entries ≡ before ++ e ∷ later → e.command ≡ command
-    → e.answer.outcome ≡ (step least (after least s before) e.answer.number e.moment command).1
-command_outcome least s n entries before later e command legal parts is =
-    outcome_is least (after least s before) _ e (right_at least s n entries before later e legal parts)
-    ∙ ap (λ (c : Command). (step least (after least s before) e.answer.number e.moment c).1) is
+pub command_outcome : (rules : Rules) (s : State) (n : ℕ) (entries before later : List Entry) (e : Entry) (command : Command)
+    → Legal rules s n entries → entries ≡ before ++ e ∷ later → e.command ≡ command
+    → e.answer.outcome ≡ (step rules (after rules s before) e.answer.number e.moment command).1
+command_outcome rules s n entries before later e command legal parts is =
+    outcome_is rules (after rules s before) _ e (right_at rules s n entries before later e legal parts)
+    ∙ ap (λ (c : Command). (step rules (after rules s before) e.answer.number e.moment c).1) is
 
 pub lists_tell_what_is_there : EveryHistory ListsTellWhatIsThere
-lists_tell_what_is_there least s n entries legal before later list name asked parts is success =
-    let outcome = command_outcome least s n entries before later list _ legal parts is in
+lists_tell_what_is_there rules s n entries legal before later list name asked parts is success =
+    let outcome = command_outcome rules s n entries before later list _ legal parts is in
     outcome
-    ∙ objects_step least (after least s before) list.answer.number list.moment name asked (sym (ap succeeds outcome) ∙ success)
+    ∙ objects_step rules (after rules s before) list.answer.number list.moment name asked (sym (ap succeeds outcome) ∙ success)
 
 pub version_lists_tell_what_is_there : EveryHistory VersionListsTellWhatIsThere
-version_lists_tell_what_is_there least s n entries legal before later list name asked parts is success =
-    let outcome = command_outcome least s n entries before later list _ legal parts is in
+version_lists_tell_what_is_there rules s n entries legal before later list name asked parts is success =
+    let outcome = command_outcome rules s n entries before later list _ legal parts is in
     outcome
-    ∙ versions_step least (after least s before) list.answer.number list.moment name asked (sym (ap succeeds outcome) ∙ success)
+    ∙ versions_step rules (after rules s before) list.answer.number list.moment name asked (sym (ap succeeds outcome) ∙ success)

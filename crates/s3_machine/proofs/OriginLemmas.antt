@@ -1,5 +1,5 @@
 -- Each object that stands was stored by an entry of the history.
-use Rattle.std.proofs.Common.{◌≡◌, ◌≢◌, refl, sym, ap, ap₂, subst, ◌∙◌, Bool, true, false, not, cond, ℕ, suc, ◌⊎◌, inl, inr, List, [], ◌∷◌, ◌++◌, append_assoc, append-nil, Contains, Option, Some, None, Result, Ok, Err, find}
+use Rattle.std.proofs.Common.{◌≡◌, refl, sym, ap, ap₂, subst, ◌∙◌, Bool, true, false, not, cond, ℕ, suc, ◌⊎◌, inl, inr, List, [], ◌∷◌, ◌++◌, append_assoc, append-nil, Contains, Option, Some, None, Result, Ok, Err, find}
 use Rattle.std.proofs.lemmas.Bool.{false≢true}
 use Rattle.std.proofs.lemmas.Option.{same_Some}
 use Rattle.s3_names.specs.declared.ids.VersionId.{VersionId}
@@ -27,26 +27,27 @@ use Rattle.s3_machine.specs.declared.command.Command.{Command}
 use Rattle.s3_machine.specs.declared.command.Command.TheVariants as commands
 use Rattle.s3_machine.specs.declared.command.KeyCommand.TheVariants as key_commands
 use Rattle.s3_machine.specs.declared.command.Outcome.{Outcome}
+use Rattle.s3_machine.specs.declared.rules.Rules.{Rules}
 use Rattle.s3_terms.specs.Fault.{◌>>=◌}
 use Rattle.s3_machine.specs.Step.{State, found_in, shown_in, outcome_shown, shown_by, key_done, done, stepped, step}
 use Rattle.s3_machine.proofs.ContainsLemmas.{one_in, contains_or}
 use Rattle.s3_machine.proofs.DeletionLemmas.{id_or}
-use Rattle.s3_machine.proofs.EffectLemmas.{Rules, versions_at, address_or, Adds, Changes, shown, after_line}
+use Rattle.s3_machine.proofs.EffectLemmas.{FollowRules, versions_at, address_or, Adds, Changes, shown, after_line}
 use Rattle.s3_machine.proofs.HistoryLemmas.{Legal-append, after-push}
 use Rattle.s3_machine.proofs.KeptLemmas.{outcome_is, entry_does, version_left}
 use Rattle.s3_machine.proofs.StateLemmas.{Numbers, numbered_by, entry_below}
 
 -- each object that stands behind these entries was stored by one of them
-abbrev pub Known : ℕ → State → List Entry → Type 0
-Known least s past = (object : Object) → Stands (after least s past) object → WasStored least s past object
+abbrev pub Known : Rules → State → List Entry → Type 0
+Known rules s past = (object : Object) → Stands (after rules s past) object → WasStored rules s past object
 
 spares_push : (a : Address) (id : VersionId) (es : List Entry) (e : Entry) → SparesVersion a id es → Spares a id e → SparesVersion a id (es ++ e ∷ [])
 spares_push a id [] e spares last = (last, tt)
 spares_push a id (x ∷ es) e spares last = (spares.0, spares_push a id es e spares.1 last)
 
-stored_push : (least : ℕ) (s : State) (past : List Entry) (object : Object) (e : Entry) → WasStored least s past object
-    → Spares object.address object.id e → WasStored least s (past ++ e ∷ []) object
-stored_push least s past object e known spares = record {
+stored_push : (rules : Rules) (s : State) (past : List Entry) (object : Object) (e : Entry) → WasStored rules s past object
+    → Spares object.address object.id e → WasStored rules s (past ++ e ∷ []) object
+stored_push rules s past object e known spares = record {
   before = known.before;
   write = known.write;
   between = known.between ++ e ∷ [];
@@ -72,43 +73,43 @@ same_object x y address id moment stored_same =
     (subst (λ (t : ℕ). built y.address y.id t x.stored) (sym moment)
     (subst (λ (d : Data (List ℕ)). built y.address y.id y.moment d) (sym stored_same) refl)))
 
-module _ (places : ChangesAreByPlace (List ℕ)) (rules : Rules) (least : ℕ) where
+module _ (places : ChangesAreByPlace (List ℕ)) (follow : FollowRules) (rules : Rules) where
   -- what stands where an entry stored something, it stored
-  stored_here : (s : State) (n : ℕ) (e : Entry) (object : Object) → IsAnswer least s n e
-      → succeeds (step least s e.answer.number e.moment e.command).1 ≡ true
-      → Adds s e.answer.number e.moment e.command (step least s e.answer.number e.moment e.command)
+  stored_here : (s : State) (n : ℕ) (e : Entry) (object : Object) → IsAnswer rules s n e
+      → succeeds (step rules s e.answer.number e.moment e.command).1 ≡ true
+      → Adds s e.answer.number e.moment e.command (step rules s e.answer.number e.moment e.command)
       → Contains (writes e.command) object.address
-      → Contains (touched e.command (step least s e.answer.number e.moment e.command).1 object.address) object.id
-      → Stands (after_entry least s e) object → Stores s e object
+      → Contains (touched e.command (step rules s e.answer.number e.moment e.command).1 object.address) object.id
+      → Stands (after_entry rules s e) object → Stores s e object
   stored_here s n e object answer accepted adds written touches stands =
-      let outcome = (step least s e.answer.number e.moment e.command).1 in
+      let outcome = (step rules s e.answer.number e.moment e.command).1 in
       let b = versioning_of s adds.address.bucket in
       let place = one_in (writes e.command) adds.address object.address adds.written written in
       let under = one_in (touched e.command outcome object.address) (new_id b e.answer.number) object.id
       (ap (touched e.command outcome) (sym place) ∙ adds.touches) touches in
-      let there = ap₂ (λ (a : Address) (i : VersionId). version_at (after_entry least s e) a.bucket a.key i) place under ∙ stands.there in
+      let there = ap₂ (λ (a : Address) (i : VersionId). version_at (after_entry rules s e) a.bucket a.key i) place under ∙ stands.there in
       let is = same_Some _ stands.version (sym adds.makes ∙ there) in
       let same = same_object (object_of s e.answer.number e.moment adds.address adds.what) object place under
       (sym (made_when b e.answer.number e.moment adds.what stands.version (ap Some is)) ∙ stands.moment)
       (sym (made_data b e.answer.number e.moment adds.what object.stored (ap stored is ∙ stands.holds))) in
-      record { by = adds.by ∙ ap Some same; accepted = ap succeeds (outcome_is least s n e answer) ∙ accepted }
+      record { by = adds.by ∙ ap Some same; accepted = ap succeeds (outcome_is rules s n e answer) ∙ accepted }
 
   -- what stands behind an entry it stored, or it stood before, and the entry didn't touch its id
   abbrev StoredOrStood : State → Entry → Object → Type 0
   StoredOrStood s e object = Stores s e object ⊎ (Stands s object × Spares object.address object.id e)
 
-  stood : (s : State) (n : ℕ) (e : Entry) (object : Object) → IsAnswer least s n e → Stands (after_entry least s e) object
+  stood : (s : State) (n : ℕ) (e : Entry) (object : Object) → IsAnswer rules s n e → Stands (after_entry rules s e) object
       → Spares object.address object.id e → StoredOrStood s e object
   stood s n e object answer stands spares =
-      let there = sym (version_left places rules least s n e object.address object.id answer spares) ∙ stands.there in
+      let there = sym (version_left places follow rules s n e object.address object.id answer spares) ∙ stands.there in
       inr (record { version = stands.version; there = there; moment = stands.moment; holds = stands.holds }, spares)
 
   -- so does what stands where an entry changed something
-  stored_or_nothing : (s : State) (n : ℕ) (e : Entry) (object : Object) → IsAnswer least s n e → AreBelow e.answer.number s
-      → Changes s e.answer.number e.moment e.command (step least s e.answer.number e.moment e.command)
+  stored_or_nothing : (s : State) (n : ℕ) (e : Entry) (object : Object) → IsAnswer rules s n e → AreBelow e.answer.number s
+      → Changes s e.answer.number e.moment e.command (step rules s e.answer.number e.moment e.command)
       → Contains (writes e.command) object.address
-      → Contains (touched e.command (step least s e.answer.number e.moment e.command).1 object.address) object.id
-      → Stands (after_entry least s e) object → Stores s e object
+      → Contains (touched e.command (step rules s e.answer.number e.moment e.command).1 object.address) object.id
+      → Stands (after_entry rules s e) object → Stores s e object
   stored_or_nothing s n e object answer below changes written touches stands =
       elim changes.adds [
         | inl adds ↦ stored_here s n e object answer changes.accepted adds written touches stands
@@ -117,19 +118,19 @@ module _ (places : ChangesAreByPlace (List ℕ)) (rules : Rules) (least : ℕ) w
             let some = stands.holds in absurd (cc)
       ]
 
-  stored_or_stood : (s : State) (n : ℕ) (e : Entry) (object : Object) → IsAnswer least s n e → AreBelow e.answer.number s
-      → Stands (after_entry least s e) object → StoredOrStood s e object
+  stored_or_stood : (s : State) (n : ℕ) (e : Entry) (object : Object) → IsAnswer rules s n e → AreBelow e.answer.number s
+      → Stands (after_entry rules s e) object → StoredOrStood s e object
   stored_or_stood s n e object answer below stands =
       let a = object.address in
-      let outcome = outcome_is least s n e answer in
-      elim (entry_does places rules least s n e answer).effect [
+      let outcome = outcome_is rules s n e answer in
+      elim (entry_does places follow rules s n e answer).effect [
         | inl same ↦
             stood s n e object answer stands (λ written accepted touches.
             false≢true (sym (same.refused a written) ∙ sym (ap succeeds outcome) ∙ accepted))
         | inr changes ↦
             elim (contains_or address_or (writes e.command) a) [
               | inl written ↦
-                  elim (contains_or id_or (touched e.command (step least s e.answer.number e.moment e.command).1 a) object.id) [
+                  elim (contains_or id_or (touched e.command (step rules s e.answer.number e.moment e.command).1 a) object.id) [
                     | inl touches ↦ inl (stored_or_nothing s n e object answer below changes written touches stands)
                     | inr spared ↦
                         stood s n e object answer stands (λ written accepted touches.
@@ -139,26 +140,26 @@ module _ (places : ChangesAreByPlace (List ℕ)) (rules : Rules) (least : ℕ) w
             ]
       ]
 
-  known_push : (s : State) (n : ℕ) (past : List Entry) (e : Entry) → Known least s past → AreBelow n (after least s past)
-      → IsAnswer least (after least s past) n e → Known least s (past ++ e ∷ [])
+  known_push : (s : State) (n : ℕ) (past : List Entry) (e : Entry) → Known rules s past → AreBelow n (after rules s past)
+      → IsAnswer rules (after rules s past) n e → Known rules s (past ++ e ∷ [])
   known_push s n past e known below answer object stands =
-      let here = after least s past in
-      let number = numbered_by least here n e answer in
+      let here = after rules s past in
+      let number = numbered_by rules here n e answer in
       elim (stored_or_stood here n e object answer (subst (λ (m : ℕ). AreBelow m here) (sym number) below)
-      (subst (λ (t : State). Stands t object) (after-push least s past e) stands)) [
+      (subst (λ (t : State). Stands t object) (after-push rules s past e) stands)) [
         | inl stores ↦ record { before = past; write = e; between = []; parts = refl; stores = stores; spared = tt }
-        | inr before ↦ stored_push least s past object e (known object before.0) before.1
+        | inr before ↦ stored_push rules s past object e (known object before.0) before.1
       ]
 
-  pub known_after : Numbers → (s : State) (n : ℕ) (past es : List Entry) → Known least s past → AreBelow n (after least s past)
-      → Legal least (after least s past) n es → Known least s (past ++ es)
-  known_after numbers s n past [] known below legal = subst (Known least s) (sym (append-nil past)) known
+  pub known_after : Numbers → (s : State) (n : ℕ) (past es : List Entry) → Known rules s past → AreBelow n (after rules s past)
+      → Legal rules (after rules s past) n es → Known rules s (past ++ es)
+  known_after numbers s n past [] known below legal = subst (Known rules s) (sym (append-nil past)) known
   known_after numbers s n past (e ∷ es) known below legal =
-      let there = sym (after-push least s past e) in
-      subst (Known least s) (append_assoc past (e ∷ []) es)
+      let there = sym (after-push rules s past e) in
+      subst (Known rules s) (append_assoc past (e ∷ []) es)
       (known_after numbers s (suc n) (past ++ e ∷ []) es (known_push s n past e known below legal.0)
-      (subst (AreBelow (suc n)) there (entry_below places rules least numbers (after least s past) n e legal.0 below))
-      (subst (λ (t : State). Legal least t (suc n) es) there legal.1))
+      (subst (AreBelow (suc n)) there (entry_below places follow rules numbers (after rules s past) n e legal.0 below))
+      (subst (λ (t : State). Legal rules t (suc n) es) there legal.1))
 
 found_passes : {X : Type 0} (p : X → Bool) (xs : List X) (x : X) → find p xs ≡ Some x → p x ≡ true
 found_passes p [] x is = absurd (cc)
@@ -232,11 +233,11 @@ given_of s name conditions (Ok read) found is =
     (read, refl, shows_found s (found_in (versioning_of s name) read) found (shown_by conditions (facts_of read)) is)
 given_of s name conditions (Err refusal) found is = absurd (cc)
 
-step_given : (least : ℕ) (s : State) (n t : ℕ) (command : Command) (asked : Read) (found : Found (List ℕ)) → reads command ≡ Some asked
-    → given (step least s n t command).1 ≡ Some found
+step_given : (rules : Rules) (s : State) (n t : ℕ) (command : Command) (asked : Read) (found : Found (List ℕ)) → reads command ≡ Some asked
+    → given (step rules s n t command).1 ≡ Some found
     → (read : Version (List ℕ) × Data (List ℕ)) × (pick asked.version (versions_at s asked.address) ≡ Ok read) × (found_in (versioning_of s asked.address.bucket) read ≡ found)
 unfolding done key_done
-step_given least s n t (commands.Key name key (key_commands.Read wanted)) asked found is gives =
+step_given rules s n t (commands.Key name key (key_commands.Read wanted)) asked found is gives =
     let here = read_at (record { bucket = name; key = key }) wanted in
     let same : here ≡ asked = cc in
     let goal = λ (q : Read). (read : Version (List ℕ) × Data (List ℕ)) × (pick q.version (versions_at s q.address) ≡ Ok read)
@@ -247,13 +248,13 @@ step_given least s n t (commands.Key name key (key_commands.Read wanted)) asked 
     (key_done s n t name key (key_commands.Read wanted))
     (λ none. absurd (cc))
     (λ there ok. given_of s name wanted.conditions (pick wanted.version (versions_of s name key)) found ok) gives)
-step_given least s n t _ asked found is gives = absurd (cc)
+step_given rules s n t _ asked found is gives = absurd (cc)
 
-pub reads_found : IdsAreTold (List ℕ) → (least : ℕ) (s : State) (n t : ℕ) (command : Command) (asked : Read) (found : Found (List ℕ))
-    → reads command ≡ Some asked → given (step least s n t command).1 ≡ Some found
+pub reads_found : IdsAreTold (List ℕ) → (rules : Rules) (s : State) (n t : ℕ) (command : Command) (asked : Read) (found : Found (List ℕ))
+    → reads command ≡ Some asked → given (step rules s n t command).1 ≡ Some found
     → (id : VersionId) × IsFoundUnder id asked found × Stands s (found_object asked.address id found)
-reads_found ids least s n t command asked found is gives =
-    let read = step_given least s n t command asked found is gives in
+reads_found ids rules s n t command asked found is gives =
+    let read = step_given rules s n t command asked found is gives in
     let stands = picked_stands ids s asked.address asked.version read.0 read.1 in (
       id_of read.0.0,
       record {
@@ -265,25 +266,25 @@ reads_found ids least s n t command asked found is gives =
     )
 
 -- at the opening nothing stands
-nothing_known : OpeningIsEmpty (List ℕ) → (least : ℕ) (names : List (List ℕ)) → Known least (opening names) []
-nothing_known empty least names object stands =
+nothing_known : OpeningIsEmpty (List ℕ) → (rules : Rules) (names : List (List ℕ)) → Known rules (opening names) []
+nothing_known empty rules names object stands =
     let none = ap (asked_for (Some object.id))
     ((empty names object.address.bucket).empty object.address.key) in let some = stands.there in absurd (cc)
 
-module _ (places : ChangesAreByPlace (List ℕ)) (rules : Rules) (numbers : Numbers) (empty : OpeningIsEmpty (List ℕ)) where
-  opened : (least : ℕ) (s : State) (n : ℕ) (names : List (List ℕ)) (es : List Entry) → s ≡ opening names → Legal least s n es
-      → Known least s es
-  opened least s n names es opens =
-      subst (λ (t : State). Legal least t n es → Known least t es) (sym opens) (known_after places rules least numbers (opening names) n [] es
-      (nothing_known empty least names) (numbers.opening n names))
+module _ (places : ChangesAreByPlace (List ℕ)) (follow : FollowRules) (numbers : Numbers) (empty : OpeningIsEmpty (List ℕ)) where
+  opened : (rules : Rules) (s : State) (n : ℕ) (names : List (List ℕ)) (es : List Entry) → s ≡ opening names → Legal rules s n es
+      → Known rules s es
+  opened rules s n names es opens =
+      subst (λ (t : State). Legal rules t n es → Known rules t es) (sym opens) (known_after places follow rules numbers (opening names) n [] es
+      (nothing_known empty rules names) (numbers.opening n names))
 
   pub only_stored_stands : EveryHistory OnlyStoredStands
-  only_stored_stands least s n entries legal names object opens stands = opened least s n names entries opens legal object stands
+  only_stored_stands rules s n entries legal names object opens stands = opened rules s n names entries opens legal object stands
 
   pub only_stored_is_given : IdsAreTold (List ℕ) → EveryHistory OnlyStoredIsGiven
-  only_stored_is_given ids least s n entries legal names earlier later read asked found opens parts is gives =
-      let legal_there = Legal-append least s n earlier (read ∷ later) (subst (Legal least s n) parts legal) in
-      let there = after least s earlier in
-      let reading = reads_found ids least there read.answer.number read.moment read.command asked found is
-      (ap given (sym (outcome_is least there _ read legal_there.1.0)) ∙ gives) in
-      (reading.0, reading.1, opened least s n names earlier opens legal_there.0 (found_object asked.address reading.0 found) reading.2)
+  only_stored_is_given ids rules s n entries legal names earlier later read asked found opens parts is gives =
+      let legal_there = Legal-append rules s n earlier (read ∷ later) (subst (Legal rules s n) parts legal) in
+      let there = after rules s earlier in
+      let reading = reads_found ids rules there read.answer.number read.moment read.command asked found is
+      (ap given (sym (outcome_is rules there _ read legal_there.1.0)) ∙ gives) in
+      (reading.0, reading.1, opened rules s n names earlier opens legal_there.0 (found_object asked.address reading.0 found) reading.2)

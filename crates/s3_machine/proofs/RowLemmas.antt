@@ -23,6 +23,7 @@ use Rattle.s3_machine.proofs.PartLemmas.{part_sized}
 use Rattle.s3_machine.proofs.ContainsLemmas.{contains_later}
 use Rattle.s3_machine.proofs.TellingLemmas.{kept_by, was_there}
 use Rattle.s3_machine.proofs.UploadLemmas.{Left, Begun, Sent, Ended}
+use Rattle.s3_machine.specs.declared.rules.Rules.{Rules}
 
 -- ---- where numbers rise
 
@@ -99,9 +100,9 @@ module _ (law : ChangesAreByUpload (List ℕ)) (puts : PutsAreUnderOneNumber (Li
   unfolding rises
   none_rises = refl
 
-  rise_step : (least : ℕ) (s : State) (e : Entry) → AllRise s → AllRise (after_entry least s e)
-  rise_step least s e rise upload u is =
-      elim (fate_of law puts least s e upload) [
+  rise_step : (rules : Rules) (s : State) (e : Entry) → AllRise s → AllRise (after_entry rules s e)
+  rise_step rules s e rise upload u is =
+      elim (fate_of law puts rules s e upload) [
         | Left left ↦ rise upload u (sym left.same ∙ is)
         | Begun begun ↦
             subst (λ (x : Upload (List ℕ)). IsTrue (rises (numbers_of x.parts))) (same_Some (upload_begun e.moment begun.asked) u (sym begun.now ∙ is))
@@ -112,9 +113,9 @@ module _ (law : ChangesAreByUpload (List ℕ)) (puts : PutsAreUnderOneNumber (Li
         | Ended ended ↦ let none = ended.now in absurd (cc)
       ]
 
-  rise_after : (least : ℕ) (s : State) (es : List Entry) → AllRise s → AllRise (after least s es)
-  rise_after least s [] rise = rise
-  rise_after least s (e ∷ es) rise = rise_after least (after_entry least s e) es (rise_step least s e rise)
+  rise_after : (rules : Rules) (s : State) (es : List Entry) → AllRise s → AllRise (after rules s es)
+  rise_after rules s [] rise = rise
+  rise_after rules s (e ∷ es) rise = rise_after rules (after_entry rules s e) es (rise_step rules s e rise)
 
   none_open : (names : List (List ℕ)) → AllRise (opening names)
   none_open names upload u is = let none = (empty names upload.address.bucket).no_uploads upload.address.key upload.id in absurd (cc)
@@ -126,28 +127,28 @@ module _ (law : ChangesAreByUpload (List ℕ)) (puts : PutsAreUnderOneNumber (Li
   parts_rise (Some u) all = all u refl
 
   pub parts_are_listed_while_standing : EveryHistory PartsAreKept → EveryHistory OnlySentStands → EveryHistory PartsAreListedWhileStanding
-  parts_are_listed_while_standing kept only least s n entries legal names upload row opens above =
-      let there = after least s entries in
+  parts_are_listed_while_standing kept only rules s n entries legal names upload row opens above =
+      let there = after rules s entries in
       let parts = parts_sent (open_at there upload) in
       let rise = parts_rise (open_at there upload)
-      (rise_after least s entries (subst AllRise (sym opens) (none_open names)) upload) in
+      (rise_after rules s entries (subst AllRise (sym opens) (none_open names)) upload) in
       let passes : nat_lt 0 row.number ≡ true = grind (arith, nat_tests) in (
         λ (shown : IsPartListed there upload row).
             let found = row_there parts row (was_there (λ (r : PartRow). nat_lt 0 r.number) (part_rows parts) row shown) in
             let number : found.0.0 ≡ row.number = ap (λ (r : PartRow). r.number) found.2 in
             let stands = is_at parts found.0.0 found.0.1 rise found.1 in
-            let was = only least s n entries legal names (part_of upload found.0.0) found.0.1 opens stands in
-            subst (TellsOfSent least s entries upload) found.2 (record {
+            let was = only rules s n entries legal names (part_of upload found.0.0) found.0.1 opens stands in
+            subst (TellsOfSent rules s entries upload) found.2 (record {
               what = found.0.1;
               was = was;
               moment = refl;
               tag = refl;
-              size = part_sized (after least s was.before) was.send.moment was.send.command found.0.1 was.sends.puts;
+              size = part_sized (after rules s was.before) was.send.moment was.send.command found.0.1 was.sends.puts;
             }),
-        λ (tells : TellsOfSent least s entries upload row).
-            let stands = kept least s n entries legal names (part_of upload row.number) tells.what opens tells.was in
+        λ (tells : TellsOfSent rules s entries upload row).
+            let stands = kept rules s n entries legal names (part_of upload row.number) tells.what opens tells.was in
             let entry : ℕ × Part (List ℕ) = (row.number, tells.what) in
-            let sized = part_sized (after least s tells.was.before) tells.was.send.moment tells.was.send.command tells.what tells.was.sends.puts in
+            let sized = part_sized (after rules s tells.was.before) tells.was.send.moment tells.was.send.command tells.what tells.was.sends.puts in
             let same : part_row entry ≡ row = same_row (part_row entry) row refl (sym tells.moment) (sym tells.tag) (sized ∙ sym tells.size) in
             kept_by (λ (r : PartRow). nat_lt 0 r.number) (part_rows parts) row passes
             (subst (Contains (part_rows parts)) same (row_of parts entry (is_in parts row.number tells.what stands))),

@@ -17,6 +17,7 @@ use Rattle.s3_machine.specs.declared.command.Command.{Command}
 use Rattle.s3_machine.specs.declared.command.Command.TheVariants as commands
 use Rattle.s3_machine.specs.declared.command.KeyCommand.TheVariants as key_commands
 use Rattle.s3_machine.specs.declared.command.Found.{Found}
+use Rattle.s3_machine.specs.declared.rules.Rules.{Rules}
 use Rattle.s3_machine.specs.Fault.{as_refusal}
 use Rattle.s3_machine.specs.Effects.{Read, reads, read_at, succeeds, facts_found}
 use Rattle.s3_machine.specs.History.{after}
@@ -51,20 +52,20 @@ read_shown : (s : State) (name : List ℕ) (conditions : Conditions) (read : Res
 read_shown s name conditions (Ok read) = chosen_shown s conditions (found_in (versioning_of s name) read) (shown_by conditions (facts_of read)) refl
 read_shown s name conditions (Err refusal) = λ success. absurd (false≢true success)
 
-step_shown : (least : ℕ) (s : State) (n t : ℕ) (command : Command) (asked : Read) → reads command ≡ Some asked
-    → ShownOf asked.conditions (step least s n t command)
+step_shown : (rules : Rules) (s : State) (n t : ℕ) (command : Command) (asked : Read) → reads command ≡ Some asked
+    → ShownOf asked.conditions (step rules s n t command)
 unfolding done key_done
-step_shown least s n t (commands.Key name key (key_commands.Read wanted)) asked is =
+step_shown rules s n t (commands.Key name key (key_commands.Read wanted)) asked is =
     let same : read_at (record { bucket = name; key = key }) wanted ≡ asked = cc in
-    subst (λ (q : Read). ShownOf q.conditions (step least s n t (commands.Key name key (key_commands.Read wanted)))) same
+    subst (λ (q : Read). ShownOf q.conditions (step rules s n t (commands.Key name key (key_commands.Read wanted)))) same
     (after_line (ShownOf wanted.conditions) s (not (has_bucket s name)) NoSuchBucket (key_done s n t name key (key_commands.Read wanted))
     (λ success. absurd (false≢true success))
     (λ there. read_shown s name wanted.conditions (pick wanted.version (versions_of s name key))))
-step_shown least s n t _ asked is = absurd (cc)
+step_shown rules s n t _ asked is = absurd (cc)
 
 pub reads_are_judged : EveryHistory ReadsAreJudged
-reads_are_judged least s n entries legal before later e asked parts is success =
-    let there = after least s before in
-    let outcome = outcome_is least there _ e (right_at least s n entries before later e legal parts) in
+reads_are_judged rules s n entries legal before later e asked parts is success =
+    let there = after rules s before in
+    let outcome = outcome_is rules there _ e (right_at rules s n entries before later e legal parts) in
     subst (IsShown asked.conditions) (sym outcome)
-    (step_shown least there e.answer.number e.moment e.command asked is (sym (ap succeeds outcome) ∙ success))
+    (step_shown rules there e.answer.number e.moment e.command asked is (sym (ap succeeds outcome) ∙ success))

@@ -43,6 +43,7 @@ use Rattle.s3_machine.specs.declared.command.Found.{Found}
 use Rattle.s3_machine.specs.declared.command.PartCopy.{PartCopy}
 use Rattle.s3_machine.specs.declared.command.UploadCommand.{UploadCommand}
 use Rattle.s3_machine.specs.declared.command.UploadCommand.TheVariants as upload_commands
+use Rattle.s3_machine.specs.declared.rules.Rules.{Rules}
 use Rattle.s3_machine.specs.Effects.{Address, UploadPlace, Read, place_of, open_at, begins, sent, copied_part, puts_part, source_read, copies_part, completes, succeeds}
 use Rattle.s3_machine.specs.Fault.{refuse, as_refusal}
 use Rattle.s3_machine.specs.History.{after}
@@ -53,7 +54,7 @@ use Rattle.s3_machine.specs.UploadsKept.{all_uploads, UploadsAreOpenUntilEnded, 
 use Rattle.s3_machine.proofs.AnswerLemmas.{would_find}
 use Rattle.s3_machine.proofs.ContainsLemmas.{contains_later}
 use Rattle.s3_machine.proofs.CourseLemmas.{asked_of}
-use Rattle.s3_machine.proofs.EffectLemmas.{Rules, versions_at, after_line, part_copying, completing}
+use Rattle.s3_machine.proofs.EffectLemmas.{FollowRules, versions_at, after_line, part_copying, completing}
 use Rattle.s3_machine.proofs.HistoryLemmas.{after-push, right_at}
 use Rattle.s3_machine.proofs.KeptLemmas.{outcome_is, past_line, versions_left}
 use Rattle.s3_machine.proofs.ListLemmas.{page_told, command_outcome}
@@ -77,39 +78,39 @@ told_open : (P : Outcome → Type 0) (s : State) (found : Option (Upload (List �
 told_open P s None next tells success = absurd (false≢true success)
 told_open P s (Some u) next tells success = tells u refl success
 
-begin_told : (least : ℕ) (s : State) (n t : ℕ) (command : Command) (a : Address) (asked : Description) → begins command ≡ Some (a, asked)
-    → TellsWhere (λ o. o ≡ outcomes.Told (documents.begun a.bucket a.key n)) (step least s n t command)
+begin_told : (rules : Rules) (s : State) (n t : ℕ) (command : Command) (a : Address) (asked : Description) → begins command ≡ Some (a, asked)
+    → TellsWhere (λ o. o ≡ outcomes.Told (documents.begun a.bucket a.key n)) (step rules s n t command)
 unfolding done key_done
-begin_told least s n t (commands.Key bucket key (key_commands.Begin begin)) a asked is =
+begin_told rules s n t (commands.Key bucket key (key_commands.Begin begin)) a asked is =
     let both = same_Some ((record { bucket = bucket; key = key }), begin) (a, asked) is in
     told_line (λ o. o ≡ outcomes.Told (documents.begun a.bucket a.key n)) s (not (has_bucket s bucket)) NoSuchBucket
     (key_done s n t bucket key (key_commands.Begin begin))
     (λ success. ap (λ (p : Address × Description). outcomes.Told (documents.begun p.0.bucket p.0.key n)) both)
-begin_told least s n t _ a asked is = absurd (cc)
+begin_told rules s n t _ a asked is = absurd (cc)
 
 pub begun_is_told : EveryHistory BegunIsTold
-begun_is_told least s n entries legal before later begin upload asked parts begins =
-    let outcome = outcome_is least (after least s before) _ begin (right_at least s n entries before later begin legal parts) in
+begun_is_told rules s n entries legal before later begin upload asked parts begins =
+    let outcome = outcome_is rules (after rules s before) _ begin (right_at rules s n entries before later begin legal parts) in
     outcome
-    ∙ begin_told least (after least s before) begin.answer.number begin.moment begin.command upload.address asked begins.at
+    ∙ begin_told rules (after rules s before) begin.answer.number begin.moment begin.command upload.address asked begins.at
     (sym (ap succeeds outcome) ∙ begins.accepted)
     ∙ ap (λ (id : ℕ). outcomes.Told (documents.begun upload.address.bucket upload.address.key id)) (sym begins.numbered)
 
-send_told : (least : ℕ) (s : State) (n t : ℕ) (command : Command) (bytes : List ℕ) → sent command ≡ Some bytes
-    → TellsWhere (λ o. o ≡ outcomes.PartPut (tag_of bytes)) (step least s n t command)
+send_told : (rules : Rules) (s : State) (n t : ℕ) (command : Command) (bytes : List ℕ) → sent command ≡ Some bytes
+    → TellsWhere (λ o. o ≡ outcomes.PartPut (tag_of bytes)) (step rules s n t command)
 unfolding done upload_done
-send_told least s n t (commands.Upload name key id (upload_commands.PutPart number payload)) bytes brings =
+send_told rules s n t (commands.Upload name key id (upload_commands.PutPart number payload)) bytes brings =
     let same = same_Some payload bytes brings in
     let P : Outcome → Type 0 = λ o. o ≡ outcomes.PartPut (tag_of bytes) in
-    told_line P s (not (has_bucket s name)) NoSuchBucket (upload_done least s n t name key id (upload_commands.PutPart number payload))
+    told_line P s (not (has_bucket s name)) NoSuchBucket (upload_done rules s n t name key id (upload_commands.PutPart number payload))
     (told_open P s (upload_at s name key id) _ (λ u is success. ap (λ (b : List ℕ). outcomes.PartPut (tag_of b)) same))
-send_told least s n t _ bytes brings = absurd (cc)
+send_told rules s n t _ bytes brings = absurd (cc)
 
 pub sent_is_told : EveryHistory SentIsTold
-sent_is_told least s n entries legal before later send bytes parts brings accepted =
-    let outcome = outcome_is least (after least s before) _ send (right_at least s n entries before later send legal parts) in
+sent_is_told rules s n entries legal before later send bytes parts brings accepted =
+    let outcome = outcome_is rules (after rules s before) _ send (right_at rules s n entries before later send legal parts) in
     outcome
-    ∙ send_told least (after least s before) send.answer.number send.moment send.command bytes brings
+    ∙ send_told rules (after rules s before) send.answer.number send.moment send.command bytes brings
     (sym (ap succeeds outcome) ∙ accepted)
 
 -- of a part that is copied it is told what it is, and what a read of its source would be told
@@ -136,24 +137,24 @@ copying_told s t name key id number copy (Ok found) what is puts =
     ))
 copying_told s t name key id number copy (Err refusal) what is puts = λ success. absurd (false≢true success)
 
-copy_told : (least : ℕ) (s : State) (n t : ℕ) (command : Command) (what : Part (List ℕ)) (asked : Read) (range : Option CopyRange)
+copy_told : (rules : Rules) (s : State) (n t : ℕ) (command : Command) (what : Part (List ℕ)) (asked : Read) (range : Option CopyRange)
     → copies_part command ≡ Some (asked, range) → puts_part s t command ≡ Some what
-    → TellsWhere (TellsCopied s t what asked range) (step least s n t command)
+    → TellsWhere (TellsCopied s t what asked range) (step rules s n t command)
 unfolding done upload_done
-copy_told least s n t (commands.Upload name key id (upload_commands.CopyPart number copy)) what asked range from puts =
+copy_told rules s n t (commands.Upload name key id (upload_commands.CopyPart number copy)) what asked range from puts =
     let same = same_Some (source_read copy.source, copy.range) (asked, range) from in
     let P = TellsCopied s t what (source_read copy.source) copy.range in
-    subst (λ (p : Read × Option CopyRange). TellsWhere (TellsCopied s t what p.0 p.1) (step least s n t (commands.Upload name key id (upload_commands.CopyPart number copy)))) same
-    (told_line P s (not (has_bucket s name)) NoSuchBucket (upload_done least s n t name key id (upload_commands.CopyPart number copy))
+    subst (λ (p : Read × Option CopyRange). TellsWhere (TellsCopied s t what p.0 p.1) (step rules s n t (commands.Upload name key id (upload_commands.CopyPart number copy)))) same
+    (told_line P s (not (has_bucket s name)) NoSuchBucket (upload_done rules s n t name key id (upload_commands.CopyPart number copy))
     (told_open P s (upload_at s name key id) _
     (λ u is. copying_told s t name key id number copy (source_found s copy.source) what refl puts)))
-copy_told least s n t _ what asked range from puts = absurd (cc)
+copy_told rules s n t _ what asked range from puts = absurd (cc)
 
 pub copied_part_is_told : EveryHistory CopiedPartIsTold
-copied_part_is_told least s n entries legal before later copy part what asked range parts sends from =
-    let outcome = outcome_is least (after least s before) _ copy (right_at least s n entries before later copy legal parts) in
-    subst (TellsCopied (after least s before) copy.moment what asked range) (sym outcome)
-    (copy_told least (after least s before) copy.answer.number copy.moment copy.command what asked range from sends.puts
+copied_part_is_told rules s n entries legal before later copy part what asked range parts sends from =
+    let outcome = outcome_is rules (after rules s before) _ copy (right_at rules s n entries before later copy legal parts) in
+    subst (TellsCopied (after rules s before) copy.moment what asked range) (sym outcome)
+    (copy_told rules (after rules s before) copy.answer.number copy.moment copy.command what asked range from sends.puts
     (sym (ap succeeds outcome) ∙ sends.accepted))
 
 -- a tag is told of a completion
@@ -165,47 +166,44 @@ rule_told : (s : State) (n t : ℕ) (name key : List ℕ) (id : ℕ) (rule : Res
 rule_told s n t name key id (Ok what) success = (what.tag, _, refl)
 rule_told s n t name key id (Err code) success = absurd (false≢true success)
 
-complete_told : (least : ℕ) (s : State) (n t : ℕ) (command : Command) (upload : UploadPlace) (listed : List ListedPart)
-    → completes command ≡ Some (upload, listed) → TellsWhere (TellsTag upload.address) (step least s n t command)
+complete_told : (rules : Rules) (s : State) (n t : ℕ) (command : Command) (upload : UploadPlace) (listed : List ListedPart)
+    → completes command ≡ Some (upload, listed) → TellsWhere (TellsTag upload.address) (step rules s n t command)
 unfolding done upload_done
-complete_told least s n t (commands.Upload name key id (upload_commands.Complete parts if_absent)) upload listed asks =
+complete_told rules s n t (commands.Upload name key id (upload_commands.Complete parts if_absent)) upload listed asks =
     let same = same_Some (place_of name key id, parts) (upload, listed) asks in
     let P = TellsTag (record { bucket = name; key = key }) in
-    subst (λ (p : UploadPlace × List ListedPart). TellsWhere (TellsTag p.0.address) (step least s n t (commands.Upload name key id (upload_commands.Complete parts if_absent)))) same
-    (told_line P s (not (has_bucket s name)) NoSuchBucket (upload_done least s n t name key id (upload_commands.Complete parts if_absent))
+    subst (λ (p : UploadPlace × List ListedPart). TellsWhere (TellsTag p.0.address) (step rules s n t (commands.Upload name key id (upload_commands.Complete parts if_absent)))) same
+    (told_line P s (not (has_bucket s name)) NoSuchBucket (upload_done rules s n t name key id (upload_commands.Complete parts if_absent))
     (told_open P s (upload_at s name key id) _
-    (λ u is. told_line P s (if_absent && is_taken s name key) PreconditionFailed _ (rule_told s n t name key id (completed least parts u)))))
-complete_told least s n t _ upload listed asks = absurd (cc)
+    (λ u is. told_line P s (if_absent && is_taken s name key) PreconditionFailed _ (rule_told s n t name key id (completed rules.least_part parts u)))))
+complete_told rules s n t _ upload listed asks = absurd (cc)
 
 pub completed_is_told : EveryHistory CompletedIsTold
-completed_is_told least s n entries legal before later complete upload listed parts completes =
-    let outcome = outcome_is least (after least s before) _ complete (right_at least s n entries before later complete legal parts) in
+completed_is_told rules s n entries legal before later complete upload listed parts completes =
+    let outcome = outcome_is rules (after rules s before) _ complete (right_at rules s n entries before later complete legal parts) in
     subst (TellsTag upload.address) (sym outcome)
-    (complete_told least (after least s before) complete.answer.number complete.moment complete.command upload listed completes.asks
+    (complete_told rules (after rules s before) complete.answer.number complete.moment complete.command upload listed completes.asks
     (sym (ap succeeds outcome) ∙ completes.accepted))
 
 -- ---- rules
 
 -- where a bucket is there, what is asked of an upload goes by what is found of it
-past_bucket : (least : ℕ) (s : State) (n t : ℕ) (upload : UploadPlace) (asked : UploadCommand) → IsTrue (has_bucket s upload.address.bucket)
-    → step least s n t (asking upload asked)
-    ≡ stepped s (upload_done least s n t upload.address.bucket upload.address.key upload.id asked)
+past_bucket : (rules : Rules) (s : State) (n t : ℕ) (upload : UploadPlace) (asked : UploadCommand) → IsTrue (has_bucket s upload.address.bucket)
+    → step rules s n t (asking upload asked)
+    ≡ stepped s (upload_done rules s n t upload.address.bucket upload.address.key upload.id asked)
 unfolding done
-past_bucket least s n t upload asked there = past_line s (not (has_bucket s upload.address.bucket)) _ (ap not there)
+past_bucket rules s n t upload asked there = past_line s (not (has_bucket s upload.address.bucket)) _ (ap not there)
 
-closed_done : (least : ℕ) (s : State) (n t : ℕ) (name key : List ℕ) (id : ℕ) (asked : UploadCommand) → upload_at s name key id ≡ None
-    → (stepped s (upload_done least s n t name key id asked)).1 ≡ outcomes.Refused NoSuchUpload false
+closed_done : (rules : Rules) (s : State) (n t : ℕ) (name key : List ℕ) (id : ℕ) (asked : UploadCommand) → upload_at s name key id ≡ None
+    → (stepped s (upload_done rules s n t name key id asked)).1 ≡ outcomes.Refused NoSuchUpload false
 unfolding upload_done
-closed_done least s n t name key id (upload_commands.PutPart number payload) none = rw none refl
-closed_done least s n t name key id (upload_commands.CopyPart number copy) none = rw none refl
-closed_done least s n t name key id (upload_commands.Complete listed if_absent) none = rw none refl
-closed_done least s n t name key id upload_commands.Abort none = rw none refl
-closed_done least s n t name key id (upload_commands.ListParts asked) none = rw none refl
+closed_done rules s n t name key id (upload_commands.PutPart number payload) none = rw none refl
+closed_done rules s n t name key id other none = rw none refl
 
 pub closed_uploads_are_refused : ClosedUploadsAreRefused
-closed_uploads_are_refused least s n t upload asked there none =
-    ap (λ (st : Stepped). st.1) (past_bucket least s n t upload asked there)
-    ∙ closed_done least s n t upload.address.bucket upload.address.key upload.id asked none
+closed_uploads_are_refused rules s n t upload asked there none =
+    ap (λ (st : Stepped). st.1) (past_bucket rules s n t upload asked there)
+    ∙ closed_done rules s n t upload.address.bucket upload.address.key upload.id asked none
 
 by_rule : (s : State) (n t : ℕ) (name key : List ℕ) (id : ℕ) (rule : Result (Data (List ℕ)) Code)
     → IsByRule rule (stepped s (as_refusal rule >>= completing s n t name key id)).1
@@ -219,67 +217,67 @@ by_condition : (s : State) (n t : ℕ) (name key : List ℕ) (id : ℕ) (taken :
 by_condition s n t name key id true rule = refl
 by_condition s n t name key id false rule = by_rule s n t name key id rule
 
-completed_done : (least : ℕ) (s : State) (n t : ℕ) (name key : List ℕ) (id : ℕ) (listed : List ListedPart) (if_absent : Bool)
+completed_done : (rules : Rules) (s : State) (n t : ℕ) (name key : List ℕ) (id : ℕ) (listed : List ListedPart) (if_absent : Bool)
     (found : Upload (List ℕ))
     → upload_at s name key id ≡ Some found
-    → IsByRule (completion_rule least s (record { bucket = name; key = key }) listed if_absent found)
-    (stepped s (upload_done least s n t name key id (upload_commands.Complete listed if_absent))).1
+    → IsByRule (completion_rule rules s (record { bucket = name; key = key }) listed if_absent found)
+    (stepped s (upload_done rules s n t name key id (upload_commands.Complete listed if_absent))).1
 unfolding upload_done
-completed_done least s n t name key id listed if_absent found is =
-    rw is (by_condition s n t name key id (if_absent && is_taken s name key) (completed least listed found))
+completed_done rules s n t name key id listed if_absent found is =
+    rw is (by_condition s n t name key id (if_absent && is_taken s name key) (completed rules.least_part listed found))
 
 pub completions_go_by_the_rule : CompletionsGoByTheRule
-completions_go_by_the_rule least s n t upload listed if_absent found there is =
-    subst (λ (st : Stepped). IsByRule (completion_rule least s upload.address listed if_absent found) st.1)
-    (sym (past_bucket least s n t upload (upload_commands.Complete listed if_absent) there))
-    (completed_done least s n t upload.address.bucket upload.address.key upload.id listed if_absent found is)
+completions_go_by_the_rule rules s n t upload listed if_absent found there is =
+    subst (λ (st : Stepped). IsByRule (completion_rule rules s upload.address listed if_absent found) st.1)
+    (sym (past_bucket rules s n t upload (upload_commands.Complete listed if_absent) there))
+    (completed_done rules s n t upload.address.bucket upload.address.key upload.id listed if_absent found is)
 
 pub upload_lists_are_told : UploadListsAreTold
 unfolding done bucket_done
-upload_lists_are_told least s n t name asked there = ap (λ (st : Stepped). st.1) (past_line s (not (has_bucket s name)) _ (ap not there))
+upload_lists_are_told rules s n t name asked there = ap (λ (st : Stepped). st.1) (past_line s (not (has_bucket s name)) _ (ap not there))
 
-parts_done : (least : ℕ) (s : State) (n t : ℕ) (name key : List ℕ) (id : ℕ) (asked : PartsAsked) (found : Upload (List ℕ))
+parts_done : (rules : Rules) (s : State) (n t : ℕ) (name key : List ℕ) (id : ℕ) (asked : PartsAsked) (found : Upload (List ℕ))
     → upload_at s name key id ≡ Some found
-    → (stepped s (upload_done least s n t name key id (upload_commands.ListParts asked))).1
+    → (stepped s (upload_done rules s n t name key id (upload_commands.ListParts asked))).1
     ≡ outcomes.Told (documents.parts name key id asked (parts_page asked found.parts))
 unfolding upload_done
-parts_done least s n t name key id asked found is = rw is refl
+parts_done rules s n t name key id asked found is = rw is refl
 
 pub part_lists_are_told : PartListsAreTold
-part_lists_are_told least s n t upload asked found there is =
-    ap (λ (st : Stepped). st.1) (past_bucket least s n t upload (upload_commands.ListParts asked) there)
-    ∙ parts_done least s n t upload.address.bucket upload.address.key upload.id asked found is
+part_lists_are_told rules s n t upload asked found there is =
+    ap (λ (st : Stepped). st.1) (past_bucket rules s n t upload (upload_commands.ListParts asked) there)
+    ∙ parts_done rules s n t upload.address.bucket upload.address.key upload.id asked found is
 
 -- ---- lists
 
-uploads_step : (least : ℕ) (s : State) (n t : ℕ) (name : List ℕ) (asked : UploadsAsked)
-    → succeeds (step least s n t (commands.Bucket name (bucket_commands.ListUploads asked))).1 ≡ true
-    → (step least s n t (commands.Bucket name (bucket_commands.ListUploads asked))).1
+uploads_step : (rules : Rules) (s : State) (n t : ℕ) (name : List ℕ) (asked : UploadsAsked)
+    → succeeds (step rules s n t (commands.Bucket name (bucket_commands.ListUploads asked))).1 ≡ true
+    → (step rules s n t (commands.Bucket name (bucket_commands.ListUploads asked))).1
     ≡ outcomes.Told (documents.uploads name asked (uploads_page asked s name))
 unfolding done bucket_done
-uploads_step least s n t name asked success = page_told s (not (has_bucket s name)) _ success
+uploads_step rules s n t name asked success = page_told s (not (has_bucket s name)) _ success
 
 pub upload_lists_tell_what_is_there : EveryHistory UploadListsTellWhatIsThere
-upload_lists_tell_what_is_there least s n entries legal before later list name asked parts is success =
-    let outcome = command_outcome least s n entries before later list _ legal parts is in
+upload_lists_tell_what_is_there rules s n entries legal before later list name asked parts is success =
+    let outcome = command_outcome rules s n entries before later list _ legal parts is in
     outcome
-    ∙ uploads_step least (after least s before) list.answer.number list.moment name asked (sym (ap succeeds outcome) ∙ success)
+    ∙ uploads_step rules (after rules s before) list.answer.number list.moment name asked (sym (ap succeeds outcome) ∙ success)
 
-parts_step : (least : ℕ) (s : State) (n t : ℕ) (name key : List ℕ) (id : ℕ) (asked : PartsAsked)
+parts_step : (rules : Rules) (s : State) (n t : ℕ) (name key : List ℕ) (id : ℕ) (asked : PartsAsked)
     → TellsWhere (λ o. o ≡ outcomes.Told (documents.parts name key id asked (parts_page asked (parts_at s name key id))))
-    (step least s n t (commands.Upload name key id (upload_commands.ListParts asked)))
+    (step rules s n t (commands.Upload name key id (upload_commands.ListParts asked)))
 unfolding done upload_done
-parts_step least s n t name key id asked =
+parts_step rules s n t name key id asked =
     let P : Outcome → Type 0 = λ o. o ≡ outcomes.Told (documents.parts name key id asked (parts_page asked (parts_at s name key id))) in
-    told_line P s (not (has_bucket s name)) NoSuchBucket (upload_done least s n t name key id (upload_commands.ListParts asked))
+    told_line P s (not (has_bucket s name)) NoSuchBucket (upload_done rules s n t name key id (upload_commands.ListParts asked))
     (told_open P s (upload_at s name key id) _
     (λ u is success. ap (λ (found : Option (Upload (List ℕ))). outcomes.Told (documents.parts name key id asked (parts_page asked (parts_sent found)))) (sym is)))
 
 pub part_lists_tell_what_is_there : EveryHistory PartListsTellWhatIsThere
-part_lists_tell_what_is_there least s n entries legal before later list name key id asked parts is success =
-    let outcome = command_outcome least s n entries before later list _ legal parts is in
+part_lists_tell_what_is_there rules s n entries legal before later list name key id asked parts is success =
+    let outcome = command_outcome rules s n entries before later list _ legal parts is in
     outcome
-    ∙ parts_step least (after least s before) list.answer.number list.moment name key id asked (sym (ap succeeds outcome) ∙ success)
+    ∙ parts_step rules (after rules s before) list.answer.number list.moment name key id asked (sym (ap succeeds outcome) ∙ success)
 
 -- what passes a test is kept with those that do
 pub kept_by : {X : Type 0} (p : X → Bool) (xs : List X) (x : X) → p x ≡ true → Contains xs x → Contains (filter p xs) x
@@ -332,8 +330,8 @@ found_at (Some u) t is = (u, refl, cc)
 
 module _ (listed : UploadsAreListed (List ℕ)) where
   pub uploads_are_listed_while_open : EveryHistory UploadsAreOpenUntilEnded → EveryHistory UploadsAreListedWhileOpen
-  uploads_are_listed_while_open law least s n entries legal names upload t opens some =
-      let there = after least s entries in
+  uploads_are_listed_while_open law rules s n entries legal names upload t opens some =
+      let there = after rules s entries in
       let row : UploadRow = record { key = upload.address.key; id = upload.id; moment = t } in
       let rows = all_rows there upload.address.bucket row some in
       let is = listed there upload.address.bucket row in (
@@ -341,7 +339,7 @@ module _ (listed : UploadsAreListed (List ℕ)) where
             let found = found_at (open_at there upload) t (is.1 (rows.1 shown)) in
             let asked = asked_of found.0 in (
               asked,
-              (law least s n entries legal names upload t asked opens).0 (record {
+              (law rules s n entries legal names upload t asked opens).0 (record {
                 found = found.0;
                 there = found.1;
                 moment = found.2;
@@ -350,15 +348,15 @@ module _ (listed : UploadsAreListed (List ℕ)) where
               }),
             ),
         λ (asked, begun).
-            let now = (law least s n entries legal names upload t asked opens).1 begun in
+            let now = (law rules s n entries legal names upload t asked opens).1 begun in
             rows.0 (is.0 (ap (option_map (λ (u : Upload (List ℕ)). u.moment)) now.there ∙ ap Some now.moment)),
       )
 
 -- ---- what writes nothing
 
-module _ (places : ChangesAreByPlace (List ℕ)) (rules : Rules) where
+module _ (places : ChangesAreByPlace (List ℕ)) (follow : FollowRules) where
   pub only_writes_change_versions : EveryHistory OnlyWritesChangeVersions
-  only_writes_change_versions least s n entries legal before later e address parts other =
-      ap (λ (state : State). versions_at state address) (after-push least s before e)
-      ∙ versions_left places rules least (after least s before) _ e address (right_at least s n entries before later e legal parts)
+  only_writes_change_versions rules s n entries legal before later e address parts other =
+      ap (λ (state : State). versions_at state address) (after-push rules s before e)
+      ∙ versions_left places follow rules (after rules s before) _ e address (right_at rules s n entries before later e legal parts)
       (λ written. absurd (other written))

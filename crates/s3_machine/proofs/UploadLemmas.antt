@@ -37,6 +37,7 @@ use Rattle.s3_machine.specs.declared.command.PartCopy.{PartCopy}
 use Rattle.s3_machine.specs.declared.command.UploadCommand.{UploadCommand}
 use Rattle.s3_machine.specs.declared.command.UploadCommand.TheVariants as upload_commands
 use Rattle.s3_machine.specs.declared.command.Outcome.{Outcome}
+use Rattle.s3_machine.specs.declared.rules.Rules.{Rules}
 use Rattle.s3_machine.specs.Fault.{refuse, as_refusal}
 use Rattle.s3_machine.specs.Effects.{Address, UploadPlace, PartPlace, place_of, open_at, begins, sends, copied_part, puts_part, ends, succeeds}
 use Rattle.s3_machine.specs.Step.{State, Stepped, is_taken, copied, source_found, lies_in, part_copied, data_of, outcome_shown, shown_by, found_in, upload_begun, open_upload, bucket_done, key_done, upload_done, done, stepped, step}
@@ -160,35 +161,23 @@ fate_line s n t command upload fault code next goes =
     after_line (λ st. Fate s n t command st upload) s fault code next (left_refused s n t command _ upload refl) goes
 
 module _ (law : ChangesAreByUpload (List ℕ)) where
-  bucket_fate : (s : State) (n t : ℕ) (name : List ℕ) (asked : BucketCommand) (upload : UploadPlace)
-      → Fate s n t (commands.Bucket name asked) (stepped s (bucket_done s t name asked)) upload
+  bucket_fate : (rules : Rules) (s : State) (n t : ℕ) (name : List ℕ) (asked : BucketCommand) (upload : UploadPlace)
+      → Fate s n t (commands.Bucket name asked) (stepped s (bucket_done rules s t name asked)) upload
   unfolding bucket_done
-  bucket_fate s n t name bucket_commands.Create upload =
+  bucket_fate rules s n t name bucket_commands.Create upload =
       fate_line s n t _ upload (has_bucket s name) BucketAlreadyOwnedByYou _
       (λ none. left_alone s (changed s name (BucketAdded t)) n t _ _ upload
       (law s name (BucketAdded t) (ap not none) upload.address.bucket upload.address.key upload.id) refl refl refl)
-  bucket_fate s n t name bucket_commands.Head upload =
-      fate_line s n t _ upload (not (has_bucket s name)) NoSuchBucket _ (λ there. idle s n t _ _ upload refl refl refl)
-  bucket_fate s n t name bucket_commands.Delete upload =
+  bucket_fate rules s n t name bucket_commands.Delete upload =
       fate_line s n t _ upload (not (has_bucket s name)) NoSuchBucket _
       (λ there. fate_line s n t _ upload (not (is_empty_bucket s name)) BucketNotEmpty _
       (λ empty. left_alone s (changed s name BucketDropped) n t _ _ upload
       (law s name BucketDropped (not-false (is_empty_bucket s name) empty) upload.address.bucket upload.address.key upload.id) refl refl refl))
-  bucket_fate s n t name (bucket_commands.PutVersioning status) upload =
+  bucket_fate rules s n t name (bucket_commands.PutVersioning status) upload =
       fate_line s n t _ upload (not (has_bucket s name)) NoSuchBucket _
       (λ there. left_alone s (changed s name (VersioningSet status)) n t _ _ upload
       (law s name (VersioningSet status) refl upload.address.bucket upload.address.key upload.id) refl refl refl)
-  bucket_fate s n t name bucket_commands.GetVersioning upload =
-      fate_line s n t _ upload (not (has_bucket s name)) NoSuchBucket _ (λ there. idle s n t _ _ upload refl refl refl)
-  bucket_fate s n t name (bucket_commands.GetLocation region) upload =
-      fate_line s n t _ upload (not (has_bucket s name)) NoSuchBucket _ (λ there. idle s n t _ _ upload refl refl refl)
-  bucket_fate s n t name (bucket_commands.GetConfiguration which) upload =
-      fate_line s n t _ upload (not (has_bucket s name)) NoSuchBucket _ (λ there. left_refused s n t _ _ upload refl)
-  bucket_fate s n t name (bucket_commands.ListObjects asked) upload =
-      fate_line s n t _ upload (not (has_bucket s name)) NoSuchBucket _ (λ there. idle s n t _ _ upload refl refl refl)
-  bucket_fate s n t name (bucket_commands.ListVersions asked) upload =
-      fate_line s n t _ upload (not (has_bucket s name)) NoSuchBucket _ (λ there. idle s n t _ _ upload refl refl refl)
-  bucket_fate s n t name (bucket_commands.ListUploads asked) upload =
+  bucket_fate rules s n t name other upload =
       fate_line s n t _ upload (not (has_bucket s name)) NoSuchBucket _ (λ there. idle s n t _ _ upload refl refl refl)
 
   -- a change of the versions under a key leaves all uploads
@@ -247,7 +236,7 @@ module _ (law : ChangesAreByUpload (List ℕ)) where
             })
       ]
 
-  key_fate : (s : State) (n t : ℕ) (name key : List ℕ) (asked : KeyCommand (List ℕ)) (upload : UploadPlace) → IsTrue (has_bucket s name)
+  key_fate : (s : State) (n t : ℕ) (name key : List ℕ) (asked : KeyCommand) (upload : UploadPlace) → IsTrue (has_bucket s name)
       → Fate s n t (commands.Key name key asked) (stepped s (key_done s n t name key asked)) upload
   unfolding key_done copy_done
   key_fate s n t name key (key_commands.Put put) upload there =
@@ -351,39 +340,39 @@ module _ (law : ChangesAreByUpload (List ℕ)) where
       end_fate s n t name key id asked change _ upload (law s name change there) at refl
   completed_fate s n t name key id asked (Err code) upload at there = left_refused s n t _ _ upload refl
 
-  upload_fate : (least : ℕ) (s : State) (n t : ℕ) (name key : List ℕ) (id : ℕ) (asked : UploadCommand) (upload : UploadPlace)
+  upload_fate : (rules : Rules) (s : State) (n t : ℕ) (name key : List ℕ) (id : ℕ) (asked : UploadCommand) (upload : UploadPlace)
       → IsTrue (has_bucket s name)
-      → Fate s n t (commands.Upload name key id asked) (stepped s (upload_done least s n t name key id asked)) upload
+      → Fate s n t (commands.Upload name key id asked) (stepped s (upload_done rules s n t name key id asked)) upload
   unfolding upload_done
-  upload_fate least s n t name key id (upload_commands.PutPart number payload) upload there =
+  upload_fate rules s n t name key id (upload_commands.PutPart number payload) upload there =
       opened_fate s n t name key id (upload_commands.PutPart number payload) _ upload
       (λ u is. part_fate s n t name key id number (upload_commands.PutPart number payload) (part_sent t payload) _
       upload u refl refl is there refl)
-  upload_fate least s n t name key id (upload_commands.CopyPart number copy) upload there =
+  upload_fate rules s n t name key id (upload_commands.CopyPart number copy) upload there =
       opened_fate s n t name key id (upload_commands.CopyPart number copy) _ upload
       (λ u is. copied_fate s n t name key id number copy (source_found s copy.source) upload u refl is there)
-  upload_fate least s n t name key id (upload_commands.Complete listed if_absent) upload there =
+  upload_fate rules s n t name key id (upload_commands.Complete listed if_absent) upload there =
       opened_fate s n t name key id (upload_commands.Complete listed if_absent) _ upload
       (λ u is. fate_line s n t _ upload (if_absent && is_taken s name key) PreconditionFailed _
-      (λ free. completed_fate s n t name key id (upload_commands.Complete listed if_absent) (completed least listed u) upload refl there))
-  upload_fate least s n t name key id upload_commands.Abort upload there =
+      (λ free. completed_fate s n t name key id (upload_commands.Complete listed if_absent) (completed rules.least_part listed u) upload refl there))
+  upload_fate rules s n t name key id upload_commands.Abort upload there =
       opened_fate s n t name key id upload_commands.Abort _ upload
       (λ u is. end_fate s n t name key id upload_commands.Abort (UploadDropped key id) _ upload (law s name (UploadDropped key id) there) refl refl)
-  upload_fate least s n t name key id (upload_commands.ListParts asked) upload there =
-      opened_fate s n t name key id (upload_commands.ListParts asked) _ upload (λ u is. idle s n t _ _ upload refl refl refl)
+  upload_fate rules s n t name key id other upload there =
+      opened_fate s n t name key id other _ upload (λ u is. idle s n t _ _ upload refl refl refl)
 
-  pub step_fate : (least : ℕ) (s : State) (n t : ℕ) (command : Command) (upload : UploadPlace)
-      → Fate s n t command (step least s n t command) upload
+  pub step_fate : (rules : Rules) (s : State) (n t : ℕ) (command : Command) (upload : UploadPlace)
+      → Fate s n t command (step rules s n t command) upload
   unfolding done
-  step_fate least s n t commands.ListBuckets upload = idle s n t commands.ListBuckets _ upload refl refl refl
-  step_fate least s n t (commands.Bucket name asked) upload = bucket_fate s n t name asked upload
-  step_fate least s n t (commands.Key name key asked) upload =
+  step_fate rules s n t commands.ListBuckets upload = idle s n t commands.ListBuckets _ upload refl refl refl
+  step_fate rules s n t (commands.Bucket name asked) upload = bucket_fate rules s n t name asked upload
+  step_fate rules s n t (commands.Key name key asked) upload =
       fate_line s n t _ upload (not (has_bucket s name)) NoSuchBucket (key_done s n t name key asked)
       (λ there. key_fate s n t name key asked upload (not-false (has_bucket s name) there))
-  step_fate least s n t (commands.Upload name key id asked) upload =
-      fate_line s n t _ upload (not (has_bucket s name)) NoSuchBucket (upload_done least s n t name key id asked)
-      (λ there. upload_fate least s n t name key id asked upload (not-false (has_bucket s name) there))
-  step_fate least s n t (commands.DeleteObjects name deletion) upload =
+  step_fate rules s n t (commands.Upload name key id asked) upload =
+      fate_line s n t _ upload (not (has_bucket s name)) NoSuchBucket (upload_done rules s n t name key id asked)
+      (λ there. upload_fate rules s n t name key id asked upload (not-false (has_bucket s name) there))
+  step_fate rules s n t (commands.DeleteObjects name deletion) upload =
       fate_line s n t _ upload (not (has_bucket s name)) NoSuchBucket _
       (λ there.
       let is : IsIn (versioning_of s name) name s = record { there = not-false (has_bucket s name) there; versioning = refl } in

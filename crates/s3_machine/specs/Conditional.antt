@@ -1,9 +1,10 @@
 -- Conditional writes (Amazon S3 User Guide, "How to prevent object overwrites with conditional writes"): a put or a completion
 -- that wants no object under its key succeeds only where there is none. So of those that race for a key at most one succeeds,
 -- until its object is taken away.
-use Rattle.std.specs.Prelude.{◌≡◌, ℕ, Bool, true, false, List, [], ◌∷◌, ◌++◌, Contains, Some}
+use Rattle.std.specs.Prelude.{◌≡◌, Bool, true, false, List, [], ◌∷◌, ◌++◌, Contains, Some}
 use Rattle.s3_terms.specs.declared.code.Code.TheVariants.{PreconditionFailed}
 use Rattle.s3_machine.specs.declared.command.Outcome.TheVariants as outcomes
+use Rattle.s3_machine.specs.declared.rules.Rules.{Rules}
 use Rattle.s3_machine.specs.Step.{State, is_taken}
 use Rattle.s3_machine.specs.Effects.{Address, Object, writes, wants_absent, succeeds}
 use Rattle.s3_machine.specs.History.{Entry, after, after_entry}
@@ -20,29 +21,29 @@ pub record PutsIfAbsent (address : Address) (e : Entry) : Type 0 where
 
 -- the entry takes the object of the address away: it writes there and succeeds, and an object was there before it and isn't behind
 -- it
-pub record TakesAway (least : ℕ) (s : State) (address : Address) (e : Entry) : Type 0 where
+pub record TakesAway (rules : Rules) (s : State) (address : Address) (e : Entry) : Type 0 where
   pub written : Contains (writes e.command) address
   pub accepted : succeeds e.answer.outcome ≡ true
   pub found : has_object s address ≡ true
-  pub leaves : has_object (after_entry least s e) address ≡ false
+  pub leaves : has_object (after_entry rules s e) address ≡ false
 
 -- one of the entries takes it away
-pub record IsTakenAway (least : ℕ) (s : State) (entries : List Entry) (address : Address) : Type 0 where
+pub record IsTakenAway (rules : Rules) (s : State) (entries : List Entry) (address : Address) : Type 0 where
   pub before : List Entry
   pub taking : Entry
   pub later : List Entry
   pub parts : entries ≡ before ++ taking ∷ later
-  pub takes : TakesAway least (after least s before) address taking
+  pub takes : TakesAway rules (after rules s before) address taking
 
 -- The laws, of a history that begins at a state.
-module _ (least : ℕ) (s : State) (entries : List Entry) where
+module _ (rules : Rules) (s : State) (entries : List Entry) where
   -- A write that wants no object finds none where it succeeds,
   abbrev pub AcceptedFindsNone : Type 0
   AcceptedFindsNone =
       (before later : List Entry) (put : Entry) (address : Address)
       → entries ≡ before ++ put ∷ later
       → PutsIfAbsent address put
-      → has_object (after least s before) address ≡ false
+      → has_object (after rules s before) address ≡ false
 
   -- and finds one where it is refused for that, and then leaves all as it was.
   abbrev pub RefusedFindsOne : Type 0
@@ -51,16 +52,16 @@ module _ (least : ℕ) (s : State) (entries : List Entry) where
       → entries ≡ before ++ put ∷ later
       → wants_absent put.command ≡ Some address
       → put.answer.outcome ≡ outcomes.Refused PreconditionFailed is_delete_marker
-      → (has_object (after least s before) address ≡ true) × (after least s (before ++ put ∷ []) ≡ after least s before)
+      → (has_object (after rules s before) address ≡ true) × (after rules s (before ++ put ∷ []) ≡ after rules s before)
 
   -- Once an entry has stored an object, whichever way, none that wants no object there succeeds before another has taken it away.
   abbrev pub StoredKeepsOthersOut : Type 0
   StoredKeepsOthersOut =
       (before between later : List Entry) (first second : Entry) (object : Object)
       → entries ≡ before ++ first ∷ between ++ second ∷ later
-      → Stores (after least s before) first object
+      → Stores (after rules s before) first object
       → PutsIfAbsent object.address second
-      → IsTakenAway least (after least s (before ++ first ∷ [])) between object.address
+      → IsTakenAway rules (after rules s (before ++ first ∷ [])) between object.address
 
   -- So two that want no object at one address don't both succeed, unless between them another takes away what the first stored.
   abbrev pub OneIsAccepted : Type 0
@@ -69,4 +70,4 @@ module _ (least : ℕ) (s : State) (entries : List Entry) where
       → entries ≡ before ++ first ∷ between ++ second ∷ later
       → PutsIfAbsent address first
       → PutsIfAbsent address second
-      → IsTakenAway least (after least s (before ++ first ∷ [])) between address
+      → IsTakenAway rules (after rules s (before ++ first ∷ [])) between address

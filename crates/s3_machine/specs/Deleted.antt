@@ -15,6 +15,7 @@ use Rattle.s3_records.specs.Deletions.{markers_of}
 use Rattle.s3_records.specs.Places.{version_at}
 use Rattle.s3_documents.specs.Document as documents
 use Rattle.s3_machine.specs.declared.command.Outcome.TheVariants as outcomes
+use Rattle.s3_machine.specs.declared.rules.Rules.{Rules}
 use Rattle.s3_machine.specs.Step.{State, makes_marker}
 use Rattle.s3_machine.specs.Effects.{Address, deletes, succeeds}
 use Rattle.s3_machine.specs.History.{Entry, after}
@@ -51,7 +52,7 @@ pub record TellsMarker (key : List ℕ) (id : VersionId) (row : DeletionRow) : T
   pub is : row ≡ rows.Deleted key version (Some id)
 
 -- The laws, of a history that begins at a state.
-module _ (least : ℕ) (s : State) (entries : List Entry) where
+module _ (rules : Rules) (s : State) (entries : List Entry) where
   -- Where nothing stood at the beginning, a key that is named without a version, and no version of which is named, is gone: while
   -- its bucket is there, a read of it is answered that there is no such key, and whether a delete marker hides it, until an entry
   -- changes its versions.
@@ -64,8 +65,8 @@ module _ (least : ℕ) (s : State) (entries : List Entry) where
       → NamesKeyAlone deletion address.key
       → LeavesKey address between
       → AsksForKey address read
-      → IsTrue (has_bucket (after least s (before ++ e ∷ between)) address.bucket)
-      → read.answer.outcome ≡ outcomes.Refused NoSuchKey (makes_marker (versioning_of (after least s before) address.bucket))
+      → IsTrue (has_bucket (after rules s (before ++ e ∷ between)) address.bucket)
+      → read.answer.outcome ≡ outcomes.Refused NoSuchKey (makes_marker (versioning_of (after rules s before) address.bucket))
 
   -- Then a version that is named is gone, too, unless the entry makes a delete marker of its id.
   abbrev pub NamedVersionsAreGone : Type 0
@@ -75,8 +76,8 @@ module _ (least : ℕ) (s : State) (entries : List Entry) where
       → entries ≡ before ++ e ∷ later
       → Deletes bucket deletion e
       → Names deletion key (Some id)
-      → ¬ MakesMarker (after least s before) e.answer.number bucket deletion key id
-      → version_at (after least s (before ++ e ∷ [])) bucket key id ≡ None
+      → ¬ MakesMarker (after rules s before) e.answer.number bucket deletion key id
+      → version_at (after rules s (before ++ e ∷ [])) bucket key id ≡ None
 
   -- Every other version stays.
   abbrev pub OtherVersionsStay : Type 0
@@ -84,9 +85,9 @@ module _ (least : ℕ) (s : State) (entries : List Entry) where
       (before later : List Entry) (e : Entry) (bucket : List ℕ) (deletion : Deletion) (address : Address) (id : VersionId)
       → entries ≡ before ++ e ∷ later
       → Deletes bucket deletion e
-      → (address.bucket ≡ bucket → ¬ Reaches (after least s before) e.answer.number bucket deletion address.key id)
-      → version_at (after least s (before ++ e ∷ [])) address.bucket address.key id
-      ≡ version_at (after least s before) address.bucket address.key id
+      → (address.bucket ≡ bucket → ¬ Reaches (after rules s before) e.answer.number bucket deletion address.key id)
+      → version_at (after rules s (before ++ e ∷ [])) address.bucket address.key id
+      ≡ version_at (after rules s before) address.bucket address.key id
 
   -- Who deletes objects is told of each, in the order of the document,
   abbrev pub DeletionsAreTold : Type 0
@@ -96,7 +97,7 @@ module _ (least : ℕ) (s : State) (entries : List Entry) where
       → Deletes bucket deletion e
       → e.answer.outcome
       ≡ outcomes.Told (documents.deletions deletion.is_quiet
-      (rows_told deletion.objects (markers_of (after least s before) bucket e.answer.number e.moment deletion.objects)))
+      (rows_told deletion.objects (markers_of (after rules s before) bucket e.answer.number e.moment deletion.objects)))
 
   -- and the id that is the number of the entry is told once of a key: of two rows not both tell of a delete marker of it.
   abbrev pub MarkersAreToldOnce : Type 0

@@ -73,7 +73,7 @@ abbrev pub part_in : State → PartPlace → Option (Part (List ℕ))
 part_in s part = part_at part.number (parts_at s part.upload.address.bucket part.upload.address.key part.upload.id)
 
 -- the addresses whose versions a command may change
-abbrev pub key_written : Address → KeyCommand (List ℕ) → List Address
+abbrev pub key_written : Address → KeyCommand → List Address
 key_written address (key_commands.Put put) = address ∷ []
 key_written address (key_commands.Copy copy) = address ∷ []
 key_written address (key_commands.Delete asked) = address ∷ []
@@ -103,7 +103,7 @@ deletes other = None
 abbrev pub where_absent : Bool → Address → Option Address
 where_absent if_absent address = if if_absent then Some address else None
 
-abbrev pub key_absent : Address → KeyCommand (List ℕ) → Option Address
+abbrev pub key_absent : Address → KeyCommand → Option Address
 key_absent address (key_commands.Put put) = where_absent put.if_absent address
 key_absent address other = None
 
@@ -117,7 +117,7 @@ wants_absent (commands.Upload bucket key id asked) = upload_absent (record { buc
 wants_absent other = None
 
 -- the data that a command brings along, to be stored as they are
-abbrev pub key_brought : KeyCommand (List ℕ) → Option (Data (List ℕ))
+abbrev pub key_brought : KeyCommand → Option (Data (List ℕ))
 key_brought (key_commands.Put put) = Some (data_of put)
 key_brought other = None
 
@@ -142,7 +142,7 @@ object_of s n t address stored =
     record { address = address; id = new_id (versioning_of s address.bucket) n; moment = t; stored = stored }
 
 -- the data that a command stores under its key, where it isn't refused in this state
-abbrev pub key_stored : State → Address → KeyCommand (List ℕ) → Option (Data (List ℕ))
+abbrev pub key_stored : State → Address → KeyCommand → Option (Data (List ℕ))
 key_stored s address (key_commands.Put put) = Some (data_of put)
 key_stored s address (key_commands.Copy copy) = result_ok (copied s copy)
 key_stored s address other = None
@@ -154,7 +154,7 @@ upload_stored found (upload_commands.Complete listed if_absent) =
 upload_stored found other = None
 
 -- the object that it stores as entry n at moment t
-abbrev pub stored_at : State → ℕ → ℕ → Address → KeyCommand (List ℕ) → Option Object
+abbrev pub stored_at : State → ℕ → ℕ → Address → KeyCommand → Option Object
 stored_at s n t address asked = option_map (object_of s n t address) (key_stored s address asked)
 
 abbrev pub joined_at : State → ℕ → ℕ → UploadPlace → UploadCommand → Option Object
@@ -166,7 +166,7 @@ stored_by s n t (commands.Upload bucket key id asked) = joined_at s n t (place_o
 stored_by s n t other = None
 
 -- where a command begins an upload, and with what; the upload's id is the number of the entry
-abbrev pub key_begins : Address → KeyCommand (List ℕ) → Option (Address × Description)
+abbrev pub key_begins : Address → KeyCommand → Option (Address × Description)
 key_begins address (key_commands.Begin begin) = Some (address, begin)
 key_begins address other = None
 
@@ -240,7 +240,7 @@ whole address version = record { address = address; version = version; condition
 abbrev pub read_at : Address → ObjectRead → Read
 read_at address asked = record { address = address; version = asked.version; conditions = asked.conditions }
 
-abbrev pub key_read : Address → KeyCommand (List ℕ) → Option Read
+abbrev pub key_read : Address → KeyCommand → Option Read
 key_read address (key_commands.Read asked) = Some (read_at address asked)
 key_read address other = None
 
@@ -258,7 +258,7 @@ source_read source =
     }
 
 -- what a command copies to a key, and what it says of it
-abbrev pub key_copies : KeyCommand (List ℕ) → Option (Read × Option Description)
+abbrev pub key_copies : KeyCommand → Option (Read × Option Description)
 key_copies (key_commands.Copy copy) = Some (source_read copy.source, copy.description)
 key_copies other = None
 
@@ -277,16 +277,12 @@ copies_part other = None
 
 -- the command only reads
 abbrev pub only_reads_bucket : BucketCommand → Bool
-only_reads_bucket bucket_commands.Head = true
-only_reads_bucket bucket_commands.GetVersioning = true
-only_reads_bucket (bucket_commands.GetLocation region) = true
-only_reads_bucket (bucket_commands.GetConfiguration which) = true
-only_reads_bucket (bucket_commands.ListObjects asked) = true
-only_reads_bucket (bucket_commands.ListVersions asked) = true
-only_reads_bucket (bucket_commands.ListUploads asked) = true
-only_reads_bucket other = false
+only_reads_bucket bucket_commands.Create = false
+only_reads_bucket bucket_commands.Delete = false
+only_reads_bucket (bucket_commands.PutVersioning status) = false
+only_reads_bucket other = true
 
-abbrev pub only_reads_key : KeyCommand (List ℕ) → Bool
+abbrev pub only_reads_key : KeyCommand → Bool
 only_reads_key (key_commands.Read asked) = true
 only_reads_key other = false
 
@@ -304,31 +300,27 @@ only_reads (commands.DeleteObjects name deletion) = false
 -- the command may take memory: it makes a bucket, a version, a delete marker, an upload or a part, hands out what is kept, or
 -- tells of it, or of what it deletes, in a list
 abbrev pub takes_room_in_bucket : BucketCommand → Bool
-takes_room_in_bucket bucket_commands.Create = true
-takes_room_in_bucket (bucket_commands.GetLocation region) = true
-takes_room_in_bucket (bucket_commands.ListObjects asked) = true
-takes_room_in_bucket (bucket_commands.ListVersions asked) = true
-takes_room_in_bucket (bucket_commands.ListUploads asked) = true
-takes_room_in_bucket other = false
+takes_room_in_bucket bucket_commands.Head = false
+takes_room_in_bucket bucket_commands.Delete = false
+takes_room_in_bucket (bucket_commands.PutVersioning status) = false
+takes_room_in_bucket bucket_commands.GetVersioning = false
+takes_room_in_bucket (bucket_commands.GetConfiguration which) = false
+takes_room_in_bucket other = true
 
-abbrev pub takes_room_at_key : Versioning → KeyCommand (List ℕ) → Bool
-takes_room_at_key versioning (key_commands.Put put) = true
-takes_room_at_key versioning (key_commands.Copy copy) = true
-takes_room_at_key versioning (key_commands.Read asked) = true
+abbrev pub takes_room_at_key : Versioning → KeyCommand → Bool
 takes_room_at_key versioning (key_commands.Delete None) = makes_marker versioning
-takes_room_at_key versioning (key_commands.Begin begin) = true
-takes_room_at_key versioning other = false
+takes_room_at_key versioning (key_commands.Delete (Some id)) = false
+takes_room_at_key versioning other = true
 
 abbrev pub takes_room_in_upload : UploadCommand → Bool
 takes_room_in_upload upload_commands.Abort = false
 takes_room_in_upload other = true
 
 abbrev pub takes_room : State → Command → Bool
-takes_room s commands.ListBuckets = true
 takes_room s (commands.Bucket name asked) = takes_room_in_bucket asked
 takes_room s (commands.Key name key asked) = takes_room_at_key (versioning_of s name) asked
 takes_room s (commands.Upload name key id asked) = takes_room_in_upload asked
-takes_room s (commands.DeleteObjects name deletion) = true
+takes_room s other = true
 
 -- the machine refuses
 abbrev pub is_refused : Outcome → Bool

@@ -31,6 +31,7 @@ use Rattle.s3_machine.specs.declared.command.Description.{Description}
 use Rattle.s3_machine.specs.declared.command.Found.{Found}
 use Rattle.s3_machine.specs.declared.command.Outcome.{Outcome}
 use Rattle.s3_machine.specs.declared.command.Outcome.TheVariants as outcomes
+use Rattle.s3_machine.specs.declared.rules.Rules.{Rules}
 use Rattle.s3_machine.specs.Step.{State, described, step}
 use Rattle.s3_machine.specs.Effects.{Address, Object, UploadPlace, Read, open_at, writes, copies, completes, brought, brings, object_of, stored_by, whole, reads, given, given_whole, found_object, acknowledged, touched, is_refused, succeeds, only_reads}
 use Rattle.s3_machine.specs.History.{Entry, Legal, after}
@@ -61,12 +62,12 @@ pub record Stores (s : State) (e : Entry) (object : Object) : Type 0 where
   pub accepted : succeeds e.answer.outcome ≡ true
 
 -- the object was stored by one of the entries, and none behind that one touched its id
-pub record WasStored (least : ℕ) (s : State) (entries : List Entry) (object : Object) : Type 0 where
+pub record WasStored (rules : Rules) (s : State) (entries : List Entry) (object : Object) : Type 0 where
   pub before : List Entry
   pub write : Entry
   pub between : List Entry
   pub parts : entries ≡ before ++ write ∷ between
-  pub stores : Stores (after least s before) write object
+  pub stores : Stores (after rules s before) write object
   pub spared : SparesVersion object.address object.id between
 
 -- what is known of an object beside what its put sent
@@ -74,11 +75,11 @@ abbrev pub facts_stored : Object → Facts
 facts_stored object = record { moment = object.moment; tag = object.stored.tag; size = object.stored.size }
 
 -- an object of which these facts are known was stored so at the address
-pub record WasStoredWith (least : ℕ) (s : State) (entries : List Entry) (address : Address) (facts : Facts) : Type 0 where
+pub record WasStoredWith (rules : Rules) (s : State) (entries : List Entry) (address : Address) (facts : Facts) : Type 0 where
   pub object : Object
   pub at : object.address ≡ address
   pub known : facts_stored object ≡ facts
-  pub stored : WasStored least s entries object
+  pub stored : WasStored rules s entries object
 
 -- the entry tells what it stored: where it writes, and nowhere else, the one id that it touches there, and the tag
 pub record Tells (object : Object) (e : Entry) : Type 0 where
@@ -140,7 +141,7 @@ pub record Copies (address : Address) (asked : Read) (said : Option Description)
 -- in this state each read of that version by these conditions is given all of these data, and could be the next entry
 pub record WouldGive (s : State) (asked : Read) (what : Data (List ℕ)) : Type 0 where
   pub found : Found (List ℕ)
-  pub gives : (least n t : ℕ) (read : Command) → reads read ≡ Some asked → given_whole (step least s n t read).1 ≡ Some found
+  pub gives : (rules : Rules) (n t : ℕ) (read : Command) → reads read ≡ Some asked → given_whole (step rules s n t read).1 ≡ Some found
   pub holds : found.stored ≡ what
 
 -- in this state the upload is open, and its parts that are listed make these data
@@ -186,17 +187,17 @@ pub record Marks (address : Address) (e : Entry) : Type 0 where
   pub marked : e.answer.outcome ≡ outcomes.Deleted (Some id) true
 
 -- What holds of all legal histories.
-abbrev pub EveryHistory : (ℕ → State → List Entry → Type 0) → Type 0
-EveryHistory Law = (least : ℕ) (s : State) (n : ℕ) (entries : List Entry) → Legal least s n entries → Law least s entries
+abbrev pub EveryHistory : (Rules → State → List Entry → Type 0) → Type 0
+EveryHistory Law = (rules : Rules) (s : State) (n : ℕ) (entries : List Entry) → Legal rules s n entries → Law rules s entries
 
 -- The laws, of a history that begins at a state.
-module _ (least : ℕ) (s : State) (entries : List Entry) where
+module _ (rules : Rules) (s : State) (entries : List Entry) where
   -- By key: a read of a key is given what the last entry that changed its versions stored, if that stored something.
   abbrev pub StoredIsKept : Type 0
   StoredIsKept =
       (before between later : List Entry) (write read : Entry) (object : Object)
       → entries ≡ before ++ write ∷ between ++ read ∷ later
-      → Stores (after least s before) write object
+      → Stores (after rules s before) write object
       → LeavesKey object.address between
       → ReadsKey object.address read
       → IsGiven object.moment object.stored read
@@ -207,7 +208,7 @@ module _ (least : ℕ) (s : State) (entries : List Entry) where
   VersionsAreKept =
       (before between later : List Entry) (write read : Entry) (object : Object)
       → entries ≡ before ++ write ∷ between ++ read ∷ later
-      → Stores (after least s before) write object
+      → Stores (after rules s before) write object
       → SparesVersion object.address object.id between
       → ReadsVersion object.address object.id read
       → IsGiven object.moment object.stored read
@@ -217,7 +218,7 @@ module _ (least : ℕ) (s : State) (entries : List Entry) where
   StoredIsTold =
       (before later : List Entry) (write : Entry) (object : Object)
       → entries ≡ before ++ write ∷ later
-      → Stores (after least s before) write object
+      → Stores (after rules s before) write object
       → Tells object write
 
   -- By list: at the end a key is listed with what the last entry that changed its versions stored, if that stored something.
@@ -225,17 +226,17 @@ module _ (least : ℕ) (s : State) (entries : List Entry) where
   StoredIsListed =
       (before between : List Entry) (write : Entry) (object : Object)
       → entries ≡ before ++ write ∷ between
-      → Stores (after least s before) write object
+      → Stores (after rules s before) write object
       → LeavesKey object.address between
-      → IsListed (after least s entries) object.address (facts_stored object)
+      → IsListed (after rules s entries) object.address (facts_stored object)
 
   -- And nothing else: where nothing stood at the beginning, each object that stands at the end was stored,
   abbrev pub OnlyStoredStands : Type 0
   OnlyStoredStands =
       (names : List (List ℕ)) (object : Object)
       → s ≡ opening names
-      → Stands (after least s entries) object
-      → WasStored least s entries object
+      → Stands (after rules s entries) object
+      → WasStored rules s entries object
 
   -- and what a read is given, by whichever conditions, was stored before it.
   abbrev pub OnlyStoredIsGiven : Type 0
@@ -245,15 +246,15 @@ module _ (least : ℕ) (s : State) (entries : List Entry) where
       → entries ≡ earlier ++ read ∷ later
       → reads read.command ≡ Some asked
       → given read.answer.outcome ≡ Some found
-      → (id : VersionId) × IsFoundUnder id asked found × WasStored least s earlier (found_object asked.address id found)
+      → (id : VersionId) × IsFoundUnder id asked found × WasStored rules s earlier (found_object asked.address id found)
 
   -- Nor is anything else listed.
   abbrev pub ListedIsStored : Type 0
   ListedIsStored =
       (names : List (List ℕ)) (address : Address) (facts : Facts)
       → s ≡ opening names
-      → IsListed (after least s entries) address facts
-      → WasStoredWith least s entries address facts
+      → IsListed (after rules s entries) address facts
+      → WasStoredWith rules s entries address facts
 
   -- A list of the objects of a bucket tells the page of those that the entries before it leave, or doesn't succeed,
   abbrev pub ListsTellWhatIsThere : Type 0
@@ -262,7 +263,7 @@ module _ (least : ℕ) (s : State) (entries : List Entry) where
       → entries ≡ before ++ list ∷ later
       → list.command ≡ commands.Bucket name (bucket_commands.ListObjects asked)
       → succeeds list.answer.outcome ≡ true
-      → list.answer.outcome ≡ outcomes.Told (documents.objects name asked (objects_told asked (key_rows (after least s before) name)))
+      → list.answer.outcome ≡ outcomes.Told (documents.objects name asked (objects_told asked (key_rows (after rules s before) name)))
 
   -- and one of its versions the page of these.
   abbrev pub VersionListsTellWhatIsThere : Type 0
@@ -271,7 +272,7 @@ module _ (least : ℕ) (s : State) (entries : List Entry) where
       → entries ≡ before ++ list ∷ later
       → list.command ≡ commands.Bucket name (bucket_commands.ListVersions asked)
       → succeeds list.answer.outcome ≡ true
-      → list.answer.outcome ≡ outcomes.Told (documents.versions name asked (versions_page asked (after least s before) name))
+      → list.answer.outcome ≡ outcomes.Told (documents.versions name asked (versions_page asked (after rules s before) name))
 
   -- However often data were copied since, a put brought them once, or a completion joined them once; but for the type and the
   -- metadata that a copy said of them.
@@ -280,8 +281,8 @@ module _ (least : ℕ) (s : State) (entries : List Entry) where
       (names : List (List ℕ)) (earlier later : List Entry) (object : Object)
       → s ≡ opening names
       → entries ≡ earlier ++ later
-      → WasStored least s earlier object
-      → (origin : Data (List ℕ)) × (WasPut earlier origin ⊎ WasJoined least s earlier origin)
+      → WasStored rules s earlier object
+      → (origin : Data (List ℕ)) × (WasPut earlier origin ⊎ WasJoined rules s earlier origin)
       × ((object.stored ≡ origin) ⊎ WasDescribed earlier origin object.stored)
 
   -- A read without conditions hands out all of a version, or doesn't succeed.
@@ -318,7 +319,7 @@ module _ (least : ℕ) (s : State) (entries : List Entry) where
       (before later : List Entry) (e : Entry)
       → entries ≡ before ++ e ∷ later
       → ((is_refused e.answer.outcome ≡ true) ⊎ (only_reads e.command ≡ true))
-      → after least s (before ++ e ∷ []) ≡ after least s before
+      → after rules s (before ++ e ∷ []) ≡ after rules s before
 
   -- So a put that succeeds comes back: its type, its metadata and its bytes, by key,
   abbrev pub PutsAreKept : Type 0
@@ -349,7 +350,7 @@ module _ (least : ℕ) (s : State) (entries : List Entry) where
       → Copies address asked said copy
       → LeavesKey address between
       → ReadsKey address read
-      → (what : Data (List ℕ)) × WouldGive (after least s before) asked what × IsGiven copy.moment (described said what) read
+      → (what : Data (List ℕ)) × WouldGive (after rules s before) asked what × IsGiven copy.moment (described said what) read
 
   -- and by version.
   abbrev pub CopyVersionsAreKept : Type 0
@@ -361,7 +362,7 @@ module _ (least : ℕ) (s : State) (entries : List Entry) where
       → touched copy.command copy.answer.outcome address ≡ id ∷ []
       → SparesVersion address id between
       → ReadsVersion address id read
-      → (what : Data (List ℕ)) × WouldGive (after least s before) asked what × IsGiven copy.moment (described said what) read
+      → (what : Data (List ℕ)) × WouldGive (after rules s before) asked what × IsGiven copy.moment (described said what) read
 
   -- What a put is told is the tag of its bytes.
   abbrev pub BodiesAreTagged : Type 0

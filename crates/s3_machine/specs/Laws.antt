@@ -34,18 +34,19 @@ use Rattle.s3_machine.specs.declared.command.Outcome.{Outcome}
 use Rattle.s3_machine.specs.declared.command.Outcome.TheVariants as outcomes
 use Rattle.s3_machine.specs.declared.command.UploadCommand.{UploadCommand}
 use Rattle.s3_machine.specs.declared.command.UploadCommand.TheVariants as upload_commands
+use Rattle.s3_machine.specs.declared.rules.Rules.{Rules}
 use Rattle.s3_machine.specs.Effects.{Address, UploadPlace, open_at, is_refused, only_reads, given_whole, acknowledged, facts_found, by_conditions}
 use Rattle.s3_machine.specs.Step.{State, is_taken, step}
 
 -- a refusal leaves the state as it was, and so does a command that only reads
 abbrev pub QuietStepsChangeNothing : Type 0
 QuietStepsChangeNothing =
-    (least : ℕ) (s : State) (n t : ℕ) (command : Command)
-    → ((is_refused (step least s n t command).1 ≡ true) ⊎ (only_reads command ≡ true)) → (step least s n t command).0 ≡ s
+    (rules : Rules) (s : State) (n t : ℕ) (command : Command)
+    → ((is_refused (step rules s n t command).1 ≡ true) ⊎ (only_reads command ≡ true)) → (step rules s n t command).0 ≡ s
 
 -- where the number of an entry is above those of all versions, the next one is above them after its step
 abbrev pub StepsStayBelow : Type 0
-StepsStayBelow = (least : ℕ) (s : State) (n t : ℕ) (command : Command) → AreBelow n s → AreBelow (n + 1) (step least s n t command).0
+StepsStayBelow = (rules : Rules) (s : State) (n t : ℕ) (command : Command) → AreBelow n s → AreBelow (n + 1) (step rules s n t command).0
 
 -- a read of a version, or of the current one, by conditions
 abbrev pub reading : List ℕ → List ℕ → Option VersionId → Conditions → Command
@@ -55,9 +56,9 @@ reading name key version conditions = commands.Key name key (key_commands.Read (
 -- refusal, or is shown that the version is as it knows it, or that no byte of it is in the range, or a part of it, or all.
 abbrev pub ConditionsJudgeReads : Type 0
 ConditionsJudgeReads =
-    (least : ℕ) (s : State) (n t : ℕ) (name key : List ℕ) (version : Option VersionId) (conditions : Conditions)
-    → (step least s n t (reading name key version conditions)).1
-    ≡ by_conditions conditions (step least s n t (reading name key version plain)).1
+    (rules : Rules) (s : State) (n t : ℕ) (name key : List ℕ) (version : Option VersionId) (conditions : Conditions)
+    → (step rules s n t (reading name key version conditions)).1
+    ≡ by_conditions conditions (step rules s n t (reading name key version plain)).1
 
 -- a list of all objects of a bucket
 abbrev pub all_keys : ObjectsAsked
@@ -80,32 +81,32 @@ IsListed s address facts = Contains (objects_asked all_keys (key_rows s address.
 -- An address is listed with a moment, a tag and a size exactly where a plain read of its key is given a version with these.
 abbrev pub ListsShowWhatReadsGive : Type 0
 ListsShowWhatReadsGive =
-    (least : ℕ) (s : State) (n t : ℕ) (address : Address) (facts : Facts)
+    (rules : Rules) (s : State) (n t : ℕ) (address : Address) (facts : Facts)
     → IsListed s address facts
-    ↔ (option_map facts_found (given_whole (step least s n t (reading address.bucket address.key None plain)).1) ≡ Some facts)
+    ↔ (option_map facts_found (given_whole (step rules s n t (reading address.bucket address.key None plain)).1) ≡ Some facts)
 
 -- A list of the objects of a bucket that is there is told as the document of their page,
 abbrev pub ListsAreTold : Type 0
 ListsAreTold =
-    (least : ℕ) (s : State) (n t : ℕ) (name : List ℕ) (asked : ObjectsAsked)
+    (rules : Rules) (s : State) (n t : ℕ) (name : List ℕ) (asked : ObjectsAsked)
     → IsTrue (has_bucket s name)
-    → (step least s n t (commands.Bucket name (bucket_commands.ListObjects asked))).1
+    → (step rules s n t (commands.Bucket name (bucket_commands.ListObjects asked))).1
     ≡ outcomes.Told (documents.objects name asked (objects_told asked (key_rows s name)))
 
 -- and one of its versions as that of theirs.
 abbrev pub VersionListsAreTold : Type 0
 VersionListsAreTold =
-    (least : ℕ) (s : State) (n t : ℕ) (name : List ℕ) (asked : VersionsAsked)
+    (rules : Rules) (s : State) (n t : ℕ) (name : List ℕ) (asked : VersionsAsked)
     → IsTrue (has_bucket s name)
-    → (step least s n t (commands.Bucket name (bucket_commands.ListVersions asked))).1
+    → (step rules s n t (commands.Bucket name (bucket_commands.ListVersions asked))).1
     ≡ outcomes.Told (documents.versions name asked (versions_page asked s name))
 
 -- so is one of its uploads,
 abbrev pub UploadListsAreTold : Type 0
 UploadListsAreTold =
-    (least : ℕ) (s : State) (n t : ℕ) (name : List ℕ) (asked : UploadsAsked)
+    (rules : Rules) (s : State) (n t : ℕ) (name : List ℕ) (asked : UploadsAsked)
     → IsTrue (has_bucket s name)
-    → (step least s n t (commands.Bucket name (bucket_commands.ListUploads asked))).1
+    → (step rules s n t (commands.Bucket name (bucket_commands.ListUploads asked))).1
     ≡ outcomes.Told (documents.uploads name asked (uploads_page asked s name))
 
 -- a command on an upload
@@ -115,19 +116,19 @@ asking upload asked = commands.Upload upload.address.bucket upload.address.key u
 -- and one of the parts of an upload that is open.
 abbrev pub PartListsAreTold : Type 0
 PartListsAreTold =
-    (least : ℕ) (s : State) (n t : ℕ) (upload : UploadPlace) (asked : PartsAsked) (found : Upload (List ℕ))
+    (rules : Rules) (s : State) (n t : ℕ) (upload : UploadPlace) (asked : PartsAsked) (found : Upload (List ℕ))
     → IsTrue (has_bucket s upload.address.bucket)
     → open_at s upload ≡ Some found
-    → (step least s n t (asking upload (upload_commands.ListParts asked))).1
+    → (step rules s n t (asking upload (upload_commands.ListParts asked))).1
     ≡ outcomes.Told (documents.parts upload.address.bucket upload.address.key upload.id asked (parts_page asked found.parts))
 
 -- Whatever is asked of an upload that isn't open is refused with NoSuchUpload.
 abbrev pub ClosedUploadsAreRefused : Type 0
 ClosedUploadsAreRefused =
-    (least : ℕ) (s : State) (n t : ℕ) (upload : UploadPlace) (asked : UploadCommand)
+    (rules : Rules) (s : State) (n t : ℕ) (upload : UploadPlace) (asked : UploadCommand)
     → IsTrue (has_bucket s upload.address.bucket)
     → open_at s upload ≡ None
-    → (step least s n t (asking upload asked)).1 ≡ outcomes.Refused NoSuchUpload false
+    → (step rules s n t (asking upload asked)).1 ≡ outcomes.Refused NoSuchUpload false
 
 -- what comes of a completion, by what its rule says
 abbrev pub IsByRule : Result (Data (List ℕ)) Code → Outcome → Type 0
@@ -135,17 +136,17 @@ IsByRule (Ok what) outcome = acknowledged outcome ≡ Some what.tag
 IsByRule (Err code) outcome = outcome ≡ outcomes.Refused code false
 
 -- the rules of a completion: its condition, and then the rule of uploads
-abbrev pub completion_rule : ℕ → State → Address → List ListedPart → Bool → Upload (List ℕ) → Result (Data (List ℕ)) Code
-completion_rule least s address listed if_absent found = do
+abbrev pub completion_rule : Rules → State → Address → List ListedPart → Bool → Upload (List ℕ) → Result (Data (List ℕ)) Code
+completion_rule rules s address listed if_absent found = do
   refuse (if_absent && is_taken s address.bucket address.key) PreconditionFailed
-  completed least listed found
+  completed rules.least_part listed found
 
 -- The completion of one that is open goes by its condition and the rule of uploads: it is refused where one of them refuses, with
 -- its code, and stores what the rule joins where none does.
 abbrev pub CompletionsGoByTheRule : Type 0
 CompletionsGoByTheRule =
-    (least : ℕ) (s : State) (n t : ℕ) (upload : UploadPlace) (listed : List ListedPart) (if_absent : Bool) (found : Upload (List ℕ))
+    (rules : Rules) (s : State) (n t : ℕ) (upload : UploadPlace) (listed : List ListedPart) (if_absent : Bool) (found : Upload (List ℕ))
     → IsTrue (has_bucket s upload.address.bucket)
     → open_at s upload ≡ Some found
-    → IsByRule (completion_rule least s upload.address listed if_absent found)
-    (step least s n t (asking upload (upload_commands.Complete listed if_absent))).1
+    → IsByRule (completion_rule rules s upload.address listed if_absent found)
+    (step rules s n t (asking upload (upload_commands.Complete listed if_absent))).1

@@ -6,6 +6,7 @@ pub mod Fault
 pub mod History
 pub mod Kept
 pub mod Laws
+pub mod Rules
 pub mod Step
 pub mod Uploads
 pub mod UploadsKept

@@ -49,6 +49,7 @@ use Rattle.s3_machine.specs.declared.command.UploadCommand.TheVariants as upload
 use Rattle.s3_machine.specs.declared.command.Found.{Found}
 use Rattle.s3_machine.specs.declared.command.Outcome.{Outcome}
 use Rattle.s3_machine.specs.declared.command.Outcome.TheVariants as outcomes
+use Rattle.s3_machine.specs.declared.rules.Rules.{Rules}
 use Rattle.s3_terms.specs.Fault.{◌>>◌, ◌>>=◌}
 use Rattle.s3_machine.specs.Configuration.{absence_of}
 use Rattle.s3_machine.specs.Fault.{refuse, as_refusal}
@@ -82,7 +83,7 @@ abbrev pub is_taken : State → List ℕ → List ℕ → Bool
 is_taken s name key = is_some (option_and_then stored (current (versions_of s name key)))
 
 -- what a put stores
-abbrev pub data_of : ObjectPut (List ℕ) → Data (List ℕ)
+abbrev pub data_of : ObjectPut → Data (List ℕ)
 data_of put =
     record {
       tag = tag_of put.payload;
@@ -172,36 +173,36 @@ abbrev pub shown_by : Conditions → Facts → Result Selection Refusal
 shown_by conditions facts = as_refusal (judged conditions facts.moment facts.tag facts.size)
 
 -- what a command on a bucket does at moment t
-unfoldable pub bucket_done : State → ℕ → List ℕ → BucketCommand → Result Stepped Refusal
-bucket_done s t name bucket_commands.Create = do
+unfoldable pub bucket_done : Rules → State → ℕ → List ℕ → BucketCommand → Result Stepped Refusal
+bucket_done rules s t name bucket_commands.Create = do
   refuse (has_bucket s name) BucketAlreadyOwnedByYou
   Ok (changed s name (BucketAdded t), outcomes.BucketMade name)
-bucket_done s t name bucket_commands.Head = do
+bucket_done rules s t name bucket_commands.Head = do
   refuse (not (has_bucket s name)) NoSuchBucket
   Ok (s, outcomes.BucketFound)
-bucket_done s t name bucket_commands.Delete = do
+bucket_done rules s t name bucket_commands.Delete = do
   refuse (not (has_bucket s name)) NoSuchBucket
   refuse (not (is_empty_bucket s name)) BucketNotEmpty
   Ok (changed s name BucketDropped, outcomes.BucketDropped)
-bucket_done s t name (bucket_commands.PutVersioning status) = do
+bucket_done rules s t name (bucket_commands.PutVersioning status) = do
   refuse (not (has_bucket s name)) NoSuchBucket
   Ok (changed s name (VersioningSet status), outcomes.VersioningSet)
-bucket_done s t name bucket_commands.GetVersioning = do
+bucket_done rules s t name bucket_commands.GetVersioning = do
   refuse (not (has_bucket s name)) NoSuchBucket
   Ok (s, outcomes.BucketVersioning (versioning_of s name))
-bucket_done s t name (bucket_commands.GetLocation region) = do
+bucket_done rules s t name bucket_commands.GetLocation = do
   refuse (not (has_bucket s name)) NoSuchBucket
-  Ok (s, outcomes.Told (documents.location region))
-bucket_done s t name (bucket_commands.GetConfiguration which) = do
+  Ok (s, outcomes.Told (documents.location rules.region))
+bucket_done rules s t name (bucket_commands.GetConfiguration which) = do
   refuse (not (has_bucket s name)) NoSuchBucket
   as_refusal (Err (absence_of which))
-bucket_done s t name (bucket_commands.ListObjects asked) = do
+bucket_done rules s t name (bucket_commands.ListObjects asked) = do
   refuse (not (has_bucket s name)) NoSuchBucket
   Ok (s, outcomes.Told (documents.objects name asked (objects_told asked (key_rows s name))))
-bucket_done s t name (bucket_commands.ListVersions asked) = do
+bucket_done rules s t name (bucket_commands.ListVersions asked) = do
   refuse (not (has_bucket s name)) NoSuchBucket
   Ok (s, outcomes.Told (documents.versions name asked (versions_page asked s name)))
-bucket_done s t name (bucket_commands.ListUploads asked) = do
+bucket_done rules s t name (bucket_commands.ListUploads asked) = do
   refuse (not (has_bucket s name)) NoSuchBucket
   Ok (s, outcomes.Told (documents.uploads name asked (uploads_page asked s name)))
 
@@ -211,7 +212,7 @@ upload_begun t begin =
     record { moment = t; content_type = begin.content_type; metadata = begin.metadata; parts = [] }
 
 -- what a command on a key does, as entry n at moment t, in a bucket that is there
-unfoldable pub key_done : State → ℕ → ℕ → List ℕ → List ℕ → KeyCommand (List ℕ) → Result Stepped Refusal
+unfoldable pub key_done : State → ℕ → ℕ → List ℕ → List ℕ → KeyCommand → Result Stepped Refusal
 key_done s n t name key (key_commands.Put put) = do
   refuse (put.if_absent && is_taken s name key) PreconditionFailed
   Ok (
@@ -246,11 +247,11 @@ abbrev pub open_upload : State → List ℕ → List ℕ → ℕ → Result (Upl
 open_upload s name key id = as_refusal (ok_or (upload_at s name key id) NoSuchUpload)
 
 -- what a command on an upload does, as entry n at moment t, in a bucket that is there
-unfoldable pub upload_done : ℕ → State → ℕ → ℕ → List ℕ → List ℕ → ℕ → UploadCommand → Result Stepped Refusal
-upload_done least s n t name key id (upload_commands.PutPart number payload) = do
+unfoldable pub upload_done : Rules → State → ℕ → ℕ → List ℕ → List ℕ → ℕ → UploadCommand → Result Stepped Refusal
+upload_done rules s n t name key id (upload_commands.PutPart number payload) = do
   _ ← open_upload s name key id
   Ok (changed s name (PartPut key id number (part_sent t payload)), outcomes.PartPut (tag_of payload))
-upload_done least s n t name key id (upload_commands.CopyPart number copy) = do
+upload_done rules s n t name key id (upload_commands.CopyPart number copy) = do
   _ ← open_upload s name key id
   found ← source_found s copy.source
   refuse (not (lies_in copy.range found.stored.size)) InvalidArgument
@@ -258,34 +259,33 @@ upload_done least s n t name key id (upload_commands.CopyPart number copy) = do
     changed s name (PartPut key id number (part_copied t copy.range found.stored)),
     outcomes.PartCopied (part_tag (part_copied t copy.range found.stored)) t found.shown,
   )
-upload_done least s n t name key id (upload_commands.Complete listed if_absent) = do
+upload_done rules s n t name key id (upload_commands.Complete listed if_absent) = do
   upload ← open_upload s name key id
   refuse (if_absent && is_taken s name key) PreconditionFailed
-  stored ← as_refusal (completed least listed upload)
+  stored ← as_refusal (completed rules.least_part listed upload)
   Ok (
     changed s name (UploadCompleted key id (VersionPut n t stored)),
     outcomes.Completed
         (documents.completed name key stored.tag) stored.tag (shown_in (versioning_of s name) (new_id (versioning_of s name) n)),
   )
-upload_done least s n t name key id upload_commands.Abort = do
+upload_done rules s n t name key id upload_commands.Abort = do
   _ ← open_upload s name key id
   Ok (changed s name (UploadDropped key id), outcomes.UploadDropped)
-upload_done least s n t name key id (upload_commands.ListParts asked) = do
+upload_done rules s n t name key id (upload_commands.ListParts asked) = do
   upload ← open_upload s name key id
   Ok (s, outcomes.Told (documents.parts name key id asked (parts_page asked upload.parts)))
 
--- what a command does, as entry n at moment t: the first refusal, or the change and what came of it; least is the
--- least size of a part that is not the last
-unfoldable pub done : ℕ → State → ℕ → ℕ → Command → Result Stepped Refusal
-done least s n t commands.ListBuckets = Ok (s, outcomes.Told (documents.buckets (listed_buckets s)))
-done least s n t (commands.Bucket name asked) = bucket_done s t name asked
-done least s n t (commands.Key name key asked) = do
+-- what a command does, as entry n at moment t: the first refusal, or the change and what came of it
+unfoldable pub done : Rules → State → ℕ → ℕ → Command → Result Stepped Refusal
+done rules s n t commands.ListBuckets = Ok (s, outcomes.Told (documents.buckets (listed_buckets s)))
+done rules s n t (commands.Bucket name asked) = bucket_done rules s t name asked
+done rules s n t (commands.Key name key asked) = do
   refuse (not (has_bucket s name)) NoSuchBucket
   key_done s n t name key asked
-done least s n t (commands.Upload name key id asked) = do
+done rules s n t (commands.Upload name key id asked) = do
   refuse (not (has_bucket s name)) NoSuchBucket
-  upload_done least s n t name key id asked
-done least s n t (commands.DeleteObjects name deletion) = do
+  upload_done rules s n t name key id asked
+done rules s n t (commands.DeleteObjects name deletion) = do
   refuse (not (has_bucket s name)) NoSuchBucket
   Ok (
     all_deleted s name n t deletion.objects,
@@ -299,5 +299,5 @@ stepped s (Ok result) = result
 stepped s (Err refusal) = (s, outcomes.Refused refusal.code refusal.is_delete_marker)
 
 -- one step
-abbrev pub step : ℕ → State → ℕ → ℕ → Command → Stepped
-step least s n t command = stepped s (done least s n t command)
+abbrev pub step : Rules → State → ℕ → ℕ → Command → Stepped
+step rules s n t command = stepped s (done rules s n t command)

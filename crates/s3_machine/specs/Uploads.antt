@@ -9,6 +9,7 @@ use Rattle.s3_uploads.specs.declared.listed.ListedPart.{ListedPart}
 use Rattle.s3_uploads.specs.declared.part.Part.{Part}
 use Rattle.s3_uploads.specs.declared.upload.Upload.{Upload}
 use Rattle.s3_machine.specs.declared.command.Description.{Description}
+use Rattle.s3_machine.specs.declared.rules.Rules.{Rules}
 use Rattle.s3_machine.specs.Step.{State}
 use Rattle.s3_machine.specs.Effects.{UploadPlace, PartPlace, open_at, begins, sends, puts_part, completes, ends, succeeds}
 use Rattle.s3_machine.specs.History.{Entry, after}
@@ -57,12 +58,12 @@ pub record WasBegun (entries : List Entry) (upload : UploadPlace) (t : ℕ) (ask
   pub stays : StaysOpen upload since
 
 -- the part was put so by one of the entries, which begin at a state, and none behind that one replaced it or ended its upload
-pub record WasSent (least : ℕ) (s : State) (entries : List Entry) (part : PartPlace) (what : Part (List ℕ)) : Type 0 where
+pub record WasSent (rules : Rules) (s : State) (entries : List Entry) (part : PartPlace) (what : Part (List ℕ)) : Type 0 where
   pub before : List Entry
   pub send : Entry
   pub later : List Entry
   pub parts : entries ≡ before ++ send ∷ later
-  pub sends : Sends (after least s before) part what send
+  pub sends : Sends (after rules s before) part what send
   pub last : StaysPart part later
   pub stays : StaysOpen part.upload later
 
@@ -75,23 +76,23 @@ pub record IsOpen (s : State) (upload : UploadPlace) (t : ℕ) (asked : Descript
   pub metadata : found.metadata ≡ asked.metadata
 
 -- this part is the last that the entries put to the upload under a listed number, and the listed tag is its own
-pub record IsListedPart (least : ℕ) (s : State) (entries : List Entry) (upload : UploadPlace) (listed : ListedPart) (what : Part (List ℕ)) : Type 0 where
-  pub last : WasSent least s entries (record { upload = upload; number = listed.number }) what
+pub record IsListedPart (rules : Rules) (s : State) (entries : List Entry) (upload : UploadPlace) (listed : ListedPart) (what : Part (List ℕ)) : Type 0 where
+  pub last : WasSent rules s entries (record { upload = upload; number = listed.number }) what
   pub tag : listed.tag ≡ part_tag what
 
 -- the state behind the entry that begins an upload
-abbrev pub begun_state : ℕ → State → {entries : List Entry} {upload : UploadPlace} {t : ℕ} {asked : Description} → WasBegun entries upload t asked → State
-begun_state least s begun = after least s (begun.before ++ begun.begin ∷ [])
+abbrev pub begun_state : Rules → State → {entries : List Entry} {upload : UploadPlace} {t : ℕ} {asked : Description} → WasBegun entries upload t asked → State
+begun_state rules s begun = after rules s (begun.before ++ begun.begin ∷ [])
 
 -- These data are what a completion of the upload with these parts stores behind the entries, which begin at a state: the bytes
 -- of the parts that were put last under each listed number since the upload was begun, in the order in which they are listed,
 -- with the tag of their digests and their count, and with the type and the metadata that the upload was begun with.
-pub record AreJoined (least : ℕ) (s : State) (entries : List Entry) (upload : UploadPlace) (listed : List ListedPart) (what : Data (List ℕ)) : Type 0 where
+pub record AreJoined (rules : Rules) (s : State) (entries : List Entry) (upload : UploadPlace) (listed : List ListedPart) (what : Data (List ℕ)) : Type 0 where
   pub moment : ℕ
   pub asked : Description
   pub begun : WasBegun entries upload moment asked
   pub made : List (Part (List ℕ))
-  pub sent : AllZip (IsListedPart least (begun_state least s begun) begun.since upload) listed made
+  pub sent : AllZip (IsListedPart rules (begun_state rules s begun) begun.since upload) listed made
   pub body : what.body ≡ concat (each (λ (part : Part (List ℕ)). part.body) made)
   pub size : what.size ≡ length what.body
   pub tag : what.tag ≡ joined_text (md5 (concat (each (λ (part : Part (List ℕ)). part.digest) made))) (length made)
@@ -99,7 +100,7 @@ pub record AreJoined (least : ℕ) (s : State) (entries : List Entry) (upload : 
   pub metadata : what.metadata ≡ asked.metadata
 
 -- these data were joined so by one of the entries
-pub record WasJoined (least : ℕ) (s : State) (entries : List Entry) (what : Data (List ℕ)) : Type 0 where
+pub record WasJoined (rules : Rules) (s : State) (entries : List Entry) (what : Data (List ℕ)) : Type 0 where
   pub before : List Entry
   pub complete : Entry
   pub later : List Entry
@@ -107,4 +108,4 @@ pub record WasJoined (least : ℕ) (s : State) (entries : List Entry) (what : Da
   pub upload : UploadPlace
   pub listed : List ListedPart
   pub completes : Completes upload listed complete
-  pub joined : AreJoined least s before upload listed what
+  pub joined : AreJoined rules s before upload listed what

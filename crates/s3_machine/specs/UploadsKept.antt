@@ -21,6 +21,7 @@ use Rattle.s3_machine.specs.declared.command.Outcome.TheVariants as outcomes
 use Rattle.s3_machine.specs.declared.command.CopyRange.{CopyRange}
 use Rattle.s3_machine.specs.declared.command.Description.{Description}
 use Rattle.s3_machine.specs.declared.command.UploadCommand.TheVariants as upload_commands
+use Rattle.s3_machine.specs.declared.rules.Rules.{Rules}
 use Rattle.s3_machine.specs.Step.{State, part_copied}
 use Rattle.s3_machine.specs.Effects.{Address, UploadPlace, PartPlace, Read, part_in, writes, copies_part, sends, sent, object_of, touched, succeeds}
 use Rattle.s3_machine.specs.History.{Entry, after}
@@ -46,9 +47,9 @@ IsPartListed s upload row =
     Contains (parts_asked all_parts (parts_at s upload.address.bucket upload.address.key upload.id)) row
 
 -- the row tells of what was put as the upload's part of its number: its moment, its tag and how many bytes it has
-pub record TellsOfSent (least : ℕ) (s : State) (entries : List Entry) (upload : UploadPlace) (row : PartRow) : Type 0 where
+pub record TellsOfSent (rules : Rules) (s : State) (entries : List Entry) (upload : UploadPlace) (row : PartRow) : Type 0 where
   pub what : Part (List ℕ)
-  pub was : WasSent least s entries (record { upload = upload; number = row.number }) what
+  pub was : WasSent rules s entries (record { upload = upload; number = row.number }) what
   pub moment : row.moment ≡ what.moment
   pub tag : row.tag ≡ part_tag what
   pub size : row.size ≡ length what.body
@@ -73,30 +74,30 @@ pub data PartSource (s : State) (e : Entry) (part : PartPlace) (what : Part (Lis
       → WouldGive s asked source → what ≡ part_copied e.moment range source → PartSource s e part what
 
 -- The laws, of a history that begins at a state.
-module _ (least : ℕ) (s : State) (entries : List Entry) where
+module _ (rules : Rules) (s : State) (entries : List Entry) where
   -- Where nothing was open at the beginning, an upload is open exactly from the entry that begins it to one that ends it, with
   -- the moment, the type and the metadata that it was begun with.
   abbrev pub UploadsAreOpenUntilEnded : Type 0
   UploadsAreOpenUntilEnded =
       (names : List (List ℕ)) (upload : UploadPlace) (t : ℕ) (asked : Description)
       → s ≡ opening names
-      → (IsOpen (after least s entries) upload t asked ↔ WasBegun entries upload t asked)
+      → (IsOpen (after rules s entries) upload t asked ↔ WasBegun entries upload t asked)
 
   -- A part that was put with success stands in its upload until one is put in its place or the upload ends,
   abbrev pub PartsAreKept : Type 0
   PartsAreKept =
       (names : List (List ℕ)) (part : PartPlace) (what : Part (List ℕ))
       → s ≡ opening names
-      → WasSent least s entries part what
-      → part_in (after least s entries) part ≡ Some what
+      → WasSent rules s entries part what
+      → part_in (after rules s entries) part ≡ Some what
 
   -- and nothing else stands there: each part that does was put, and none was put in its place since.
   abbrev pub OnlySentStands : Type 0
   OnlySentStands =
       (names : List (List ℕ)) (part : PartPlace) (found : Part (List ℕ))
       → s ≡ opening names
-      → part_in (after least s entries) part ≡ Some found
-      → WasSent least s entries part found
+      → part_in (after rules s entries) part ≡ Some found
+      → WasSent rules s entries part found
 
   -- Who begins an upload is told its id,
   abbrev pub BegunIsTold : Type 0
@@ -120,9 +121,9 @@ module _ (least : ℕ) (s : State) (entries : List Entry) where
   CopiedPartIsTold =
       (before later : List Entry) (copy : Entry) (part : PartPlace) (what : Part (List ℕ)) (asked : Read) (range : Option CopyRange)
       → entries ≡ before ++ copy ∷ later
-      → Sends (after least s before) part what copy
+      → Sends (after rules s before) part what copy
       → copies_part copy.command ≡ Some (asked, range)
-      → (source : Data (List ℕ)) × (gives : WouldGive (after least s before) asked source)
+      → (source : Data (List ℕ)) × (gives : WouldGive (after rules s before) asked source)
       × (what ≡ part_copied copy.moment range source)
       × (copy.answer.outcome ≡ outcomes.PartCopied (part_tag what) copy.moment gives.found.shown)
 
@@ -144,9 +145,9 @@ module _ (least : ℕ) (s : State) (entries : List Entry) where
       → s ≡ opening names
       → entries ≡ before ++ complete ∷ later
       → Completes upload listed complete
-      → (what : Data (List ℕ)) × AreJoined least s before upload listed what
-      × Stores (after least s before) complete
-      (object_of (after least s before) complete.answer.number complete.moment upload.address what)
+      → (what : Data (List ℕ)) × AreJoined rules s before upload listed what
+      × Stores (after rules s before) complete
+      (object_of (after rules s before) complete.answer.number complete.moment upload.address what)
 
   -- It comes back just so, by key,
   abbrev pub CompletionsAreKept : Type 0
@@ -158,7 +159,7 @@ module _ (least : ℕ) (s : State) (entries : List Entry) where
       → Completes upload listed complete
       → LeavesKey upload.address between
       → ReadsKey upload.address read
-      → (what : Data (List ℕ)) × AreJoined least s before upload listed what × IsGiven complete.moment what read
+      → (what : Data (List ℕ)) × AreJoined rules s before upload listed what × IsGiven complete.moment what read
 
   -- and by the version that it is told.
   abbrev pub CompletionVersionsAreKept : Type 0
@@ -171,7 +172,7 @@ module _ (least : ℕ) (s : State) (entries : List Entry) where
       → touched complete.command complete.answer.outcome upload.address ≡ id ∷ []
       → SparesVersion upload.address id between
       → ReadsVersion upload.address id read
-      → (what : Data (List ℕ)) × AreJoined least s before upload listed what × IsGiven complete.moment what read
+      → (what : Data (List ℕ)) × AreJoined rules s before upload listed what × IsGiven complete.moment what read
 
   -- A list of the uploads of a bucket tells the page of those that the entries before it leave, or doesn't succeed,
   abbrev pub UploadListsTellWhatIsThere : Type 0
@@ -180,7 +181,7 @@ module _ (least : ℕ) (s : State) (entries : List Entry) where
       → entries ≡ before ++ list ∷ later
       → list.command ≡ commands.Bucket name (bucket_commands.ListUploads asked)
       → succeeds list.answer.outcome ≡ true
-      → list.answer.outcome ≡ outcomes.Told (documents.uploads name asked (uploads_page asked (after least s before) name))
+      → list.answer.outcome ≡ outcomes.Told (documents.uploads name asked (uploads_page asked (after rules s before) name))
 
   -- and one of the parts of an upload the page of these.
   abbrev pub PartListsTellWhatIsThere : Type 0
@@ -190,7 +191,7 @@ module _ (least : ℕ) (s : State) (entries : List Entry) where
       → list.command ≡ commands.Upload name key id (upload_commands.ListParts asked)
       → succeeds list.answer.outcome ≡ true
       → list.answer.outcome
-      ≡ outcomes.Told (documents.parts name key id asked (parts_page asked (parts_at (after least s before) name key id)))
+      ≡ outcomes.Told (documents.parts name key id asked (parts_page asked (parts_at (after rules s before) name key id)))
 
   -- Where nothing was open at the beginning, an upload is listed exactly while it is open: with the moment at which it was begun
   -- (no key is empty).
@@ -199,7 +200,7 @@ module _ (least : ℕ) (s : State) (entries : List Entry) where
       (names : List (List ℕ)) (upload : UploadPlace) (t : ℕ)
       → s ≡ opening names
       → upload.address.key ≢ []
-      → (IsUploadListed (after least s entries) upload t ↔ ((asked : Description) × WasBegun entries upload t asked))
+      → (IsUploadListed (after rules s entries) upload t ↔ ((asked : Description) × WasBegun entries upload t asked))
 
   -- So is a part while it stands, and nothing else is (no number is 0).
   abbrev pub PartsAreListedWhileStanding : Type 0
@@ -207,7 +208,7 @@ module _ (least : ℕ) (s : State) (entries : List Entry) where
       (names : List (List ℕ)) (upload : UploadPlace) (row : PartRow)
       → s ≡ opening names
       → 0 < row.number
-      → (IsPartListed (after least s entries) upload row ↔ TellsOfSent least s entries upload row)
+      → (IsPartListed (after rules s entries) upload row ↔ TellsOfSent rules s entries upload row)
 
   -- No object shows of an upload before it is completed: what doesn't write under a key leaves its versions.
   abbrev pub OnlyWritesChangeVersions : Type 0
@@ -215,8 +216,8 @@ module _ (least : ℕ) (s : State) (entries : List Entry) where
       (before later : List Entry) (e : Entry) (address : Address)
       → entries ≡ before ++ e ∷ later
       → ¬ Contains (writes e.command) address
-      → versions_of (after least s (before ++ e ∷ [])) address.bucket address.key
-      ≡ versions_of (after least s before) address.bucket address.key
+      → versions_of (after rules s (before ++ e ∷ [])) address.bucket address.key
+      ≡ versions_of (after rules s before) address.bucket address.key
 
 -- A part that is sent has the bytes that were sent, and their MD5 as its digest.
 abbrev pub PartsHaveTheirBytes : Type 0

@@ -8,7 +8,7 @@ use s3_deletions::Deletion;
 use s3_documents::Document;
 use s3_listings::{PartsAsked, UploadsAsked, VersionsAsked};
 use s3_names::{BucketName, Key, PartNumber, Tag, UploadId, VersionId};
-use s3_prefixes::{ObjectsAsked, Text};
+use s3_prefixes::ObjectsAsked;
 use s3_terms::Code;
 use s3_uploads::ListedParts;
 use s3_versions::{ContentType, Data, Metadata, Versioning, VersioningStatus};
@@ -27,7 +27,7 @@ pub enum Command {
     Key {
         bucket: BucketName,
         key: Key,
-        asked: KeyCommand<Payload>,
+        asked: KeyCommand,
     },
     /// Asks something of an upload to a key in a bucket.
     Upload {
@@ -56,8 +56,8 @@ pub enum BucketCommand {
     PutVersioning { status: VersioningStatus },
     /// Asks for its versioning (GetBucketVersioning).
     GetVersioning,
-    /// Asks where it is (GetBucketLocation): in the region of this name, as all buckets of a server.
-    GetLocation { region: Text },
+    /// Asks where it is (GetBucketLocation): in one region, as all buckets of a server.
+    GetLocation,
     /// Asks for one of its configurations, which no bucket has (GetBucketPolicy and its like).
     GetConfiguration(Configuration),
     /// Lists its objects (ListObjects and ListObjectsV2).
@@ -68,11 +68,11 @@ pub enum BucketCommand {
     ListUploads(UploadsAsked),
 }
 
-/// What is asked of a key. `B` is what came as a body: nothing before it is read, and the payload after.
+/// What is asked of a key.
 #[derive(Drop)]
-pub enum KeyCommand<B> {
+pub enum KeyCommand {
     /// Stores the body under it (PutObject).
-    Put(ObjectPut<B>),
+    Put(ObjectPut),
     /// Stores under it what a version has (CopyObject).
     Copy(ObjectCopy),
     /// Reads a version (GetObject and HeadObject, whose reply leaves the bytes out).
@@ -110,12 +110,12 @@ pub enum UploadCommand {
 
 /// What is to be stored.
 #[derive(Drop)]
-pub struct ObjectPut<B> {
+pub struct ObjectPut {
     pub content_type: ContentType,
     pub metadata: Metadata,
     /// Whether it is to be stored only where the key has no object.
     pub if_absent: bool,
-    pub payload: B,
+    pub payload: Payload,
 }
 
 /// What is said of an object beside its bytes.

@@ -1,5 +1,6 @@
 //! What is known of all histories of the machine: laws, with nothing to run.
 ghost use Rattle.std.specs.Prelude.{◌≡◌, ℕ, ◌+◌, List, [], ◌∷◌, ◌++◌, length};
+ghost use Rattle.s3_machine.specs.declared.rules.Rules.{Rules};
 ghost use Rattle.s3_machine.specs.Step.{State};
 ghost use Rattle.s3_machine.specs.History.{Entry, IsAnswer, Legal, after, after_entry};
 ghost use Rattle.s3_machine.specs.Kept.{EveryHistory, StoredIsKept, VersionsAreKept, StoredIsTold, StoredIsListed, OnlyStoredStands, OnlyStoredIsGiven, ListedIsStored, ListsTellWhatIsThere, VersionListsTellWhatIsThere, StoredWasBrought, ReadsGiveOrFail, ReadsAreJudged, PutsStoreTheirContents, StoredHasSource, PutsAreKept, PutVersionsAreKept, CopiesStoreTheirSource, CopiesAreKept, CopyVersionsAreKept, BodiesAreTagged, CompletionsStoreTheirParts, MarkersHide, QuietEntriesChangeNothing};
@@ -20,11 +21,11 @@ use s3_versions::{ids_differ, puts_are_current};
 /// A law, with nothing to run: a legal history with one more entry, whose answer is that of the next step, is legal, and
 /// leaves the state that this step leaves.
 pub fn one_more_entry()
-    ensures legal { (least : ℕ) (s : State) (n : ℕ) (es : List Entry) (e : Entry)
-        → Legal least s n es → IsAnswer least (after least s es) (n + length es) e
-        → Legal least s n (es ++ e ∷ []) }
-    ensures leaves { (least : ℕ) (s : State) (es : List Entry) (e : Entry)
-        → after least s (es ++ e ∷ []) ≡ after_entry least (after least s es) e }
+    ensures legal { (rules : Rules) (s : State) (n : ℕ) (es : List Entry) (e : Entry)
+        → Legal rules s n es → IsAnswer rules (after rules s es) (n + length es) e
+        → Legal rules s n (es ++ e ∷ []) }
+    ensures leaves { (rules : Rules) (s : State) (es : List Entry) (e : Entry)
+        → after rules s (es ++ e ∷ []) ≡ after_entry rules (after rules s es) e }
 {}
 
 /// A law, with nothing to run: in a legal history what an entry stores comes back, with its moment. It does at each read of

@@ -8,6 +8,7 @@ mod command;
 mod configuration;
 mod history;
 mod laws;
+mod rules;
 mod turn;
 
 pub use command::{
@@ -26,4 +27,5 @@ pub use laws::{
     conditions_judge_reads, lists_are_told, lists_show_what_reads_give, steps_keep,
     uploads_go_by_their_rules,
 };
+pub use rules::{Rules, region_of};
 pub use turn::Turn;

@@ -41,7 +41,7 @@ impl<R: Records + Drop> StoreHandle for BookHandle<R> {
 
     ghost entries = { λ handle. entries_of_seat handle.seat handle.book.entries };
 
-    ghost may_lack = { λ handle turn. MayLack R.is_in_memory handle.book.least handle.book.store turn };
+    ghost may_lack = { λ handle turn. MayLack R.is_in_memory handle.book.rules handle.book.store turn };
 
     fn call(&mut self, turn: Turn) -> Result<Answer, NoMemory> {
         self.book.enter(self.seat, turn)

@@ -1,5 +1,5 @@
--- What a head asks to be stored beside a body has no carriage return in it.
-use Rattle.std.proofs.Common.{◌≡◌, inl, inr, ℕ, ◌+◌, Bool, true, false, not, ◌&&◌, List, [], ◌∷◌, ◌++◌, map, filter, take, drop, refl, sym, ap, subst, ◌∙◌, arith, Option, Some, None, Result, Ok, Err, if◌then◌else◌, slice_get, take-append-drop}
+-- What a head asks to be stored beside a body has no carriage return in it, and what is ready without a body brings none.
+use Rattle.std.proofs.Common.{◌≡◌, inl, inr, ℕ, ◌+◌, Bool, true, false, not, ◌&&◌, List, [], ◌∷◌, ◌++◌, map, filter, take, drop, refl, sym, ap, subst, ◌∙◌, arith, Option, Some, None, option_map, Result, Ok, Err, if◌then◌else◌, slice_get, take-append-drop}
 use Rattle.std.specs.Prelude.{◌==◌, nat_lt, length, not, codes}
 use Rattle.std.specs.Char.{to_ascii_lowercase}
 use Rattle.std.specs.List.{list_all, cons_option, filter_map, dedup, dedup_from, join_with_byte}
@@ -14,24 +14,30 @@ use Rattle.s3_terms.specs.Fault.{refuse, ◌>>◌, ◌>>=◌}
 use Rattle.s3_terms.specs.declared.code.Code.{Code}
 use Rattle.s3_terms.specs.declared.code.Code.TheVariants.{InvalidRequest}
 use Rattle.s3_terms.specs.declared.dialect.Dialect.{Dialect}
+use Rattle.s3_terms.specs.declared.dialect.Dialect.TheVariants.{Json, S3}
 use Rattle.s3_config.specs.Settings.{Settings}
 use Rattle.s3_http_heads.specs.Method.{method_of}
 use Rattle.s3_http_heads.specs.Head.{HeadParts, LinesAreWhole, is_named, is_unbroken, is_whole_line, values_of}
 use Rattle.s3_http_heads.specs.Target.{TargetParts}
 use Rattle.s3_versions.specs.ContentType.{content_type}
 use Rattle.s3_versions.specs.Metadata.{Entry, metadata, metadata_size}
+use Rattle.s3_versions.specs.declared.version.Data.{Data}
 use Rattle.s3_requests.specs.declared.routing.Plan.{Plan}
 use Rattle.s3_requests.specs.declared.routing.Plan.TheVariants as plans
-use Rattle.s3_requests.specs.declared.routing.BucketPlan.{BucketPlan}
 use Rattle.s3_requests.specs.declared.routing.KeyAsked.{KeyAsked}
 use Rattle.s3_requests.specs.declared.routing.KeyAsked.TheVariants as key_asked
-use Rattle.s3_requests.specs.declared.routing.UploadPlan.TheVariants as upload_plans
 use Rattle.s3_listings.specs.declared.asked.PartsAsked.{PartsAsked}
+use Rattle.s3_machine.specs.declared.command.Command.{Command}
+use Rattle.s3_machine.specs.declared.command.Command.TheVariants as commands
+use Rattle.s3_machine.specs.declared.command.BucketCommand.{BucketCommand}
+use Rattle.s3_machine.specs.declared.command.KeyCommand.{KeyCommand}
 use Rattle.s3_machine.specs.declared.command.KeyCommand.TheVariants as key_commands
+use Rattle.s3_machine.specs.declared.command.UploadCommand.TheVariants as upload_commands
 use Rattle.s3_machine.specs.declared.command.Description.{Description}
 use Rattle.s3_machine.specs.declared.command.ObjectCopy.{ObjectCopy}
 use Rattle.s3_machine.specs.declared.command.PartCopy.{PartCopy}
 use Rattle.s3_machine.specs.declared.command.Source.{Source}
+use Rattle.s3_machine.specs.Effects.{brings, key_brought, sent, upload_sent}
 use Rattle.s3_requests.specs.declared.copies.Directive.{Directive}
 use Rattle.s3_requests.specs.declared.copies.Directive.TheVariants as directives
 use Rattle.s3_requests.specs.declared.operations.Operation.{Operation}
@@ -48,8 +54,8 @@ use Rattle.s3_requests.specs.Copies.{directive_of, description_by, source_for, o
 use Rattle.s3_requests.specs.Description.{type_sent, content_type_of, front, name_in, names_of, entry_of, metadata_of, description_of}
 use Rattle.s3_requests.specs.ListArguments.{parts_asked_of}
 use Rattle.s3_requests.specs.UploadArguments.{upload_argument, part_argument}
-use Rattle.s3_requests.specs.Routing.{KeyPlan, served, service_plan_for, service_plan, bucket_named, bucket_plan_for, plan_in_bucket, plan_of_bucket, putting, put_plan, read_plan, delete_plan, key_plan_for, complete_plan, upload_plan, part_copy_plan, parts_plan, asked_for, key_plan, plan_under, plan_of_key, named_plan, route_of}
-use Rattle.s3_requests.specs.Laws.{is_unbroken_entry, AreUnbroken, IsUnbrokenSaid, IsUnbrokenAsk, IsUnbrokenPlan, PlansAreUnbroken}
+use Rattle.s3_requests.specs.Routing.{served, service_plan_for, service_plan, bucket_named, bucket_command_for, creation_plan, plan_in_bucket, plan_of_bucket, read_command, delete_command, key_command_for, put_plan, part_copy_plan, parts_plan, complete_plan, asked_for, key_plan, plan_under, plan_of_key, named_plan, route_of}
+use Rattle.s3_requests.specs.Laws.{is_unbroken_entry, AreUnbroken, IsUnbrokenSaid, IsUnbrokenAsk, IsUnbrokenPlan, PlansAreUnbroken, ReadyPlansBringNothing}
 
 both : (a b : Bool) → (a && b) ≡ true → (a ≡ true) × (b ≡ true)
 both true b is = (refl, is)
@@ -180,51 +186,17 @@ either : {A : Type 0} (test : Bool) (x y : Result Plan Code) (plan : Plan) → �
 either true x y plan is first second = first is
 either false x y plan is first second = second is
 
-service_planned : (operation : Operation) (plan : Plan) → service_plan_for operation ≡ Ok plan → IsUnbrokenPlan plan
-service_planned operations.ListBuckets plan is =
-    let same : plans.ListBuckets ≡ plan = cc in
-    subst IsUnbrokenPlan same tt
-service_planned _ plan is = absurd (cc)
+-- what is made of what a rule gives is so where it is of all that the rule gives
+made_of : {A B : Type 0} (Is : B → Type 0) (rule : Result A Code) (make : A → B) (made : B)
+    → ((a : A) → rule ≡ Ok a → Is (make a)) → (rule >>= (λ (a : A). Ok (make a))) ≡ Ok made → Is made
+made_of Is (Ok a) make made all is = let same : make a ≡ made = cc in subst Is same (all a refl)
+made_of Is (Err code) make made all is = absurd (cc)
 
--- what asks for no put stores nothing
-no_put : (version : Result (Option VersionId) Code) (other : Option VersionId → KeyPlan) (asked : KeyPlan)
-    → ((v : Option VersionId) → IsUnbrokenAsk (other v)) → (version >>= (λ v. Ok (other v))) ≡ Ok asked → IsUnbrokenAsk asked
-no_put (Ok version) other asked unbroken is =
-    let same : other version ≡ asked = cc in subst IsUnbrokenAsk same (unbroken version)
-no_put (Err code) other asked unbroken is = absurd (cc)
-
-read_unbroken : (head : HeadParts) (target : TargetParts) (asked : KeyPlan) → read_plan head target ≡ Ok asked → IsUnbrokenAsk asked
-unfolding read_plan
-read_unbroken head target asked is =
-    no_put (version_argument (codes "versionId") target) (λ (v : Option VersionId). key_commands.Read (record { version = v; conditions = conditions_of head })) asked (λ v. tt) is
-
-delete_unbroken : (target : TargetParts) (asked : KeyPlan) → delete_plan target ≡ Ok asked → IsUnbrokenAsk asked
-unfolding delete_plan
-delete_unbroken target asked is = no_put (version_argument (codes "versionId") target) (λ (v : Option VersionId). key_commands.Delete v) asked (λ v. tt) is
-
--- what is asked under a key stores nothing with one beside a body
-abbrev IsUnbrokenUnder : KeyAsked → Type 0
-IsUnbrokenUnder (key_asked.Key asked) = IsUnbrokenAsk asked
-IsUnbrokenUnder (key_asked.Upload id asked) = Unit {0}
-
-under : (name key : List ℕ) (asked : KeyAsked) → IsUnbrokenUnder asked → IsUnbrokenPlan (plan_under name key asked)
-under name key (key_asked.Key asked) unbroken = unbroken
-under name key (key_asked.Upload id asked) unbroken = tt
-
--- nor does what is asked of an upload
-of_upload : {A : Type 0} (argument : Result A Code) (with : A → KeyAsked) (asked : KeyAsked)
-    → ((a : A) → IsUnbrokenUnder (with a)) → (argument >>= (λ a. Ok (with a))) ≡ Ok asked → IsUnbrokenUnder asked
-of_upload (Ok a) with asked unbroken is =
-    let same : with a ≡ asked = cc in
-    subst IsUnbrokenUnder same (unbroken a)
-of_upload (Err code) with asked unbroken is = absurd (cc)
+-- ---- what is said of an object
 
 -- a copy of this source, of which this is said
 abbrev copying : Source → Option Description → ObjectCopy
 copying source said = record { source = source; description = said }
-
-copied : (source : Source) (said : Option Description) (asked : KeyPlan) → key_commands.Copy (copying source said) ≡ asked → IsUnbrokenSaid said → IsUnbrokenAsk asked
-copied source said asked same unbroken = subst IsUnbrokenAsk same unbroken
 
 -- an object with this type and this metadata
 abbrev describing : List ℕ → List Entry → Description
@@ -234,7 +206,11 @@ type_unbroken : (values : List (List ℕ)) → list_all is_unbroken values ≡ t
 type_unbroken [] all = refl
 type_unbroken (value ∷ values) all = (both (is_unbroken value) (list_all is_unbroken values) all).0
 
-module _ (head : HeadParts) (lines : list_all is_whole_line head.headers ≡ true) where
+-- the lines of a head have no carriage return
+abbrev AreWhole : HeadParts → Type 0
+AreWhole head = list_all is_whole_line head.headers ≡ true
+
+module _ (head : HeadParts) (lines : AreWhole head) where
   content_type_unbroken : (kind : List ℕ) → content_type_of head ≡ Ok kind → is_unbroken kind ≡ true
   unfolding content_type_of content_type
   content_type_unbroken kind is =
@@ -256,14 +232,6 @@ module _ (head : HeadParts) (lines : list_all is_whole_line head.headers ≡ tru
       let same : describing one.0 two.0 ≡ said = cc in
       subst (λ (s : Description). AreUnbroken s.content_type s.metadata) same (content_type_unbroken one.0 one.1, metadata_unbroken two.0 two.1)
 
-  -- what is asked with what the head says has none where that has none
-  described : (with : Description → KeyPlan) (asked : KeyPlan) → ((said : Description) → AreUnbroken said.content_type said.metadata → IsUnbrokenAsk (with said))
-      → (description_of head >>= (λ (said : Description). Ok (with said))) ≡ Ok asked → IsUnbrokenAsk asked
-  described with asked unbroken is =
-      let one = bound (description_of head) (λ (said : Description). Ok (with said)) asked is in
-      let same : with one.0 ≡ asked = cc in
-      subst IsUnbrokenAsk same (unbroken one.0 (description_unbroken one.0 one.1))
-
   -- what is said of a copy is what its head says, or nothing
   said_unbroken : (directive : Directive) (said : Option Description) → description_by directive head ≡ Ok said → IsUnbrokenSaid said
   said_unbroken directives.Keep said is =
@@ -274,104 +242,153 @@ module _ (head : HeadParts) (lines : list_all is_whole_line head.headers ≡ tru
       let same : Some one.0 ≡ said = cc in
       subst IsUnbrokenSaid same (description_unbroken one.0 one.1)
 
-  copy_unbroken : (dialect : Dialect) (target : TargetParts) (asked : KeyPlan)
-      → (object_copy_of dialect head target >>= (λ (copy : ObjectCopy). Ok (key_commands.Copy copy))) ≡ Ok asked → IsUnbrokenAsk asked
+  copy_unbroken : (dialect : Dialect) (target : TargetParts) (copy : ObjectCopy) → object_copy_of dialect head target ≡ Ok copy → IsUnbrokenSaid copy.description
   unfolding object_copy_of
-  copy_unbroken dialect target asked is =
+  copy_unbroken dialect target copy is =
       let described = λ (directive : Directive) (source : Source). description_by directive head >>= (λ (said : Option Description). Ok (copying source said)) in
-      let copy = bound (object_copy_of dialect head target) (λ (copy : ObjectCopy). Ok (key_commands.Copy copy)) asked is in
-      let directive = bound (directive_of dialect head) (λ (directive : Directive). source_for dialect directive head target >>= described directive) copy.0 copy.1 in
-      let source = bound (source_for dialect directive.0 head target) (described directive.0) copy.0 directive.2 in
-      let said = bound (description_by directive.0 head) (λ (said : Option Description). Ok (copying source.0 said)) copy.0 source.2 in
-      copied source.0 said.0 asked (cc) (said_unbroken directive.0 said.0 said.1)
+      let directive = bound (directive_of dialect head) (λ (directive : Directive). source_for dialect directive head target >>= described directive) copy is in
+      let source = bound (source_for dialect directive.0 head target) (described directive.0) copy directive.2 in
+      made_of (λ (made : ObjectCopy). IsUnbrokenSaid made.description) (description_by directive.0 head) (copying source.0) copy
+      (λ said described. said_unbroken directive.0 said described) source.2
 
-  put_unbroken : (asked : KeyPlan) → put_plan head ≡ Ok asked → IsUnbrokenAsk asked
-  unfolding put_plan
-  put_unbroken asked is =
-      let one = bound (description_of head) (λ (said : Description). absence_of head >>= (λ (if_absent : Bool). Ok (putting said if_absent))) asked is in
-      let two = bound (absence_of head) (λ (if_absent : Bool). Ok (putting one.0 if_absent)) asked one.2 in
-      let same : putting one.0 two.0 ≡ asked = cc in
-      subst IsUnbrokenAsk same (description_unbroken one.0 one.1)
+-- ---- what is known of a plan: beside a body it has no carriage return, and ready without a body it brings none
 
-  planned_unbroken : (dialect : Dialect) (operation : Operation) (target : TargetParts) (asked : KeyPlan) → key_plan_for dialect operation head target ≡ Ok asked → IsUnbrokenAsk asked
-  unfolding key_plan_for
-  planned_unbroken dialect operations.PutObject target asked is = put_unbroken asked is
-  planned_unbroken dialect operations.CopyObject target asked is = copy_unbroken dialect target asked is
-  planned_unbroken dialect operations.GetObject target asked is = read_unbroken head target asked is
-  planned_unbroken dialect operations.HeadObject target asked is = read_unbroken head target asked is
-  planned_unbroken dialect operations.DeleteObject target asked is = delete_unbroken target asked is
-  planned_unbroken dialect operations.CreateMultipartUpload target asked is = described key_commands.Begin asked (λ said unbroken. unbroken) is
-  planned_unbroken dialect _ target asked is = absurd (cc)
+abbrev BringsNone : Plan → Type 0
+BringsNone (plans.Ready command) = (brings command ≡ None) × (sent command ≡ None)
+BringsNone other = Unit {0}
 
-  asked_unbroken_for : (dialect : Dialect) (operation : Operation) (target : TargetParts) (asked : KeyAsked) → asked_for dialect operation head target ≡ Ok asked → IsUnbrokenUnder asked
-  unfolding parts_plan complete_plan part_copy_plan
-  asked_unbroken_for dialect operations.UploadPart target asked is =
-      of_upload (part_argument target) (λ (part : ℕ × ℕ). key_asked.Upload part.0 (upload_plans.PutPart part.1)) asked (λ part. tt) is
-  asked_unbroken_for dialect operations.UploadPartCopy target asked is =
+abbrev IsRight : HeadParts → Plan → Type 0
+IsRight head plan = (AreWhole head → IsUnbrokenPlan plan) × BringsNone plan
+
+abbrev IsRightAsk : HeadParts → KeyCommand → Type 0
+IsRightAsk head asked = (AreWhole head → IsUnbrokenAsk asked) × (key_brought asked ≡ None)
+
+abbrev IsRightUnder : HeadParts → KeyAsked → Type 0
+IsRightUnder head (key_asked.Key asked) = IsRightAsk head asked
+IsRightUnder head (key_asked.Upload id asked) = upload_sent asked ≡ None
+IsRightUnder head (key_asked.Put said if_absent) = AreWhole head → AreUnbroken said.content_type said.metadata
+IsRightUnder head other = Unit {0}
+
+module _ (head : HeadParts) where
+  under : (name key : List ℕ) (asked : KeyAsked) → IsRightUnder head asked → IsRight head (plan_under name key asked)
+  under name key (key_asked.Key asked) right =
+      (right.0, (ap (option_map (λ (what : Data (List ℕ)). what.body)) right.1, refl))
+  under name key (key_asked.Upload id asked) right = ((λ lines. tt), (refl, right))
+  under name key (key_asked.Put said if_absent) right = (right, tt)
+  under name key _ right = ((λ lines. tt), tt)
+
+  read_right : (target : TargetParts) (asked : KeyCommand) → read_command head target ≡ Ok asked → IsRightAsk head asked
+  unfolding read_command
+  read_right target asked is =
+      made_of (IsRightAsk head) (version_argument (codes "versionId") target)
+      (λ (v : Option VersionId). key_commands.Read (record { version = v; conditions = conditions_of head })) asked (λ v named. ((λ lines. tt), refl)) is
+
+  delete_right : (target : TargetParts) (asked : KeyCommand) → delete_command target ≡ Ok asked → IsRightAsk head asked
+  unfolding delete_command
+  delete_right target asked is =
+      made_of (IsRightAsk head) (version_argument (codes "versionId") target) (λ (v : Option VersionId). key_commands.Delete v) asked (λ v named. ((λ lines. tt), refl)) is
+
+  command_right : (dialect : Dialect) (operation : Operation) (target : TargetParts) (asked : KeyCommand) → key_command_for dialect operation head target ≡ Ok asked → IsRightAsk head asked
+  unfolding key_command_for
+  command_right dialect operations.CopyObject target asked is =
+      made_of (IsRightAsk head) (object_copy_of dialect head target) (λ (copy : ObjectCopy). key_commands.Copy copy) asked
+      (λ copy made. ((λ lines. copy_unbroken head lines dialect target copy made), refl)) is
+  command_right dialect operations.GetObject target asked is = read_right target asked is
+  command_right dialect operations.HeadObject target asked is = read_right target asked is
+  command_right dialect operations.DeleteObject target asked is = delete_right target asked is
+  command_right dialect operations.CreateMultipartUpload target asked is =
+      made_of (IsRightAsk head) (description_of head) (λ (said : Description). key_commands.Begin said) asked
+      (λ said made. ((λ lines. description_unbroken head lines said made), refl)) is
+  command_right dialect _ target asked is = absurd (cc)
+
+  asked_right_for : (dialect : Dialect) (operation : Operation) (target : TargetParts) (asked : KeyAsked) → asked_for dialect operation head target ≡ Ok asked → IsRightUnder head asked
+  unfolding put_plan part_copy_plan parts_plan complete_plan
+  asked_right_for dialect operations.PutObject target asked is =
+      let said = bound (description_of head) (λ (said : Description). absence_of head >>= (λ (if_absent : Bool). Ok (key_asked.Put said if_absent))) asked is in
+      made_of (IsRightUnder head) (absence_of head) (λ (if_absent : Bool). key_asked.Put said.0 if_absent) asked
+      (λ if_absent read lines. description_unbroken head lines said.0 said.1) said.2
+  asked_right_for dialect operations.UploadPart target asked is =
+      made_of (IsRightUnder head) (part_argument target) (λ (part : ℕ × ℕ). key_asked.PutPart part.0 part.1) asked (λ part read. tt) is
+  asked_right_for dialect operations.UploadPartCopy target asked is =
       let part = bound (part_argument target)
-      (λ (part : ℕ × ℕ). part_copy_of dialect head >>= (λ (copy : PartCopy). Ok (key_asked.Upload part.0 (upload_plans.CopyPart part.1 copy)))) asked is in
-      of_upload (part_copy_of dialect head) (λ (copy : PartCopy). key_asked.Upload part.0.0 (upload_plans.CopyPart part.0.1 copy)) asked (λ copy. tt) part.2
-  asked_unbroken_for dialect operations.ListParts target asked is =
-      let one = bound (parts_asked_of target) (λ (listed : PartsAsked). upload_plan (upload_plans.ListParts listed) target) asked is in
-      of_upload (upload_argument target) (λ (id : ℕ). key_asked.Upload id (upload_plans.ListParts one.0)) asked (λ id. tt) one.2
-  asked_unbroken_for dialect operations.CompleteMultipartUpload target asked is =
-      let one = bound (upload_argument target)
-      (λ (id : ℕ). absence_of head >>= (λ (if_absent : Bool). Ok (key_asked.Upload id (upload_plans.Complete dialect if_absent)))) asked is in
-      of_upload (absence_of head) (λ (if_absent : Bool). key_asked.Upload one.0 (upload_plans.Complete dialect if_absent)) asked (λ if_absent. tt) one.2
-  asked_unbroken_for dialect operations.AbortMultipartUpload target asked is =
-      of_upload (upload_argument target) (λ (id : ℕ). key_asked.Upload id upload_plans.Abort) asked (λ id. tt) is
-  asked_unbroken_for dialect operation target asked is =
-      let one = bound (key_plan_for dialect operation head target) (λ (a : KeyPlan). Ok (key_asked.Key a)) asked is in
-      let same : key_asked.Key one.0 ≡ asked = cc in
-      subst IsUnbrokenUnder same (planned_unbroken dialect operation target one.0 one.1)
+      (λ (part : ℕ × ℕ). part_copy_of dialect head >>= (λ (copy : PartCopy). Ok (key_asked.Upload part.0 (upload_commands.CopyPart part.1 copy)))) asked is in
+      made_of (IsRightUnder head) (part_copy_of dialect head) (λ (copy : PartCopy). key_asked.Upload part.0.0 (upload_commands.CopyPart part.0.1 copy)) asked (λ copy read. refl) part.2
+  asked_right_for dialect operations.ListParts target asked is =
+      let listed = bound (parts_asked_of target) (λ (listed : PartsAsked). upload_argument target >>= (λ (id : ℕ). Ok (key_asked.Upload id (upload_commands.ListParts listed)))) asked is in
+      made_of (IsRightUnder head) (upload_argument target) (λ (id : ℕ). key_asked.Upload id (upload_commands.ListParts listed.0)) asked (λ id read. refl) listed.2
+  asked_right_for dialect operations.CompleteMultipartUpload target asked is =
+      let id = bound (upload_argument target) (λ (id : ℕ). absence_of head >>= (λ (if_absent : Bool). Ok (key_asked.Complete id dialect if_absent))) asked is in
+      made_of (IsRightUnder head) (absence_of head) (λ (if_absent : Bool). key_asked.Complete id.0 dialect if_absent) asked (λ if_absent read. tt) id.2
+  asked_right_for dialect operations.AbortMultipartUpload target asked is =
+      made_of (IsRightUnder head) (upload_argument target) (λ (id : ℕ). key_asked.Upload id upload_commands.Abort) asked (λ id read. refl) is
+  asked_right_for dialect operation target asked is =
+      made_of (IsRightUnder head) (key_command_for dialect operation head target) (λ (command : KeyCommand). key_asked.Key command) asked
+      (λ command made. command_right dialect operation target command made) is
 
-  asked_unbroken : (dialect : Dialect) (target : TargetParts) (asked : KeyAsked) → key_plan dialect head target ≡ Ok asked → IsUnbrokenUnder asked
+  asked_right : (dialect : Dialect) (target : TargetParts) (asked : KeyAsked) → key_plan dialect head target ≡ Ok asked → IsRightUnder head asked
   unfolding key_plan
-  asked_unbroken dialect target asked is =
+  asked_right dialect target asked is =
       let one = bound (served dialect (key_operation (method_of head.method) head target)) (λ (operation : Operation). asked_for dialect operation head target) asked is in
-      asked_unbroken_for dialect one.0 target asked one.2
+      asked_right_for dialect one.0 target asked one.2
 
-  service_unbroken : (dialect : Dialect) (plan : Plan) → service_plan dialect head ≡ Ok plan → IsUnbrokenPlan plan
+  service_right_for : (operation : Operation) (plan : Plan) → service_plan_for operation ≡ Ok plan → IsRight head plan
+  service_right_for operations.ListBuckets plan is =
+      let same : plans.Ready commands.ListBuckets ≡ plan = cc in
+      subst (IsRight head) same ((λ lines. tt), (refl, refl))
+  service_right_for _ plan is = absurd (cc)
+
+  service_right : (dialect : Dialect) (plan : Plan) → service_plan dialect head ≡ Ok plan → IsRight head plan
   unfolding service_plan
-  service_unbroken dialect plan is =
+  service_right dialect plan is =
       let one = bound (served dialect (service_operation (method_of head.method))) service_plan_for plan is in
-      service_planned one.0 plan one.2
+      service_right_for one.0 plan one.2
 
-  bucket_unbroken_for : (settings : Settings) (name : List ℕ) (operation : Operation) (target : TargetParts) (plan : Plan) → plan_in_bucket settings name operation head target ≡ Ok plan → IsUnbrokenPlan plan
-  bucket_unbroken_for settings name operations.DeleteObjects target plan is =
+  creation_right : (dialect : Dialect) (name region : List ℕ) → IsRight head (creation_plan dialect name region)
+  creation_right Json name region = ((λ lines. tt), (refl, refl))
+  creation_right S3 name region = ((λ lines. tt), tt)
+
+  bucket_right_for : (settings : Settings) (name : List ℕ) (operation : Operation) (target : TargetParts) (plan : Plan) → plan_in_bucket settings name operation head target ≡ Ok plan → IsRight head plan
+  bucket_right_for settings name operations.CreateBucket target plan is =
+      let same : creation_plan settings.dialect name settings.region ≡ plan = cc in
+      subst (IsRight head) same (creation_right settings.dialect name settings.region)
+  bucket_right_for settings name operations.PutBucketVersioning target plan is =
+      let same : plans.PutVersioning name settings.dialect ≡ plan = cc in
+      subst (IsRight head) same ((λ lines. tt), tt)
+  bucket_right_for settings name operations.DeleteObjects target plan is =
       let same : plans.DeleteObjects name ≡ plan = passed (not (is_protected head)) InvalidRequest (plans.DeleteObjects name) plan is in
-      subst IsUnbrokenPlan same tt
-  bucket_unbroken_for settings name operation target plan is =
-      let one = bound (bucket_plan_for settings operation target) (λ (asked : BucketPlan). Ok (plans.Bucket name asked)) plan is in
-      let same : plans.Bucket name one.0 ≡ plan = cc in
-      subst IsUnbrokenPlan same tt
+      subst (IsRight head) same ((λ lines. tt), tt)
+  bucket_right_for settings name operation target plan is =
+      made_of (IsRight head) (bucket_command_for settings.dialect operation target) (λ (asked : BucketCommand). plans.Ready (commands.Bucket name asked)) plan
+      (λ asked made. ((λ lines. tt), (refl, refl))) is
 
-  bucket_unbroken : (settings : Settings) (name : List ℕ) (target : TargetParts) (plan : Plan) → plan_of_bucket settings name head target ≡ Ok plan → IsUnbrokenPlan plan
+  bucket_right : (settings : Settings) (name : List ℕ) (target : TargetParts) (plan : Plan) → plan_of_bucket settings name head target ≡ Ok plan → IsRight head plan
   unfolding plan_of_bucket
-  bucket_unbroken settings name target plan is =
+  bucket_right settings name target plan is =
       let one = bound (served settings.dialect (bucket_operation (method_of head.method) target)) (λ (operation : Operation). plan_in_bucket settings name operation head target) plan is in
-      bucket_unbroken_for settings name one.0 target plan one.2
+      bucket_right_for settings name one.0 target plan one.2
 
-  key_unbroken : (dialect : Dialect) (name : List ℕ) (target : TargetParts) (plan : Plan) → plan_of_key dialect name head target ≡ Ok plan → IsUnbrokenPlan plan
-  key_unbroken dialect name target plan is =
+  key_right : (dialect : Dialect) (name : List ℕ) (target : TargetParts) (plan : Plan) → plan_of_key dialect name head target ≡ Ok plan → IsRight head plan
+  key_right dialect name target plan is =
       let key = bound (object_key target.key) (λ (k : List ℕ). key_plan dialect head target >>= (λ (a : KeyAsked). Ok (plan_under name k a))) plan is in
-      let asked = bound (key_plan dialect head target) (λ (a : KeyAsked). Ok (plan_under name key.0 a)) plan key.2 in
-      let same : plan_under name key.0 asked.0 ≡ plan = cc in
-      subst IsUnbrokenPlan same (under name key.0 asked.0 (asked_unbroken dialect target asked.0 asked.1))
+      made_of (IsRight head) (key_plan dialect head target) (plan_under name key.0) plan
+      (λ asked made. under name key.0 asked (asked_right dialect target asked made)) key.2
 
-  named_unbroken : (settings : Settings) (target : TargetParts) (plan : Plan) → named_plan settings head target ≡ Ok plan → IsUnbrokenPlan plan
+  named_right : (settings : Settings) (target : TargetParts) (plan : Plan) → named_plan settings head target ≡ Ok plan → IsRight head plan
   unfolding named_plan
-  named_unbroken settings target plan is =
+  named_right settings target plan is =
       let name = bound (bucket_named target) (λ (name : List ℕ). if length target.key == 0 then plan_of_bucket settings name head target else plan_of_key settings.dialect name head target) plan is in
       either (length target.key == 0) (plan_of_bucket settings name.0 head target) (plan_of_key settings.dialect name.0 head target) plan name.2
-      (bucket_unbroken settings name.0 target plan) (key_unbroken settings.dialect name.0 target plan)
+      (bucket_right settings name.0 target plan) (key_right settings.dialect name.0 target plan)
 
-  route_unbroken : (settings : Settings) (plan : Plan) → route_of settings head ≡ Ok plan → IsUnbrokenPlan plan
+  route_right : (settings : Settings) (plan : Plan) → route_of settings head ≡ Ok plan → IsRight head plan
   unfolding route_of
-  route_unbroken settings plan is =
+  route_right settings plan is =
       let target = bound (address_at settings.dialect head) (λ (t : TargetParts). if is_service t then service_plan settings.dialect head else named_plan settings head t) plan is in
       either (is_service target.0) (service_plan settings.dialect head) (named_plan settings head target.0) plan target.2
-      (service_unbroken settings.dialect plan) (named_unbroken settings target.0 plan)
+      (service_right settings.dialect plan) (named_right settings target.0 plan)
 
 pub plans_are_unbroken : LinesAreWhole → PlansAreUnbroken
-plans_are_unbroken whole settings text head plan says is = route_unbroken head (whole text head says) settings plan is
+plans_are_unbroken whole settings text head plan says is = (route_right head settings plan is).0 (whole text head says)
+
+pub ready_plans_bring_nothing : ReadyPlansBringNothing
+ready_plans_bring_nothing settings head command is = (route_right head settings (plans.Ready command) is).1

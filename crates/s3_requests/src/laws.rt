@@ -1,6 +1,6 @@
 //! What is known of all plans: laws, with nothing to run.
 
-ghost use Rattle.s3_requests.specs.Laws.{PlansAreUnbroken, TokensAreReadBack};
+ghost use Rattle.s3_requests.specs.Laws.{PlansAreUnbroken, ReadyPlansBringNothing, TokensAreReadBack};
 
 use s3_http_heads::lines_are_whole;
 
@@ -11,6 +11,12 @@ pub fn plans_are_unbroken()
 {
     lines_are_whole();
 }
+
+/// A law: a command that is ready before the body of its message brings no bytes, neither to be stored under a key nor as a part
+/// of an upload, so that what is stored of a message is what came as its body.
+pub fn ready_plans_bring_nothing()
+    ensures { ReadyPlansBringNothing }
+{}
 
 /// A law: what a list of objects tells as its next token, the hexadecimal digits of a text, is read back as that text where
 /// a request sends it as its `continuation-token` (Amazon S3 API Reference, ListObjectsV2, `NextContinuationToken`).

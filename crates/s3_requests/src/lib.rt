@@ -18,8 +18,8 @@ mod upload_arguments;
 mod write_condition;
 
 pub use commands::command;
-pub use laws::{plans_are_unbroken, tokens_are_read_back};
-pub use routing::{BucketPlan, Plan, UploadPlan, route};
+pub use laws::{plans_are_unbroken, ready_plans_bring_nothing, tokens_are_read_back};
+pub use routing::{Plan, route};
 pub use s3_machine::{
     BucketCommand, Command, Description, KeyCommand, ObjectPut, ObjectRead, UploadCommand,
 };

@@ -1,5 +1,5 @@
 //! From a verified head to the operation that it asks for.
-ghost use Rattle.std.specs.Prelude.{◌≡◌, Ok, IfOk};
+ghost use Rattle.std.specs.Prelude.{◌≡◌, Ok};
 ghost use Rattle.s3_terms.specs.Fault.{Follows, FollowsPast};
 ghost use Rattle.s3_requests.specs.Routing as rules;
 
@@ -15,115 +15,93 @@ use crate::upload_arguments::{part_argument, upload_argument};
 use crate::write_condition::absence_of;
 use s3_config::Config;
 use s3_http_heads::{Head, Target};
-use s3_listings::{PartsAsked, UploadsAsked, VersionsAsked};
-use s3_machine::{Configuration, KeyCommand, ObjectPut, ObjectRead, PartCopy};
+use s3_machine::{
+    BucketCommand, Command, Description, KeyCommand, ObjectRead, UploadCommand, region_of,
+};
 use s3_names::{BucketName, Key, PartNumber, UploadId};
-use s3_prefixes::{ListVersion, ObjectsAsked, Text};
-use s3_terms::{Code, Dialect, NoMemory};
+use s3_prefixes::{ListVersion, Text};
+use s3_terms::{Code, Dialect};
 use std::alloc::Global;
 
-/// What a head asks for, before the body is read: an operation with its arguments.
+/// What a head asks for, before the body is read: a command, where that needs no body, or what waits for its body.
 #[derive(Drop)]
 pub enum Plan {
-    /// List all buckets (Amazon S3 API Reference, ListBuckets).
-    ListBuckets,
-    /// One about a bucket.
-    Bucket {
+    /// What needs no body.
+    Ready(Command),
+    /// Make the bucket, where the body may name this region (CreateBucket where documents are XML).
+    CreateBucket {
         name: BucketName,
-        asked: BucketPlan,
+        region: Text,
     },
-    /// One about the object under a key of a bucket: its command without the body.
-    Key {
+    /// Set the versioning of the bucket to what the body says (PutBucketVersioning).
+    PutVersioning {
+        name: BucketName,
+        /// How the body spells it.
+        dialect: Dialect,
+    },
+    /// Store the body under the key (PutObject).
+    Put {
         bucket: BucketName,
         key: Key,
-        asked: KeyCommand<()>,
+        said: Description,
+        /// Whether only where the key has no object.
+        if_absent: bool,
     },
-    /// One about an upload to a key of a bucket.
-    Upload {
+    /// Put the body under this number, as a part of the upload (UploadPart).
+    PutPart {
         bucket: BucketName,
         key: Key,
         id: UploadId,
-        asked: UploadPlan,
-    },
-    /// Delete the objects of a bucket that the body names (DeleteObjects).
-    DeleteObjects {
-        bucket: BucketName,
-    },
-}
-
-/// What is asked of a bucket, before the body is read.
-#[derive(Drop)]
-pub enum BucketPlan {
-    /// Make it (CreateBucket).
-    Create {
-        /// The region that the body may name; `None` where the body isn't read.
-        region: Option<Text>,
-    },
-    /// Ask whether it is there (HeadBucket).
-    Head,
-    /// Drop it, where nothing is in it (DeleteBucket).
-    Delete,
-    /// Set its versioning to what the body says (PutBucketVersioning).
-    PutVersioning {
-        dialect: Dialect,
-    },
-    /// Ask for its versioning (GetBucketVersioning).
-    GetVersioning,
-    /// Ask where it is (GetBucketLocation).
-    GetLocation {
-        /// The region of the server.
-        region: Text,
-    },
-    /// Ask for one of its configurations (GetBucketPolicy and its like).
-    GetConfiguration(Configuration),
-    /// List its objects (ListObjects and ListObjectsV2).
-    ListObjects(ObjectsAsked),
-    /// List its versions (ListObjectVersions).
-    ListVersions(VersionsAsked),
-    /// List the uploads to its keys (ListMultipartUploads).
-    ListUploads(UploadsAsked),
-}
-
-/// What is asked of an upload, before the body is read.
-#[derive(Drop)]
-pub enum UploadPlan {
-    /// Keep the body as its part of this number (UploadPart).
-    PutPart {
         number: PartNumber,
     },
-    /// Keep what a version has as its part of this number (UploadPartCopy).
-    CopyPart {
-        number: PartNumber,
-        copy: PartCopy,
-    },
-    /// Store the parts that the body lists as one object (CompleteMultipartUpload).
+    /// Store the parts that the body lists, and end the upload (CompleteMultipartUpload).
     Complete {
+        bucket: BucketName,
+        key: Key,
+        id: UploadId,
         /// How the body spells them.
         dialect: Dialect,
         /// Whether only where the key has no object.
         if_absent: bool,
     },
-    /// Drop it (AbortMultipartUpload).
-    Abort,
-    /// List its parts (ListParts).
-    ListParts(PartsAsked),
+    /// Delete the objects of the bucket that the body names (DeleteObjects).
+    DeleteObjects {
+        bucket: BucketName,
+    },
 }
 
-/// What is asked under a key, before the body is read: of the key itself, or of an upload to it.
+/// What is asked under a key, before its names are put to it: a command of the key or of an upload to it, or what waits for
+/// its body.
 #[derive(Drop)]
 pub(crate) enum KeyAsked {
-    Key(KeyCommand<()>),
-    Upload { id: UploadId, asked: UploadPlan },
+    Key(KeyCommand),
+    Upload {
+        id: UploadId,
+        asked: UploadCommand,
+    },
+    Put {
+        said: Description,
+        if_absent: bool,
+    },
+    PutPart {
+        id: UploadId,
+        number: PartNumber,
+    },
+    Complete {
+        id: UploadId,
+        dialect: Dialect,
+        if_absent: bool,
+    },
 }
 
 /// The operation that a verified head asks for, with its bucket, its key and its arguments (Amazon S3 User
 /// Guide, "Path-style requests"). A refusal is the first fault of routing in the order of
 /// `docs/PROTOCOL.md`; `InternalError` says that there was no memory for the names, for what a put, a copy or the beginning
 /// of an upload says of its object, for the tags that a read or a copy names, for the texts that a list is asked by and for
-/// the region that a new bucket may name or that a bucket is in, of an address that may have them: without a sub-resource
-/// that this server lacks, and with the name of a bucket. The cost is linear in the names and the query, and in the header
-/// lines times the names of metadata. Of `config` it takes the dialect, by which there are more operations and arguments and
-/// by which the documents of bodies are read, and the region, in which all buckets are.
+/// the region that a new bucket may name, of an address that may have them: without a sub-resource that this server lacks, and
+/// with the name of a bucket. The cost is linear in the names and the query, and in the header lines times the names of
+/// metadata. Of `config` it takes the dialect, by which there are more operations and arguments and by which the documents of
+/// bodies are read, and the region that a new bucket may name.
 #[tactic(auto, unfolding(crate::specs::Routing::route_of, crate::specs::Routing::bucket_at))]
 pub fn route(alloc: Global, config: &Config, head: &Head) -> Result<Plan, Code>
     ensures { FollowsPast (rules.bucket_at config.now.dialect head.now) result (rules.route_of config.now head.now) }
@@ -154,7 +132,7 @@ fn service_plan(dialect: Dialect, head: &Head) -> Result<Plan, Code>
 {
     let operation = served(dialect, service_operation(head.method()))?;
     match operation {
-        Operation::ListBuckets => Ok(Plan::ListBuckets),
+        Operation::ListBuckets => Ok(Plan::Ready(Command::ListBuckets)),
         _ => Err(Code::NotImplemented),
     }
 }
@@ -178,12 +156,35 @@ fn plan_under(bucket: BucketName, key: Key, asked: KeyAsked) -> Plan
     ensures { result ≡ rules.plan_under bucket key asked }
 {
     match asked {
-        KeyAsked::Key(asked) => Plan::Key { bucket, key, asked },
-        KeyAsked::Upload { id, asked } => Plan::Upload {
+        KeyAsked::Key(asked) => Plan::Ready(Command::Key { bucket, key, asked }),
+        KeyAsked::Upload { id, asked } => Plan::Ready(Command::Upload {
             bucket,
             key,
             id,
             asked,
+        }),
+        KeyAsked::Put { said, if_absent } => Plan::Put {
+            bucket,
+            key,
+            said,
+            if_absent,
+        },
+        KeyAsked::PutPart { id, number } => Plan::PutPart {
+            bucket,
+            key,
+            id,
+            number,
+        },
+        KeyAsked::Complete {
+            id,
+            dialect,
+            if_absent,
+        } => Plan::Complete {
+            bucket,
+            key,
+            id,
+            dialect,
+            if_absent,
         },
     }
 }
@@ -214,12 +215,31 @@ fn plan_in_bucket(
 ) -> Result<Plan, Code>
     ensures { Follows result (rules.plan_in_bucket config.now name operation head.now target.now) }
 {
+    let dialect = config.dialect();
     match operation {
+        Operation::CreateBucket => creation_plan(alloc, config, name),
+        Operation::PutBucketVersioning => Ok(Plan::PutVersioning { name, dialect }),
         Operation::DeleteObjects => deletion_plan(head, name),
-        _ => match bucket_plan_for(alloc, config, target, operation) {
-            Ok(asked) => Ok(Plan::Bucket { name, asked }),
+        _ => match bucket_command_for(alloc, dialect, target, operation) {
+            Ok(asked) => Ok(Plan::Ready(Command::Bucket { name, asked })),
             Err(code) => Err(code),
         },
+    }
+}
+
+// CreateBucket, with the region that its body may name where documents are XML; where they are JSON it isn't read.
+fn creation_plan(alloc: Global, config: &Config, name: BucketName) -> Result<Plan, Code>
+    ensures { Follows result (Ok (rules.creation_plan config.now.dialect name config.now.region)) }
+{
+    match config.dialect() {
+        Dialect::Json => Ok(Plan::Ready(Command::Bucket {
+            name,
+            asked: BucketCommand::Create,
+        })),
+        Dialect::S3 => {
+            let region = region_of(alloc, config)?;
+            Ok(Plan::CreateBucket { name, region })
+        }
     }
 }
 
@@ -233,99 +253,66 @@ fn deletion_plan(head: &Head, bucket: BucketName) -> Result<Plan, Code>
     Ok(Plan::DeleteObjects { bucket })
 }
 
-// What is asked of a bucket itself.
-fn bucket_plan_for(
+// What is asked of a bucket itself without a body.
+fn bucket_command_for(
     alloc: Global,
-    config: &Config,
+    dialect: Dialect,
     target: &Target,
     operation: Operation,
-) -> Result<BucketPlan, Code>
-    ensures { Follows result (rules.bucket_plan_for config.now operation target.now) }
+) -> Result<BucketCommand, Code>
+    ensures { Follows result (rules.bucket_command_for dialect operation target.now) }
 {
-    let dialect = config.dialect();
     match operation {
-        Operation::CreateBucket => create_plan(alloc, config),
-        Operation::HeadBucket => Ok(BucketPlan::Head),
-        Operation::DeleteBucket => Ok(BucketPlan::Delete),
-        Operation::PutBucketVersioning => Ok(BucketPlan::PutVersioning { dialect }),
-        Operation::GetBucketVersioning => Ok(BucketPlan::GetVersioning),
-        Operation::GetBucketLocation => location_plan(alloc, config),
-        Operation::GetBucketConfiguration(which) => Ok(BucketPlan::GetConfiguration(which)),
-        Operation::ListObjects => first_objects_plan(alloc, dialect, target),
-        Operation::ListObjectsV2 => objects_plan(alloc, dialect, ListVersion::Second, target),
-        Operation::ListObjectVersions => versions_plan(alloc, dialect, target),
-        Operation::ListMultipartUploads => uploads_plan(alloc, dialect, target),
+        Operation::HeadBucket => Ok(BucketCommand::Head),
+        Operation::DeleteBucket => Ok(BucketCommand::Delete),
+        Operation::GetBucketVersioning => Ok(BucketCommand::GetVersioning),
+        Operation::GetBucketLocation => Ok(BucketCommand::GetLocation),
+        Operation::GetBucketConfiguration(which) => Ok(BucketCommand::GetConfiguration(which)),
+        Operation::ListObjects => first_list(alloc, dialect, target),
+        Operation::ListObjectsV2 => list_of_objects(alloc, dialect, ListVersion::Second, target),
+        Operation::ListObjectVersions => list_of_versions(alloc, dialect, target),
+        Operation::ListMultipartUploads => list_of_uploads(alloc, dialect, target),
         _ => Err(Code::NotImplemented),
     }
 }
 
-// CreateBucket, with the region that its body may name.
-fn create_plan(alloc: Global, config: &Config) -> Result<BucketPlan, Code>
-    ensures { Follows result (Ok (BucketPlan.Create (rules.region_in config.now.dialect config.now.region))) }
-{
-    match config.dialect() {
-        Dialect::Json => Ok(BucketPlan::Create { region: None }),
-        Dialect::S3 => {
-            let region = region_of(alloc, config)?;
-            Ok(BucketPlan::Create {
-                region: Some(region),
-            })
-        }
-    }
-}
-
-// GetBucketLocation, with the region that all buckets are in.
-fn location_plan(alloc: Global, config: &Config) -> Result<BucketPlan, Code>
-    ensures { Follows result (Ok (BucketPlan.GetLocation config.now.region)) }
-{
-    let region = region_of(alloc, config)?;
-    Ok(BucketPlan::GetLocation { region })
-}
-
-// The region of the server.
-fn region_of(alloc: Global, config: &Config) -> Result<Text, NoMemory>
-    ensures { IfOk result (λ region. region ≡ config.now.region) }
-{
-    Text::of(alloc, config.region())
-}
-
 // ListObjects, with what is asked of the list: `NotImplemented` where another type of list is asked for.
-fn first_objects_plan(alloc: Global, dialect: Dialect, target: &Target) -> Result<BucketPlan, Code>
-    ensures { Follows result (rules.first_objects_plan dialect target.now) }
+fn first_list(alloc: Global, dialect: Dialect, target: &Target) -> Result<BucketCommand, Code>
+    ensures { Follows result (rules.first_list dialect target.now) }
 {
     if target.has_parameter(b"list-type") {
         return Err(Code::NotImplemented);
     }
-    objects_plan(alloc, dialect, ListVersion::First, target)
+    list_of_objects(alloc, dialect, ListVersion::First, target)
 }
 
 // A list of objects in this version, with what is asked of it.
-fn objects_plan(
+fn list_of_objects(
     alloc: Global,
     dialect: Dialect,
     version: ListVersion,
     target: &Target,
-) -> Result<BucketPlan, Code>
-    ensures { Follows result (rules.objects_plan dialect version target.now) }
+) -> Result<BucketCommand, Code>
+    ensures { Follows result (rules.list_of_objects dialect version target.now) }
 {
     let asked = objects_asked(alloc, dialect, version, target)?;
-    Ok(BucketPlan::ListObjects(asked))
+    Ok(BucketCommand::ListObjects(asked))
 }
 
 // ListObjectVersions, with what is asked of the list.
-fn versions_plan(alloc: Global, dialect: Dialect, target: &Target) -> Result<BucketPlan, Code>
-    ensures { Follows result (rules.versions_plan dialect target.now) }
+fn list_of_versions(alloc: Global, dialect: Dialect, target: &Target) -> Result<BucketCommand, Code>
+    ensures { Follows result (rules.list_of_versions dialect target.now) }
 {
     let asked = versions_asked(alloc, dialect, target)?;
-    Ok(BucketPlan::ListVersions(asked))
+    Ok(BucketCommand::ListVersions(asked))
 }
 
 // ListMultipartUploads, with what is asked of the list.
-fn uploads_plan(alloc: Global, dialect: Dialect, target: &Target) -> Result<BucketPlan, Code>
-    ensures { Follows result (rules.uploads_plan dialect target.now) }
+fn list_of_uploads(alloc: Global, dialect: Dialect, target: &Target) -> Result<BucketCommand, Code>
+    ensures { Follows result (rules.list_of_uploads dialect target.now) }
 {
     let asked = uploads_asked(alloc, dialect, target)?;
-    Ok(BucketPlan::ListUploads(asked))
+    Ok(BucketCommand::ListUploads(asked))
 }
 
 // What is asked of a key, or of an upload to it.
@@ -348,16 +335,27 @@ fn asked_for(
     ensures { Follows result (rules.asked_for dialect operation head.now target.now) }
 {
     match operation {
+        Operation::PutObject => put_plan(alloc, head),
         Operation::UploadPart => part_plan(target),
         Operation::UploadPartCopy => part_copy_plan(alloc, dialect, head, target),
         Operation::ListParts => parts_plan(target),
         Operation::CompleteMultipartUpload => complete_plan(dialect, head, target),
-        Operation::AbortMultipartUpload => upload_plan(target, UploadPlan::Abort),
-        _ => match key_plan_for(alloc, dialect, head, target, operation) {
+        Operation::AbortMultipartUpload => abort_plan(target),
+        _ => match key_command_for(alloc, dialect, head, target, operation) {
             Ok(asked) => Ok(KeyAsked::Key(asked)),
             Err(code) => Err(code),
         },
     }
+}
+
+// PutObject, with what the head says of the object, and its condition.
+#[tactic(auto, unfolding(crate::specs::Routing::put_plan))]
+fn put_plan(alloc: Global, head: &Head) -> Result<KeyAsked, Code>
+    ensures { Follows result (rules.put_plan head.now) }
+{
+    let said = description_of(alloc, head)?;
+    let if_absent = absence_of(head)?;
+    Ok(KeyAsked::Put { said, if_absent })
 }
 
 // UploadPart, with its part.
@@ -365,10 +363,7 @@ fn part_plan(target: &Target) -> Result<KeyAsked, Code>
     ensures { result ≡ rules.part_plan target.now }
 {
     let (id, number) = part_argument(target)?;
-    Ok(KeyAsked::Upload {
-        id,
-        asked: UploadPlan::PutPart { number },
-    })
+    Ok(KeyAsked::PutPart { id, number })
 }
 
 // UploadPartCopy, with its part, and what it copies.
@@ -385,7 +380,7 @@ fn part_copy_plan(
     let copy = part_copy(alloc, dialect, head)?;
     Ok(KeyAsked::Upload {
         id,
-        asked: UploadPlan::CopyPart { number, copy },
+        asked: UploadCommand::CopyPart { number, copy },
     })
 }
 
@@ -395,7 +390,11 @@ fn parts_plan(target: &Target) -> Result<KeyAsked, Code>
     ensures { result ≡ rules.parts_plan target.now }
 {
     let asked = parts_asked(target)?;
-    upload_plan(target, UploadPlan::ListParts(asked))
+    let id = upload_argument(target)?;
+    Ok(KeyAsked::Upload {
+        id,
+        asked: UploadCommand::ListParts(asked),
+    })
 }
 
 // CompleteMultipartUpload, with its upload, its condition, and the dialect of the document that it brings.
@@ -405,68 +404,61 @@ fn complete_plan(dialect: Dialect, head: &Head, target: &Target) -> Result<KeyAs
 {
     let id = upload_argument(target)?;
     let if_absent = absence_of(head)?;
-    Ok(KeyAsked::Upload {
+    Ok(KeyAsked::Complete {
         id,
-        asked: UploadPlan::Complete { dialect, if_absent },
+        dialect,
+        if_absent,
     })
 }
 
-// AbortMultipartUpload and ListParts, with their upload.
-fn upload_plan(target: &Target, asked: UploadPlan) -> Result<KeyAsked, Code>
-    ensures { result ≡ rules.upload_plan asked target.now }
+// AbortMultipartUpload, with its upload.
+fn abort_plan(target: &Target) -> Result<KeyAsked, Code>
+    ensures { result ≡ rules.abort_plan target.now }
 {
     let id = upload_argument(target)?;
-    Ok(KeyAsked::Upload { id, asked })
+    Ok(KeyAsked::Upload {
+        id,
+        asked: UploadCommand::Abort,
+    })
 }
 
-// What is asked of a key itself by this operation.
-#[tactic(auto, unfolding(crate::specs::Routing::key_plan_for))]
-fn key_plan_for(
+// What is asked of a key itself by this operation, without a body.
+#[tactic(auto, unfolding(crate::specs::Routing::key_command_for))]
+fn key_command_for(
     alloc: Global,
     dialect: Dialect,
     head: &Head,
     target: &Target,
     operation: Operation,
-) -> Result<KeyCommand<()>, Code>
-    ensures { Follows result (rules.key_plan_for dialect operation head.now target.now) }
+) -> Result<KeyCommand, Code>
+    ensures { Follows result (rules.key_command_for dialect operation head.now target.now) }
 {
     match operation {
-        Operation::PutObject => put_plan(alloc, head),
-        Operation::CopyObject => copy_plan(alloc, dialect, head, target),
-        Operation::GetObject | Operation::HeadObject => read_plan(alloc, head, target),
-        Operation::DeleteObject => delete_plan(target),
-        Operation::CreateMultipartUpload => begin_plan(alloc, head),
+        Operation::CopyObject => copy_command(alloc, dialect, head, target),
+        Operation::GetObject | Operation::HeadObject => read_command(alloc, head, target),
+        Operation::DeleteObject => delete_command(target),
+        Operation::CreateMultipartUpload => begin_command(alloc, head),
         _ => Err(Code::NotImplemented),
     }
 }
 
-// PutObject, with what the head says of the object, and its condition.
-#[tactic(auto, unfolding(crate::specs::Routing::put_plan))]
-fn put_plan(alloc: Global, head: &Head) -> Result<KeyCommand<()>, Code>
-    ensures { Follows result (rules.put_plan head.now) }
+// CopyObject, with what it copies.
+fn copy_command(
+    alloc: Global,
+    dialect: Dialect,
+    head: &Head,
+    target: &Target,
+) -> Result<KeyCommand, Code>
+    ensures { Follows result (rules.copy_command dialect head.now target.now) }
 {
-    let said = description_of(alloc, head)?;
-    let if_absent = absence_of(head)?;
-    Ok(KeyCommand::Put(ObjectPut {
-        content_type: said.content_type,
-        metadata: said.metadata,
-        if_absent,
-        payload: (),
-    }))
-}
-
-// CreateMultipartUpload, with what the head says of the object.
-fn begin_plan(alloc: Global, head: &Head) -> Result<KeyCommand<()>, Code>
-    ensures { Follows result (rules.begin_plan head.now) }
-{
-    let said = description_of(alloc, head)?;
-    Ok(KeyCommand::Begin(said))
+    let copy = object_copy(alloc, dialect, head, target)?;
+    Ok(KeyCommand::Copy(copy))
 }
 
 // GetObject and HeadObject, with what the head asks of the version.
-#[tactic(auto, unfolding(crate::specs::Routing::read_plan))]
-fn read_plan(alloc: Global, head: &Head, target: &Target) -> Result<KeyCommand<()>, Code>
-    ensures { Follows result (rules.read_plan head.now target.now) }
+#[tactic(auto, unfolding(crate::specs::Routing::read_command))]
+fn read_command(alloc: Global, head: &Head, target: &Target) -> Result<KeyCommand, Code>
+    ensures { Follows result (rules.read_command head.now target.now) }
 {
     let version = version_argument(target, b"versionId")?;
     let conditions = conditions_of(alloc, head)?;
@@ -477,23 +469,18 @@ fn read_plan(alloc: Global, head: &Head, target: &Target) -> Result<KeyCommand<(
 }
 
 // DeleteObject.
-#[tactic(auto, unfolding(crate::specs::Routing::delete_plan))]
-fn delete_plan(target: &Target) -> Result<KeyCommand<()>, Code>
-    ensures { result ≡ rules.delete_plan target.now }
+#[tactic(auto, unfolding(crate::specs::Routing::delete_command))]
+fn delete_command(target: &Target) -> Result<KeyCommand, Code>
+    ensures { result ≡ rules.delete_command target.now }
 {
     let version = version_argument(target, b"versionId")?;
     Ok(KeyCommand::Delete { version })
 }
 
-// CopyObject, with what it copies.
-fn copy_plan(
-    alloc: Global,
-    dialect: Dialect,
-    head: &Head,
-    target: &Target,
-) -> Result<KeyCommand<()>, Code>
-    ensures { Follows result (rules.copy_plan dialect head.now target.now) }
+// CreateMultipartUpload, with what the head says of the object.
+fn begin_command(alloc: Global, head: &Head) -> Result<KeyCommand, Code>
+    ensures { Follows result (rules.begin_command head.now) }
 {
-    let copy = object_copy(alloc, dialect, head, target)?;
-    Ok(KeyCommand::Copy(copy))
+    let said = description_of(alloc, head)?;
+    Ok(KeyCommand::Begin(said))
 }

@@ -12,6 +12,8 @@ use Rattle.s3_settings.specs.Devices.{AppendsBeginning}
 use Rattle.s3_config.specs.Settings.{Settings}
 use Rattle.s3_records.specs.Catalogue.{opening}
 use Rattle.s3_machine.specs.History.{Legal}
+use Rattle.s3_machine.specs.Rules.{rules_of}
+use Rattle.s3_machine.specs.declared.rules.Rules.{Rules}
 use Rattle.s3_store.specs.Steps.{Standing, opened}
 use Rattle.s3_journal.specs.Book.{Journal}
 use Rattle.s3_journal.specs.Recorded.{history_of}
@@ -26,13 +28,13 @@ use Rattle.s3_server.specs.Served.{HasServed, HasServedAs, HasServedAndTold, IsT
 pub has_served : (settings : Settings) (base : Base) (book : Journal) (gone : List (Gone Account)) (entries : ℕ) → IsClosed (Fits base.settings) base book gone
     → base.settings ≡ settings → base.store ≡ opened (opening settings.buckets) → entries ≡ length book.entries → HasServed settings entries
 has_served settings base book gone entries closed same store counted =
-    let least : book.least ≡ settings.min_part = closed.continues.least ∙ ap (λ (s : Settings). s.min_part) same in
+    let rules : book.rules ≡ rules_of settings = closed.continues.rules ∙ ap rules_of same in
     let from : book.opening ≡ opened (opening settings.buckets) = closed.continues.store ∙ store in
     record {
       history = book.entries;
       connections = gone;
-      legal = subst (λ (n : ℕ). Legal n (opening settings.buckets) 0 (history_of book.entries)) least
-          (subst (λ (s : Standing). Legal book.least s.state s.number (history_of book.entries)) from closed.keeps.legal);
+      legal = subst (λ (r : Rules). Legal r (opening settings.buckets) 0 (history_of book.entries)) rules
+          (subst (λ (s : Standing). Legal book.rules s.state s.number (history_of book.entries)) from closed.keeps.legal);
       apart = closed.apart;
       each = subst (λ (s : Settings). AreWhole (Fits s) book.entries gone) same closed.each;
       count = closed.count;

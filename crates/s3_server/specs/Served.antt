@@ -10,6 +10,7 @@ use Rattle.s3_settings.specs.declared.options.ServeOptions.{ServeOptions}
 use Rattle.s3_settings.specs.Devices.{AppendsBeginning}
 use Rattle.s3_records.specs.Catalogue.{opening}
 use Rattle.s3_machine.specs.History.{Legal}
+use Rattle.s3_machine.specs.Rules.{rules_of}
 use Rattle.s3_journal.specs.Recorded.{Recorded, history_of}
 use Rattle.s3_journal.specs.Gone.{Gone, AreApart, AreWhole, count_of}
 use Rattle.s3_settings.specs.declared.server.ServeMode.{ServeMode}
@@ -23,7 +24,7 @@ use Rattle.s3_sockets.specs.Account.{Account, Fits}
 pub record HasServed (settings : Settings) (entries : ℕ) : Type 0 where
   pub history : List Recorded
   pub connections : List (Gone Account)
-  pub legal : Legal settings.min_part (opening settings.buckets) 0 (history_of history)
+  pub legal : Legal (rules_of settings) (opening settings.buckets) 0 (history_of history)
   pub apart : AreApart connections
   pub each : AreWhole (Fits settings) history connections
   pub count : length history ≡ count_of connections

@@ -17,6 +17,8 @@ use Rattle.s3_replies.specs.Replies.{Prints, PrintsRefusal}
 use Rattle.s3_replies.specs.Laws.{RepliesAreUnique, RefusalsAreUnique}
 use Rattle.s3_machine.specs.declared.command.Command.{Command}
 use Rattle.s3_machine.specs.declared.turn.Turn.{Turn}
+use Rattle.s3_machine.specs.Rules.{rules_of}
+use Rattle.s3_machine.specs.declared.rules.Rules.{Rules}
 use Rattle.s3_session.specs.Verdict.{Verdict}
 use Rattle.s3_session.specs.Verdict as verdicts
 use Rattle.s3_session.specs.Decision.{Decision, Judges, FoundJudged, open_yet}
@@ -159,15 +161,15 @@ module _ (settings : Settings) (ended : Bool) (rest late : List ℕ) (moment : �
 -- ---- what is known of two pasts
 
 -- a command at a moment has one answer from a state under a number
-answers_once : (least : ℕ) (s : State) (n : ℕ) (e f : Entry) → IsAnswer least s n e → IsAnswer least s n f → f.moment ≡ e.moment → f.command ≡ e.command
+answers_once : (rules : Rules) (s : State) (n : ℕ) (e f : Entry) → IsAnswer rules s n e → IsAnswer rules s n f → f.moment ≡ e.moment → f.command ≡ e.command
     → f.answer ≡ e.answer
-answers_once least s n e f x y moments commands =
-    let same : (step least s n f.moment f.command).1 ≡ (step least s n e.moment e.command).1 = cc in
-    let made : f.answer ≡ record { number = n; outcome = (step least s n e.moment e.command).1 } = rw (← same) y in
+answers_once rules s n e f x y moments commands =
+    let same : (step rules s n f.moment f.command).1 ≡ (step rules s n e.moment e.command).1 = cc in
+    let made : f.answer ≡ record { number = n; outcome = (step rules s n e.moment e.command).1 } = rw (← same) y in
     made ∙ sym x
 
-leaves_once : (least : ℕ) (s : State) (e f : Entry) → f.answer ≡ e.answer → f.moment ≡ e.moment → f.command ≡ e.command → after_entry least s f ≡ after_entry least s e
-leaves_once least s e f answers moments commands = cc
+leaves_once : (rules : Rules) (s : State) (e f : Entry) → f.answer ≡ e.answer → f.moment ≡ e.moment → f.command ≡ e.command → after_entry rules s f ≡ after_entry rules s e
+leaves_once rules s e f answers moments commands = cc
 
 -- where there are no messages, there are no exchanges
 no_exchanges : (xs ys : List Exchange) → map message_of xs ≡ [] → map message_of ys ≡ [] → xs ≡ ys
@@ -306,7 +308,7 @@ module _ (one : OneVerdict) (invited : OneInvitation) (replies : RepliesAreUniqu
   answered_once : (xs ys : List Exchange) (s : State) (n moment : ℕ) (bytes : List ℕ) (left other : Option (List ℕ))
       → Walks settings ended bytes (map message_of xs) left → Walks settings ended bytes (map message_of ys) other
       → AllByRecursion (λ (m : ℕ). m ≡ moment) (moments_of xs) → AllByRecursion (λ (m : ℕ). m ≡ moment) (moments_of ys)
-      → Legal settings.min_part s n (entries_from xs) → Legal settings.min_part s n (entries_from ys)
+      → Legal (rules_of settings) s n (entries_from xs) → Legal (rules_of settings) s n (entries_from ys)
       → NoneSound moment left → NoneSound moment other
       → (moments_of xs ≡ moments_of ys) × (answers_of xs ≡ answers_of ys)
   answered_once [] [] s n moment bytes left other v w mine its l m none no_other = (refl, refl)
@@ -323,17 +325,17 @@ module _ (one : OneVerdict) (invited : OneInvitation) (replies : RepliesAreUniqu
       let commands : y.command ≡ x.command = cc in
       let moments : y.context.moment ≡ x.context.moment = its.0 ∙ sym mine.0 in
       let rests : w.0 ≡ v.0 = sym (ap (λ (d : Decision). d.1) both) in
-      let answers : y.answer ≡ x.answer = answers_once settings.min_part s n (entry_of x) (entry_of y) l.0 m.0 moments commands in
-      let states = leaves_once settings.min_part s (entry_of x) (entry_of y) answers moments commands in
+      let answers : y.answer ≡ x.answer = answers_once (rules_of settings) s n (entry_of x) (entry_of y) l.0 m.0 moments commands in
+      let states = leaves_once (rules_of settings) s (entry_of x) (entry_of y) answers moments commands in
       let behind = subst (λ (c : Context). MatchBool c.closes ((map message_of ys ≡ []) × (other ≡ None)) (Walks settings ended w.0 (map message_of ys) other)) (sym contexts) w.3 in
       let more : (moments_of xs ≡ moments_of ys) × (answers_of xs ≡ answers_of ys) = elim (cases_Bool x.context.closes) [
         | inl closing ↦
             let none_left = no_exchanges xs ys (MatchBool-at_true _ _ closing v.3).0 (MatchBool-at_true _ _ closing behind).0 in
             (ap moments_of none_left, ap answers_of none_left)
-        | inr open_still ↦ answered_once xs ys (after_entry settings.min_part s (entry_of x)) (suc n) moment v.0 left other
+        | inr open_still ↦ answered_once xs ys (after_entry (rules_of settings) s (entry_of x)) (suc n) moment v.0 left other
             (MatchBool-at_false _ _ open_still v.3)
             (subst (λ r. Walks settings ended r (map message_of ys) other) rests (MatchBool-at_false _ _ open_still behind))
-            mine.1 its.1 l.1 (subst (λ (t : State). Legal settings.min_part t (suc n) (entries_from ys)) states m.1) none no_other
+            mine.1 its.1 l.1 (subst (λ (t : State). Legal (rules_of settings) t (suc n) (entries_from ys)) states m.1) none no_other
       ] in (
         ap (λ (t : ℕ). t ∷ moments_of xs) (sym moments) ∙ ap (λ (ts : List ℕ). y.context.moment ∷ ts) more.0,
         ap (λ (a : Answer). a ∷ answers_of xs) (sym answers) ∙ ap (λ (rest : List Answer). y.answer ∷ rest) more.1,

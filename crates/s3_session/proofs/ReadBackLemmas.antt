@@ -1,5 +1,5 @@
 -- What is read back over one connection is what was stored.
-use Rattle.std.proofs.Common.{◌≡◌, ◌⊎◌, inl, inr, ℕ, Bool, true, false, List, [], ◌∷◌, ◌++◌, append_assoc, length, map, Option, Some, None, option_map, is_some, Result, Ok, Err, refl, sym, ap, subst, ◌∙◌}
+use Rattle.std.proofs.Common.{◌≡◌, ◌⊎◌, inl, inr, ℕ, Bool, true, false, List, [], ◌∷◌, ◌++◌, append_assoc, length, map, Option, Some, None, option_map, is_some, Ok, refl, sym, ap, subst, ◌∙◌}
 use Rattle.std.specs.List.{AllByRecursion, list_all}
 use Rattle.std.proofs.lemmas.List.{map-append}
 use Rattle.s3_config.specs.Settings.{Settings}
@@ -8,32 +8,28 @@ use Rattle.s3_versions.specs.declared.version.Data.{Data}
 use Rattle.s3_versions.specs.Metadata.{Entry as MetadataEntry}
 use Rattle.s3_uploads.specs.declared.listed.ListedPart.{ListedPart}
 use Rattle.s3_uploads.specs.declared.part.Part.{Part as UploadPart}
-use Rattle.s3_terms.specs.Fault.{◌>>=◌}
-use Rattle.s3_terms.specs.declared.code.Code.{Code}
+use Rattle.s3_http_heads.specs.Head.{HeadParts}
 use Rattle.s3_records.specs.Catalogue.{opening}
 use Rattle.s3_requests.specs.declared.routing.Plan.{Plan}
 use Rattle.s3_requests.specs.declared.routing.Plan.TheVariants as plans
-use Rattle.s3_requests.specs.declared.routing.UploadPlan.{UploadPlan}
-use Rattle.s3_requests.specs.declared.routing.UploadPlan.TheVariants as upload_plans
-use Rattle.s3_machine.specs.declared.command.KeyCommand.TheVariants as key_commands
-use Rattle.s3_machine.specs.declared.command.UploadCommand.{UploadCommand}
-use Rattle.s3_machine.specs.declared.command.UploadCommand.TheVariants as upload_commands
-use Rattle.s3_requests.specs.Laws.{PlansAreUnbroken}
-use Rattle.s3_requests.specs.Commands.{bucket_command_of, upload_command_of, command_of}
+use Rattle.s3_requests.specs.Laws.{PlansAreUnbroken, ReadyPlansBringNothing}
+use Rattle.s3_requests.specs.Commands.{command_of}
+use Rattle.s3_requests.specs.Routing.{route_of}
 use Rattle.s3_conditions.specs.declared.conditions.Selection.{Selection}
 use Rattle.s3_conditions.specs.declared.conditions.Selection.TheVariants.{Whole, Part, Unchanged, Outside}
 use Rattle.s3_machine.specs.declared.command.Command.{Command}
-use Rattle.s3_machine.specs.declared.command.Command.TheVariants as commands
 use Rattle.s3_machine.specs.declared.command.Description.{Description}
 use Rattle.s3_machine.specs.declared.command.Found.{Found}
 use Rattle.s3_machine.specs.declared.command.Outcome.{Outcome}
 use Rattle.s3_machine.specs.declared.command.Outcome.TheVariants.{Got}
 use Rattle.s3_machine.specs.Step.{State, described}
-use Rattle.s3_machine.specs.Effects.{Address, UploadPlace, Read, brought, brings, sent, upload_sent, whole, given, given_whole, found_object, succeeds}
+use Rattle.s3_machine.specs.Effects.{Address, UploadPlace, Read, brought, brings, sent, whole, given, given_whole, found_object, succeeds}
 use Rattle.s3_machine.specs.History.{Entry, Legal}
 use Rattle.s3_machine.specs.Kept.{LeavesKey, SparesVersion, IsGiven, Puts, WasPut, WasDescribed, Copies, EveryHistory, StoredIsKept, VersionsAreKept, OnlyStoredIsGiven, StoredWasBrought, ReadsGiveOrFail, ReadsAreJudged, PutsAreKept, PutVersionsAreKept, CopiesAreKept, CopyVersionsAreKept}
 use Rattle.s3_machine.specs.Uploads.{Completes, AreJoined, WasJoined}
 use Rattle.s3_machine.specs.UploadsKept.{CompletionsAreKept, CompletionVersionsAreKept, PartsHaveASource}
+use Rattle.s3_machine.specs.Rules.{rules_of}
+use Rattle.s3_machine.specs.declared.rules.Rules.{Rules}
 use Rattle.s3_replies.specs.Lines.{metadata_line}
 use Rattle.s3_replies.specs.Laws.{Carries, IsUnbroken, PartsAreCarried, is_unbroken, is_whole_line, tells_success, SuccessIsShown, ObjectsAreCarried, TagsAreUnbroken}
 use Rattle.s3_payloads.specs.Laws.{WholePayloadsAreBodies}
@@ -42,9 +38,9 @@ use Rattle.s3_session.specs.Laws.{SoundMessages}
 use Rattle.s3_session.specs.ReadBack.{entry_of, entries_from, AsksFor, Wrote, WroteCopy, WroteParts, CarriesParts, LeavesAlone, SparesId, EveryReplay, StoredIsReadBack, VersionsAreReadBack, OnlyStoredIsReadBack, Shows, OnlyStoredIsShown, PutsAreReadBack, PutVersionsAreReadBack, CopiesAreReadBack, CopyVersionsAreReadBack, CompletionsAreReadBack, CompletionVersionsAreReadBack, ArePayloads, PayloadsAreBrought, PayloadsAreSent}
 use Rattle.s3_session.proofs.ReplayLemmas.{replayed_legal, replayed_walk}
 use Rattle.s3_session.proofs.ServesLemmas.{all_of_two}
-use Rattle.s3_session.proofs.SoundLemmas.{admitted_length, one_count}
+use Rattle.s3_session.proofs.SoundLemmas.{admitted_length, admitted_route, one_count}
 use Rattle.s3_session.proofs.SentLemmas.{all_put}
-use Rattle.s3_session.proofs.UnbrokenLemmas.{BringsUnbroken, made_of, walked_unbroken}
+use Rattle.s3_session.proofs.UnbrokenLemmas.{BringsUnbroken, read_brings, walked_unbroken}
 
 -- ---- what a reply shows of its entry
 
@@ -111,7 +107,7 @@ pub record LawsBelow : Type 0 where
 
 -- what the messages of a replay are
 pub record AreReplayed (settings : Settings) (exchanges : List Exchange) : Type 0 where
-  pub legal : Legal settings.min_part (opening settings.buckets) 0 (entries_from exchanges)
+  pub legal : Legal (rules_of settings) (opening settings.buckets) 0 (entries_from exchanges)
   pub replied : AllByRecursion IsReplied exchanges
   pub unbroken : AllByRecursion (λ (x : Exchange). BringsUnbroken x.command) exchanges
 
@@ -119,11 +115,11 @@ abbrev BringsWhole : Entry → Type 0
 BringsWhole e = BringsUnbroken e.command
 
 -- what a put brought is so, and what a completion joined
-unbroken_origin : TagsAreUnbroken → (least : ℕ) (s : State) (entries : List Entry) (what : Data (List ℕ)) → AllByRecursion BringsWhole entries
-    → (WasPut entries what ⊎ WasJoined least s entries what) → IsUnbroken what
-unbroken_origin tags least s entries what all (inl put) =
+unbroken_origin : TagsAreUnbroken → (rules : Rules) (s : State) (entries : List Entry) (what : Data (List ℕ)) → AllByRecursion BringsWhole entries
+    → (WasPut entries what ⊎ WasJoined rules s entries what) → IsUnbroken what
+unbroken_origin tags rules s entries what all (inl put) =
     (all_of_two BringsWhole put.before (put.put ∷ put.later) (subst (AllByRecursion BringsWhole) put.parts all)).1.0.whole what put.puts.brings
-unbroken_origin tags least s entries what all (inr it) =
+unbroken_origin tags rules s entries what all (inr it) =
     let before = (all_of_two BringsWhole it.before (it.complete ∷ it.later) (subst (AllByRecursion BringsWhole) it.parts all)).0 in
     let joined = it.joined in
     let begun = joined.begun in
@@ -146,9 +142,9 @@ unbroken_described entries origin what all unbroken (inr it) =
 
 module _ (laws : LawsBelow) (settings : Settings) (exchanges : List Exchange) (are : AreReplayed settings exchanges) where
   -- what holds of every history holds of theirs
-  of_history : {Law : ℕ → State → List Entry → Type 0} → EveryHistory Law
-      → Law settings.min_part (opening settings.buckets) (entries_from exchanges)
-  of_history law = law settings.min_part (opening settings.buckets) 0 (entries_from exchanges) are.legal
+  of_history : {Law : Rules → State → List Entry → Type 0} → EveryHistory Law
+      → Law (rules_of settings) (opening settings.buckets) (entries_from exchanges)
+  of_history law = law (rules_of settings) (opening settings.buckets) 0 (entries_from exchanges) are.legal
 
   replied_at : (earlier later : List Exchange) (x : Exchange) → exchanges ≡ earlier ++ x ∷ later → IsReplied x
   replied_at earlier later x at =
@@ -165,7 +161,7 @@ module _ (laws : LawsBelow) (settings : Settings) (exchanges : List Exchange) (a
       let past = (all_of_two BringsWhole (entries_from earlier) (entry_of read ∷ entries_from later) all).0 in
       let brought = of_history laws.origins settings.buckets (entries_from earlier) (entry_of read ∷ entries_from later) _ refl entries was in
       unbroken_described (entries_from earlier) brought.0 found.stored past
-      (unbroken_origin laws.tags settings.min_part (opening settings.buckets) (entries_from earlier) brought.0 past brought.1) brought.2
+      (unbroken_origin laws.tags (rules_of settings) (opening settings.buckets) (entries_from earlier) brought.0 past brought.1) brought.2
 
   -- so its reply carries it, where it is given all of it
   given_carried : (earlier later : List Exchange) (read : Exchange) (asked : Read) (found : Found (List ℕ))
@@ -329,7 +325,7 @@ module _ (laws : LawsBelow) (settings : Settings) (exchanges : List Exchange) (a
   joined_carried : PartsHaveASource → (before between later : List Exchange) (complete read : Exchange) (upload : UploadPlace) (listed : List ListedPart)
       (asked : Read) (what : Data (List ℕ))
       → exchanges ≡ before ++ complete ∷ between ++ read ∷ later → AsksFor asked read
-      → AreJoined settings.min_part (opening settings.buckets) (entries_from before) upload listed what → IsGiven complete.context.moment what (entry_of read)
+      → AreJoined (rules_of settings) (opening settings.buckets) (entries_from before) upload listed what → IsGiven complete.context.moment what (entry_of read)
       → CarriesParts settings before upload listed read.reply
   joined_carried sources before between later complete read upload listed asked what parts asks joined given =
       let begun = joined.begun in
@@ -410,61 +406,47 @@ module _ (laws : LawsBelow) where
 
 -- ---- payloads
 
--- these bytes of a command are those that came as its body
+-- these bytes of a command are those that came as its body, where no command that is ready without a body has any
 abbrev CameAs : (Command → Option (List ℕ)) → Type 0
 CameAs bytes_of =
-    (plan : Plan) (came taken : List ℕ) (command : Command) → command_of plan came ≡ Ok command → bytes_of command ≡ Some taken → taken ≡ came
+    (plan : Plan) (came taken : List ℕ) (command : Command) → ((ready : Command) → plan ≡ plans.Ready ready → bytes_of ready ≡ None)
+    → command_of plan came ≡ Ok command → bytes_of command ≡ Some taken → taken ≡ came
 
 came_brought : CameAs brings
 unfolding command_of
-came_brought (plans.Bucket name asked) came taken command made is =
-    let same = made_of (bucket_command_of asked came) (commands.Bucket name) command made in
-    let none : None ≡ Some taken = ap brings same.2 ∙ is in absurd (cc)
-came_brought (plans.Upload bucket key id asked) came taken command made is =
-    let same = made_of (upload_command_of asked came) (commands.Upload bucket key id) command made in
-    let none : None ≡ Some taken = ap brings same.2 ∙ is in absurd (cc)
-came_brought (plans.DeleteObjects bucket) came taken command made is =
-    let same = made_of _ (commands.DeleteObjects bucket) command made in
-    let none : None ≡ Some taken = ap brings same.2 ∙ is in absurd (cc)
-came_brought (plans.Key bucket key (key_commands.Put put)) came taken command made is = cc
-came_brought _ came taken command made is = absurd (cc)
-
-completion_came : (listed : Result (List ListedPart) Code) (if_absent : Bool) (came taken : List ℕ) (asked : UploadCommand)
-    → (listed >>= (λ (parts : List ListedPart). Ok (upload_commands.Complete parts if_absent))) ≡ Ok asked → upload_sent asked ≡ Some taken → taken ≡ came
-completion_came (Ok parts) if_absent came taken asked made is =
-    let same : upload_commands.Complete parts if_absent ≡ asked = cc in
-    let none : None ≡ Some taken = ap upload_sent same ∙ is in absurd (cc)
-completion_came (Err code) if_absent came taken asked made is = absurd (cc)
-
--- the bytes that a command on an upload sends
-part_came : (plan : UploadPlan) (came taken : List ℕ) (asked : UploadCommand) → upload_command_of plan came ≡ Ok asked
-    → upload_sent asked ≡ Some taken → taken ≡ came
-part_came (upload_plans.PutPart number) came taken asked made is = cc
-part_came (upload_plans.Complete dialect if_absent) came taken asked made is = completion_came _ if_absent came taken asked made is
-part_came _ came taken asked made is = absurd (cc)
+came_brought (plans.Ready ready) came taken command bodiless made is =
+    let same : ready ≡ command = cc in
+    let none : None ≡ Some taken = sym (bodiless ready refl) ∙ ap brings same ∙ is in absurd (cc)
+came_brought (plans.Put bucket key said if_absent) came taken command bodiless made is = cc
+came_brought (plans.PutPart bucket key id number) came taken command bodiless made is = absurd (cc)
+came_brought plan came taken command bodiless made is =
+    let nothing = (read_brings plan came command refl made).put in
+    let none : None ≡ Some taken = sym (ap (option_map (λ (what : Data (List ℕ)). what.body)) nothing) ∙ is in absurd (cc)
 
 came_sent : CameAs sent
 unfolding command_of
-came_sent (plans.Bucket name asked) came taken command made is =
-    let same = made_of (bucket_command_of asked came) (commands.Bucket name) command made in
-    let none : None ≡ Some taken = ap sent same.2 ∙ is in absurd (cc)
-came_sent (plans.Upload bucket key id asked) came taken command made is =
-    let same = made_of (upload_command_of asked came) (commands.Upload bucket key id) command made in
-    part_came asked came taken same.0 same.1 (ap sent same.2 ∙ is)
-came_sent (plans.DeleteObjects bucket) came taken command made is =
-    let same = made_of _ (commands.DeleteObjects bucket) command made in
-    let none : None ≡ Some taken = ap sent same.2 ∙ is in absurd (cc)
-came_sent _ came taken command made is = absurd (cc)
+came_sent (plans.Ready ready) came taken command bodiless made is =
+    let same : ready ≡ command = cc in
+    let none : None ≡ Some taken = sym (bodiless ready refl) ∙ ap sent same ∙ is in absurd (cc)
+came_sent (plans.Put bucket key said if_absent) came taken command bodiless made is = absurd (cc)
+came_sent (plans.PutPart bucket key id number) came taken command bodiless made is = cc
+came_sent plan came taken command bodiless made is =
+    let none : None ≡ Some taken = sym (read_brings plan came command refl made).part ∙ is in absurd (cc)
 
-payloads : (bytes_of : Command → Option (List ℕ)) → CameAs bytes_of → WholePayloadsAreBodies → ArePayloads bytes_of
-payloads bytes_of came law settings moment bytes rest context command taken sound is =
-    let same = came sound.asks.plan sound.payload taken command sound.asked is in
+payloads : (bytes_of : Command → Option (List ℕ))
+    → ((settings : Settings) (head : HeadParts) (ready : Command) → route_of settings head ≡ Ok (plans.Ready ready) → bytes_of ready ≡ None)
+    → CameAs bytes_of → WholePayloadsAreBodies → ArePayloads bytes_of
+payloads bytes_of bodiless came law settings moment bytes rest context command taken sound is =
+    let routed = admitted_route settings sound.head moment sound.asks sound.admitted in
+    let same = came sound.asks.plan sound.payload taken command (λ ready ready_is. bodiless settings sound.head ready (routed ∙ ap Ok ready_is)) sound.asked is in
     let told = admitted_length settings sound.head moment sound.asks sound.admitted in
     let size = one_count _ _ (sym sound.message.whole ∙ told) in
     (same, λ whole. same ∙ law sound.asks.announced sound.body sound.payload false whole size sound.accepted)
 
-pub payloads_are_brought : WholePayloadsAreBodies → PayloadsAreBrought
-payloads_are_brought = payloads brings came_brought
+pub payloads_are_brought : ReadyPlansBringNothing → WholePayloadsAreBodies → PayloadsAreBrought
+payloads_are_brought ready =
+    payloads brings (λ settings head command routed. (ready settings head command routed).0) came_brought
 
-pub payloads_are_sent : WholePayloadsAreBodies → PayloadsAreSent
-payloads_are_sent = payloads sent came_sent
+pub payloads_are_sent : ReadyPlansBringNothing → WholePayloadsAreBodies → PayloadsAreSent
+payloads_are_sent ready =
+    payloads sent (λ settings head command routed. (ready settings head command routed).1) came_sent

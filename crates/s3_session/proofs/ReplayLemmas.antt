@@ -4,6 +4,7 @@ use Rattle.std.specs.List.{AllByRecursion}
 use Rattle.s3_config.specs.Settings.{Settings}
 use Rattle.s3_records.specs.Catalogue.{opening}
 use Rattle.s3_machine.specs.History.{Legal}
+use Rattle.s3_machine.specs.Rules.{rules_of}
 use Rattle.s3_session.specs.Walk.{Walks}
 use Rattle.s3_session.specs.Output.{message_of, Standing, Reading, Behind}
 use Rattle.s3_session.specs.ReadBack.{entries_from}
@@ -20,10 +21,10 @@ module _ (standing : Standing) (settings : Settings) (moment : ℕ) (bytes out :
       all_of_two (λ (m : ℕ). m ≡ moment) (moments_of r.writes.serves.exchanges) r.writes.late
       (subst (AllByRecursion (λ (m : ℕ). m ≡ moment)) r.writes.serves.moments r.moments)
 
-  pub replayed_legal : Legal settings.min_part (opening settings.buckets) 0 (entries_from r.writes.serves.exchanges)
+  pub replayed_legal : Legal (rules_of settings) (opening settings.buckets) 0 (entries_from r.writes.serves.exchanges)
   replayed_legal =
       let w = r.writes in
-      subst (Legal settings.min_part (opening settings.buckets) 0)
+      subst (Legal (rules_of settings) (opening settings.buckets) 0)
       (serves_entries settings r.past out w.left w.late w.waiting w.last w.serves) r.legal
 
   pub replayed_walk : Walks settings true bytes (map message_of r.writes.serves.exchanges) r.writes.left

@@ -14,6 +14,8 @@ use Rattle.s3_machine.specs.History.{Entry, after, after_entry}
 use Rattle.s3_machine.specs.Uploads.{IsListedPart, Sends, StaysPart}
 use Rattle.s3_machine.specs.UploadsKept as machine
 use Rattle.s3_machine.specs.UploadsKept.{PartSource, PartsHaveASource}
+use Rattle.s3_machine.specs.Rules.{rules_of}
+use Rattle.s3_machine.specs.declared.rules.Rules.{Rules}
 use Rattle.s3_replies.specs.Laws.{SuccessIsShown}
 use Rattle.s3_session.specs.Output.{Exchange, IsReplied}
 use Rattle.s3_session.specs.ReadBack.{entry_of, entries_from, state_behind, PutsPart, Sent, Copied, LeavesPart, WasPutLast, place_listed}
@@ -51,9 +53,9 @@ stands_at (message ∷ messages) (first ∷ front) entry behind are =
     one_more message messages first front entry behind (cc) (stands_at messages front entry behind (cc))
 
 -- the state behind entries and others
-after_both : (least : ℕ) (s : State) (es fs : List Entry) → after least s (es ++ fs) ≡ after least (after least s es) fs
-after_both least s [] fs = refl
-after_both least s (e ∷ es) fs = after_both least (after_entry least s e) es fs
+after_both : (rules : Rules) (s : State) (es fs : List Entry) → after rules s (es ++ fs) ≡ after rules (after rules s es) fs
+after_both rules s [] fs = refl
+after_both rules s (e ∷ es) fs = after_both rules (after_entry rules s e) es fs
 
 module _ (success : SuccessIsShown) where
   leaves_part : (part : PartPlace) (xs : List Exchange) → AllByRecursion IsReplied xs → StaysPart part (entries_from xs)
@@ -83,9 +85,9 @@ module _ (success : SuccessIsShown) where
       (upload : UploadPlace) (front since : List Entry) (are : entries_from messages ≡ front ++ since) where
     -- the state in which the upload was begun
     abbrev begun : State
-    begun = after settings.min_part (opening settings.buckets) front
+    begun = after (rules_of settings) (opening settings.buckets) front
 
-    put_last : (listed : ListedPart) (what : Part (List ℕ)) → IsListedPart settings.min_part begun since upload listed what
+    put_last : (listed : ListedPart) (what : Part (List ℕ)) → IsListedPart (rules_of settings) begun since upload listed what
         → WasPutLast settings messages upload listed what.body
     put_last listed what is =
         let last = is.last in
@@ -93,9 +95,9 @@ module _ (success : SuccessIsShown) where
         let at = stands_at messages (front ++ last.before) last.send last.later
         (are ∙ ap (λ (es : List Entry). front ++ es) last.parts ∙ sym (append_assoc front last.before (last.send ∷ last.later))) in
         let all = all_of_two IsReplied at.before (at.message ∷ at.later) (subst (AllByRecursion IsReplied) at.parts replied) in
-        let here : after settings.min_part begun last.before ≡ state_behind settings at.before =
-        sym (after_both settings.min_part (opening settings.buckets) front last.before)
-        ∙ ap (after settings.min_part (opening settings.buckets)) (sym at.first) in
+        let here : after (rules_of settings) begun last.before ≡ state_behind settings at.before =
+        sym (after_both (rules_of settings) (opening settings.buckets) front last.before)
+        ∙ ap (after (rules_of settings) (opening settings.buckets)) (sym at.first) in
         let sends : Sends (state_behind settings at.before) part what (entry_of at.message) =
         subst (λ (e : Entry). Sends (state_behind settings at.before) part what e) (sym at.is)
         (subst (λ (s : State). Sends s part what last.send) here last.sends) in
@@ -110,7 +112,7 @@ module _ (success : SuccessIsShown) where
         }
 
     -- so of each listed part
-    pub all_put : (listed : List ListedPart) (made : List (Part (List ℕ))) → AllZip (IsListedPart settings.min_part begun since upload) listed made
+    pub all_put : (listed : List ListedPart) (made : List (Part (List ℕ))) → AllZip (IsListedPart (rules_of settings) begun since upload) listed made
         → AllZip (WasPutLast settings messages upload) listed (map (λ (part : Part (List ℕ)). part.body) made)
     all_put [] [] all = tt
     all_put [] (what ∷ made) all = absurd all

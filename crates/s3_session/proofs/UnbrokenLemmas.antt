@@ -1,5 +1,6 @@
 -- What is brought through a connection has no carriage return beside bodies, nor has what is said of an upload or of a copy.
-use Rattle.std.proofs.Common.{◌≡◌, ℕ, Bool, true, List, [], ◌∷◌, map, inl, inr, Option, Some, None, Result, Ok, Err, refl, ap, subst, ◌∙◌}
+use Rattle.std.proofs.Common.{◌≡◌, ℕ, Bool, true, List, [], ◌∷◌, map, inl, inr, Option, Some, None, Result, Ok, Err, refl, sym, ap, subst, ◌∙◌}
+use Rattle.std.specs.Prelude.{⊤}
 use Rattle.std.specs.List.{AllByRecursion, list_all}
 use Rattle.std.proofs.lemmas.Bool.{cases_Bool, MatchBool-at_true, MatchBool-at_false}
 use Rattle.std.proofs.lemmas.List.Folds.{list_all-map}
@@ -7,18 +8,22 @@ use Rattle.std.proofs.lemmas.Option.{same_Some}
 use Rattle.s3_config.specs.Settings.{Settings}
 use Rattle.s3_versions.specs.Metadata.{Entry}
 use Rattle.s3_versions.specs.declared.version.Data.{Data}
+use Rattle.s3_versions.specs.declared.version.VersioningStatus.{VersioningStatus}
+use Rattle.s3_uploads.specs.declared.listed.ListedPart.{ListedPart}
 use Rattle.s3_machine.specs.declared.command.Command.{Command}
-use Rattle.s3_terms.specs.Fault.{◌>>=◌}
+use Rattle.s3_terms.specs.Fault.{◌>>◌, ◌>>=◌}
 use Rattle.s3_terms.specs.declared.code.Code.{Code}
 use Rattle.s3_machine.specs.declared.command.Description.{Description}
 use Rattle.s3_machine.specs.declared.command.Command.TheVariants as commands
 use Rattle.s3_requests.specs.declared.routing.Plan.{Plan}
 use Rattle.s3_requests.specs.declared.routing.Plan.TheVariants as plans
-use Rattle.s3_requests.specs.Laws.{is_unbroken_entry, IsUnbrokenSaid, IsUnbrokenPlan, PlansAreUnbroken}
-use Rattle.s3_requests.specs.Commands.{bucket_command_of, upload_command_of, put_with, command_of}
+use Rattle.s3_requests.specs.Laws.{is_unbroken_entry, IsUnbrokenSaid, IsUnbrokenCommand, IsUnbrokenPlan, PlansAreUnbroken}
+use Rattle.s3_requests.specs.Commands.{put_of, command_of, reads_body}
+use Rattle.s3_machine.specs.declared.command.BucketCommand.TheVariants as bucket_commands
 use Rattle.s3_machine.specs.declared.command.KeyCommand.TheVariants as key_commands
+use Rattle.s3_machine.specs.declared.command.UploadCommand.TheVariants as upload_commands
 use Rattle.s3_machine.specs.Step.{data_of}
-use Rattle.s3_machine.specs.Effects.{Address, Read, source_read, begins, brought, copies}
+use Rattle.s3_machine.specs.Effects.{Address, Read, source_read, begins, brought, copies, sent}
 use Rattle.s3_replies.specs.declared.context.Context.{Context}
 use Rattle.s3_replies.specs.Laws.{IsUnbroken, TagsAreUnbroken, is_unbroken, is_whole_line}
 use Rattle.s3_replies.specs.Lines.{metadata_line}
@@ -51,54 +56,85 @@ pub made_of : {A : Type 0} (rule : Result A Code) (make : A → Command) (comman
 made_of (Ok a) make command made = (a, refl, cc)
 made_of (Err code) make command made = absurd (cc)
 
-brings_nothing : (command : Command) → brought command ≡ None → begins command ≡ None → copies command ≡ None → BringsUnbroken command
-brings_nothing command whole begun said =
-    record { whole = λ what is. absurd (cc); begun = λ address asked is. absurd (cc); said = λ asked told is. absurd (cc) }
+-- the command brings nothing along, begins no upload, and copies to no key
+pub record BringsNothing (command : Command) : Type 0 where
+  pub put : brought command ≡ None
+  pub part : sent command ≡ None
+  pub begun : begins command ≡ None
+  pub copied : copies command ≡ None
 
-planned : TagsAreUnbroken → (plan : Plan) (payload : List ℕ) (command : Command) → IsUnbrokenPlan plan
-    → command_of plan payload ≡ Ok command → BringsUnbroken command
+nothing_is_unbroken : (command : Command) → BringsNothing command → BringsUnbroken command
+nothing_is_unbroken command nothing =
+    record {
+      whole = λ what is. let none : None ≡ Some what = sym nothing.put ∙ is in absurd (cc);
+      begun = λ address asked is. let none : None ≡ Some (address, asked) = sym nothing.begun ∙ is in absurd (cc);
+      said = λ asked told is. let none : None ≡ Some (asked, Some told) = sym nothing.copied ∙ is in absurd (cc);
+    }
+
+-- where a rule of nothing passes, what follows is made
+passed : (rule : Result ⊤ Code) (made command : Command) → (rule >> Ok made) ≡ Ok command → made ≡ command
+passed (Ok done) made command is = cc
+passed (Err code) made command is = absurd (cc)
+
+-- what is made of a document in the body is nothing else
+pub read_brings : (plan : Plan) (payload : List ℕ) (command : Command) → reads_body plan ≡ true → command_of plan payload ≡ Ok command → BringsNothing command
 unfolding command_of
-planned tags (plans.Bucket name asked) payload command unbroken made =
-    let made_command = made_of (bucket_command_of asked payload) (commands.Bucket name) command made in
-    subst BringsUnbroken made_command.2 (brings_nothing (commands.Bucket name made_command.0) refl refl refl)
-planned tags (plans.Upload bucket key id asked) payload command unbroken made =
-    let made_command = made_of (upload_command_of asked payload) (commands.Upload bucket key id) command made in
-    subst BringsUnbroken made_command.2 (brings_nothing (commands.Upload bucket key id made_command.0) refl refl refl)
-planned tags (plans.DeleteObjects bucket) payload command unbroken made =
-    let made_command = made_of _ (commands.DeleteObjects bucket) command made in
-    subst BringsUnbroken made_command.2 (brings_nothing (commands.DeleteObjects bucket made_command.0) refl refl refl)
-planned tags (plans.Key bucket key (key_commands.Put put)) payload command unbroken made =
-    let same : commands.Key bucket key (key_commands.Put (put_with put payload)) ≡ command = cc in
-    let all : IsUnbroken (data_of (put_with put payload)) =
+read_brings (plans.CreateBucket name region) payload command reads made =
+    subst BringsNothing (passed _ (commands.Bucket name bucket_commands.Create) command made)
+    (record { put = refl; part = refl; begun = refl; copied = refl })
+read_brings (plans.PutVersioning name dialect) payload command reads made =
+    let read = made_of _ (λ (status : VersioningStatus). commands.Bucket name (bucket_commands.PutVersioning status)) command made in
+    subst BringsNothing read.2 (record { put = refl; part = refl; begun = refl; copied = refl })
+read_brings (plans.Complete bucket key id dialect if_absent) payload command reads made =
+    let read = made_of _ (λ (listed : List ListedPart). commands.Upload bucket key id (upload_commands.Complete listed if_absent)) command made in
+    subst BringsNothing read.2 (record { put = refl; part = refl; begun = refl; copied = refl })
+read_brings (plans.DeleteObjects bucket) payload command reads made =
+    let read = made_of _ (commands.DeleteObjects bucket) command made in
+    subst BringsNothing read.2 (record { put = refl; part = refl; begun = refl; copied = refl })
+read_brings _ payload command reads made = absurd (cc)
+
+-- what a command stores beside a body may stand in lines
+stores_unbroken : TagsAreUnbroken → (command : Command) → IsUnbrokenCommand command → BringsUnbroken command
+stores_unbroken tags (commands.Key bucket key (key_commands.Put put)) unbroken =
+    let all : IsUnbroken (data_of put) =
     record { tag = tags _ None; content_type = unbroken.0; metadata = told_whole put.metadata unbroken.1 } in
-    subst BringsUnbroken same
-    (record {
-      whole = λ what is. let stored : data_of (put_with put payload) ≡ what = cc in subst IsUnbroken stored all;
+    record {
+      whole = λ what is. let stored : data_of put ≡ what = cc in subst IsUnbroken stored all;
       begun = λ address began is. absurd (cc);
       said = λ asked said is. absurd (cc);
-    })
-planned tags (plans.Key bucket key (key_commands.Begin begin)) payload command unbroken made =
-    let same : commands.Key bucket key (key_commands.Begin begin) ≡ command = cc in
-    subst BringsUnbroken same
-    (record {
+    }
+stores_unbroken tags (commands.Key bucket key (key_commands.Begin begin)) unbroken =
+    record {
       whole = λ what is. absurd (cc);
       begun = λ address asked is.
           let said : begin ≡ asked = ap (λ (it : Address × Description). it.1) (same_Some (record { bucket = bucket; key = key }, begin) (address, asked) is) in
           subst SaysUnbroken said (unbroken.0, told_whole begin.metadata unbroken.1);
       said = λ asked said is. absurd (cc);
-    })
-planned tags (plans.Key bucket key (key_commands.Copy copy)) payload command unbroken made =
-    let same : commands.Key bucket key (key_commands.Copy copy) ≡ command = cc in
-    subst BringsUnbroken same
-    (record {
+    }
+stores_unbroken tags (commands.Key bucket key (key_commands.Copy copy)) unbroken =
+    record {
       whole = λ what is. absurd (cc);
       begun = λ address began is. absurd (cc);
       said = λ asked said is.
           copy_said copy.description unbroken said
           (ap (λ (it : Read × Option Description). it.1) (same_Some (source_read copy.source, copy.description) (asked, Some said) is));
-    })
-planned tags _ payload command unbroken made =
-    record { whole = λ what is. absurd (cc); begun = λ address began is. absurd (cc); said = λ asked said is. absurd (cc) }
+    }
+stores_unbroken tags _ unbroken =
+    record { whole = λ what is. absurd (cc); begun = λ address asked is. absurd (cc); said = λ asked told is. absurd (cc) }
+
+planned : TagsAreUnbroken → (plan : Plan) (payload : List ℕ) (command : Command) → IsUnbrokenPlan plan
+    → command_of plan payload ≡ Ok command → BringsUnbroken command
+unfolding command_of
+planned tags (plans.Ready ready) payload command unbroken made =
+    let same : ready ≡ command = cc in
+    subst BringsUnbroken same (stores_unbroken tags ready unbroken)
+planned tags (plans.Put bucket key said if_absent) payload command unbroken made =
+    let same : commands.Key bucket key (key_commands.Put (put_of said if_absent payload)) ≡ command = cc in
+    subst BringsUnbroken same (stores_unbroken tags (commands.Key bucket key (key_commands.Put (put_of said if_absent payload))) unbroken)
+planned tags (plans.PutPart bucket key id number) payload command unbroken made =
+    let same : commands.Upload bucket key id (upload_commands.PutPart number payload) ≡ command = cc in
+    subst BringsUnbroken same (stores_unbroken tags (commands.Upload bucket key id (upload_commands.PutPart number payload)) tt)
+planned tags plan payload command unbroken made = nothing_is_unbroken command (read_brings plan payload command refl made)
 
 module _ (law : PlansAreUnbroken) (messages : SoundMessages) (tags : TagsAreUnbroken) (settings : Settings) where
   sound_unbroken : (moment : ℕ) (bytes rest : List ℕ) (context : Context) (command : Command)

@@ -20,6 +20,7 @@ use Rattle.s3_machine.specs.Step.{State, cut, part_copied}
 use Rattle.s3_machine.specs.Effects.{Address, Object, UploadPlace, PartPlace, Read, writes, copies, copies_part, brings, sends, sent, completes, whole, reads, touched}
 use Rattle.s3_machine.specs.History.{Entry, after}
 use Rattle.s3_machine.specs.Kept.{LeavesKey, SparesVersion, Stores, WasStored, WouldGive}
+use Rattle.s3_machine.specs.Rules.{rules_of}
 use Rattle.s3_replies.specs.declared.context.Context.{Context}
 use Rattle.s3_replies.specs.Laws.{Carries, CarriesPart, tells_success}
 use Rattle.s3_session.specs.Output.{Exchange, Standing}
@@ -35,7 +36,7 @@ entries_from exchanges = map entry_of exchanges
 
 -- the state that messages leave
 abbrev pub state_behind : Settings → List Exchange → State
-state_behind settings exchanges = after settings.min_part (opening settings.buckets) (entries_from exchanges)
+state_behind settings exchanges = after (rules_of settings) (opening settings.buckets) (entries_from exchanges)
 
 -- the message asks for this, and not for a head alone
 pub record AsksFor (asked : Read) (x : Exchange) : Type 0 where
@@ -162,7 +163,7 @@ module _ (settings : Settings) (exchanges : List Exchange) where
       → AsksFor (whole address version) read
       → tells_success read.reply ≡ true
       → (object : Object) × (object.address ≡ address) × ((v : VersionId) → version ≡ Some v → v ≡ object.id)
-      × WasStored settings.min_part (opening settings.buckets) (entries_from earlier) object × Carries object.stored.body read.reply
+      × WasStored (rules_of settings) (opening settings.buckets) (entries_from earlier) object × Carries object.stored.body read.reply
 
   -- And where the reply to a read by conditions tells of success, they select all of what was stored so, or a part of it, and
   -- it carries that.
@@ -173,7 +174,7 @@ module _ (settings : Settings) (exchanges : List Exchange) where
       → AsksFor asked read
       → tells_success read.reply ≡ true
       → (object : Object) × (object.address ≡ asked.address) × ((v : VersionId) → asked.version ≡ Some v → v ≡ object.id)
-      × WasStored settings.min_part (opening settings.buckets) (entries_from earlier) object
+      × WasStored (rules_of settings) (opening settings.buckets) (entries_from earlier) object
       × (selection : Selection) × (judged asked.conditions object.moment object.stored.tag object.stored.size ≡ Ok selection)
       × Shows selection object.stored.body read.reply
 

@@ -7,6 +7,7 @@ use Rattle.s3_records.specs.Catalogue.{opening}
 use Rattle.s3_machine.specs.History.{Entry, Legal}
 use Rattle.s3_machine.specs.declared.command.Answer.{Answer}
 use Rattle.s3_machine.specs.declared.turn.Turn.{Turn}
+use Rattle.s3_machine.specs.Rules.{rules_of}
 use Rattle.s3_session.specs.Output.{Past, Standing, Writes, is_dead, is_waiting}
 
 -- the entries of the history that turns and their answers make
@@ -24,7 +25,7 @@ pub record ReplaysAs (standing : Standing) (settings : Settings) (moment : ℕ) 
   pub ended : past.ended ≡ true
   pub moments : AllByRecursion (λ (m : ℕ). m ≡ moment) past.moments
   pub writes : Writes standing settings past out
-  pub legal : Legal settings.min_part (opening settings.buckets) 0 (entries_of past.turns past.answers)
+  pub legal : Legal (rules_of settings) (opening settings.buckets) 0 (entries_of past.turns past.answers)
 
 -- all commands had their turns, up to the end or to the message at which memory ran out
 abbrev pub Replays : Settings → ℕ → List ℕ → List ℕ → Type 0

@@ -12,7 +12,7 @@ use s3_machine::{
 };
 use s3_payloads::{accepted_bodies_are_whole, payloads_are_judged, verdicts_are_final};
 use s3_replies::{refusals_are_unique, replies_are_unique, replies_show_what_came};
-use s3_requests::plans_are_unbroken;
+use s3_requests::{plans_are_unbroken, ready_plans_bring_nothing};
 
 /// A law: a verdict, other than open, that is reached before the bytes have ended is the verdict on those
 /// bytes followed by anything, so that how a connection's bytes are cut into pieces decides nothing. There
@@ -179,6 +179,7 @@ pub fn puts_are_read_back()
     accepted_bodies_are_whole();
     sound_verdicts_are_exact();
     plans_are_unbroken();
+    ready_plans_bring_nothing();
     puts_are_kept();
     only_stored_is_given();
     replies_show_what_came();
@@ -208,6 +209,7 @@ pub fn completions_are_read_back()
     accepted_bodies_are_whole();
     sound_verdicts_are_exact();
     plans_are_unbroken();
+    ready_plans_bring_nothing();
     completions_are_kept();
     parts_have_a_source();
     only_stored_is_given();

@@ -183,7 +183,7 @@ impl Session {
     /// match need {
     ///     Need::More => {} // The next piece may come.
     ///     Need::Turn(Turn { command, moment }) => {
-    ///         session.answer(store.apply(alloc, least_part, command, moment));
+    ///         session.answer(store.apply(alloc, &rules, command, moment));
     ///         rest = &piece[len..]; // These are fed next.
     ///     }
     ///     Need::Close => {} // What is unsent is sent, and no more is read.

@@ -55,13 +55,14 @@ impl<'a, J: Ground, S: Records + Drop, P: Report, W: Wait> DeskHandle<'a, J, S, 
 }
 
 impl<J: Ground, S: Records + Drop, P: Report, W: Wait> StoreHandle for DeskHandle<'_, J, S, P, W> {
+    ghost use Rattle.s3_machine.specs.Rules.{rules_of};
     ghost use Rattle.s3_journal.specs.Calls.{left_by};
     ghost use Rattle.s3_journal.specs.Book.{MayLack};
 
     ghost entries = { λ handle. handle.mine };
 
     // What it has then seen is no older than what it had seen before.
-    ghost may_lack = { λ handle turn. MayLack S.is_in_memory J.base.settings.min_part (left_by J.base handle.seen) turn };
+    ghost may_lack = { λ handle turn. MayLack S.is_in_memory (rules_of J.base.settings) (left_by J.base handle.seen) turn };
 
     fn call(&mut self, turn: Turn) -> Result<Answer, NoMemory> {
         self.desk.submit(self.rt, &mut self.seat, turn)

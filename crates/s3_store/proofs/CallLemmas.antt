@@ -27,6 +27,7 @@ use Rattle.s3_machine.specs.declared.command.PartCopy.{PartCopy}
 use Rattle.s3_machine.specs.declared.command.Outcome.{Outcome}
 use Rattle.s3_machine.specs.declared.command.Outcome.TheVariants as outcomes
 use Rattle.s3_machine.specs.declared.command.UploadCommand.TheVariants as upload_commands
+use Rattle.s3_machine.specs.declared.rules.Rules.{Rules}
 use Rattle.s3_machine.specs.Step.{State, Stepped, bucket_done, copied, is_taken, stepped}
 use Rattle.s3_store.specs.Steps.{bucket_step, key_step, upload_step, copy_step, copied_as, part_source, part_step, part_step_as, source_in, completed_as, barred_code, read_as_found, selected_by, got_of, MayEnter}
 use Rattle.s3_store.proofs.StepLemmas.{read_shown, read_refused, read_accepted, copies, copy_accepted}
@@ -95,16 +96,16 @@ module _ (s : State) (n t : ℕ) (name key : List ℕ) (asked : ObjectCopy) wher
 module _ (s : State) (t : ℕ) (name key : List ℕ) (id number : ℕ) (payload : List ℕ) where
   pub part_puts : {E : Type 0} (now : State) (r : Result Outcome E) (after : State) → is_some (upload_at s name key id) ≡ true → now ≡ s
       → IfOk r (λ o. after ≡ changed now name (PartPut key id number (part_sent t payload))) → IfOk r (λ o. o ≡ outcomes.PartPut (tag_of payload))
-      → IfOk r (λ o. (least n : ℕ) → upload_step least s n t name key id (upload_commands.PutPart number payload) ≡ (after, o))
-  part_puts now (Ok o) after there same puts tells = λ least n. let step = part_put least s n t name key id number payload there in cc
+      → IfOk r (λ o. (rules : Rules) (n : ℕ) → upload_step rules s n t name key id (upload_commands.PutPart number payload) ≡ (after, o))
+  part_puts now (Ok o) after there same puts tells = λ rules n. let step = part_put rules s n t name key id number payload there in cc
   part_puts now (Err e) after there same puts tells = tt
 
-  pub part_unrefused : is_some (upload_at s name key id) ≡ true → (least n : ℕ) → is_refused (upload_step least s n t name key id (upload_commands.PutPart number payload)).1 ≡ false
-  part_unrefused there least n = ap (λ (st : Stepped). is_refused st.1) (part_put least s n t name key id number payload there)
+  pub part_unrefused : is_some (upload_at s name key id) ≡ true → (rules : Rules) (n : ℕ) → is_refused (upload_step rules s n t name key id (upload_commands.PutPart number payload)).1 ≡ false
+  part_unrefused there rules n = ap (λ (st : Stepped). is_refused st.1) (part_put rules s n t name key id number payload there)
 
   pub part_fails : (now : State) (outcome : Outcome) → is_some (upload_at s name key id) ≡ false → now ≡ s → outcome ≡ outcomes.Refused NoSuchUpload false
-      → (least n : ℕ) → upload_step least s n t name key id (upload_commands.PutPart number payload) ≡ (now, outcome)
-  part_fails now outcome lost same refused least n = let step = upload_lost least s n t name key id (upload_commands.PutPart number payload) lost in cc
+      → (rules : Rules) (n : ℕ) → upload_step rules s n t name key id (upload_commands.PutPart number payload) ≡ (now, outcome)
+  part_fails now outcome lost same refused rules n = let step = upload_lost rules s n t name key id (upload_commands.PutPart number payload) lost in cc
 
 -- ---- parts that are copied
 
@@ -113,21 +114,21 @@ module _ (s : State) (t : ℕ) (name key : List ℕ) (id number : ℕ) (copy : P
   abbrev IsFoundAs : Result (Found (List ℕ)) Refusal → Type 0
   IsFoundAs read = read ≡ part_source (upload_at s name key id) (source_in s copy.source copy.range)
 
-  part_copied_as : (read r : Result (Found (List ℕ)) Refusal) → IsFoundAs read → read ≡ r → (least n : ℕ)
-      → upload_step least s n t name key id (upload_commands.CopyPart number copy) ≡ part_step_as s t name key id number copy.range r
-  part_copied_as read r reads is least n =
-      part_copies least s n t name key id number copy ∙ ap (part_step_as s t name key id number copy.range) (sym reads ∙ is)
+  part_copied_as : (read r : Result (Found (List ℕ)) Refusal) → IsFoundAs read → read ≡ r → (rules : Rules) (n : ℕ)
+      → upload_step rules s n t name key id (upload_commands.CopyPart number copy) ≡ part_step_as s t name key id number copy.range r
+  part_copied_as read r reads is rules n =
+      part_copies rules s n t name key id number copy ∙ ap (part_step_as s t name key id number copy.range) (sym reads ∙ is)
 
-  pub part_copy_unrefused : is_ok (part_source (upload_at s name key id) (source_in s copy.source copy.range)) ≡ true → (least n : ℕ)
-      → is_refused (upload_step least s n t name key id (upload_commands.CopyPart number copy)).1 ≡ false
-  part_copy_unrefused is least n =
-      ap (λ (st : Stepped). is_refused st.1) (part_copies least s n t name key id number copy)
+  pub part_copy_unrefused : is_ok (part_source (upload_at s name key id) (source_in s copy.source copy.range)) ≡ true → (rules : Rules) (n : ℕ)
+      → is_refused (upload_step rules s n t name key id (upload_commands.CopyPart number copy)).1 ≡ false
+  part_copy_unrefused is rules n =
+      ap (λ (st : Stepped). is_refused st.1) (part_copies rules s n t name key id number copy)
       ∙ part_copy_accepted s t name key id number copy.range (part_source (upload_at s name key id) (source_in s copy.source copy.range)) is
 
   pub part_copy_fails : (now : State) (read : Result (Found (List ℕ)) Refusal) (refusal : Refusal) (outcome : Outcome) → IsFoundAs read → read ≡ Err refusal → now ≡ s
       → outcome ≡ outcomes.Refused refusal.code refusal.is_delete_marker
-      → (least n : ℕ) → upload_step least s n t name key id (upload_commands.CopyPart number copy) ≡ (now, outcome)
-  part_copy_fails now read refusal outcome reads is same refused least n = let step = part_copied_as read (Err refusal) reads is least n in cc
+      → (rules : Rules) (n : ℕ) → upload_step rules s n t name key id (upload_commands.CopyPart number copy) ≡ (now, outcome)
+  part_copy_fails now read refusal outcome reads is same refused rules n = let step = part_copied_as read (Err refusal) reads is rules n in cc
 
   pub part_copy_open : (now : State) (read : Result (Found (List ℕ)) Refusal) (f : Found (List ℕ)) → IsFoundAs read → read ≡ Ok f → now ≡ s
       → is_some (upload_at now name key id) ≡ true
@@ -137,43 +138,43 @@ module _ (s : State) (t : ℕ) (name key : List ℕ) (id number : ℕ) (copy : P
 
   pub part_copy_puts : {E : Type 0} (now : State) (read : Result (Found (List ℕ)) Refusal) (f : Found (List ℕ)) (r : Result Outcome E) (after : State)
       → IsFoundAs read → read ≡ Ok f → now ≡ s → IfOk r (λ o. part_step now t name key id number copy.range f ≡ (after, o))
-      → IfOk r (λ o. (least n : ℕ) → upload_step least s n t name key id (upload_commands.CopyPart number copy) ≡ (after, o))
-  part_copy_puts now read f (Ok o) after reads is same steps = λ least n.
-      part_copied_as read (Ok f) reads is least n ∙ ap (λ s. part_step s t name key id number copy.range f) (sym same) ∙ steps
+      → IfOk r (λ o. (rules : Rules) (n : ℕ) → upload_step rules s n t name key id (upload_commands.CopyPart number copy) ≡ (after, o))
+  part_copy_puts now read f (Ok o) after reads is same steps = λ rules n.
+      part_copied_as read (Ok f) reads is rules n ∙ ap (λ s. part_step s t name key id number copy.range f) (sym same) ∙ steps
   part_copy_puts now read f (Err e) after reads is same steps = tt
 
 -- ---- completions
 
-module _ (least : ℕ) (s now : State) (n t : ℕ) (name key : List ℕ) (id : ℕ) (listed : List ListedPart) (if_absent : Bool) (same : now ≡ s) where
+module _ (rules : Rules) (s now : State) (n t : ℕ) (name key : List ℕ) (id : ℕ) (listed : List ListedPart) (if_absent : Bool) (same : now ≡ s) where
   pub joins : (if_absent && is_taken s name key) ≡ false
-      → upload_step least s n t name key id (upload_commands.Complete listed if_absent) ≡ completed_as now n t name key id (completed_at least listed (upload_at now name key id))
+      → upload_step rules s n t name key id (upload_commands.Complete listed if_absent) ≡ completed_as now n t name key id (completed_at rules.least_part listed (upload_at now name key id))
   joins free =
-      completes least s n t name key id listed if_absent free
-      ∙ ap (λ (s : State). completed_as s n t name key id (completed_at least listed (upload_at s name key id))) (sym same)
+      completes rules s n t name key id listed if_absent free
+      ∙ ap (λ (s : State). completed_as s n t name key id (completed_at rules.least_part listed (upload_at s name key id))) (sym same)
 
   pub completion_fails : {E : Type 0} (r : Result Outcome E) (after : State) → (if_absent && is_taken s name key) ≡ true → after ≡ now
       → IfOk r (λ o. o ≡ outcomes.Refused (barred_code (upload_at now name key id)) false)
-      → IfOk r (λ o. upload_step least s n t name key id (upload_commands.Complete listed if_absent) ≡ (after, o))
-  completion_fails (Ok o) after barred left refused = let step = completion_barred least s n t name key id listed if_absent barred in cc
+      → IfOk r (λ o. upload_step rules s n t name key id (upload_commands.Complete listed if_absent) ≡ (after, o))
+  completion_fails (Ok o) after barred left refused = let step = completion_barred rules s n t name key id listed if_absent barred in cc
   completion_fails (Err e) after barred left refused = tt
 
 -- ---- buckets that are made
 
 module _ (s : State) (t : ℕ) (name : List ℕ) (facts : Option BucketFacts) (there : is_some facts ≡ has_bucket s name) where
-  bucket_chosen : (b : Bool) → is_some facts ≡ b
-      → bucket_step s t name bucket_commands.Create
+  bucket_chosen : (rules : Rules) (b : Bool) → is_some facts ≡ b
+      → bucket_step rules s t name bucket_commands.Create
       ≡ stepped s (refuse b BucketAlreadyOwnedByYou >> Ok (changed s name (BucketAdded t), outcomes.BucketMade name))
   unfolding bucket_done
-  bucket_chosen b is =
+  bucket_chosen rules b is =
       ap (λ (b : Bool). stepped s (refuse b BucketAlreadyOwnedByYou >> Ok (changed s name (BucketAdded t), outcomes.BucketMade name))) (sym there ∙ is)
 
   pub bucket_made : (now after : State) (kept made : List ℕ) → facts ≡ None → now ≡ s → kept ≡ name → made ≡ name → after ≡ changed now kept (BucketAdded t)
-      → bucket_step s t name bucket_commands.Create ≡ (after, outcomes.BucketMade made)
-  bucket_made now after kept made is same keeps makes adds = let step = bucket_chosen false (ap is_some is) in cc
+      → (rules : Rules) → bucket_step rules s t name bucket_commands.Create ≡ (after, outcomes.BucketMade made)
+  bucket_made now after kept made is same keeps makes adds rules = let step = bucket_chosen rules false (ap is_some is) in cc
 
-  pub bucket_unrefused : facts ≡ None → is_refused (bucket_step s t name bucket_commands.Create).1 ≡ false
-  bucket_unrefused is = ap (λ (st : Stepped). is_refused st.1) (bucket_chosen false (ap is_some is))
+  pub bucket_unrefused : facts ≡ None → (rules : Rules) → is_refused (bucket_step rules s t name bucket_commands.Create).1 ≡ false
+  bucket_unrefused is rules = ap (λ (st : Stepped). is_refused st.1) (bucket_chosen rules false (ap is_some is))
 
   pub bucket_stands : (now : State) (f : BucketFacts) (outcome : Outcome) → facts ≡ Some f → now ≡ s → outcome ≡ outcomes.Refused BucketAlreadyOwnedByYou false
-      → bucket_step s t name bucket_commands.Create ≡ (now, outcome)
-  bucket_stands now f outcome is same refused = let step = bucket_chosen true (ap is_some is) in cc
+      → (rules : Rules) → bucket_step rules s t name bucket_commands.Create ≡ (now, outcome)
+  bucket_stands now f outcome is same refused rules = let step = bucket_chosen rules true (ap is_some is) in cc

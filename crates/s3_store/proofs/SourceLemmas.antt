@@ -20,6 +20,7 @@ use Rattle.s3_machine.specs.declared.command.ObjectCopy.{ObjectCopy}
 use Rattle.s3_machine.specs.declared.command.PartCopy.{PartCopy}
 use Rattle.s3_machine.specs.declared.command.Source.{Source}
 use Rattle.s3_machine.specs.declared.command.UploadCommand.TheVariants as upload_commands
+use Rattle.s3_machine.specs.declared.rules.Rules.{Rules}
 use Rattle.s3_machine.specs.Step.{State, copied, described, found_in, lies_in, may_be_copied, read_for_copy, source_found, stepped, upload_done}
 use Rattle.s3_store.specs.Steps.{data_found, part_source, part_step, part_step_as, read_as_found, source_in, source_judged, upload_step}
 use Rattle.s3_store.proofs.StepLemmas.{Read}
@@ -153,8 +154,8 @@ module _ (s : State) (t : ℕ) (name key : List ℕ) (id number : ℕ) (range : 
   part_copy_accepted (Ok found) is = refl
   part_copy_accepted (Err refusal) is = absurd (cc)
 
-module _ (least : ℕ) (s : State) (n t : ℕ) (name key : List ℕ) (id number : ℕ) (copy : PartCopy) where
-  pub part_copies : upload_step least s n t name key id (upload_commands.CopyPart number copy)
+module _ (rules : Rules) (s : State) (n t : ℕ) (name key : List ℕ) (id number : ℕ) (copy : PartCopy) where
+  pub part_copies : upload_step rules s n t name key id (upload_commands.CopyPart number copy)
       ≡ part_step_as s t name key id number copy.range (part_source (upload_at s name key id) (source_in s copy.source copy.range))
   unfolding upload_done
   part_copies = upload_put s t name key id number copy.range (upload_at s name key id) (source_found s copy.source)

@@ -28,6 +28,7 @@ use Rattle.s3_machine.specs.declared.command.ObjectPut.{ObjectPut}
 use Rattle.s3_machine.specs.declared.command.ObjectRead.{ObjectRead}
 use Rattle.s3_machine.specs.declared.command.Outcome.{Outcome}
 use Rattle.s3_machine.specs.declared.command.Outcome.TheVariants as outcomes
+use Rattle.s3_machine.specs.declared.rules.Rules.{Rules}
 use Rattle.s3_terms.specs.Fault.{◌>>◌, ◌>>=◌}
 use Rattle.s3_machine.specs.Fault.{refuse}
 use Rattle.s3_machine.specs.Step.{State, step, is_taken, data_of, copied, key_done, done, Stepped, stepped, found_in, outcome_shown, shown_by}
@@ -45,12 +46,12 @@ told_in (Some b) = refl
 pub versioning_told : (s : State) (name : List ℕ) (facts : BucketFacts) → Some facts ≡ facts_in s name → facts.versioning ≡ versioning_of s name
 versioning_told s name facts is = ap told_versioning is ∙ told_in (map.get s name)
 
-module _ (least : ℕ) (s : State) (n t : ℕ) where
-  pub lists : step least s n t commands.ListBuckets ≡ (s, outcomes.Told (documents.buckets (listed_buckets s)))
+module _ (rules : Rules) (s : State) (n t : ℕ) where
+  pub lists : step rules s n t commands.ListBuckets ≡ (s, outcomes.Told (documents.buckets (listed_buckets s)))
   unfolding done
   lists = refl
 
-  pub on_bucket : (name : List ℕ) (asked : BucketCommand) → step least s n t (commands.Bucket name asked) ≡ bucket_step s t name asked
+  pub on_bucket : (name : List ℕ) (asked : BucketCommand) → step rules s n t (commands.Bucket name asked) ≡ bucket_step rules s t name asked
   unfolding done
   on_bucket name asked = refl
 
@@ -148,7 +149,7 @@ pub barred_by : (s : State) (barred : Bool) (next : Result Stepped Refusal) → 
 barred_by s true next is = refl
 barred_by s false next is = absurd (cc)
 
-module _ (s : State) (n t : ℕ) (name key : List ℕ) (put : ObjectPut (List ℕ)) where
+module _ (s : State) (n t : ℕ) (name key : List ℕ) (put : ObjectPut) where
   pub put_stored : (put.if_absent && is_taken s name key) ≡ false
       → key_step s n t name key (key_commands.Put put) ≡ put_step s n t name key (data_of put)
   unfolding key_done

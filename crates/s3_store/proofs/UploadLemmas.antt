@@ -21,6 +21,7 @@ use Rattle.s3_machine.specs.Fault.{refuse, as_refusal}
 use Rattle.s3_machine.specs.declared.command.Outcome.TheVariants as outcomes
 use Rattle.s3_machine.specs.declared.command.UploadCommand.{UploadCommand}
 use Rattle.s3_machine.specs.declared.command.UploadCommand.TheVariants as upload_commands
+use Rattle.s3_machine.specs.declared.rules.Rules.{Rules}
 use Rattle.s3_machine.specs.Step.{State, Stepped, is_taken, stepped, upload_done}
 use Rattle.s3_store.specs.Steps.{upload_step, completion_step, completed_as, barred_code}
 use Rattle.s3_store.proofs.StepLemmas.{barred_by}
@@ -46,29 +47,26 @@ told_parts : (s : State) (name key : List ℕ) (id : ℕ) (asked : PartsAsked) (
 told_parts s name key id asked None is = absurd (cc)
 told_parts s name key id asked (Some u) is = refl
 
-module _ (least : ℕ) (s : State) (n t : ℕ) (name key : List ℕ) (id : ℕ) where
+module _ (rules : Rules) (s : State) (n t : ℕ) (name key : List ℕ) (id : ℕ) where
   pub upload_lost : (asked : UploadCommand) → is_some (upload_at s name key id) ≡ false
-      → upload_step least s n t name key id asked ≡ (s, outcomes.Refused NoSuchUpload false)
+      → upload_step rules s n t name key id asked ≡ (s, outcomes.Refused NoSuchUpload false)
   unfolding upload_done
   upload_lost (upload_commands.PutPart number payload) is = missed s (upload_at s name key id) _ is
-  upload_lost (upload_commands.CopyPart number copy) is = missed s (upload_at s name key id) _ is
-  upload_lost (upload_commands.Complete listed if_absent) is = missed s (upload_at s name key id) _ is
-  upload_lost upload_commands.Abort is = missed s (upload_at s name key id) _ is
-  upload_lost (upload_commands.ListParts asked) is = missed s (upload_at s name key id) _ is
+  upload_lost other is = missed s (upload_at s name key id) _ is
 
   pub part_put : (number : ℕ) (payload : List ℕ) → is_some (upload_at s name key id) ≡ true
-      → upload_step least s n t name key id (upload_commands.PutPart number payload)
+      → upload_step rules s n t name key id (upload_commands.PutPart number payload)
       ≡ (changed s name (PartPut key id number (part_sent t payload)), outcomes.PartPut (tag_of payload))
   unfolding upload_done
   part_put number payload = met s (upload_at s name key id) _
 
   pub upload_dropped : is_some (upload_at s name key id) ≡ true
-      → upload_step least s n t name key id upload_commands.Abort ≡ (changed s name (UploadDropped key id), outcomes.UploadDropped)
+      → upload_step rules s n t name key id upload_commands.Abort ≡ (changed s name (UploadDropped key id), outcomes.UploadDropped)
   unfolding upload_done
   upload_dropped = met s (upload_at s name key id) _
 
   pub parts_told : (asked : PartsAsked) → is_some (upload_at s name key id) ≡ true
-      → upload_step least s n t name key id (upload_commands.ListParts asked)
+      → upload_step rules s n t name key id (upload_commands.ListParts asked)
       ≡ (s, outcomes.Told (documents.parts name key id asked (parts_page asked (parts_at s name key id))))
   unfolding upload_done
   parts_told asked = told_parts s name key id asked (upload_at s name key id)
@@ -83,15 +81,15 @@ module _ (least : ℕ) (s : State) (n t : ℕ) (name key : List ℕ) (id : ℕ) 
   -- behind a condition that holds
   completes_found : (listed : List ListedPart) (barred : Bool) (found : Option (Upload (List ℕ))) → barred ≡ false
       → stepped s (opened found >>= (λ u. refuse barred PreconditionFailed
-      >> (as_refusal (completed least listed u) >>= (λ stored. Ok (completion_step s n t name key id stored)))))
-      ≡ completed_as s n t name key id (completed_at least listed found)
+      >> (as_refusal (completed rules.least_part listed u) >>= (λ stored. Ok (completion_step s n t name key id stored)))))
+      ≡ completed_as s n t name key id (completed_at rules.least_part listed found)
   completes_found listed true found free = absurd (cc)
   completes_found listed false None free = refl
-  completes_found listed false (Some u) free = completes_as (completed least listed u)
+  completes_found listed false (Some u) free = completes_as (completed rules.least_part listed u)
 
   pub completes : (listed : List ListedPart) (if_absent : Bool) → (if_absent && is_taken s name key) ≡ false
-      → upload_step least s n t name key id (upload_commands.Complete listed if_absent)
-      ≡ completed_as s n t name key id (completed_at least listed (upload_at s name key id))
+      → upload_step rules s n t name key id (upload_commands.Complete listed if_absent)
+      ≡ completed_as s n t name key id (completed_at rules.least_part listed (upload_at s name key id))
   unfolding upload_done
   completes listed if_absent = completes_found listed (if_absent && is_taken s name key) (upload_at s name key id)
 
@@ -102,7 +100,7 @@ module _ (least : ℕ) (s : State) (n t : ℕ) (name key : List ℕ) (id : ℕ) 
   barred_found barred (Some u) rule is = barred_by s barred (rule u) is
 
   pub completion_barred : (listed : List ListedPart) (if_absent : Bool) → (if_absent && is_taken s name key) ≡ true
-      → upload_step least s n t name key id (upload_commands.Complete listed if_absent)
+      → upload_step rules s n t name key id (upload_commands.Complete listed if_absent)
       ≡ (s, outcomes.Refused (barred_code (upload_at s name key id)) false)
   unfolding upload_done
   completion_barred listed if_absent = barred_found (if_absent && is_taken s name key) (upload_at s name key id) _

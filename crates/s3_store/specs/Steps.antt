@@ -34,6 +34,7 @@ use Rattle.s3_machine.specs.declared.command.Outcome.{Outcome}
 use Rattle.s3_machine.specs.declared.command.Outcome.TheVariants as outcomes
 use Rattle.s3_machine.specs.declared.command.Source.{Source}
 use Rattle.s3_machine.specs.declared.command.UploadCommand.{UploadCommand}
+use Rattle.s3_machine.specs.declared.rules.Rules.{Rules}
 use Rattle.s3_machine.specs.Fault.{refuse}
 use Rattle.s3_machine.specs.Step.{State, Stepped, step, stepped, bucket_done, key_done, upload_done, described, found_in, lies_in, may_be_copied, part_copied, shown_by, shown_in, source_code, source_found}
 
@@ -47,21 +48,21 @@ abbrev pub opened : State → Standing
 opened state = record { state = state; number = 0 }
 
 -- a step of it: the state changes by the machine's rule, and the next entry gets the next number
-abbrev pub after_step : ℕ → Standing → ℕ → Command → Standing
-after_step least s t command = record { state = (step least s.state s.number t command).0; number = s.number + 1 }
+abbrev pub after_step : Rules → Standing → ℕ → Command → Standing
+after_step rules s t command = record { state = (step rules s.state s.number t command).0; number = s.number + 1 }
 
-abbrev pub outcome_of : ℕ → Standing → ℕ → Command → Outcome
-outcome_of least s t command = (step least s.state s.number t command).1
+abbrev pub outcome_of : Rules → Standing → ℕ → Command → Outcome
+outcome_of rules s t command = (step rules s.state s.number t command).1
 
 -- the step of a command on a bucket, and of one on a key or on an upload in a bucket that is there
-abbrev pub bucket_step : State → ℕ → List ℕ → BucketCommand → Stepped
-bucket_step s t name asked = stepped s (bucket_done s t name asked)
+abbrev pub bucket_step : Rules → State → ℕ → List ℕ → BucketCommand → Stepped
+bucket_step rules s t name asked = stepped s (bucket_done rules s t name asked)
 
-abbrev pub key_step : State → ℕ → ℕ → List ℕ → List ℕ → KeyCommand (List ℕ) → Stepped
+abbrev pub key_step : State → ℕ → ℕ → List ℕ → List ℕ → KeyCommand → Stepped
 key_step s n t name key asked = stepped s (key_done s n t name key asked)
 
-abbrev pub upload_step : ℕ → State → ℕ → ℕ → List ℕ → List ℕ → ℕ → UploadCommand → Stepped
-upload_step least s n t name key id asked = stepped s (upload_done least s n t name key id asked)
+abbrev pub upload_step : Rules → State → ℕ → ℕ → List ℕ → List ℕ → ℕ → UploadCommand → Stepped
+upload_step rules s n t name key id asked = stepped s (upload_done rules s n t name key id asked)
 
 -- entry n may change what is under the keys of a bucket: the bucket is there, with this versioning, and the number is above
 -- those of all versions

@@ -5,7 +5,7 @@ ghost use Rattle.s3_store.specs.Steps.{bucket_step};
 
 use crate::list_steps::{tell_location, tell_objects, tell_uploads, tell_versions};
 use s3_calendar::Moment;
-use s3_machine::{BucketCommand, Configuration, Outcome};
+use s3_machine::{BucketCommand, Configuration, Outcome, Rules};
 use s3_names::BucketName;
 use s3_records::Records;
 use s3_terms::{Code, NoMemory};
@@ -26,15 +26,16 @@ pub(crate) fn refused(code: Code) -> Outcome
 pub(crate) fn take_on_bucket<R: Records>(
     records: &mut R,
     alloc: Global,
+    rules: &Rules,
     name: &BucketName,
     asked: BucketCommand,
     moment: Moment,
 ) -> Result<Outcome, NoMemory>
     ensures ok { IfOk result (λ outcome.
-        bucket_step (R.catalogue records.old) moment name.now asked ≡ (R.catalogue records.new, outcome)) }
+        bucket_step rules.now (R.catalogue records.old) moment name.now asked ≡ (R.catalogue records.new, outcome)) }
     ensures err { OnErr result (R.catalogue records.new ≡ R.catalogue records.old) }
     ensures memory { OnErr result (R.is_in_memory ≡ true
-        → is_refused (bucket_step (R.catalogue records.old) moment name.now asked).1 ≡ false) }
+        → is_refused (bucket_step rules.now (R.catalogue records.old) moment name.now asked).1 ≡ false) }
     ensures room { OnErr result (R.is_in_memory ≡ true → IsTrue (takes_room_in_bucket asked)) }
 {
     match asked {
@@ -43,7 +44,7 @@ pub(crate) fn take_on_bucket<R: Records>(
         BucketCommand::Delete => delete(records, alloc, name),
         BucketCommand::PutVersioning { status } => put_versioning(records, alloc, name, status),
         BucketCommand::GetVersioning => get_versioning(records, alloc, name),
-        BucketCommand::GetLocation { region } => tell_location(records, alloc, name, region),
+        BucketCommand::GetLocation => tell_location(records, alloc, rules, name),
         BucketCommand::GetConfiguration(which) => get_configuration(records, alloc, name, which),
         BucketCommand::ListObjects(asked) => tell_objects(records, alloc, name, asked),
         BucketCommand::ListVersions(asked) => tell_versions(records, alloc, name, asked),
@@ -59,11 +60,11 @@ fn create<R: Records>(
     name: &BucketName,
     moment: Moment,
 ) -> Result<Outcome, NoMemory>
-    ensures ok { IfOk result (λ outcome.
-        bucket_step (R.catalogue records.old) moment name.now BucketCommand.Create ≡ (R.catalogue records.new, outcome)) }
+    ensures ok { IfOk result (λ outcome. (rules : Rules)
+        → bucket_step rules (R.catalogue records.old) moment name.now BucketCommand.Create ≡ (R.catalogue records.new, outcome)) }
     ensures err { OnErr result (R.catalogue records.new ≡ R.catalogue records.old) }
-    ensures memory { OnErr result (R.is_in_memory ≡ true
-        → is_refused (bucket_step (R.catalogue records.old) moment name.now BucketCommand.Create).1 ≡ false) }
+    ensures memory { OnErr result (R.is_in_memory ≡ true → (rules : Rules)
+        → is_refused (bucket_step rules (R.catalogue records.old) moment name.now BucketCommand.Create).1 ≡ false) }
 {
     match records.bucket(alloc, name)? {
         Some(_) => Ok(refused(Code::BucketAlreadyOwnedByYou)),
@@ -79,8 +80,8 @@ fn create<R: Records>(
 // HeadBucket.
 #[tactic(auto, unfolding(s3_machine::specs::Step::bucket_done))]
 fn head<R: Records>(records: &mut R, alloc: Global, name: &BucketName) -> Result<Outcome, NoMemory>
-    ensures ok { IfOk result (λ outcome. (t : ℕ)
-        → bucket_step (R.catalogue records.old) t name.now BucketCommand.Head ≡ (R.catalogue records.new, outcome)) }
+    ensures ok { IfOk result (λ outcome. (rules : Rules) (t : ℕ)
+        → bucket_step rules (R.catalogue records.old) t name.now BucketCommand.Head ≡ (R.catalogue records.new, outcome)) }
     ensures same { R.catalogue records.new ≡ R.catalogue records.old }
     ensures memory { OnErr result (R.is_in_memory ≡ false) }
 {
@@ -97,8 +98,8 @@ fn delete<R: Records>(
     alloc: Global,
     name: &BucketName,
 ) -> Result<Outcome, NoMemory>
-    ensures ok { IfOk result (λ outcome. (t : ℕ)
-        → bucket_step (R.catalogue records.old) t name.now BucketCommand.Delete ≡ (R.catalogue records.new, outcome)) }
+    ensures ok { IfOk result (λ outcome. (rules : Rules) (t : ℕ)
+        → bucket_step rules (R.catalogue records.old) t name.now BucketCommand.Delete ≡ (R.catalogue records.new, outcome)) }
     ensures err { OnErr result (R.catalogue records.new ≡ R.catalogue records.old) }
     ensures memory { OnErr result (R.is_in_memory ≡ false) }
 {
@@ -123,8 +124,8 @@ fn put_versioning<R: Records>(
     name: &BucketName,
     status: VersioningStatus,
 ) -> Result<Outcome, NoMemory>
-    ensures ok { IfOk result (λ outcome. (t : ℕ)
-        → bucket_step (R.catalogue records.old) t name.now (BucketCommand.PutVersioning status)
+    ensures ok { IfOk result (λ outcome. (rules : Rules) (t : ℕ)
+        → bucket_step rules (R.catalogue records.old) t name.now (BucketCommand.PutVersioning status)
         ≡ (R.catalogue records.new, outcome)) }
     ensures err { OnErr result (R.catalogue records.new ≡ R.catalogue records.old) }
     ensures memory { OnErr result (R.is_in_memory ≡ false) }
@@ -145,8 +146,8 @@ fn get_versioning<R: Records>(
     alloc: Global,
     name: &BucketName,
 ) -> Result<Outcome, NoMemory>
-    ensures ok { IfOk result (λ outcome. (t : ℕ)
-        → bucket_step (R.catalogue records.old) t name.now BucketCommand.GetVersioning
+    ensures ok { IfOk result (λ outcome. (rules : Rules) (t : ℕ)
+        → bucket_step rules (R.catalogue records.old) t name.now BucketCommand.GetVersioning
         ≡ (R.catalogue records.new, outcome)) }
     ensures same { R.catalogue records.new ≡ R.catalogue records.old }
     ensures memory { OnErr result (R.is_in_memory ≡ false) }
@@ -167,8 +168,8 @@ fn get_configuration<R: Records>(
     name: &BucketName,
     which: Configuration,
 ) -> Result<Outcome, NoMemory>
-    ensures ok { IfOk result (λ outcome. (t : ℕ)
-        → bucket_step (R.catalogue records.old) t name.now (BucketCommand.GetConfiguration which)
+    ensures ok { IfOk result (λ outcome. (rules : Rules) (t : ℕ)
+        → bucket_step rules (R.catalogue records.old) t name.now (BucketCommand.GetConfiguration which)
         ≡ (R.catalogue records.new, outcome)) }
     ensures same { R.catalogue records.new ≡ R.catalogue records.old }
     ensures memory { OnErr result (R.is_in_memory ≡ false) }

@@ -11,7 +11,7 @@ use crate::reading::shown;
 use s3_bodies::Body;
 use s3_calendar::Moment;
 use s3_documents::Document;
-use s3_machine::{Outcome, UploadCommand};
+use s3_machine::{Outcome, Rules, UploadCommand};
 use s3_names::{BucketName, Key, Tag, UploadId};
 use s3_records::Records;
 use s3_terms::{Code, NoMemory};
@@ -25,7 +25,7 @@ use std::alloc::Global;
 pub(crate) fn complete<R: Records>(
     records: &mut R,
     alloc: Global,
-    least_part: u64,
+    rules: &Rules,
     bucket: &BucketName,
     versioning: Versioning,
     key: Key,
@@ -37,17 +37,26 @@ pub(crate) fn complete<R: Records>(
 ) -> Result<Outcome, NoMemory>
     requires { MayEnter (R.catalogue records.old) number bucket.now versioning }
     ensures ok { IfOk result (λ outcome.
-        upload_step least_part (R.catalogue records.old) number moment bucket.now key id (UploadCommand.Complete listed.now if_absent)
+        upload_step rules.now (R.catalogue records.old) number moment bucket.now key id (UploadCommand.Complete listed.now if_absent)
         ≡ (R.catalogue records.new, outcome)) }
     ensures err { OnErr result (R.catalogue records.new ≡ R.catalogue records.old) }
     ensures memory { OnErr result (R.is_in_memory ≡ true
         → is_refused
-        (upload_step least_part (R.catalogue records.old) number moment bucket.now key id (UploadCommand.Complete listed.now if_absent)).1
+        (upload_step rules.now (R.catalogue records.old) number moment bucket.now key id (UploadCommand.Complete listed.now if_absent)).1
         ≡ false) }
 {
     match is_barred(records, alloc, bucket, &key, if_absent) {
         Ok(false) => join(
-            records, alloc, least_part, bucket, versioning, key, id, listed, number, moment,
+            records,
+            alloc,
+            rules.least_part,
+            bucket,
+            versioning,
+            key,
+            id,
+            listed,
+            number,
+            moment,
         ),
         Ok(true) => refuse_barred(records, alloc, bucket, &key, id),
         Err(no_memory) => Err(no_memory),

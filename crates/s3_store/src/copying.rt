@@ -1,7 +1,7 @@
 //! What a copy does.
 ghost use Rattle.std.specs.Prelude.{◌≡◌, true, false, IfOk, OnErr, is_ok};
 ghost use Rattle.s3_machine.specs.Effects.{is_refused};
-ghost use Rattle.s3_machine.specs.Step as rules;
+ghost use Rattle.s3_machine.specs.Step as steps;
 ghost use Rattle.s3_store.specs.Steps.{key_step, copy_step, data_found, MayEnter};
 
 use crate::key_steps::refused_with;
@@ -73,9 +73,9 @@ fn copied<R: Records>(
     alloc: Global,
     asked: ObjectCopy,
 ) -> Result<Result<Data<Body>, Refusal>, NoMemory>
-    ensures value { IfOk result (λ read. read ≡ rules.copied (R.catalogue records.old) asked) }
+    ensures value { IfOk result (λ read. read ≡ steps.copied (R.catalogue records.old) asked) }
     ensures same { R.catalogue records.new ≡ R.catalogue records.old }
-    ensures memory { OnErr result (R.is_in_memory ≡ true → is_ok (rules.copied (R.catalogue records.old) asked) ≡ true) }
+    ensures memory { OnErr result (R.is_in_memory ≡ true → is_ok (steps.copied (R.catalogue records.old) asked) ≡ true) }
 {
     let ObjectCopy {
         source,
@@ -107,7 +107,7 @@ fn data_found(
 
 // What is stored of a source, by what is said of the copy. What its source says is dropped then.
 fn described(said: Option<Description>, stored: Data<Body>) -> Data<Body>
-    ensures { result ≡ rules.described said stored }
+    ensures { result ≡ steps.described said stored }
 {
     match said {
         None => stored,

@@ -2,6 +2,7 @@
 ghost use Rattle.std.specs.Prelude.{◌≡◌, ℕ, true, false, IfOk, OnErr, IsTrue};
 ghost use Rattle.s3_records.specs.Catalogue.{has_bucket};
 ghost use Rattle.s3_records.specs.Places.{AreBelow};
+ghost use Rattle.s3_machine.specs.declared.rules.Rules.{Rules};
 ghost use Rattle.s3_machine.specs.Effects.{is_refused};
 ghost use Rattle.s3_machine.specs.Step.{step};
 ghost use Rattle.s3_store.specs.Steps.{deletion_step};
@@ -28,12 +29,12 @@ pub(crate) fn delete_objects<R: Records>(
     moment: Moment,
 ) -> Result<Outcome, NoMemory>
     requires { AreBelow number (R.catalogue records.old) }
-    ensures ok { IfOk result (λ outcome. (least : ℕ)
-        → step least (R.catalogue records.old) number moment (Command.DeleteObjects bucket.now deletion)
+    ensures ok { IfOk result (λ outcome. (rules : Rules)
+        → step rules (R.catalogue records.old) number moment (Command.DeleteObjects bucket.now deletion)
         ≡ (R.catalogue records.new, outcome)) }
     ensures err { OnErr result (R.catalogue records.new ≡ R.catalogue records.old) }
-    ensures memory { OnErr result (R.is_in_memory ≡ true → (least : ℕ)
-        → is_refused (step least (R.catalogue records.old) number moment (Command.DeleteObjects bucket.now deletion)).1 ≡ false) }
+    ensures memory { OnErr result (R.is_in_memory ≡ true → (rules : Rules)
+        → is_refused (step rules (R.catalogue records.old) number moment (Command.DeleteObjects bucket.now deletion)).1 ≡ false) }
 {
     match records.bucket(alloc, bucket) {
         Ok(Some(_)) => delete_in_bucket(records, alloc, bucket, deletion, number, moment),

@@ -4,6 +4,7 @@ ghost use Rattle.std.specs.Option.{unwrap_or};
 ghost use Rattle.s3_versions.specs.Rules.{is_delete_marker};
 ghost use Rattle.s3_records.specs.Catalogue.{has_bucket, versioning_of};
 ghost use Rattle.s3_records.specs.Places.{AreBelow};
+ghost use Rattle.s3_machine.specs.declared.rules.Rules.{Rules};
 ghost use Rattle.s3_machine.specs.Effects.{is_refused, takes_room, takes_room_at_key};
 ghost use Rattle.s3_machine.specs.Step.{step, data_of, makes_marker};
 ghost use Rattle.s3_store.specs.Steps.{key_step, put_step, got_of, selected_by, MayEnter};
@@ -30,16 +31,16 @@ pub(crate) fn take_on_key<R: Records>(
     alloc: Global,
     bucket: &BucketName,
     key: Key,
-    asked: KeyCommand<Payload>,
+    asked: KeyCommand,
     number: u64,
     moment: Moment,
 ) -> Result<Outcome, NoMemory>
     requires { AreBelow number (R.catalogue records.old) }
-    ensures ok { IfOk result (λ outcome. (least : ℕ)
-        → step least (R.catalogue records.old) number moment (Command.Key bucket.now key asked) ≡ (R.catalogue records.new, outcome)) }
+    ensures ok { IfOk result (λ outcome. (rules : Rules)
+        → step rules (R.catalogue records.old) number moment (Command.Key bucket.now key asked) ≡ (R.catalogue records.new, outcome)) }
     ensures err { OnErr result (R.catalogue records.new ≡ R.catalogue records.old) }
-    ensures memory { OnErr result (R.is_in_memory ≡ true → (least : ℕ)
-        → is_refused (step least (R.catalogue records.old) number moment (Command.Key bucket.now key asked)).1 ≡ false) }
+    ensures memory { OnErr result (R.is_in_memory ≡ true → (rules : Rules)
+        → is_refused (step rules (R.catalogue records.old) number moment (Command.Key bucket.now key asked)).1 ≡ false) }
     ensures room { OnErr result (R.is_in_memory ≡ true → IsTrue (takes_room (R.catalogue records.old) (Command.Key bucket.now key asked))) }
 {
     match records.bucket(alloc, bucket) {
@@ -65,7 +66,7 @@ pub(crate) fn take_on_key<R: Records>(
 }
 
 // Drops a command on a key that takes no step.
-fn let_go_at_key(key: Key, asked: KeyCommand<Payload>) {
+fn let_go_at_key(key: Key, asked: KeyCommand) {
     drop(key);
     drop(asked);
 }
@@ -77,7 +78,7 @@ fn take_in_bucket<R: Records>(
     bucket: &BucketName,
     versioning: Versioning,
     key: Key,
-    asked: KeyCommand<Payload>,
+    asked: KeyCommand,
     number: u64,
     moment: Moment,
 ) -> Result<Outcome, NoMemory>
@@ -116,7 +117,7 @@ fn put<R: Records>(
     bucket: &BucketName,
     versioning: Versioning,
     key: Key,
-    asked: ObjectPut<Payload>,
+    asked: ObjectPut,
     number: u64,
     moment: Moment,
 ) -> Result<Outcome, NoMemory>
@@ -144,7 +145,7 @@ fn put<R: Records>(
 }
 
 // Drops a put that stores nothing.
-fn let_go_of_put(key: Key, asked: ObjectPut<Payload>) {
+fn let_go_of_put(key: Key, asked: ObjectPut) {
     drop(key);
     drop(asked);
 }
@@ -156,7 +157,7 @@ fn store<R: Records>(
     bucket: &BucketName,
     versioning: Versioning,
     key: Key,
-    asked: ObjectPut<Payload>,
+    asked: ObjectPut,
     number: u64,
     moment: Moment,
 ) -> Result<Outcome, NoMemory>
@@ -173,7 +174,7 @@ fn store<R: Records>(
 }
 
 // What a put stores, which is moved and not copied.
-fn stored_of(asked: ObjectPut<Payload>) -> Result<Data<Body>, NoMemory>
+fn stored_of(asked: ObjectPut) -> Result<Data<Body>, NoMemory>
     ensures { IfOk result (λ stored. stored ≡ data_of asked) }
 {
     let tag = asked.payload.tag();

@@ -12,9 +12,9 @@ ghost use Rattle.s3_store.specs.Steps.{bucket_step};
 use crate::bucket_steps::refused;
 use s3_documents::Document;
 use s3_listings::{UploadsAsked, VersionsAsked, list_objects, list_uploads, list_versions};
-use s3_machine::{BucketCommand, Command, Outcome};
+use s3_machine::{BucketCommand, Command, Outcome, Rules};
 use s3_names::BucketName;
-use s3_prefixes::{ObjectsAsked, Text};
+use s3_prefixes::ObjectsAsked;
 use s3_records::Records;
 use s3_terms::{Code, NoMemory};
 use std::alloc::Global;
@@ -22,8 +22,8 @@ use std::alloc::Global;
 /// ListBuckets.
 #[tactic(auto, unfolding(s3_machine::specs::Step::done))]
 pub(crate) fn tell_buckets<R: Records>(records: &mut R, alloc: Global) -> Result<Outcome, NoMemory>
-    ensures ok { IfOk result (λ outcome. (least n t : ℕ)
-        → step least (R.catalogue records.old) n t Command.ListBuckets ≡ (R.catalogue records.new, outcome)) }
+    ensures ok { IfOk result (λ outcome. (rules : Rules) (n t : ℕ)
+        → step rules (R.catalogue records.old) n t Command.ListBuckets ≡ (R.catalogue records.new, outcome)) }
     ensures same { R.catalogue records.new ≡ R.catalogue records.old }
 {
     let rows = records.buckets(alloc)?;
@@ -36,28 +36,22 @@ pub(crate) fn tell_buckets<R: Records>(records: &mut R, alloc: Global) -> Result
 pub(crate) fn tell_location<R: Records>(
     records: &mut R,
     alloc: Global,
+    rules: &Rules,
     name: &BucketName,
-    region: Text,
 ) -> Result<Outcome, NoMemory>
     ensures ok { IfOk result (λ outcome. (t : ℕ)
-        → bucket_step (R.catalogue records.old) t name.now (BucketCommand.GetLocation region)
+        → bucket_step rules.now (R.catalogue records.old) t name.now BucketCommand.GetLocation
         ≡ (R.catalogue records.new, outcome)) }
     ensures same { R.catalogue records.new ≡ R.catalogue records.old }
     ensures memory { OnErr result (R.is_in_memory ≡ true → (t : ℕ)
-        → is_refused (bucket_step (R.catalogue records.old) t name.now (BucketCommand.GetLocation region)).1 ≡ false) }
+        → is_refused (bucket_step rules.now (R.catalogue records.old) t name.now BucketCommand.GetLocation).1 ≡ false) }
 {
-    match records.bucket(alloc, name) {
-        Ok(Some(_)) => {
+    match records.bucket(alloc, name)? {
+        None => Ok(refused(Code::NoSuchBucket)),
+        Some(_) => {
+            let region = rules.region.copy()?;
             let document = Document::of_location(alloc, region)?;
             Ok(Outcome::Told { document })
-        }
-        Ok(None) => {
-            drop(region);
-            Ok(refused(Code::NoSuchBucket))
-        }
-        Err(no_memory) => {
-            drop(region);
-            Err(no_memory)
         }
     }
 }
@@ -70,12 +64,12 @@ pub(crate) fn tell_objects<R: Records>(
     name: &BucketName,
     asked: ObjectsAsked,
 ) -> Result<Outcome, NoMemory>
-    ensures ok { IfOk result (λ outcome. (t : ℕ)
-        → bucket_step (R.catalogue records.old) t name.now (BucketCommand.ListObjects asked)
+    ensures ok { IfOk result (λ outcome. (rules : Rules) (t : ℕ)
+        → bucket_step rules (R.catalogue records.old) t name.now (BucketCommand.ListObjects asked)
         ≡ (R.catalogue records.new, outcome)) }
     ensures same { R.catalogue records.new ≡ R.catalogue records.old }
-    ensures memory { OnErr result (R.is_in_memory ≡ true → (t : ℕ)
-        → is_refused (bucket_step (R.catalogue records.old) t name.now (BucketCommand.ListObjects asked)).1 ≡ false) }
+    ensures memory { OnErr result (R.is_in_memory ≡ true → (rules : Rules) (t : ℕ)
+        → is_refused (bucket_step rules (R.catalogue records.old) t name.now (BucketCommand.ListObjects asked)).1 ≡ false) }
 {
     match records.bucket(alloc, name) {
         Ok(Some(_)) => tell_objects_of(records, alloc, name, asked),
@@ -118,12 +112,12 @@ pub(crate) fn tell_versions<R: Records>(
     name: &BucketName,
     asked: VersionsAsked,
 ) -> Result<Outcome, NoMemory>
-    ensures ok { IfOk result (λ outcome. (t : ℕ)
-        → bucket_step (R.catalogue records.old) t name.now (BucketCommand.ListVersions asked)
+    ensures ok { IfOk result (λ outcome. (rules : Rules) (t : ℕ)
+        → bucket_step rules (R.catalogue records.old) t name.now (BucketCommand.ListVersions asked)
         ≡ (R.catalogue records.new, outcome)) }
     ensures same { R.catalogue records.new ≡ R.catalogue records.old }
-    ensures memory { OnErr result (R.is_in_memory ≡ true → (t : ℕ)
-        → is_refused (bucket_step (R.catalogue records.old) t name.now (BucketCommand.ListVersions asked)).1 ≡ false) }
+    ensures memory { OnErr result (R.is_in_memory ≡ true → (rules : Rules) (t : ℕ)
+        → is_refused (bucket_step rules (R.catalogue records.old) t name.now (BucketCommand.ListVersions asked)).1 ≡ false) }
 {
     match records.bucket(alloc, name) {
         Ok(Some(_)) => tell_versions_of(records, alloc, name, asked),
@@ -163,12 +157,12 @@ pub(crate) fn tell_uploads<R: Records>(
     name: &BucketName,
     asked: UploadsAsked,
 ) -> Result<Outcome, NoMemory>
-    ensures ok { IfOk result (λ outcome. (t : ℕ)
-        → bucket_step (R.catalogue records.old) t name.now (BucketCommand.ListUploads asked)
+    ensures ok { IfOk result (λ outcome. (rules : Rules) (t : ℕ)
+        → bucket_step rules (R.catalogue records.old) t name.now (BucketCommand.ListUploads asked)
         ≡ (R.catalogue records.new, outcome)) }
     ensures same { R.catalogue records.new ≡ R.catalogue records.old }
-    ensures memory { OnErr result (R.is_in_memory ≡ true → (t : ℕ)
-        → is_refused (bucket_step (R.catalogue records.old) t name.now (BucketCommand.ListUploads asked)).1 ≡ false) }
+    ensures memory { OnErr result (R.is_in_memory ≡ true → (rules : Rules) (t : ℕ)
+        → is_refused (bucket_step rules (R.catalogue records.old) t name.now (BucketCommand.ListUploads asked)).1 ≡ false) }
 {
     match records.bucket(alloc, name) {
         Ok(Some(_)) => tell_uploads_of(records, alloc, name, asked),

@@ -3,8 +3,9 @@ ghost use Rattle.std.specs.Prelude.{◌≡◌, ◌+◌, ℕ, true, false, min, d
 ghost use Rattle.md5.specs.Md5.{md5};
 ghost use Rattle.s3_records.specs.Catalogue.{has_bucket};
 ghost use Rattle.s3_records.specs.OpenUploads.{upload_at};
+ghost use Rattle.s3_machine.specs.declared.rules.Rules.{Rules};
 ghost use Rattle.s3_machine.specs.Effects.{is_refused};
-ghost use Rattle.s3_machine.specs.Step as rules;
+ghost use Rattle.s3_machine.specs.Step as steps;
 ghost use Rattle.s3_store.specs.Steps.{upload_step, part_step, part_source, source_in};
 
 use crate::key_steps::refused_with;
@@ -34,12 +35,12 @@ pub(crate) fn copy_part<R: Records>(
     moment: Moment,
 ) -> Result<Outcome, NoMemory>
     requires { IsTrue (has_bucket (R.catalogue records.old) bucket.now) }
-    ensures ok { IfOk result (λ outcome. (least n : ℕ)
-        → upload_step least (R.catalogue records.old) n moment bucket.now key.now id (UploadCommand.CopyPart part copy)
+    ensures ok { IfOk result (λ outcome. (rules : Rules) (n : ℕ)
+        → upload_step rules (R.catalogue records.old) n moment bucket.now key.now id (UploadCommand.CopyPart part copy)
         ≡ (R.catalogue records.new, outcome)) }
     ensures err { OnErr result (R.catalogue records.new ≡ R.catalogue records.old) }
-    ensures memory { OnErr result (R.is_in_memory ≡ true → (least n : ℕ)
-        → is_refused (upload_step least (R.catalogue records.old) n moment bucket.now key.now id (UploadCommand.CopyPart part copy)).1
+    ensures memory { OnErr result (R.is_in_memory ≡ true → (rules : Rules) (n : ℕ)
+        → is_refused (upload_step rules (R.catalogue records.old) n moment bucket.now key.now id (UploadCommand.CopyPart part copy)).1
         ≡ false) }
 {
     let PartCopy { source, range } = copy;
@@ -107,7 +108,7 @@ fn put_found<R: Records>(
 
 // The part that the range of a version makes.
 fn part_of(range: Option<CopyRange>, stored: Data<Body>, moment: Moment) -> Part<Body>
-    ensures { result ≡ rules.part_copied moment range stored }
+    ensures { result ≡ steps.part_copied moment range stored }
 {
     let digest = digest_of(&stored.tag, range);
     let body = cut(range, stored.body);
@@ -121,7 +122,7 @@ fn part_of(range: Option<CopyRange>, stored: Data<Body>, moment: Moment) -> Part
 
 // The bytes of the range, which are shared.
 fn cut(range: Option<CopyRange>, body: Body) -> Body
-    ensures { result ≡ rules.cut range body }
+    ensures { result ≡ steps.cut range body }
 {
     match range {
         None => body,
@@ -148,7 +149,7 @@ fn end_of(last: u64, size: u64) -> u64
 
 // The digest of a part that is copied: the MD5 of the tag of its source and of the range.
 fn digest_of(tag: &Tag, range: Option<CopyRange>) -> [u8; 16]
-    ensures { result ≡ md5 (tag.now ++ rules.range_text range) }
+    ensures { result ≡ md5 (tag.now ++ steps.range_text range) }
 {
     let mut hasher = Md5::new();
     hasher.update(tag.text().as_bytes());

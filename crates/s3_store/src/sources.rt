@@ -1,7 +1,7 @@
 //! Where copies are from.
 ghost use Rattle.std.specs.Prelude.{◌≡◌, true, false, IfOk, OnErr, IsTrue, is_ok};
 ghost use Rattle.s3_records.specs.Catalogue.{has_bucket, versioning_of};
-ghost use Rattle.s3_machine.specs.Step as rules;
+ghost use Rattle.s3_machine.specs.Step as steps;
 ghost use Rattle.s3_store.specs.Steps.{facts_for_copy, source_in, source_judged};
 
 use crate::reading::look;
@@ -103,7 +103,7 @@ pub(crate) fn refusal_of(code: Code) -> Refusal
 
 // How a copy says that there is nothing to be read.
 fn source_code(code: Code) -> Code
-    ensures { result ≡ rules.source_code code }
+    ensures { result ≡ steps.source_code code }
 {
     match code {
         Code::MethodNotAllowed => Code::InvalidRequest,
@@ -113,7 +113,7 @@ fn source_code(code: Code) -> Code
 
 // Whether a read by these conditions shows all of a version of which this is known.
 fn may_be_copied(conditions: &Conditions, facts: &Facts) -> bool
-    ensures { result ≡ rules.may_be_copied conditions.now facts.now }
+    ensures { result ≡ steps.may_be_copied conditions.now facts.now }
 {
     match judge(conditions, facts.moment, &facts.tag, facts.size) {
         Ok(Selection::Whole) => true,
@@ -124,7 +124,7 @@ fn may_be_copied(conditions: &Conditions, facts: &Facts) -> bool
 
 // Whether a range lies in so many bytes.
 fn lies_in(range: Option<CopyRange>, size: u64) -> bool
-    ensures { result ≡ rules.lies_in range size }
+    ensures { result ≡ steps.lies_in range size }
 {
     match range {
         None => true,

@@ -7,7 +7,7 @@ ghost use Rattle.s3_machine.specs.Effects.{is_refused, takes_room};
 use crate::take::take;
 use s3_bodies::Body;
 use s3_calendar::Moment;
-use s3_machine::{Answer, Command, steps_keep};
+use s3_machine::{Answer, Command, Rules, steps_keep};
 use s3_names::BucketName;
 use s3_records::{MapRecords, Records, numbers_stay_below};
 use s3_terms::NoMemory;
@@ -64,8 +64,7 @@ impl<R: Records + Drop> Store<R> {
     /// (`number`).
     ///
     /// What it does and answers is `step` of `s3_machine`. `docs/PROTOCOL.md` has the rules, which are those of the
-    /// Amazon S3 API Reference, and all refusals. `least_part` is the least size, in bytes, of a part that isn't the
-    /// last. A refusal is an answer and no error.
+    /// Amazon S3 API Reference, and all refusals. A refusal is an answer and no error.
     ///
     /// No step copies the bytes of a version or of a part: they are moved or shared.
     ///
@@ -77,16 +76,16 @@ impl<R: Records + Drop> Store<R> {
     pub fn apply(
         &mut self,
         alloc: Global,
-        least_part: u64,
+        rules: &Rules,
         command: Command,
         moment: Moment,
     ) -> Result<Answer, NoMemory>
-        ensures state { OnOk result (self.new ≡ after_step least_part self.old moment command) }
+        ensures state { OnOk result (self.new ≡ after_step rules.now self.old moment command) }
         ensures answer { IfOk result (λ answer. answer
-            ≡ record { number = self.old.number; outcome = outcome_of least_part self.old moment command }) }
+            ≡ record { number = self.old.number; outcome = outcome_of rules.now self.old moment command }) }
         ensures err { OnErr result (self.new ≡ self.old) }
         ensures memory { OnErr result (R.is_in_memory ≡ true → self.old.number ≢ 18446744073709551615
-            → is_refused (outcome_of least_part self.old moment command) ≡ false) }
+            → is_refused (outcome_of rules.now self.old moment command) ≡ false) }
         ensures room { OnErr result (R.is_in_memory ≡ true → self.old.number ≢ 18446744073709551615
             → IsTrue (takes_room self.old.state command)) }
     {
@@ -96,14 +95,7 @@ impl<R: Records + Drop> Store<R> {
             drop(command);
             return Err(NoMemory);
         }
-        let outcome = take(
-            &mut self.records,
-            alloc,
-            least_part,
-            command,
-            number,
-            moment,
-        )?;
+        let outcome = take(&mut self.records, alloc, rules, command, number, moment)?;
         self.number = number + 1;
         Ok(Answer { number, outcome })
     }

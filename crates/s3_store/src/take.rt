@@ -10,7 +10,7 @@ use crate::key_steps::take_on_key;
 use crate::list_steps::tell_buckets;
 use crate::upload_steps::take_on_upload;
 use s3_calendar::Moment;
-use s3_machine::{Command, Outcome};
+use s3_machine::{Command, Outcome, Rules};
 use s3_records::Records;
 use s3_terms::NoMemory;
 use std::alloc::Global;
@@ -21,22 +21,24 @@ use std::alloc::Global;
 pub(crate) fn take<R: Records>(
     records: &mut R,
     alloc: Global,
-    least_part: u64,
+    rules: &Rules,
     command: Command,
     number: u64,
     moment: Moment,
 ) -> Result<Outcome, NoMemory>
     requires { AreBelow number (R.catalogue records.old) }
     ensures ok { IfOk result (λ outcome.
-        step least_part (R.catalogue records.old) number moment command ≡ (R.catalogue records.new, outcome)) }
+        step rules.now (R.catalogue records.old) number moment command ≡ (R.catalogue records.new, outcome)) }
     ensures err { OnErr result (R.catalogue records.new ≡ R.catalogue records.old) }
     ensures memory { OnErr result (R.is_in_memory ≡ true
-        → is_refused (step least_part (R.catalogue records.old) number moment command).1 ≡ false) }
+        → is_refused (step rules.now (R.catalogue records.old) number moment command).1 ≡ false) }
     ensures room { OnErr result (R.is_in_memory ≡ true → IsTrue (takes_room (R.catalogue records.old) command)) }
 {
     match command {
         Command::ListBuckets => tell_buckets(records, alloc),
-        Command::Bucket { name, asked } => take_on_bucket(records, alloc, &name, asked, moment),
+        Command::Bucket { name, asked } => take_on_bucket(
+            records, alloc, rules, &name, asked, moment,
+        ),
         Command::Key { bucket, key, asked } => {
             take_on_key(records, alloc, &bucket, key, asked, number, moment)
         }
@@ -46,7 +48,7 @@ pub(crate) fn take<R: Records>(
             id,
             asked,
         } => take_on_upload(
-            records, alloc, least_part, &bucket, key, id, asked, number, moment,
+            records, alloc, rules, &bucket, key, id, asked, number, moment,
         ),
         Command::DeleteObjects { bucket, deletion } => {
             delete_objects(records, alloc, &bucket, deletion, number, moment)

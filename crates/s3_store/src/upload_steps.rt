@@ -19,7 +19,7 @@ use s3_bodies::Payload;
 use s3_calendar::Moment;
 use s3_documents::Document;
 use s3_listings::{PartsAsked, list_parts};
-use s3_machine::{Command, Description, KeyCommand, Outcome, UploadCommand};
+use s3_machine::{Command, Description, KeyCommand, Outcome, Rules, UploadCommand};
 use s3_names::{BucketName, Key, PartNumber, UploadId};
 use s3_records::Records;
 use s3_terms::{Code, NoMemory};
@@ -77,7 +77,7 @@ fn begun_document(
 pub(crate) fn take_on_upload<R: Records>(
     records: &mut R,
     alloc: Global,
-    least_part: u64,
+    rules: &Rules,
     bucket: &BucketName,
     key: Key,
     id: UploadId,
@@ -87,18 +87,18 @@ pub(crate) fn take_on_upload<R: Records>(
 ) -> Result<Outcome, NoMemory>
     requires { AreBelow number (R.catalogue records.old) }
     ensures ok { IfOk result (λ outcome.
-        step least_part (R.catalogue records.old) number moment (Command.Upload bucket.now key id asked)
+        step rules.now (R.catalogue records.old) number moment (Command.Upload bucket.now key id asked)
         ≡ (R.catalogue records.new, outcome)) }
     ensures err { OnErr result (R.catalogue records.new ≡ R.catalogue records.old) }
     ensures memory { OnErr result (R.is_in_memory ≡ true
-        → is_refused (step least_part (R.catalogue records.old) number moment (Command.Upload bucket.now key id asked)).1 ≡ false) }
+        → is_refused (step rules.now (R.catalogue records.old) number moment (Command.Upload bucket.now key id asked)).1 ≡ false) }
     ensures room { OnErr result (R.is_in_memory ≡ true → IsTrue (takes_room (R.catalogue records.old) (Command.Upload bucket.now key id asked))) }
 {
     match records.bucket(alloc, bucket) {
         Ok(Some(facts)) => take_in_bucket(
             records,
             alloc,
-            least_part,
+            rules,
             bucket,
             facts.versioning,
             key,
@@ -128,7 +128,7 @@ fn let_go_of_upload(key: Key, asked: UploadCommand) {
 fn take_in_bucket<R: Records>(
     records: &mut R,
     alloc: Global,
-    least_part: u64,
+    rules: &Rules,
     bucket: &BucketName,
     versioning: Versioning,
     key: Key,
@@ -139,10 +139,10 @@ fn take_in_bucket<R: Records>(
 ) -> Result<Outcome, NoMemory>
     requires { MayEnter (R.catalogue records.old) number bucket.now versioning }
     ensures ok { IfOk result (λ outcome.
-        upload_step least_part (R.catalogue records.old) number moment bucket.now key id asked ≡ (R.catalogue records.new, outcome)) }
+        upload_step rules.now (R.catalogue records.old) number moment bucket.now key id asked ≡ (R.catalogue records.new, outcome)) }
     ensures err { OnErr result (R.catalogue records.new ≡ R.catalogue records.old) }
     ensures memory { OnErr result (R.is_in_memory ≡ true
-        → is_refused (upload_step least_part (R.catalogue records.old) number moment bucket.now key id asked).1 ≡ false) }
+        → is_refused (upload_step rules.now (R.catalogue records.old) number moment bucket.now key id asked).1 ≡ false) }
     ensures room { OnErr result (R.is_in_memory ≡ true → IsTrue (takes_room_in_upload asked)) }
 {
     match asked {
@@ -154,8 +154,7 @@ fn take_in_bucket<R: Records>(
             copy_part(records, alloc, bucket, &key, id, part, copy, moment)
         }
         UploadCommand::Complete { listed, if_absent } => complete(
-            records, alloc, least_part, bucket, versioning, key, id, &listed, if_absent, number,
-            moment,
+            records, alloc, rules, bucket, versioning, key, id, &listed, if_absent, number, moment,
         ),
         UploadCommand::Abort => abort(records, alloc, bucket, &key, id),
         UploadCommand::ListParts(asked) => tell_parts(records, alloc, bucket, key, id, asked),
@@ -175,12 +174,12 @@ fn put_part<R: Records>(
     moment: Moment,
 ) -> Result<Outcome, NoMemory>
     requires { IsTrue (has_bucket (R.catalogue records.old) bucket.now) }
-    ensures ok { IfOk result (λ outcome. (least n : ℕ)
-        → upload_step least (R.catalogue records.old) n moment bucket.now key.now id (UploadCommand.PutPart part payload)
+    ensures ok { IfOk result (λ outcome. (rules : Rules) (n : ℕ)
+        → upload_step rules (R.catalogue records.old) n moment bucket.now key.now id (UploadCommand.PutPart part payload)
         ≡ (R.catalogue records.new, outcome)) }
     ensures err { OnErr result (R.catalogue records.new ≡ R.catalogue records.old) }
-    ensures memory { OnErr result (R.is_in_memory ≡ true → (least n : ℕ)
-        → is_refused (upload_step least (R.catalogue records.old) n moment bucket.now key.now id (UploadCommand.PutPart part payload)).1
+    ensures memory { OnErr result (R.is_in_memory ≡ true → (rules : Rules) (n : ℕ)
+        → is_refused (upload_step rules (R.catalogue records.old) n moment bucket.now key.now id (UploadCommand.PutPart part payload)).1
         ≡ false) }
 {
     match records.has_upload(alloc, bucket, key, id) {
@@ -231,8 +230,8 @@ fn abort<R: Records>(
     id: UploadId,
 ) -> Result<Outcome, NoMemory>
     requires { IsTrue (has_bucket (R.catalogue records.old) bucket.now) }
-    ensures ok { IfOk result (λ outcome. (least n t : ℕ)
-        → upload_step least (R.catalogue records.old) n t bucket.now key.now id UploadCommand.Abort ≡ (R.catalogue records.new, outcome)) }
+    ensures ok { IfOk result (λ outcome. (rules : Rules) (n t : ℕ)
+        → upload_step rules (R.catalogue records.old) n t bucket.now key.now id UploadCommand.Abort ≡ (R.catalogue records.new, outcome)) }
     ensures err { OnErr result (R.catalogue records.new ≡ R.catalogue records.old) }
     ensures memory { OnErr result (R.is_in_memory ≡ false) }
 {
@@ -254,12 +253,12 @@ fn tell_parts<R: Records>(
     id: UploadId,
     asked: PartsAsked,
 ) -> Result<Outcome, NoMemory>
-    ensures ok { IfOk result (λ outcome. (least n t : ℕ)
-        → upload_step least (R.catalogue records.old) n t bucket.now key id (UploadCommand.ListParts asked)
+    ensures ok { IfOk result (λ outcome. (rules : Rules) (n t : ℕ)
+        → upload_step rules (R.catalogue records.old) n t bucket.now key id (UploadCommand.ListParts asked)
         ≡ (R.catalogue records.new, outcome)) }
     ensures same { R.catalogue records.new ≡ R.catalogue records.old }
-    ensures memory { OnErr result (R.is_in_memory ≡ true → (least n t : ℕ)
-        → is_refused (upload_step least (R.catalogue records.old) n t bucket.now key id (UploadCommand.ListParts asked)).1 ≡ false) }
+    ensures memory { OnErr result (R.is_in_memory ≡ true → (rules : Rules) (n t : ℕ)
+        → is_refused (upload_step rules (R.catalogue records.old) n t bucket.now key id (UploadCommand.ListParts asked)).1 ≡ false) }
 {
     if !records.has_upload(alloc, bucket, &key, id)? {
         return Ok(refused(Code::NoSuchUpload));

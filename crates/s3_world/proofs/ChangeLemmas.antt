@@ -37,7 +37,7 @@ get_set_same [] c d less = absurd (omega arith)
 get_set_same (x ∷ xs) zero d less = refl
 get_set_same (x ∷ xs) (suc c) d less = get_set_same xs c d (omega arith)
 
-module _ (settings : Settings) (e : Event) (old : List Playing) (before after : Journal) (least : after.least ≡ before.least) (opens : after.opening ≡ before.opening) where
+module _ (settings : Settings) (e : Event) (old : List Playing) (before after : Journal) (rules : after.rules ≡ before.rules) (opens : after.opening ≡ before.opening) where
   abbrev own : ℕ
   own = connection_of_event e
 
@@ -51,7 +51,7 @@ module _ (settings : Settings) (e : Event) (old : List Playing) (before after : 
     others = λ k differ. get_set_other old own k d differ;
     own = subst (λ (x : Option Playing). Went x (slice_get (set old own d) own)) (sym (slice_get-get_or old own b less))
         (subst (λ (y : Option Playing). Went (Some (get_or old own b)) y) (sym (get_set_same old own d less)) on);
-    least = least;
+    rules = rules;
     opens = opens;
   }
 
@@ -68,7 +68,7 @@ happened_nowhere settings e old book past = record {
   count = refl;
   others = λ k differ. refl;
   own = subst (λ (x : Option Playing). WentOn settings e x x book.entries book.entries) (sym (slice_get_past old (connection_of_event e) past)) refl;
-  least = refl;
+  rules = refl;
   opens = refl;
 }
 
@@ -157,7 +157,7 @@ had_turn settings seat b d mid old new turn told answered value is waits entry s
 pub entered_by : (in_memory : Bool) (old new : Journal) (seat : ℕ) (turn : Turn) (told waits : Option Turn) (answered : Result Answer NoMemory)
     → told ≡ waits → told ≡ Some turn
     → IfOk answered (λ answer. new.entries ≡ old.entries ++ recorded seat turn answer ∷ [])
-    → OnErr answered (MayLack in_memory old.least old.store turn)
+    → OnErr answered (MayLack in_memory old.rules old.store turn)
     → IsEntered in_memory old new waits
 entered_by in_memory old new seat turn told waits (Ok answer) value is entry lacks =
     subst (IsEntered in_memory old new) (sym is ∙ value)

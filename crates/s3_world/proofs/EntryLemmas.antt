@@ -5,6 +5,7 @@ use Rattle.std.proofs.lemmas.List.{map-append}
 use Rattle.std.proofs.lemmas.List.Elements.{filter-append}
 use Rattle.s3_machine.specs.Step.{State}
 use Rattle.s3_machine.specs.History.{Entry, IsAnswer, Legal, after, after_entry}
+use Rattle.s3_machine.specs.declared.rules.Rules.{Rules}
 use Rattle.s3_journal.specs.Recorded.{Recorded, entries_of_seat, history_of}
 
 -- the entries of one, with more entries
@@ -30,8 +31,8 @@ pub history_more : (entries more : List Recorded) → history_of (entries ++ mor
 history_more entries more = map-append (λ (x : Recorded). x.entry) entries more
 
 -- an entry of a legal history has the answer of the state that the entries before it leave
-pub answer_there : (least : ℕ) (s : State) (n : ℕ) (es : List Entry) (e : Entry) (more : List Entry)
-    → Legal least s n (es ++ e ∷ more) → IsAnswer least (after least s es) (n + length es) e
-answer_there least s n [] e more legal = subst (λ (k : ℕ). IsAnswer least s k e) (omega arith) legal.0
-answer_there least s n (x ∷ es) e more legal =
-    subst (λ (k : ℕ). IsAnswer least (after least (after_entry least s x) es) k e) (omega arith) (answer_there least (after_entry least s x) (suc n) es e more legal.1)
+pub answer_there : (rules : Rules) (s : State) (n : ℕ) (es : List Entry) (e : Entry) (more : List Entry)
+    → Legal rules s n (es ++ e ∷ more) → IsAnswer rules (after rules s es) (n + length es) e
+answer_there rules s n [] e more legal = subst (λ (k : ℕ). IsAnswer rules s k e) (omega arith) legal.0
+answer_there rules s n (x ∷ es) e more legal =
+    subst (λ (k : ℕ). IsAnswer rules (after rules (after_entry rules s x) es) k e) (omega arith) (answer_there rules (after_entry rules s x) (suc n) es e more legal.1)

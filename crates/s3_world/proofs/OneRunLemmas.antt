@@ -7,6 +7,8 @@ use Rattle.s3_machine.specs.Step.{State, step}
 use Rattle.s3_machine.specs.History.{IsAnswer, Legal, after}
 use Rattle.s3_machine.specs.declared.command.Answer.{Answer}
 use Rattle.s3_machine.specs.declared.turn.Turn.{Turn}
+use Rattle.s3_machine.specs.Rules.{rules_of}
+use Rattle.s3_machine.specs.declared.rules.Rules.{Rules}
 use Rattle.s3_journal.specs.Recorded.{Recorded, entries_of_seat, history_of, recorded}
 use Rattle.s3_session.specs.Output.{is_dead}
 use Rattle.s3_session.specs.Output as standings
@@ -19,15 +21,15 @@ use Rattle.s3_world.proofs.PlayedLemmas.{OneTimedOutput, timed_one}
 use Rattle.s3_world.proofs.EntryLemmas.{answer_there, history_more}
 
 -- the answer to a turn
-abbrev given : ℕ → State → ℕ → Turn → Answer
-given least s n turn = record { number = n; outcome = (step least s n turn.moment turn.command).1 }
+abbrev given : Rules → State → ℕ → Turn → Answer
+given rules s n turn = record { number = n; outcome = (step rules s n turn.moment turn.command).1 }
 
 first_same : {A : Type 0} (x y : A) (xs ys : List A) → x ∷ xs ≡ y ∷ ys → x ≡ y
 first_same x y xs ys same = cc
 
 module _ (one : OneTimedOutput) (settings : Settings) (moments : List (List ℕ)) where
   abbrev IsLegal : List Recorded → Type 0
-  IsLegal entries = Legal settings.min_part (opening settings.buckets) 0 (history_of entries)
+  IsLegal entries = Legal (rules_of settings) (opening settings.buckets) 0 (history_of entries)
 
   module _ (lost lost' : ℕ → Bool) (live : (c : ℕ) → c < length moments → lost c ≡ false) (live' : (c : ℕ) → c < length moments → lost' c ≡ false) where
     -- no command waits, where there is no entry
@@ -47,13 +49,13 @@ module _ (one : OneTimedOutput) (settings : Settings) (moments : List (List ℕ)
     one_answer : (done : List Recorded) (r s : Recorded) (rest others : List Recorded) → IsLegal (done ++ r ∷ rest) → IsLegal (done ++ s ∷ others)
         → answered_turn r.entry ≡ answered_turn s.entry → r.entry.answer ≡ s.entry.answer
     one_answer done r s rest others legal legal' same =
-        let least = settings.min_part in
+        let rules = rules_of settings in
         let first = opening settings.buckets in
-        let a : IsAnswer least (after least first (history_of done)) (0 + length (history_of done)) r.entry =
-        answer_there least first 0 (history_of done) r.entry (history_of rest) (subst (Legal least first 0) (history_more done (r ∷ rest)) legal) in
-        let b : IsAnswer least (after least first (history_of done)) (0 + length (history_of done)) s.entry =
-        answer_there least first 0 (history_of done) s.entry (history_of others) (subst (Legal least first 0) (history_more done (s ∷ others)) legal') in
-        a ∙ ap (λ (t : Turn). given least (after least first (history_of done)) (0 + length (history_of done)) t) same ∙ sym b
+        let a : IsAnswer rules (after rules first (history_of done)) (0 + length (history_of done)) r.entry =
+        answer_there rules first 0 (history_of done) r.entry (history_of rest) (subst (Legal rules first 0) (history_more done (r ∷ rest)) legal) in
+        let b : IsAnswer rules (after rules first (history_of done)) (0 + length (history_of done)) s.entry =
+        answer_there rules first 0 (history_of done) s.entry (history_of others) (subst (Legal rules first 0) (history_more done (s ∷ others)) legal') in
+        a ∙ ap (λ (t : Turn). given rules (after rules first (history_of done)) (0 + length (history_of done)) t) same ∙ sym b
 
     -- the entries are one, after the same entries
     one_taking : (done : List Recorded) (turns : List TurnAt) (later later' : List Recorded)

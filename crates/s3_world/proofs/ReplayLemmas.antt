@@ -8,6 +8,8 @@ use Rattle.s3_records.specs.Catalogue.{opening}
 use Rattle.s3_store.specs.Steps as stores
 use Rattle.s3_machine.specs.History.{Entry, Legal}
 use Rattle.s3_machine.specs.declared.turn.Turn.{Turn}
+use Rattle.s3_machine.specs.Rules.{rules_of}
+use Rattle.s3_machine.specs.declared.rules.Rules.{Rules}
 use Rattle.s3_journal.specs.Book.{Journal, KeepsHistory}
 use Rattle.s3_journal.specs.Recorded.{history_of}
 use Rattle.s3_session.specs.Replay.{Replays, entries_of}
@@ -22,16 +24,16 @@ abbrev input_of : List ℕ → Input
 input_of bytes = record { bytes = bytes; ended = false }
 
 -- nothing has come
-pub begun : (settings : Settings) (moment : ℕ) (played : Playing) (book : Journal) (moments : List ℕ) (least : ℕ) (store : stores.Standing)
+pub begun : (settings : Settings) (moment : ℕ) (played : Playing) (book : Journal) (moments : List ℕ) (rules : Rules) (store : stores.Standing)
     → moments ≡ moment ∷ [] → ((s : Settings) → Plays played s moments (input_of []) [])
-    → book ≡ record { origin = book.origin; least = least; opening = store; entries = []; store = store }
-    → least ≡ settings.min_part → store ≡ stores.opened (opening settings.buckets)
+    → book ≡ record { origin = book.origin; rules = rules; opening = store; entries = []; store = store }
+    → rules ≡ rules_of settings → store ≡ stores.opened (opening settings.buckets)
     → HasCome (record { settings = settings; played = played; book = book }) settings moment []
-begun settings moment played book moments least store one plays is least_is store_is = record {
+begun settings moment played book moments rules store one plays is rules_is store_is = record {
   under = refl;
   plays = subst (λ (ms : List ℕ). Plays played settings ms (input_of []) (history_of book.entries)) one
       (subst (λ (es : List Entry). Plays played settings moments (input_of []) es) (sym (ap (λ (j : Journal). history_of j.entries) is)) (plays settings));
-  least = ap (λ (j : Journal). j.least) is ∙ least_is;
+  rules = ap (λ (j : Journal). j.rules) is ∙ rules_is;
   opens = ap (λ (j : Journal). j.opening) is ∙ store_is;
 }
 
@@ -39,13 +41,13 @@ begun settings moment played book moments least store one plays is least_is stor
 pub goes_on : (r : Replaying) (settings : Settings) (moment : ℕ) (bytes more : List ℕ) (played : Playing) (book : Journal) → HasCome r settings moment bytes
     → (Plays r.played r.settings (moment ∷ []) (input_of bytes) (history_of r.book.entries)
     → Plays played r.settings (moment ∷ []) (input_of more) (history_of book.entries))
-    → book.least ≡ r.book.least → book.opening ≡ r.book.opening
+    → book.rules ≡ r.book.rules → book.opening ≡ r.book.opening
     → HasCome (record { settings = r.settings; played = played; book = book }) settings moment more
-goes_on r settings moment bytes more played book h on least opens = record {
+goes_on r settings moment bytes more played book h on rules opens = record {
   under = h.under;
   plays = subst (λ (s : Settings). Plays played s (moment ∷ []) (input_of more) (history_of book.entries)) h.under
       (on (subst (λ (s : Settings). Plays r.played s (moment ∷ []) (input_of bytes) (history_of r.book.entries)) (sym h.under) h.plays));
-  least = least ∙ h.least;
+  rules = rules ∙ h.rules;
   opens = opens ∙ h.opens;
 }
 
@@ -82,9 +84,9 @@ written_replays write r settings moment bytes taken p ends turn keeps =
     let entries = history_of r.book.entries in
     let plays = ends settings (moment ∷ []) (input_of bytes) entries h.plays in
     let wrote = plays_write write p settings (moment ∷ []) (record { bytes = bytes; ended = true }) entries plays in
-    let legal : Legal settings.min_part (opening settings.buckets) 0 entries =
-    subst (λ (n : ℕ). Legal n (opening settings.buckets) 0 entries) h.least
-    (subst (λ (t : stores.Standing). Legal r.book.least t.state t.number entries) h.opens keeps.legal) in (
+    let legal : Legal (rules_of settings) (opening settings.buckets) 0 entries =
+    subst (λ (rules : Rules). Legal rules (opening settings.buckets) 0 entries) h.rules
+    (subst (λ (t : stores.Standing). Legal r.book.rules t.state t.number entries) h.opens keeps.legal) in (
       standing_of p,
       (waits_for p settings (moment ∷ []) (record { bytes = bytes; ended = true }) entries plays).1 (turn ∙ taken.1),
       record {
@@ -93,7 +95,7 @@ written_replays write r settings moment bytes taken p ends turn keeps =
         ended = refl;
         moments = all_handed moment wrote.1.count;
         writes = wrote.1.output.writes;
-        legal = subst (Legal settings.min_part (opening settings.buckets) 0) (sym (answered_entries entries wrote.0)) legal;
+        legal = subst (Legal (rules_of settings) (opening settings.buckets) 0) (sym (answered_entries entries wrote.0)) legal;
       },
     )
 

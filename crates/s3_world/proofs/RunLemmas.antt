@@ -9,6 +9,8 @@ use Rattle.s3_store.specs.Steps.{opened}
 use Rattle.s3_store.specs.Steps as stores
 use Rattle.s3_machine.specs.History.{Entry, Legal}
 use Rattle.s3_machine.specs.declared.turn.Turn.{Turn}
+use Rattle.s3_machine.specs.Rules.{rules_of}
+use Rattle.s3_machine.specs.declared.rules.Rules.{Rules}
 use Rattle.s3_journal.specs.Book.{Journal}
 use Rattle.s3_journal.specs.Recorded.{entries_of_seat, history_of}
 use Rattle.s3_connection.specs.Output.{Input}
@@ -27,14 +29,14 @@ use Rattle.s3_world.proofs.WorldLemmas.{same_some, there}
 -- connections of which nothing came
 pub begins : (settings : Settings) (connections : List Playing) (book : Journal) (given : List (Vec ℕ))
     → AreFresh connections (each_moments given) (length given)
-    → book ≡ record { origin = book.origin; least = settings.min_part; opening = opened (opening settings.buckets); entries = []; store = opened (opening settings.buckets) }
+    → book ≡ record { origin = book.origin; rules = rules_of settings; opening = opened (opening settings.buckets); entries = []; store = opened (opening settings.buckets) }
     → StandsAfter (record { settings = settings; connections = connections; book = book }) (each_moments given) []
 begins settings connections book given fresh is =
     subst (λ (j : Journal). StandsAfter (record { settings = settings; connections = connections; book = j }) (each_moments given) []) (sym is)
     (record {
       each = fresh.count ∙ sym (length-map given (λ (v : Vec ℕ). v.items));
       plays = λ c b at. fresh.fresh c b at settings;
-      least = refl;
+      rules = refl;
       opens = refl;
       keeps = record { legal = tt; leaves = refl; counts = refl };
       taken = refl;
@@ -73,8 +75,8 @@ worlds_run write world moments happened s =
       record {
         standing = λ c. standing_at world.connections c;
         waiting = λ c. waiting_in write settings (moments_of c moments) (received c happened) (entries_of_seat c world.book.entries) (slice_get world.connections c) (s.plays c);
-        legal = subst (λ (n : ℕ). Legal n (opening settings.buckets) 0 (history_of world.book.entries)) s.least
-            (subst (λ (t : stores.Standing). Legal world.book.least t.state t.number (history_of world.book.entries)) s.opens s.keeps.legal);
+        legal = subst (λ (r : Rules). Legal r (opening settings.buckets) 0 (history_of world.book.entries)) s.rules
+            (subst (λ (t : stores.Standing). Legal world.book.rules t.state t.number (history_of world.book.entries)) s.opens s.keeps.legal);
         taken = s.taken;
         outputs = λ c less.
             (let count : c < length world.connections = subst (λ (n : ℕ). c < n) (sym s.each) less in

@@ -168,7 +168,7 @@ module _ (one : OneTimedOutput) (write : ConnectionsWrite) (settings : Settings)
               ∙ ap (λ (es : List Entry). entries_of_seat k before.entries ++ es) (m.others k differ) ∙ append-nil (entries_of_seat k before.entries)))
               (s.plays k d (sym (has.others k differ) ∙ is)))
         ];
-    least = has.least ∙ s.least;
+    rules = has.rules ∙ s.rules;
     opens = has.opens ∙ s.opens;
     keeps = keeps;
     taken = subst (λ (turns : List TurnAt). AreTaken settings moments (is_lost_in new) [] turns after.entries) (sym (turns_more happened e))

@@ -8,6 +8,7 @@ use Rattle.s3_store.specs.Steps.{opened}
 use Rattle.s3_journal.specs.Book.{Journal}
 use Rattle.s3_journal.specs.Recorded.{history_of}
 use Rattle.s3_world.specs.Played.{Playing, Plays, turn_of}
+use Rattle.s3_machine.specs.Rules.{rules_of}
 
 -- a replay: the settings, the connection, and the book of its store
 pub record Replaying : Type 0 where
@@ -19,7 +20,7 @@ pub record Replaying : Type 0 where
 pub record HasCome (replay : Replaying) (settings : Settings) (moment : ℕ) (bytes : List ℕ) : Type 0 where
   pub under : replay.settings ≡ settings
   pub plays : Plays replay.played settings (moment ∷ []) (record { bytes = bytes; ended = false }) (history_of replay.book.entries)
-  pub least : replay.book.least ≡ settings.min_part
+  pub rules : replay.book.rules ≡ rules_of settings
   pub opens : replay.book.opening ≡ opened (opening settings.buckets)
 
 -- it has taken these bytes, all of whose messages have one moment: they came, and no command waits

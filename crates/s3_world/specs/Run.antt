@@ -6,6 +6,7 @@ use Rattle.s3_config.specs.Settings.{Settings}
 use Rattle.s3_records.specs.Catalogue.{opening}
 use Rattle.s3_machine.specs.History.{Legal}
 use Rattle.s3_machine.specs.declared.turn.Turn.{Turn}
+use Rattle.s3_machine.specs.Rules.{rules_of}
 use Rattle.s3_journal.specs.Recorded.{Recorded, history_of, entries_of_seat}
 use Rattle.s3_session.specs.Output.{Standing, is_dead}
 use Rattle.s3_events.specs.declared.event.Event.{Event}
@@ -59,7 +60,7 @@ module _ (settings : Settings) (moments : List (List ℕ)) where
 pub record Runs (settings : Settings) (moments : List (List ℕ)) (happened : List Event) (outs : List (List ℕ)) (entries : List Recorded) : Type 0 where
   pub standing : ℕ → Standing
   pub waiting : ℕ → List Turn
-  pub legal : Legal settings.min_part (opening settings.buckets) 0 (history_of entries)
+  pub legal : Legal (rules_of settings) (opening settings.buckets) 0 (history_of entries)
   pub taken : AreTaken settings moments (λ c. is_dead (standing c)) [] (turns_given happened) entries
   pub outputs : (c : ℕ) → c < length moments
       → TimedOutputs (standing c) settings (moments_of c moments) (received c happened) (entries_of_seat c entries) (waiting c) (output_of c outs)

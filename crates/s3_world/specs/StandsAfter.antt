@@ -9,6 +9,7 @@ use Rattle.s3_records.specs.Catalogue.{opening}
 use Rattle.s3_machine.specs.History.{Entry}
 use Rattle.s3_machine.specs.declared.command.Answer.{Answer}
 use Rattle.s3_machine.specs.declared.turn.Turn.{Turn}
+use Rattle.s3_machine.specs.Rules.{rules_of}
 use Rattle.s3_store.specs.Steps.{opened}
 use Rattle.s3_session.specs.Output.{is_dead}
 use Rattle.s3_journal.specs.Book.{Journal, KeepsHistory}
@@ -34,7 +35,7 @@ pub record StandsAfter (world : Serving) (moments : List (List ℕ)) (happened :
   pub each : length world.connections ≡ length moments
   pub plays : (c : ℕ) (b : Playing) → slice_get world.connections c ≡ Some b
       → Plays b world.settings (moments_of c moments) (received c happened) (entries_of_seat c world.book.entries)
-  pub least : world.book.least ≡ world.settings.min_part
+  pub rules : world.book.rules ≡ rules_of world.settings
   pub opens : world.book.opening ≡ opened (opening world.settings.buckets)
   pub keeps : KeepsHistory world.book
   pub taken : AreTaken world.settings moments (is_lost_in world.connections) [] (turns_given happened) world.book.entries
@@ -81,7 +82,7 @@ pub record HasHappened (settings : Settings) (e : Event) (old new : List Playing
   pub count : length new ≡ length old
   pub others : (k : ℕ) → k ≢ connection_of_event e → slice_get new k ≡ slice_get old k
   pub own : WentOn settings e (slice_get old (connection_of_event e)) (slice_get new (connection_of_event e)) before.entries after.entries
-  pub least : after.least ≡ before.least
+  pub rules : after.rules ≡ before.rules
   pub opens : after.opening ≡ before.opening
 
 -- a world that stands after some events has made a run of them, in which its connections stand as they do, and whose outputs are what

@@ -19,7 +19,7 @@ pub record Serving : Type 0 where
 -- the turn that waited has its entry, or memory may be lacking for it
 abbrev pub IsEntered : Bool → Journal → Journal → Option Turn → Type 0
 IsEntered in_memory old new None = Unit {0}
-IsEntered in_memory old new (Some turn) = (length new.entries ≡ length old.entries + 1) ⊎ MayLack in_memory old.least old.store turn
+IsEntered in_memory old new (Some turn) = (length new.entries ≡ length old.entries + 1) ⊎ MayLack in_memory old.rules old.store turn
 
 -- the turn that an event gives to a connection, if it gives one and a command waits for it
 abbrev pub given_by : Event → Option Turn → Option Turn

@@ -66,13 +66,13 @@ impl<'a> Model for Played<'a> {
 }
 
 impl<'a> Played<'a> {
-    ghost use Rattle.s3_world.specs.Played as rules;
+    ghost use Rattle.s3_world.specs.Played as playings;
     ghost use Rattle.s3_world.specs.Played.{Carries, Plays};
 
     // A connection of which nothing came, whose messages have these moments. It takes no memory.
     pub(crate) fn new(alloc: Global, moments: &'a [Moment]) -> Played<'a>
         ensures begins { (settings : Settings) → Plays result settings moments.now nothing_received [] }
-        ensures none { rules.turn_of result ≡ None }
+        ensures none { playings.turn_of result ≡ None }
     {
         Played {
             connection: Connection::new(alloc),
@@ -90,8 +90,8 @@ impl<'a> Played<'a> {
         event: &Event,
     ) -> Result<(), NoMemory>
         ensures goes_on { OnOk result (GoesOn config.now event.now self.old self.new book.old.entries book.new.entries) }
-        ensures entered { IsEntered R.is_in_memory book.old book.new (given_by event.now (rules.turn_of self.old)) }
-        ensures least { book.new.least ≡ book.old.least }
+        ensures entered { IsEntered R.is_in_memory book.old book.new (given_by event.now (playings.turn_of self.old)) }
+        ensures rules { book.new.rules ≡ book.old.rules }
         ensures opens { book.new.opening ≡ book.old.opening }
         ensures same { OnErr result (self.new ≡ self.old) }
         ensures book { OnErr result (book.new ≡ book.old) }
@@ -122,7 +122,7 @@ impl<'a> Played<'a> {
             → OnOk result (Plays self.new config.now moments (received input piece.now) entries) }
         ensures same { OnErr result (self.new ≡ self.old) }
         ensures memory { OnErr result ((piece.now ≢ []) × (wants_of self.old.connection ≢ Wants.Input)) }
-        ensures closed { is_closed (rules.standing_of self.old) ≡ true → rules.standing_of self.new ≡ rules.standing_of self.old }
+        ensures closed { is_closed (playings.standing_of self.old) ≡ true → playings.standing_of self.new ≡ playings.standing_of self.old }
     {
         let now = next(self.moments);
         let has_moment = self.connection.piece(alloc, config, now, piece)?;
@@ -134,8 +134,8 @@ impl<'a> Played<'a> {
     pub(crate) fn end(&mut self)
         ensures plays { (settings : Settings) (moments : List ℕ) (input : Input) (entries : List Entry) → Plays self.old settings moments input entries
             → Plays self.new settings moments (record { bytes = input.bytes; ended = true }) entries }
-        ensures closed { is_closed (rules.standing_of self.old) ≡ true → rules.standing_of self.new ≡ rules.standing_of self.old }
-        ensures turn { rules.turn_of self.new ≡ rules.turn_of self.old }
+        ensures closed { is_closed (playings.standing_of self.old) ≡ true → playings.standing_of self.new ≡ playings.standing_of self.old }
+        ensures turn { playings.turn_of self.new ≡ playings.turn_of self.old }
     {
         self.connection.end();
     }
@@ -150,11 +150,11 @@ impl<'a> Played<'a> {
         seat: u64,
     ) -> bool
         ensures goes_on { GoesOn config.now (Happening.Turn seat) self.old self.new book.old.entries book.new.entries }
-        ensures entered { IsEntered R.is_in_memory book.old book.new (rules.turn_of self.old) }
-        ensures least { book.new.least ≡ book.old.least }
+        ensures entered { IsEntered R.is_in_memory book.old book.new (playings.turn_of self.old) }
+        ensures rules { book.new.rules ≡ book.old.rules }
         ensures opens { book.new.opening ≡ book.old.opening }
-        ensures some { result ≡ true → rules.turn_of self.old ≢ None }
-        ensures none { result ≡ false → rules.turn_of self.new ≡ None }
+        ensures some { result ≡ true → playings.turn_of self.old ≢ None }
+        ensures none { result ≡ false → playings.turn_of self.new ≡ None }
     {
         let Some(turn) = self.connection.take_turn() else {
             return false;
@@ -170,7 +170,7 @@ impl<'a> Played<'a> {
         ensures carries { (moments : List ℕ) (input : Input) (entries : List Entry) → Carries self.old config.now moments input entries
             → Carries self.new config.now moments input entries }
         ensures idle { taken_of self.old.connection ≡ None → IsNext self.new.connection.stage }
-        ensures closed { is_closed (rules.standing_of self.old) ≡ true → rules.standing_of self.new ≡ rules.standing_of self.old }
+        ensures closed { is_closed (playings.standing_of self.old) ≡ true → playings.standing_of self.new ≡ playings.standing_of self.old }
     {
         let now = next(self.moments);
         let has_moment = self.connection.go_on(alloc, config, now);
@@ -186,8 +186,8 @@ impl<'a> Played<'a> {
 
     // A copy of all that it wrote. `NoMemory` comes where it wrote something.
     pub(crate) fn all(&self, alloc: Global) -> Result<Vec<u8>, NoMemory>
-        ensures all { IfOk result (λ all. all.items ≡ rules.written_by self.now) }
-        ensures memory { OnErr result (0 < length (rules.written_by self.now)) }
+        ensures all { IfOk result (λ all. all.items ≡ playings.written_by self.now) }
+        ensures memory { OnErr result (0 < length (playings.written_by self.now)) }
     {
         self.connection.all(alloc)
     }

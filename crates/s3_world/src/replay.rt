@@ -11,6 +11,7 @@ use s3_calendar::Moment;
 use s3_config::Config;
 use s3_connection::connections_write;
 use s3_journal::Book;
+use s3_machine::Rules;
 use s3_records::MapRecords;
 use s3_store::Store;
 use s3_terms::NoMemory;
@@ -55,7 +56,7 @@ impl<'a> Replay<'a> {
     ///
     /// # Errors
     ///
-    /// `NoMemory` where there is no memory for a bucket to be opened.
+    /// `NoMemory` where there is no memory for a bucket to be opened, or for a copy of the region's name.
     pub fn new(
         alloc: Global,
         config: &'a Config,
@@ -64,7 +65,8 @@ impl<'a> Replay<'a> {
         ensures { IfOk result (λ replay. HasTaken replay config.now moment.now []) }
     {
         let store = Store::open(alloc, config.buckets())?;
-        let book = Book::new(alloc, config.min_part(), store)?;
+        let rules = Rules::of(alloc, config)?;
+        let book = Book::new(alloc, rules, store)?;
         Ok(Replay {
             alloc,
             config,

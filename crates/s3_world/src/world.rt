@@ -21,6 +21,7 @@ use s3_config::Config;
 use s3_connection::{connections_write, outputs_are_one};
 use s3_events::Event;
 use s3_journal::Book;
+use s3_machine::Rules;
 use s3_records::Records;
 use s3_session::Fault;
 use s3_store::Store;
@@ -63,7 +64,7 @@ impl<'a, R: Records + Drop> World<'a, R> {
     ///
     /// # Errors
     ///
-    /// `NoMemory` where there is no memory for the connections.
+    /// `NoMemory` where there is no memory for the connections, or for a copy of the region's name.
     pub fn new(
         alloc: Global,
         config: &'a Config,
@@ -75,7 +76,8 @@ impl<'a, R: Records + Drop> World<'a, R> {
         ensures settings { IfOk result (λ world. world.settings ≡ config.now) }
     {
         let connections = fresh(alloc, moments)?;
-        let book = Book::new(alloc, config.min_part(), store)?;
+        let rules = Rules::of(alloc, config)?;
+        let book = Book::new(alloc, rules, store)?;
         Ok(World {
             alloc,
             config,

@@ -4,7 +4,7 @@ ghost use Rattle.std.specs.Prelude.{◌≡◌, ◌≢◌, true, false, None};
 ghost use Rattle.s3_connection.specs.Connection.{taken_of};
 
 use crate::sessions::parts::bytes_of;
-use crate::sessions::server::moment;
+use crate::sessions::server::{applied, moment};
 use crate::sessions::steps::{Tried, goes};
 use s3_calendar::Moment;
 use s3_config::Config;
@@ -69,8 +69,7 @@ impl Kept<'_, '_> {
         match self.connection.take_turn() {
             None => false,
             Some(turn) => {
-                let least = self.config.min_part();
-                let answer = self.store.apply(alloc, least, turn.command, turn.moment);
+                let answer = applied(alloc, self.config, self.store, turn);
                 self.connection.answer(alloc, answer);
                 self.go_on(alloc)
             }

@@ -4,6 +4,7 @@ ghost use Rattle.s3_session.specs.Output.{is_waiting};
 ghost use Rattle.s3_session.specs.Session.{standing_of};
 
 use crate::sessions::clock::Counting;
+use crate::sessions::server::applied;
 use s3_config::Config;
 use s3_machine::Turn;
 use s3_records::MapRecords;
@@ -123,10 +124,7 @@ impl<'a> Line<'a> {
     /// Gives the turn that was asked for, if one was.
     pub(crate) fn answer(&mut self) {
         if let Some(turn) = self.waiting.take() {
-            let least = self.config.min_part();
-            let answer = self
-                .store
-                .apply(self.alloc, least, turn.command, turn.moment);
+            let answer = applied(self.alloc, self.config, self.store, turn);
             let next = self.session.answer(answer);
             self.then = self.behind(next);
         }

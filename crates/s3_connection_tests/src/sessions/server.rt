@@ -1,6 +1,10 @@
 //! The settings of a server with the access key of AWS's examples and two buckets, and the moment of its first message.
 use s3_calendar::Moment;
 use s3_config::Config;
+use s3_machine::{Answer, Rules, Turn};
+use s3_records::MapRecords;
+use s3_store::Store;
+use s3_terms::NoMemory;
 use s3_world::replay_one;
 use std::alloc::Global;
 
@@ -14,6 +18,17 @@ pub(crate) fn moment() -> Option<Moment> {
 pub(crate) fn config(alloc: Global) -> Option<Config> {
     let buckets = [b"pail".as_slice(), b"examplebucket"];
     s3_test_servers::config(alloc, b"us-east-1", 5_242_880, 67_108_864, &buckets)
+}
+
+/// The answer of a store to a turn, in a server of these settings.
+pub(crate) fn applied(
+    alloc: Global,
+    config: &Config,
+    store: &mut Store<MapRecords>,
+    turn: Turn,
+) -> Result<Answer, NoMemory> {
+    let rules = Rules::of(alloc, config)?;
+    store.apply(alloc, &rules, turn.command, turn.moment)
 }
 
 /// Whether a connection of these bytes, all at that moment, is answered by those and by nothing else.

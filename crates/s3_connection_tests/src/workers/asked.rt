@@ -1,5 +1,5 @@
 //! Turns that store something in the bucket `pail`, or read it.
-use s3_bodies::{Body, Payload, PayloadBuilder, Sink};
+use s3_bodies::{Body, PayloadBuilder, Sink};
 use s3_calendar::Moment;
 use s3_conditions::Conditions;
 use s3_machine::{Command, KeyCommand, ObjectPut, ObjectRead, Turn};
@@ -9,7 +9,7 @@ use std::alloc::Global;
 
 // What stores these bytes as a plain text without metadata, and only where the key has no object if so wanted; or reads where
 // there are none.
-fn asked(alloc: Global, bytes: Option<&[u8]>, if_absent: bool) -> Option<KeyCommand<Payload>> {
+fn asked(alloc: Global, bytes: Option<&[u8]>, if_absent: bool) -> Option<KeyCommand> {
     let Some(bytes) = bytes else {
         return Some(KeyCommand::Read(ObjectRead {
             version: None,

@@ -9,6 +9,7 @@ use s3_config::Config;
 use s3_devices::{Device, Recorded};
 use s3_history::Recorder;
 use s3_journal::Book;
+use s3_machine::Rules;
 use s3_pump::{BookHandle, Outcome, StoreHandle, serve};
 use s3_records::MapRecords;
 use s3_store::Store;
@@ -102,7 +103,8 @@ pub(crate) fn book(alloc: Global, config: &Config) -> Option<Book<MapRecords>>
     ensures { IfSome result (λ book. book.entries ≡ []) }
 {
     let store = store(alloc, config)?;
-    Book::new(alloc, config.min_part(), store).ok()
+    let rules = Rules::of(alloc, config).ok()?;
+    Book::new(alloc, rules, store).ok()
 }
 
 /// The same for one connection.

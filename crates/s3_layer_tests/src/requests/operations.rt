@@ -8,9 +8,7 @@ use s3_documents::Document;
 use s3_machine::{CopyRange, Found, ObjectCopy, Outcome, Source};
 use s3_names::{Tag, UploadId, VersionId};
 use s3_prefixes::ListVersion;
-use s3_requests::{
-    BucketCommand, BucketPlan, Command, KeyCommand, Plan, UploadCommand, UploadPlan,
-};
+use s3_requests::{BucketCommand, Command, KeyCommand, Plan, UploadCommand};
 use s3_terms::{Code, Dialect};
 use s3_versions::{Data, Versioning, VersioningStatus};
 use std::alloc::Global;
@@ -24,23 +22,23 @@ fn list_of(version: ListVersion) -> &'static str {
 }
 
 // The operation on a bucket; where a configuration is asked for, the code that says that there is none.
-fn bucket_operation(asked: &BucketPlan) -> &'static str {
+fn bucket_operation(asked: &BucketCommand) -> &'static str {
     match asked {
-        BucketPlan::Create { .. } => "CreateBucket",
-        BucketPlan::Head => "HeadBucket",
-        BucketPlan::Delete => "DeleteBucket",
-        BucketPlan::PutVersioning { .. } => "PutBucketVersioning",
-        BucketPlan::GetVersioning => "GetBucketVersioning",
-        BucketPlan::GetLocation { .. } => "GetBucketLocation",
-        BucketPlan::GetConfiguration(which) => which.absence().name(),
-        BucketPlan::ListObjects(asked) => list_of(asked.version),
-        BucketPlan::ListVersions(_) => "ListObjectVersions",
-        BucketPlan::ListUploads(_) => "ListMultipartUploads",
+        BucketCommand::Create => "CreateBucket",
+        BucketCommand::Head => "HeadBucket",
+        BucketCommand::Delete => "DeleteBucket",
+        BucketCommand::PutVersioning { .. } => "PutBucketVersioning",
+        BucketCommand::GetVersioning => "GetBucketVersioning",
+        BucketCommand::GetLocation => "GetBucketLocation",
+        BucketCommand::GetConfiguration(which) => which.absence().name(),
+        BucketCommand::ListObjects(asked) => list_of(asked.version),
+        BucketCommand::ListVersions(_) => "ListObjectVersions",
+        BucketCommand::ListUploads(_) => "ListMultipartUploads",
     }
 }
 
 // The operation on a key, and the version that is asked for. A HEAD is the same read as a GET.
-fn key_operation<B>(asked: &KeyCommand<B>) -> (&'static str, Option<VersionId>) {
+fn key_operation(asked: &KeyCommand) -> (&'static str, Option<VersionId>) {
     match asked {
         KeyCommand::Put(_) => ("PutObject", None),
         KeyCommand::Copy(_) => ("CopyObject", None),
@@ -51,23 +49,36 @@ fn key_operation<B>(asked: &KeyCommand<B>) -> (&'static str, Option<VersionId>) 
 }
 
 // The operation on an upload.
-fn upload_operation(asked: &UploadPlan) -> &'static str {
+fn upload_operation(asked: &UploadCommand) -> &'static str {
     match asked {
-        UploadPlan::PutPart { .. } => "UploadPart",
-        UploadPlan::CopyPart { .. } => "UploadPartCopy",
-        UploadPlan::Complete { .. } => "CompleteMultipartUpload",
-        UploadPlan::Abort => "AbortMultipartUpload",
-        UploadPlan::ListParts(_) => "ListParts",
+        UploadCommand::PutPart { .. } => "UploadPart",
+        UploadCommand::CopyPart { .. } => "UploadPartCopy",
+        UploadCommand::Complete { .. } => "CompleteMultipartUpload",
+        UploadCommand::Abort => "AbortMultipartUpload",
+        UploadCommand::ListParts(_) => "ListParts",
+    }
+}
+
+// The operation of a command.
+fn command_operation(command: &Command) -> &'static str {
+    match command {
+        Command::ListBuckets => "ListBuckets",
+        Command::Bucket { asked, .. } => bucket_operation(asked),
+        Command::Key { asked, .. } => key_operation(asked).0,
+        Command::Upload { asked, .. } => upload_operation(asked),
+        Command::DeleteObjects { .. } => "DeleteObjects",
     }
 }
 
 /// The operation.
 pub(crate) fn operation(plan: &Plan) -> &'static str {
     match plan {
-        Plan::ListBuckets => "ListBuckets",
-        Plan::Bucket { asked, .. } => bucket_operation(asked),
-        Plan::Key { asked, .. } => key_operation(asked).0,
-        Plan::Upload { asked, .. } => upload_operation(asked),
+        Plan::Ready(command) => command_operation(command),
+        Plan::CreateBucket { .. } => "CreateBucket",
+        Plan::PutVersioning { .. } => "PutBucketVersioning",
+        Plan::Put { .. } => "PutObject",
+        Plan::PutPart { .. } => "UploadPart",
+        Plan::Complete { .. } => "CompleteMultipartUpload",
         Plan::DeleteObjects { .. } => "DeleteObjects",
     }
 }
@@ -163,9 +174,8 @@ fn with_copy(alloc: Global, text: Vec<u8>, asked: &ObjectCopy) -> Told {
 }
 
 // That text, and what is asked beside the version.
-fn with_asked<B>(alloc: Global, text: Vec<u8>, asked: &KeyCommand<B>) -> Told {
+fn with_asked(alloc: Global, text: Vec<u8>, asked: &KeyCommand) -> Told {
     match asked {
-        KeyCommand::Put(asked) => with_absence(alloc, &text, asked.if_absent),
         KeyCommand::Copy(asked) => with_copy(alloc, text, asked),
         KeyCommand::Read(asked) => with_conditions(alloc, text, &asked.conditions),
         _ => Ok(text),
@@ -177,80 +187,106 @@ fn with_number(alloc: Global, text: &[u8], behind: u64) -> Told {
     Ok([text, b" ", &number(alloc, behind)?].concat(alloc)?)
 }
 
-// That text, and what is asked of an upload: the number of a part, whether its key is to have no object, or behind which
-// number how many are listed.
-fn with_part(alloc: Global, text: &[u8], asked: &UploadPlan) -> Told {
+// That text, and what is asked of an upload: the number of a part and its source, or behind which number how many are listed.
+fn with_part(alloc: Global, text: Vec<u8>, asked: &UploadCommand) -> Told {
     match asked {
-        UploadPlan::PutPart { number } => with_number(alloc, text, u64::from(number.get())),
-        UploadPlan::CopyPart { number, copy } => {
-            let text = with_number(alloc, text, u64::from(number.get()))?;
+        UploadCommand::CopyPart { number, copy } => {
+            let text = with_number(alloc, &text, u64::from(number.get()))?;
             with_range(alloc, with_source(alloc, text, &copy.source)?, copy.range)
         }
-        UploadPlan::ListParts(asked) => {
-            let text = with_number(alloc, text, asked.marker)?;
+        UploadCommand::ListParts(asked) => {
+            let text = with_number(alloc, &text, asked.marker)?;
             with_number(alloc, &text, u64::from(asked.max_parts))
         }
-        UploadPlan::Complete { if_absent, .. } => with_absence(alloc, text, *if_absent),
-        _ => Ok(Vec::from_slice(alloc, text)?),
+        _ => Ok(text),
     }
 }
 
-// That text, and what is asked of the upload of this id.
-fn with_upload(alloc: Global, text: &[u8], id: UploadId, asked: &UploadPlan) -> Told {
-    let text = [text, b" ", id.text().as_bytes()].concat(alloc)?;
-    with_part(alloc, &text, asked)
+// An operation on the upload of this id to a key in a bucket.
+fn with_upload(alloc: Global, operation: &[u8], bucket: &[u8], key: &[u8], id: UploadId) -> Told {
+    let text = with_key(alloc, operation, bucket, key)?;
+    Ok([text.as_slice(), b" ", id.text().as_bytes()].concat(alloc)?)
 }
 
 // What is asked of a key in a bucket.
-fn key_plan_text(alloc: Global, bucket: &[u8], key: &[u8], asked: &KeyCommand<()>) -> Told {
+fn key_text_of(alloc: Global, bucket: &[u8], key: &[u8], asked: &KeyCommand) -> Told {
     let (operation, version) = key_operation(asked);
     let text = with_key(alloc, operation.as_bytes(), bucket, key)?;
     with_asked(alloc, with_version(text, version)?, asked)
 }
 
-/// The operation of a plan, its bucket, its key, the id of the version or of the upload that is asked for, and what is asked
-/// of it.
-pub(crate) fn plan_text(alloc: Global, plan: &Plan) -> Told {
-    match plan {
-        Plan::ListBuckets => word(alloc, "ListBuckets"),
-        Plan::Bucket { name, asked } => {
-            with_bucket(alloc, bucket_operation(asked).as_bytes(), name.as_bytes())
+// What is asked without a body.
+fn ready_text(alloc: Global, command: &Command) -> Told {
+    let operation = command_operation(command).as_bytes();
+    match command {
+        Command::ListBuckets => Ok(Vec::from_slice(alloc, operation)?),
+        Command::Bucket { name, .. } => with_bucket(alloc, operation, name.as_bytes()),
+        Command::Key { bucket, key, asked } => {
+            key_text_of(alloc, bucket.as_bytes(), key.as_bytes(), asked)
         }
-        Plan::Key { bucket, key, asked } => {
-            key_plan_text(alloc, bucket.as_bytes(), key.as_bytes(), asked)
-        }
-        Plan::Upload {
+        Command::Upload {
             bucket,
             key,
             id,
             asked,
         } => {
-            let operation = upload_operation(asked).as_bytes();
-            let text = with_key(alloc, operation, bucket.as_bytes(), key.as_bytes())?;
-            with_upload(alloc, &text, *id, asked)
+            let text = with_upload(alloc, operation, bucket.as_bytes(), key.as_bytes(), *id)?;
+            with_part(alloc, text, asked)
         }
-        Plan::DeleteObjects { bucket } => with_bucket(alloc, b"DeleteObjects", bucket.as_bytes()),
+        Command::DeleteObjects { bucket, .. } => with_bucket(alloc, operation, bucket.as_bytes()),
+    }
+}
+
+/// The operation of a plan, its bucket, its key, the id of the version or of the upload that is asked for, and what is asked
+/// of it.
+pub(crate) fn plan_text(alloc: Global, plan: &Plan) -> Told {
+    let operation = operation(plan).as_bytes();
+    match plan {
+        Plan::Ready(command) => ready_text(alloc, command),
+        Plan::CreateBucket { name, .. } => with_bucket(alloc, operation, name.as_bytes()),
+        Plan::PutVersioning { name, .. } => with_bucket(alloc, operation, name.as_bytes()),
+        Plan::Put {
+            bucket,
+            key,
+            if_absent,
+            ..
+        } => {
+            let text = with_key(alloc, operation, bucket.as_bytes(), key.as_bytes())?;
+            with_absence(alloc, &text, *if_absent)
+        }
+        Plan::PutPart {
+            bucket,
+            key,
+            id,
+            number,
+        } => {
+            let text = with_upload(alloc, operation, bucket.as_bytes(), key.as_bytes(), *id)?;
+            with_number(alloc, &text, u64::from(number.get()))
+        }
+        Plan::Complete {
+            bucket,
+            key,
+            id,
+            if_absent,
+            ..
+        } => {
+            let text = with_upload(alloc, operation, bucket.as_bytes(), key.as_bytes(), *id)?;
+            with_absence(alloc, &text, *if_absent)
+        }
+        Plan::DeleteObjects { bucket } => with_bucket(alloc, operation, bucket.as_bytes()),
     }
 }
 
 // What a command does to a bucket.
 fn bucket_text(asked: &BucketCommand) -> &'static str {
     match asked {
-        BucketCommand::Create => "CreateBucket",
-        BucketCommand::Head => "HeadBucket",
-        BucketCommand::Delete => "DeleteBucket",
         BucketCommand::PutVersioning {
             status: VersioningStatus::Enabled,
         } => "PutBucketVersioning Enabled",
         BucketCommand::PutVersioning {
             status: VersioningStatus::Suspended,
         } => "PutBucketVersioning Suspended",
-        BucketCommand::GetVersioning => "GetBucketVersioning",
-        BucketCommand::GetLocation { .. } => "GetBucketLocation",
-        BucketCommand::GetConfiguration(which) => which.absence().name(),
-        BucketCommand::ListObjects(asked) => list_of(asked.version),
-        BucketCommand::ListVersions(_) => "ListObjectVersions",
-        BucketCommand::ListUploads(_) => "ListMultipartUploads",
+        other => bucket_operation(other),
     }
 }
 
@@ -263,16 +299,12 @@ fn is_hello(payload: &Payload) -> bool {
 }
 
 // What a command does to a key.
-fn key_text(asked: &KeyCommand<Payload>) -> &'static str {
+fn key_text(asked: &KeyCommand) -> &'static str {
     match asked {
         KeyCommand::Put(asked) if is_hello(&asked.payload) => "PutObject hello",
-        KeyCommand::Put(_) => "PutObject",
-        KeyCommand::Copy(_) => "CopyObject",
         KeyCommand::Read(asked) if asked.version.is_some() => "GetObject of a version",
-        KeyCommand::Read(_) => "GetObject",
-        KeyCommand::Delete { version: None } => "DeleteObject",
         KeyCommand::Delete { version: Some(_) } => "DeleteObject of a version",
-        KeyCommand::Begin(_) => "CreateMultipartUpload",
+        other => key_operation(other).0,
     }
 }
 
@@ -280,27 +312,23 @@ fn key_text(asked: &KeyCommand<Payload>) -> &'static str {
 fn upload_text(asked: &UploadCommand) -> &'static str {
     match asked {
         UploadCommand::PutPart { payload, .. } if is_hello(payload) => "UploadPart hello",
-        UploadCommand::PutPart { .. } => "UploadPart",
-        UploadCommand::CopyPart { .. } => "UploadPartCopy",
         UploadCommand::Complete { listed, .. } => match listed.as_slice() {
             [part] if part.number.get() == 1 && is_same(part.tag.as_bytes(), HELLO_TAG) => {
                 "CompleteMultipartUpload hello"
             }
-            _ => "CompleteMultipartUpload",
+            _ => upload_operation(asked),
         },
-        UploadCommand::Abort => "AbortMultipartUpload",
-        UploadCommand::ListParts(_) => "ListParts",
+        other => upload_operation(other),
     }
 }
 
 /// The operation of a command, and what is told of its body or of its version.
 pub(crate) fn command_text(command: &Command) -> &'static str {
     match command {
-        Command::ListBuckets => "ListBuckets",
         Command::Bucket { asked, .. } => bucket_text(asked),
         Command::Key { asked, .. } => key_text(asked),
         Command::Upload { asked, .. } => upload_text(asked),
-        Command::DeleteObjects { .. } => "DeleteObjects",
+        other => command_operation(other),
     }
 }
 

@@ -4,10 +4,9 @@ use crate::requests::asked::{Told, word};
 use crate::requests::operations::{operation, plan_text};
 use crate::requests::targets::push_line;
 use s3_http_heads::Head;
-use s3_requests::{KeyCommand, Plan, route};
+use s3_requests::{Command, Description, KeyCommand, Plan, route};
 use s3_terms::{Code, Dialect};
 use s3_test_servers::config_in;
-use s3_versions::{ContentType, Metadata};
 use std::alloc::Global;
 
 /// What the head asks of a server in `us-east-1` whose documents are of this dialect.
@@ -35,9 +34,9 @@ pub(crate) fn operation_text(alloc: Global, head: &Head) -> Told {
 }
 
 // The media type, and the names of metadata with their values.
-fn object_text(alloc: Global, content_type: &ContentType, metadata: &Metadata) -> Told {
-    let mut text = Vec::from_slice(alloc, content_type.as_bytes())?;
-    for entry in metadata.entries() {
+fn object_text(alloc: Global, said: &Description) -> Told {
+    let mut text = Vec::from_slice(alloc, said.content_type.as_bytes())?;
+    for entry in said.metadata.entries() {
         push_line(&mut text, entry.name(), entry.value())?;
     }
     Ok(text)
@@ -46,14 +45,13 @@ fn object_text(alloc: Global, content_type: &ContentType, metadata: &Metadata) -
 // What a put, or the beginning of an upload, says of the object.
 fn put_text(alloc: Global, plan: &Plan) -> Told {
     match plan {
-        Plan::Key {
-            asked: KeyCommand::Put(asked),
-            ..
-        } => object_text(alloc, &asked.content_type, &asked.metadata),
-        Plan::Key {
-            asked: KeyCommand::Begin(asked),
-            ..
-        } => object_text(alloc, &asked.content_type, &asked.metadata),
+        Plan::Put { said, .. } => object_text(alloc, said),
+        Plan::Ready(
+            Command::Key {
+                asked: KeyCommand::Begin(said),
+                ..
+            },
+        ) => object_text(alloc, said),
         _ => Err(Code::InvalidRequest),
     }
 }

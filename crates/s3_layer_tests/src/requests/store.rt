@@ -7,8 +7,9 @@ use crate::requests::entries::{
 };
 use crate::requests::operations::outcome_text;
 use s3_calendar::Moment;
-use s3_machine::Answer;
+use s3_machine::{Answer, Rules};
 use s3_names::BucketName;
+use s3_prefixes::Text;
 use s3_records::MapRecords;
 use s3_store::Store;
 use s3_terms::{Code, Dialect};
@@ -20,6 +21,15 @@ const LEAST_PART: u64 = 5_242_880;
 /// A store in memory.
 pub(crate) type Stored = Store<MapRecords>;
 
+// What stays the same of all entries.
+fn rules(alloc: Global) -> Result<Rules, Code> {
+    let region = Text::read(alloc, b"us-east-1")?;
+    Ok(Rules {
+        least_part: LEAST_PART,
+        region,
+    })
+}
+
 /// The answer to this request at that second.
 pub(crate) fn answer_to(
     alloc: Global,
@@ -29,8 +39,9 @@ pub(crate) fn answer_to(
 ) -> Result<Answer, Code> {
     let (line, body) = cut(asked);
     let moment = Moment::new(seconds).ok_or(Code::InvalidArgument)?;
+    let rules = rules(alloc)?;
     let command = command_of(alloc, Dialect::Json, line, body.as_bytes())?;
-    Ok(store.apply(alloc, LEAST_PART, command, moment)?)
+    Ok(store.apply(alloc, &rules, command, moment)?)
 }
 
 // Whether the answer has this number and tells this.

@@ -17,5 +17,5 @@ returns c =
     record {
       back = completions_are_read_back below c.parts_have_a_source.ensures.sources c.completions_are_kept.ensures.by_key;
       versions = completion_versions_are_read_back below c.parts_have_a_source.ensures.sources c.completions_are_kept.ensures.by_version;
-      payloads = payloads_are_sent c.accepted_bodies_are_whole.ensures.payload;
+      payloads = payloads_are_sent c.ready_plans_bring_nothing.ensures c.accepted_bodies_are_whole.ensures.payload;
     }

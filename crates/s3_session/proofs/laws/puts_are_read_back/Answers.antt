@@ -17,5 +17,5 @@ returns c =
     record {
       back = puts_are_read_back below c.puts_are_kept.ensures.by_key;
       versions = put_versions_are_read_back below c.puts_are_kept.ensures.by_version;
-      payloads = payloads_are_brought c.accepted_bodies_are_whole.ensures.payload;
+      payloads = payloads_are_brought c.ready_plans_bring_nothing.ensures c.accepted_bodies_are_whole.ensures.payload;
     }

@@ -4,7 +4,7 @@ use Rattle.s3_world.proofs.connections.meet_one.Goals as goal
 
 pub returns-then-number-connections-clause-happened : goal.returns-then-number-connections-clause-happened
 returns-then-number-connections-clause-happened g c =
-    happened_at c.args.config.now c.args.event.now c.args.connections.now c.args.book.now c.meet.new.book c.meet.ensures.least c.meet.ensures.opens
+    happened_at c.args.config.now c.args.event.now c.args.connections.now c.args.book.now c.meet.new.book c.meet.ensures.rules c.meet.ensures.opens
     c.meet.result c.connection-number.result c.connection-number.ensures c.index-connections-number.result c.meet.new.self c.if-number-connections.true c.meet.ensures.goes_on
 
 pub returns-else-number-connections-clause-happened : goal.returns-else-number-connections-clause-happened

@@ -7,4 +7,4 @@ use Rattle.s3_store.proofs.store.Store.apply.Goals as goal
 pub invariant_of-self-2 : goal.invariant_of-self-2
 invariant_of-self-2 g c =
     subst (AreBelow (c.self.inside.number + 1)) (ap (λ (after : Stepped). after.0) c.in_ok-outcome.ensures.ok)
-    (c.steps_keep.ensures.numbers c.args.least_part _ c.self.inside.number c.args.moment c.args.command c.self.invariant)
+    (c.steps_keep.ensures.numbers c.args.rules.now _ c.self.inside.number c.args.moment c.args.command c.self.invariant)

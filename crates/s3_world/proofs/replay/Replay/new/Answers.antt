@@ -6,8 +6,8 @@ use Rattle.s3_world.proofs.replay.Replay.new.Goals as goal
 
 pub returns : goal.returns
 returns c = (
-  begun c.args.config.now c.args.moment.now c.new-2.result c.in_ok-book.book c.from_ref.result.now c.min_part.result c.in_ok-store.store
-      c.from_ref.ensures.value c.new-2.ensures.begins c.in_ok-book.ensures c.min_part.ensures.value
+  begun c.args.config.now c.args.moment.now c.new-2.result c.in_ok-book.book c.from_ref.result.now c.in_ok-rules.rules c.in_ok-store.store
+      c.from_ref.ensures.value c.new-2.ensures.begins c.in_ok-book.ensures c.in_ok-rules.ensures
       (c.in_ok-store.ensures.value ∙ ap (λ names. opened (opening names)) c.buckets.ensures.value),
   c.new-2.ensures.none,
 )

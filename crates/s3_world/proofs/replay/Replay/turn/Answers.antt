@@ -16,4 +16,4 @@ returns-clause-stays c settings moment bytes h =
     subst (Plays c.take_turn.new.self c.self.inside.config.now (moment ∷ []) (record { bytes = bytes; ended = false }))
     (sym (ap history_of on.added ∙ history_more book.entries on.made))
     (on.plays (moment ∷ []) (record { bytes = bytes; ended = false }) (history_of book.entries) plays))
-    c.take_turn.ensures.least c.take_turn.ensures.opens
+    c.take_turn.ensures.rules c.take_turn.ensures.opens
