@@ -1,5 +1,5 @@
 pub mod CopySourceLemmas
 pub mod DescriptionLemmas
-pub mod RoutingLemmas
+pub mod MemoryLemmas
 pub mod TokenLemmas
 pub mod UnbrokenLemmas

@@ -27,7 +27,6 @@ use Rattle.s3_requests.specs.declared.routing.Plan.TheVariants as plans
 use Rattle.s3_requests.specs.declared.routing.KeyAsked.{KeyAsked}
 use Rattle.s3_requests.specs.declared.routing.KeyAsked.TheVariants as key_asked
 use Rattle.s3_listings.specs.declared.asked.PartsAsked.{PartsAsked}
-use Rattle.s3_machine.specs.declared.command.Command.{Command}
 use Rattle.s3_machine.specs.declared.command.Command.TheVariants as commands
 use Rattle.s3_machine.specs.declared.command.BucketCommand.{BucketCommand}
 use Rattle.s3_machine.specs.declared.command.KeyCommand.{KeyCommand}

@@ -6,6 +6,7 @@ pub mod CopySource
 pub mod Description
 pub mod Laws
 pub mod ListArguments
+pub mod Memory
 pub mod Name
 pub mod Operations
 pub mod Protection

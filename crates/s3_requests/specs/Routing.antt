@@ -245,9 +245,3 @@ unfoldable pub route_of : Settings → HeadParts → Result Plan Code
 route_of settings head = do
   target ← address_at settings.dialect head
   if is_service target then service_plan settings.dialect head else named_plan settings head target
-
--- the name of the bucket that a head addresses; the service has none
-unfoldable pub bucket_at : Dialect → HeadParts → Result (List ℕ) Code
-bucket_at dialect head = do
-  target ← address_at dialect head
-  bucket_named target

@@ -3,6 +3,8 @@ ghost use Rattle.std.specs.Prelude.{◌≡◌};
 ghost use Rattle.std.specs.Option.{option_copied};
 ghost use Rattle.s3_terms.specs.Fault.{Follows};
 ghost use Rattle.s3_requests.specs.Copies as rules;
+ghost use Rattle.s3_requests.specs.Memory.{FollowsWhere};
+ghost use Rattle.s3_requests.specs.Memory as memory;
 
 use crate::copy_source::copy_source;
 use crate::description::description_of;
@@ -24,14 +26,14 @@ pub(crate) enum Directive {
 
 // What a CopyObject copies to this target: the first fault of its directive, `InvalidArgument` or in JSON `NotImplemented`, of
 // its source, and of what its head says of the copy, where that counts.
-#[tactic(auto, unfolding(crate::specs::Copies::object_copy_of))]
+#[tactic(auto, unfolding(crate::specs::Copies::object_copy_of), using(crate::proofs::MemoryLemmas::copied_takes))]
 pub(crate) fn object_copy(
     alloc: Global,
     dialect: Dialect,
     head: &Head,
     target: &Target,
 ) -> Result<ObjectCopy, Code>
-    ensures { Follows result (rules.object_copy_of dialect head.now target.now) }
+    ensures { FollowsWhere (memory.CopyTakes dialect head.now) result (rules.object_copy_of dialect head.now target.now) }
 {
     let directive = directive_of(dialect, head)?;
     let source = source_for(alloc, dialect, directive, head, target)?;
@@ -51,7 +53,7 @@ fn source_for(
     head: &Head,
     target: &Target,
 ) -> Result<Source, Code>
-    ensures { Follows result (rules.source_for dialect directive head.now target.now) }
+    ensures { FollowsWhere (memory.SourceTakes dialect head.now) result (rules.source_for dialect directive head.now target.now) }
 {
     let source = copy_source(alloc, dialect, head)?;
     if is_xml(dialect) && is_copy_to_itself(directive, &source, target) {
@@ -125,7 +127,7 @@ fn description_by(
 // position.
 #[tactic(auto, unfolding(crate::specs::Copies::part_copy_of))]
 pub(crate) fn part_copy(alloc: Global, dialect: Dialect, head: &Head) -> Result<PartCopy, Code>
-    ensures { Follows result (rules.part_copy_of dialect head.now) }
+    ensures { FollowsWhere (memory.SourceTakes dialect head.now) result (rules.part_copy_of dialect head.now) }
 {
     let source = copy_source(alloc, dialect, head)?;
     let range = range_named(head.first(b"x-amz-copy-source-range"))?;

@@ -5,6 +5,7 @@ ghost use Rattle.percent_encoding.specs.Percent.{percent_decode};
 ghost use Rattle.s3_text.specs.Characters.{question_mark};
 ghost use Rattle.s3_terms.specs.Fault.{Follows};
 ghost use Rattle.s3_requests.specs.CopySource as rules;
+ghost use Rattle.s3_requests.specs.Memory.{FollowsWhere, SourceInTakes, SourceTakes};
 
 use crate::arguments::read_id;
 use crate::operations::is_xml;
@@ -25,7 +26,7 @@ const CONDITION: &[u8] = b"x-amz-copy-source-if-";
 // `InvalidArgument` where the value of `x-amz-copy-source` names no version of a key.
 #[tactic(auto, unfolding(crate::specs::CopySource::source_of))]
 pub(crate) fn copy_source(alloc: Global, dialect: Dialect, head: &Head) -> Result<Source, Code>
-    ensures { Follows result (rules.source_of dialect head.now) }
+    ensures { FollowsWhere (SourceTakes dialect head.now) result (rules.source_of dialect head.now) }
 {
     if !is_xml(dialect) && has_source_condition(head) {
         return Err(Code::NotImplemented);
@@ -81,7 +82,7 @@ fn front_of(name: &[u8]) -> &[u8]
 // What a value names, on the conditions of the head.
 #[tactic(auto, unfolding(crate::specs::CopySource::source_in))]
 fn source_in(alloc: Global, dialect: Dialect, head: &Head, value: &[u8]) -> Result<Source, Code>
-    ensures { Follows result (rules.source_in (rules.conditions_for_source dialect head.now) value.now) }
+    ensures { FollowsWhere (SourceInTakes value.now) result (rules.source_in (rules.conditions_for_source dialect head.now) value.now) }
 {
     let version = version_in(value)?;
     let path = path_in(value);

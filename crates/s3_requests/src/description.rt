@@ -11,6 +11,7 @@ ghost use Rattle.s3_text.specs.Characters.{comma};
 ghost use Rattle.s3_http_heads.specs.Head.{values_of};
 ghost use Rattle.s3_versions.specs.Metadata.{AreInOrder};
 ghost use Rattle.s3_requests.specs.Description as rules;
+ghost use Rattle.s3_requests.specs.Memory.{DescriptionTakes, FollowsWhere};
 ghost use Rattle.s3_requests.specs.Name.{texts};
 
 use s3_http_heads::{Head, is_named};
@@ -28,7 +29,7 @@ const FRONT: &[u8] = b"x-amz-meta-";
 // What is said of the object: `InvalidArgument` of its media type, and then `MetadataTooLarge`.
 #[tactic(auto, unfolding(crate::specs::Description::description_of))]
 pub(crate) fn description_of(alloc: Global, head: &Head) -> Result<Description, Code>
-    ensures { Follows result (rules.description_of head.now) }
+    ensures { FollowsWhere (DescriptionTakes head.now) result (rules.description_of head.now) }
 {
     let content_type = content_type_of(alloc, head)?;
     let metadata = metadata_of(alloc, head)?;

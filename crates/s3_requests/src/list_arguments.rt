@@ -6,6 +6,7 @@ ghost use Rattle.s3_text.specs.Characters.{is_lower_hex};
 ghost use Rattle.s3_terms.specs.Fault.{Follows};
 ghost use Rattle.s3_http_heads.specs.Target.{first_parameter};
 ghost use Rattle.s3_requests.specs.ListArguments as rules;
+ghost use Rattle.s3_requests.specs.Memory.{FollowsWhere, KeysTake, ObjectsTake};
 
 use crate::arguments::version_argument;
 use crate::operations::is_xml;
@@ -32,7 +33,7 @@ pub(crate) fn objects_asked(
     version: ListVersion,
     target: &Target,
 ) -> Result<ObjectsAsked, Code>
-    ensures { Follows result (rules.objects_asked_of dialect version target.now) }
+    ensures { FollowsWhere (ObjectsTake target.now) result (rules.objects_asked_of dialect version target.now) }
 {
     let max_keys = count_argument(target, b"max-keys")?;
     let prefix = text_argument(alloc, target, b"prefix")?;
@@ -81,7 +82,7 @@ pub(crate) fn versions_asked(
     dialect: Dialect,
     target: &Target,
 ) -> Result<VersionsAsked, Code>
-    ensures { Follows result (rules.versions_asked_of dialect target.now) }
+    ensures { FollowsWhere (KeysTake (codes "max-keys") target.now) result (rules.versions_asked_of dialect target.now) }
 {
     let keys = keys_asked(alloc, dialect, target, b"max-keys")?;
     let id_marker = version_marker(target, &keys.key_marker)?;
@@ -101,7 +102,7 @@ pub(crate) fn uploads_asked(
     dialect: Dialect,
     target: &Target,
 ) -> Result<UploadsAsked, Code>
-    ensures { Follows result (rules.uploads_asked_of dialect target.now) }
+    ensures { FollowsWhere (KeysTake (codes "max-uploads") target.now) result (rules.uploads_asked_of dialect target.now) }
 {
     let keys = keys_asked(alloc, dialect, target, b"max-uploads")?;
     let id_marker = upload_marker(target, &keys.key_marker)?;
@@ -131,7 +132,7 @@ fn keys_asked(
     target: &Target,
     count: &[u8],
 ) -> Result<KeysAsked, Code>
-    ensures { Follows result (rules.keys_asked_of dialect count.now target.now) }
+    ensures { FollowsWhere (KeysTake count.now target.now) result (rules.keys_asked_of dialect count.now target.now) }
 {
     if has_delimiter(target) {
         return Err(Code::NotImplemented);

@@ -1,8 +1,9 @@
 //! What the head of a read asks of the version, its conditions and its range, and that of a copy of its source.
-ghost use Rattle.std.specs.Prelude.{◌≡◌, IfOk, option_and_then};
+ghost use Rattle.std.specs.Prelude.{◌≡◌, IfOk, OnErr, option_and_then};
 ghost use Rattle.std.specs.Option.{option_copied};
 ghost use Rattle.httpdate.specs.Date.{parse_secs};
 ghost use Rattle.s3_http_heads.specs.Head.{first_value};
+ghost use Rattle.s3_requests.specs.Memory.{ConditionsTake, TagsTake};
 ghost use Rattle.s3_requests.specs.ReadConditions as rules;
 
 use s3_calendar::Moment;
@@ -14,7 +15,8 @@ use std::alloc::Global;
 // The conditions of a read. Of a line that stands there more than once the first counts; one that can't be read is
 // ignored, and so is a Range line where an If-Range line is there. The items of If-Match and If-None-Match are copied.
 pub(crate) fn conditions_of(alloc: Global, head: &Head) -> Result<Conditions, NoMemory>
-    ensures { IfOk result (λ conditions. conditions ≡ rules.conditions_of head.now) }
+    ensures value { IfOk result (λ conditions. conditions ≡ rules.conditions_of head.now) }
+    ensures memory { OnErr result (ConditionsTake head.now) }
 {
     let if_match = tags_of(alloc, head, b"if-match")?;
     let if_none_match = tags_of(alloc, head, b"if-none-match")?;
@@ -44,7 +46,8 @@ pub(crate) fn source_conditions_of(alloc: Global, head: &Head) -> Result<Conditi
 
 // The items of the first line of that name.
 fn tags_of(alloc: Global, head: &Head, name: &[u8]) -> Result<Option<TagList>, NoMemory>
-    ensures { IfOk result (λ tags. tags ≡ first_value name.now head.now) }
+    ensures value { IfOk result (λ tags. tags ≡ first_value name.now head.now) }
+    ensures memory { OnErr result (TagsTake name.now head.now) }
 {
     match head.first(name) {
         None => Ok(None),

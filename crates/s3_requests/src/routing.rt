@@ -1,6 +1,9 @@
 //! From a verified head to the operation that it asks for.
-ghost use Rattle.std.specs.Prelude.{◌≡◌, Ok};
-ghost use Rattle.s3_terms.specs.Fault.{Follows, FollowsPast};
+ghost use Rattle.std.specs.Prelude.{◌≡◌, true, false, codes, Ok};
+ghost use Rattle.s3_http_heads.specs.Target.{has_parameter};
+ghost use Rattle.s3_requests.specs.Memory.{FollowsWhere};
+ghost use Rattle.s3_requests.specs.Memory as memory;
+ghost use Rattle.s3_requests.specs.Operations.{is_xml};
 ghost use Rattle.s3_requests.specs.Routing as rules;
 
 use crate::addresses::{address_at, is_service};
@@ -96,15 +99,16 @@ pub(crate) enum KeyAsked {
 
 /// The operation that a verified head asks for, with its bucket, its key and its arguments (Amazon S3 User
 /// Guide, "Path-style requests"). A refusal is the first fault of routing in the order of
-/// `docs/PROTOCOL.md`; `InternalError` says that there was no memory for the names, for what a put, a copy or the beginning
-/// of an upload says of its object, for the tags that a read or a copy names, for the texts that a list is asked by and for
-/// the region that a new bucket may name, of an address that may have them: without a sub-resource that this server lacks, and
-/// with the name of a bucket. The cost is linear in the names and the query, and in the header lines times the names of
+/// `docs/PROTOCOL.md`; `InternalError` says that memory ran out: for the bucket's name or the key, where one of more than 38
+/// bytes is right, or, behind these, for what an operation copies that this server has. That is what a put, a copy or the
+/// beginning of an upload says of its object, the tags that a read or a copy names, the source of a copy, the texts that a
+/// list is asked by, and the region that a new bucket may name. What is judged before that is told, whatever memory there is.
+/// The cost is linear in the names and the query, and in the header lines times the names of
 /// metadata. Of `config` it takes the dialect, by which there are more operations and arguments and by which the documents of
 /// bodies are read, and the region that a new bucket may name.
-#[tactic(auto, unfolding(crate::specs::Routing::route_of, crate::specs::Routing::bucket_at))]
+#[tactic(auto, unfolding(crate::specs::Routing::route_of, crate::specs::Memory::RouteTakes))]
 pub fn route(alloc: Global, config: &Config, head: &Head) -> Result<Plan, Code>
-    ensures { FollowsPast (rules.bucket_at config.now.dialect head.now) result (rules.route_of config.now head.now) }
+    ensures { FollowsWhere (memory.RouteTakes config.now.dialect head.now) result (rules.route_of config.now head.now) }
 {
     let target = address_at(config.dialect(), head)?;
     if is_service(target) {
@@ -138,9 +142,9 @@ fn service_plan(dialect: Dialect, head: &Head) -> Result<Plan, Code>
 }
 
 // What is asked of a bucket, or of a key in it.
-#[tactic(auto, unfolding(crate::specs::Routing::named_plan))]
+#[tactic(auto, unfolding(crate::specs::Routing::named_plan, crate::specs::Memory::NamedTakes))]
 fn named_plan(alloc: Global, config: &Config, head: &Head, target: &Target) -> Result<Plan, Code>
-    ensures { FollowsPast (rules.bucket_named target.now) result (rules.named_plan config.now head.now target.now) }
+    ensures { FollowsWhere (memory.NamedTakes config.now.dialect head.now target.now) result (rules.named_plan config.now head.now target.now) }
 {
     let name = BucketName::read(alloc, target.bucket())?;
     if target.key().is_empty() {
@@ -190,7 +194,7 @@ fn plan_under(bucket: BucketName, key: Key, asked: KeyAsked) -> Plan
 }
 
 // What is asked of the bucket of this name, or of objects in it.
-#[tactic(auto, unfolding(crate::specs::Routing::plan_of_bucket))]
+#[tactic(auto, unfolding(crate::specs::Routing::plan_of_bucket, crate::specs::Memory::BucketTakes))]
 fn plan_of_bucket(
     alloc: Global,
     config: &Config,
@@ -198,7 +202,7 @@ fn plan_of_bucket(
     target: &Target,
     name: BucketName,
 ) -> Result<Plan, Code>
-    ensures { Follows result (rules.plan_of_bucket config.now name head.now target.now) }
+    ensures { FollowsWhere (memory.BucketTakes config.now.dialect head.now target.now) result (rules.plan_of_bucket config.now name head.now target.now) }
 {
     let operation = served(config.dialect(), bucket_operation(head.method(), target))?;
     plan_in_bucket(alloc, config, head, target, name, operation)
@@ -213,7 +217,7 @@ fn plan_in_bucket(
     name: BucketName,
     operation: Operation,
 ) -> Result<Plan, Code>
-    ensures { Follows result (rules.plan_in_bucket config.now name operation head.now target.now) }
+    ensures { FollowsWhere (memory.InBucketTakes config.now.dialect operation target.now) result (rules.plan_in_bucket config.now name operation head.now target.now) }
 {
     let dialect = config.dialect();
     match operation {
@@ -229,7 +233,7 @@ fn plan_in_bucket(
 
 // CreateBucket, with the region that its body may name where documents are XML; where they are JSON it isn't read.
 fn creation_plan(alloc: Global, config: &Config, name: BucketName) -> Result<Plan, Code>
-    ensures { Follows result (Ok (rules.creation_plan config.now.dialect name config.now.region)) }
+    ensures { FollowsWhere (is_xml config.now.dialect ≡ true) result (Ok (rules.creation_plan config.now.dialect name config.now.region)) }
 {
     match config.dialect() {
         Dialect::Json => Ok(Plan::Ready(Command::Bucket {
@@ -260,7 +264,7 @@ fn bucket_command_for(
     target: &Target,
     operation: Operation,
 ) -> Result<BucketCommand, Code>
-    ensures { Follows result (rules.bucket_command_for dialect operation target.now) }
+    ensures { FollowsWhere (memory.InBucketTakes dialect operation target.now) result (rules.bucket_command_for dialect operation target.now) }
 {
     match operation {
         Operation::HeadBucket => Ok(BucketCommand::Head),
@@ -278,7 +282,7 @@ fn bucket_command_for(
 
 // ListObjects, with what is asked of the list: `NotImplemented` where another type of list is asked for.
 fn first_list(alloc: Global, dialect: Dialect, target: &Target) -> Result<BucketCommand, Code>
-    ensures { Follows result (rules.first_list dialect target.now) }
+    ensures { FollowsWhere ((has_parameter (codes "list-type") target.now ≡ false) × memory.ObjectsTake target.now) result (rules.first_list dialect target.now) }
 {
     if target.has_parameter(b"list-type") {
         return Err(Code::NotImplemented);
@@ -293,7 +297,7 @@ fn list_of_objects(
     version: ListVersion,
     target: &Target,
 ) -> Result<BucketCommand, Code>
-    ensures { Follows result (rules.list_of_objects dialect version target.now) }
+    ensures { FollowsWhere (memory.ObjectsTake target.now) result (rules.list_of_objects dialect version target.now) }
 {
     let asked = objects_asked(alloc, dialect, version, target)?;
     Ok(BucketCommand::ListObjects(asked))
@@ -301,7 +305,7 @@ fn list_of_objects(
 
 // ListObjectVersions, with what is asked of the list.
 fn list_of_versions(alloc: Global, dialect: Dialect, target: &Target) -> Result<BucketCommand, Code>
-    ensures { Follows result (rules.list_of_versions dialect target.now) }
+    ensures { FollowsWhere (memory.KeysTake (codes "max-keys") target.now) result (rules.list_of_versions dialect target.now) }
 {
     let asked = versions_asked(alloc, dialect, target)?;
     Ok(BucketCommand::ListVersions(asked))
@@ -309,16 +313,16 @@ fn list_of_versions(alloc: Global, dialect: Dialect, target: &Target) -> Result<
 
 // ListMultipartUploads, with what is asked of the list.
 fn list_of_uploads(alloc: Global, dialect: Dialect, target: &Target) -> Result<BucketCommand, Code>
-    ensures { Follows result (rules.list_of_uploads dialect target.now) }
+    ensures { FollowsWhere (memory.KeysTake (codes "max-uploads") target.now) result (rules.list_of_uploads dialect target.now) }
 {
     let asked = uploads_asked(alloc, dialect, target)?;
     Ok(BucketCommand::ListUploads(asked))
 }
 
 // What is asked of a key, or of an upload to it.
-#[tactic(auto, unfolding(crate::specs::Routing::key_plan))]
+#[tactic(auto, unfolding(crate::specs::Routing::key_plan, crate::specs::Memory::KeyTakes))]
 fn key_plan(alloc: Global, dialect: Dialect, head: &Head, target: &Target) -> Result<KeyAsked, Code>
-    ensures { Follows result (rules.key_plan dialect head.now target.now) }
+    ensures { FollowsWhere (memory.KeyTakes dialect head.now target.now) result (rules.key_plan dialect head.now target.now) }
 {
     let operation = served(dialect, key_operation(head.method(), head, target))?;
     asked_for(alloc, dialect, head, target, operation)
@@ -332,7 +336,7 @@ fn asked_for(
     target: &Target,
     operation: Operation,
 ) -> Result<KeyAsked, Code>
-    ensures { Follows result (rules.asked_for dialect operation head.now target.now) }
+    ensures { FollowsWhere (memory.UnderKeyTakes dialect operation head.now target.now) result (rules.asked_for dialect operation head.now target.now) }
 {
     match operation {
         Operation::PutObject => put_plan(alloc, head),
@@ -351,7 +355,7 @@ fn asked_for(
 // PutObject, with what the head says of the object, and its condition.
 #[tactic(auto, unfolding(crate::specs::Routing::put_plan))]
 fn put_plan(alloc: Global, head: &Head) -> Result<KeyAsked, Code>
-    ensures { Follows result (rules.put_plan head.now) }
+    ensures { FollowsWhere (memory.DescriptionTakes head.now) result (rules.put_plan head.now) }
 {
     let said = description_of(alloc, head)?;
     let if_absent = absence_of(head)?;
@@ -374,7 +378,7 @@ fn part_copy_plan(
     head: &Head,
     target: &Target,
 ) -> Result<KeyAsked, Code>
-    ensures { Follows result (rules.part_copy_plan dialect head.now target.now) }
+    ensures { FollowsWhere (memory.PartCopyTakes dialect head.now target.now) result (rules.part_copy_plan dialect head.now target.now) }
 {
     let (id, number) = part_argument(target)?;
     let copy = part_copy(alloc, dialect, head)?;
@@ -431,7 +435,7 @@ fn key_command_for(
     target: &Target,
     operation: Operation,
 ) -> Result<KeyCommand, Code>
-    ensures { Follows result (rules.key_command_for dialect operation head.now target.now) }
+    ensures { FollowsWhere (memory.UnderKeyTakes dialect operation head.now target.now) result (rules.key_command_for dialect operation head.now target.now) }
 {
     match operation {
         Operation::CopyObject => copy_command(alloc, dialect, head, target),
@@ -449,7 +453,7 @@ fn copy_command(
     head: &Head,
     target: &Target,
 ) -> Result<KeyCommand, Code>
-    ensures { Follows result (rules.copy_command dialect head.now target.now) }
+    ensures { FollowsWhere (memory.CopyTakes dialect head.now) result (rules.copy_command dialect head.now target.now) }
 {
     let copy = object_copy(alloc, dialect, head, target)?;
     Ok(KeyCommand::Copy(copy))
@@ -458,7 +462,7 @@ fn copy_command(
 // GetObject and HeadObject, with what the head asks of the version.
 #[tactic(auto, unfolding(crate::specs::Routing::read_command))]
 fn read_command(alloc: Global, head: &Head, target: &Target) -> Result<KeyCommand, Code>
-    ensures { Follows result (rules.read_command head.now target.now) }
+    ensures { FollowsWhere (memory.ReadTakes head.now target.now) result (rules.read_command head.now target.now) }
 {
     let version = version_argument(target, b"versionId")?;
     let conditions = conditions_of(alloc, head)?;
@@ -479,7 +483,7 @@ fn delete_command(target: &Target) -> Result<KeyCommand, Code>
 
 // CreateMultipartUpload, with what the head says of the object.
 fn begin_command(alloc: Global, head: &Head) -> Result<KeyCommand, Code>
-    ensures { Follows result (rules.begin_command head.now) }
+    ensures { FollowsWhere (memory.DescriptionTakes head.now) result (rules.begin_command head.now) }
 {
     let said = description_of(alloc, head)?;
     Ok(KeyCommand::Begin(said))

@@ -1,7 +1,6 @@
 -- What is answered of a head that was admitted up to its routing.
 use Rattle.std.proofs.Common.{◌≡◌, ℕ, Result, Ok, Err, IsOk, IsErrAnd, inl, inr, refl, sym, subst}
 use Rattle.s3_config.specs.Settings.{Settings}
-use Rattle.s3_terms.specs.Fault.{FollowsPast}
 use Rattle.s3_terms.specs.declared.code.Code.{Code}
 use Rattle.s3_terms.proofs.FaultLemmas.{stage_ok}
 use Rattle.s3_http_heads.specs.Head.{HeadParts}
@@ -11,7 +10,8 @@ use Rattle.s3_payloads.specs.Form.{announced_payload}
 use Rattle.s3_payloads.specs.Reader.{Begins}
 use Rattle.s3_payloads.specs.declared.reader.PayloadReader.{PayloadReader}
 use Rattle.s3_requests.specs.declared.routing.Plan.{Plan}
-use Rattle.s3_requests.specs.Routing.{bucket_at, route_of}
+use Rattle.s3_requests.specs.Memory.{FollowsWhere, RouteTakes}
+use Rattle.s3_requests.specs.Routing.{route_of}
 use Rattle.s3_session.specs.declared.admission.Admission.{Admission}
 use Rattle.s3_session.specs.Admission.{Asked, admission_of}
 use Rattle.s3_session.specs.Admitting.{Admits, early_admission}
@@ -42,7 +42,7 @@ module _ (settings : Settings) (head : HeadParts) (moment size : ℕ) (proved : 
 
   -- or its routing refuses it
   pub admits_unrouted : (reader : PayloadReader) (code : Code) → Begins (announced_payload settings head size proved) (Ok reader)
-      → FollowsPast {A = Plan} (bucket_at settings.dialect head) (Err code) (route_of settings head) → Admits (early_admission settings head moment) (Err code) (admission_of settings head moment)
+      → FollowsWhere {A = Plan} (RouteTakes settings.dialect head) (Err code) (route_of settings head) → Admits (early_admission settings head moment) (Err code) (admission_of settings head moment)
   unfolding admission_of
   admits_unrouted reader code (announced, at, stands) (inl lost) = inl (lost.0, early_ok)
   admits_unrouted reader code (announced, at, stands) (inr refused) = inr (rw (framed, verified, at, refused) refl)
