@@ -104,7 +104,7 @@ module _ (heads : HeadsStay) (pairs : PairsStay) (settings : Settings) (old new 
           undecided = at;
         } in
         subst (λ (q : Progress). Progresses settings old.context (rest ++ take n piece) q) (sym settles) (kept, body)
-    by_verdict (bodies.Accepted payload) at p (inl died) = rw died tt
+    by_verdict (bodies.Accepted payload) at p (inl (died, reads, some)) = rw died tt
     by_verdict (bodies.Accepted payload) at p (inr settles) =
         let judged = subst (λ (v : bodies.Verdict). payloads.Judges h.asked.announced (h.behind ++ piece) false v) at (judge new.admission.reader h.asked.announced (h.behind ++ piece) false fed.1) in
         commanded_known n (command_of new.admission.plan payload) (whole_known whole n payload fed.0 judged) p settles
@@ -143,7 +143,7 @@ module _ (judge : PayloadsJudge) (undecided : PayloadsStayOpen) (short : OpenBod
   taken_by (bodies.Open held) at settles still =
       let judged = subst (λ (v : bodies.Verdict). payloads.Judges h.asked.announced (h.behind ++ piece) false v) at (judge new.admission.reader h.asked.announced (h.behind ++ piece) false fed.1) in
       fed.0 ∙ omega (arith, short h.asked.announced (h.behind ++ piece) held judged, length-append h.behind piece)
-  taken_by (bodies.Accepted payload) at (inl died) still = let same = ap is_open died in absurd (cc)
+  taken_by (bodies.Accepted payload) at (inl (died, reads, some)) still = let same = ap is_open died in absurd (cc)
   taken_by (bodies.Accepted payload) at (inr settles) still = absurd (never_open (command_of new.admission.plan payload) (sym (ap is_open settles) ∙ still))
   taken_by (bodies.Refused place code) at settles still =
       let open_still = undecided new.admission.reader fed.2 (rw at refl) in

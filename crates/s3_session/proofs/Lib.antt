@@ -9,6 +9,7 @@ pub mod InBodyLemmas
 pub mod HeldLemmas
 pub mod IncomingLemmas
 pub mod InvitationLemmas
+pub mod LackLemmas
 pub mod NotedLemmas
 pub mod OutputLemmas
 pub mod ReadBackLemmas

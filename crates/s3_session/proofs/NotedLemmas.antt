@@ -5,7 +5,7 @@ use Rattle.std.specs.Option.{option_copied}
 use Rattle.s3_config.specs.Settings.{Settings}
 use Rattle.s3_http_heads.specs.Find.{found_by, found_in, head_limit, skip_pairs, text_length}
 use Rattle.s3_http_heads.specs.declared.find.Found.TheVariants as found
-use Rattle.s3_http_heads.specs.Head.{HeadParts}
+use Rattle.s3_http_heads.specs.Head.{HeadParts, Says}
 use Rattle.s3_http_heads.specs.Search as search
 use Rattle.s3_http_heads.specs.declared.search.HeadSearch.{HeadSearch}
 use Rattle.s3_replies.specs.declared.context.Context.{Context}
@@ -17,8 +17,8 @@ use Rattle.s3_session.specs.declared.session.Closing.{Closing}
 use Rattle.s3_session.specs.declared.session.Closing.TheVariants as closings
 use Rattle.s3_session.specs.Incoming.{Opens}
 use Rattle.s3_session.specs.Output.{HasText, is_dead, is_waiting}
-use Rattle.s3_session.specs.Session.{Connection, KeepsHead, moment_at, standing_at, standing_of}
-use Rattle.s3_session.specs.Verified.{HoldsVerified, IsNoted, IsSigned, Verifies, VerifiesIn, is_admitted}
+use Rattle.s3_session.specs.Session.{Connection, KeepsHead, moment_at, refused_at, standing_at, standing_of}
+use Rattle.s3_session.specs.Verified.{HoldsVerified, IsNoted, IsSigned, RefusedTakes, TextTakes, Verifies, VerifiesIn, is_admitted}
 
 -- nothing is noted where no head is held that verifies
 pub none_noted : (settings : Settings) (session : Connection) → session.is_verified ≡ false → is_admitted session.stage ≡ false
@@ -27,6 +27,7 @@ none_noted settings session none other never = record {
   only = λ is. (let same = sym none ∙ is in absurd (cc));
   told = λ lives holds. absurd (never holds);
   admitted = λ is. (let same = sym other ∙ is in absurd (cc));
+  spared = λ _ is. (let same = sym none ∙ is in absurd (cc));
 }
 
 -- none is where no message has a moment
@@ -73,11 +74,14 @@ holds_on settings old new same moments h = record {
 module _ (settings : Settings) (old new : Connection) where
   -- the note stays with the head, where the message at hand keeps its moment
   pub noted_on : KeepsHead old new → moment_at new.stage ≡ moment_at old.stage → (is_admitted new.stage ≡ true → is_admitted old.stage ≡ true)
-      → (is_dead (standing_of new) ≡ false → is_dead (standing_of old) ≡ false) → IsNoted settings old → IsNoted settings new
-  noted_on keeps moments admitted lives noted = record {
+      → (is_dead (standing_of new) ≡ false → is_dead (standing_of old) ≡ false) → (refused_at new.stage ≡ None → refused_at old.stage ≡ None)
+      → IsNoted settings old → IsNoted settings new
+  unfolding holds_on
+  noted_on keeps moments admitted lives stays noted = record {
     only = λ is. holds_on settings old new keeps.0 moments (noted.only (sym keeps.1 ∙ is));
     told = λ alive h. keeps.1 ∙ noted.told (lives alive) (holds_on settings new old (sym keeps.0) (sym moments) h);
     admitted = λ is. keeps.1 ∙ noted.admitted (admitted is);
+    spared = λ none is h. noted.spared (stays none) (sym keeps.1 ∙ is) (holds_on settings new old (sym keeps.0) (sym moments) h);
   }
 
   -- what is noted of a head that came whole
@@ -101,21 +105,42 @@ module _ (settings : Settings) (old new : Connection) where
     verifies_text None is lost whole verifies = let clash = lost ∙ whole in absurd (cc)
     verifies_text (Some text) is lost whole verifies = subst (λ (t : List ℕ). Verifies settings moment t) (sym is) verifies
 
+    held_text : new.search ≡ old.search → (h : HoldsVerified settings new) → skip_pairs h.bytes ≡ skip_pairs rest
+    held_text same h =
+        one_text old.search h.bytes rest (sym (ap search.is_lost same) ∙ h.whole)
+        (subst (λ (s : HeadSearch). search.Holds s h.bytes) same h.held) held
+
+    held_moment : moment_at new.stage ≡ moment ∷ [] → (h : HoldsVerified settings new) → h.moment ≡ moment
+    held_moment given h = let one = sym h.given ∙ given in cc
+
     held_verifies : new.search ≡ old.search → moment_at new.stage ≡ moment ∷ [] → HoldsVerified settings new
         → Verifies settings moment (skip_pairs rest)
     held_verifies same given h =
-        let texts = one_text old.search h.bytes rest (sym (ap search.is_lost same) ∙ h.whole)
-        (subst (λ (s : HeadSearch). search.Holds s h.bytes) same h.held) held in
-        let moments : h.moment ≡ moment = let one = sym h.given ∙ given in cc in
-        subst (λ (m : ℕ). Verifies settings m (skip_pairs rest)) moments
-        (subst (λ (t : List ℕ). Verifies settings h.moment t) texts h.verifies)
+        subst (λ (m : ℕ). Verifies settings m (skip_pairs rest)) (held_moment given h)
+        (subst (λ (t : List ℕ). Verifies settings h.moment t) (held_text same h) h.verifies)
+
+    -- where a rule refuses the head of a text that isn't lost, its routing takes memory
+    takes_head : (text : Option (Bor (List ℕ))) → IfSome text (λ (t : Bor (List ℕ)). t.now ≡ skip_pairs rest)
+        → is_none text ≡ search.is_lost old.search → search.is_lost old.search ≡ false
+        → TextTakes settings moment (option_copied text) → (head : HeadParts) → Says (skip_pairs rest) head → RefusedTakes settings head moment
+    takes_head None is lost whole takes head says = let clash = lost ∙ whole in absurd (cc)
+    takes_head (Some text) is lost whole takes head says = takes head (subst (λ (t : List ℕ). Says t head) (sym is) says)
+
+    held_spared : (text : Option (Bor (List ℕ))) → IfSome text (λ (t : Bor (List ℕ)). t.now ≡ skip_pairs rest)
+        → is_none text ≡ search.is_lost old.search → new.search ≡ old.search → moment_at new.stage ≡ moment ∷ []
+        → TextTakes settings moment (option_copied text) → (h : HoldsVerified settings new) → RefusedTakes settings h.verifies.0 h.moment
+    held_spared text is lost same given takes h =
+        subst (λ (m : ℕ). RefusedTakes settings h.verifies.0 m) (sym (held_moment given h))
+        (takes_head text is lost (sym (ap search.is_lost same) ∙ h.whole) takes h.verifies.0
+        (subst (λ (t : List ℕ). Says t h.verifies.0) (held_text same h) h.verifies.1))
 
     pub noted_begun : (text : Option (Bor (List ℕ))) → IfSome text (λ (t : Bor (List ℕ)). t.now ≡ skip_pairs rest)
         → is_none text ≡ search.is_lost old.search → new.search ≡ old.search → moment_at new.stage ≡ moment ∷ []
         → (new.is_verified ≡ true → VerifiesIn settings moment (option_copied text))
         → (is_dead (standing_of new) ≡ false → VerifiesIn settings moment (option_copied text) → new.is_verified ≡ true)
-        → (is_admitted new.stage ≡ true → new.is_verified ≡ true) → IsNoted settings new
-    noted_begun text is lost same given verifies told admitted = record {
+        → (is_admitted new.stage ≡ true → new.is_verified ≡ true)
+        → (refused_at new.stage ≡ None → new.is_verified ≡ true → TextTakes settings moment (option_copied text)) → IsNoted settings new
+    noted_begun text is lost same given verifies told admitted spares = record {
       told = λ lives h. told lives (verifies_text text is lost (sym (ap search.is_lost same) ∙ h.whole) (held_verifies same given h));
       only = λ noted. record {
         bytes = rest;
@@ -127,6 +152,7 @@ module _ (settings : Settings) (old new : Connection) where
         verifies = text_verifies text is (verifies noted);
       };
       admitted = admitted;
+      spared = λ none noted h. held_spared text is lost same given (spares none noted) h;
     }
 
 -- memory ran out there
@@ -159,7 +185,7 @@ verified_now settings moment head before none (inr verified) = verified
 pub admitted_moment : (settings : Settings) (moment : ℕ) (text : Option (List ℕ)) (incoming : Incoming) (invited : Bool)
     → Opens settings moment text (opening.Admitted incoming invited) → incoming.context.moment ≡ moment
 admitted_moment settings moment None incoming invited died = let same = died in absurd (cc)
-admitted_moment settings moment (Some text) incoming invited (inl died) = let same = died in absurd (cc)
+admitted_moment settings moment (Some text) incoming invited (inl (died, readable)) = let same = died in absurd (cc)
 admitted_moment settings moment (Some text) incoming invited (inr (inl (none, is))) = let same = is in absurd (cc)
 admitted_moment settings moment (Some text) incoming invited (inr (inr (head, says, opens))) = ap (λ (c : Context). c.moment) opens.1
 

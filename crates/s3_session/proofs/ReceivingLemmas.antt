@@ -101,7 +101,7 @@ module _ (settings : Settings) (context : Context) (rest last : List ℕ) (old n
         judged = judged;
         invites = subst (Invites settings context.moment rest) (sym nothing) invites;
       })
-  asked_here command need judged whole invites (inr dying) = dead_here settings new rest context.moment old need last whole (inr invites) dying
+  asked_here command need judged whole invites (inr (dying, lacks)) = dead_here settings new rest context.moment old need last whole (inr invites) dying
 
   pub goes_on_here : context.dialect ≡ settings.dialect → (p : Progress) (need : Need) → Progresses settings context rest p → HasText rest → Invites settings context.moment rest last
       → GoesOn context p old new need → Here settings new false rest (turns_of need) (last ++ added (unsent_of old) (unsent_of new))
@@ -150,7 +150,7 @@ pub more_taken : (context : Context) (old new : Connection) (p : Progress) (need
     → {taken all : ℕ} → (is_open p ≡ true → taken ≡ all) → need ≡ needs.More → taken ≡ all
 more_taken context old new (progress.Open incoming) need goes_on all more = all refl
 more_taken context old new (progress.Whole command) need (inl asks) all more = let same = sym asks.0 ∙ more in absurd (cc)
-more_taken context old new (progress.Whole command) need (inr dying) all more = let same = sym dying.0 ∙ more in absurd (cc)
+more_taken context old new (progress.Whole command) need (inr (dying, lacks)) all more = let same = sym dying.0 ∙ more in absurd (cc)
 more_taken context old new (progress.Refused code) need goes_on all more = let same = sym goes_on.0 ∙ more in absurd (cc)
 more_taken context old new progress.Died need dying all more = let same = sym dying.0 ∙ more in absurd (cc)
 
@@ -240,7 +240,7 @@ module _ (settings : Settings) (moment : ℕ) (rest : List ℕ) where
   text_refused : found_in rest ≡ found.Head (length (skip_pairs rest)) → (code : Code) (head_only : Bool)
       → TextOpens settings moment (skip_pairs rest) (opening.Refused code head_only)
       → Judges settings moment false rest (verdicts.Refused code head_only, []) × Invites settings moment rest []
-  text_refused found code head_only (inl died) = let same = died in absurd (cc)
+  text_refused found code head_only (inl (died, readable)) = let same = died in absurd (cc)
   text_refused found code head_only (inr (inl (none, is))) =
       let malformed : code ≡ MalformedHead = cc in
       let body : head_only ≡ false = cc in
@@ -288,7 +288,7 @@ module _ (settings : Settings) (moment : ℕ) (rest piece : List ℕ) (old new :
       (said : unsent_of mid ≡ unsent_of old ++ (if invited then continue_line else [])) (longer : IsLonger (unsent_of mid) (unsent_of new))
       (fed : (last : List ℕ) → IsIncoming settings incoming rest → Invites settings incoming.context.moment rest last → IsFed settings mid new rest last piece n need) where
     text_admitted : TextOpens settings moment (skip_pairs rest) (opening.Admitted incoming invited) → IsFed settings old new rest [] piece n need
-    text_admitted (inl died) = let same = died in absurd (cc)
+    text_admitted (inl (died, readable)) = let same = died in absurd (cc)
     text_admitted (inr (inl (none, is))) = let same = is in absurd (cc)
     text_admitted (inr (inr (head, says, opens))) =
         let ruled = opens.0 in

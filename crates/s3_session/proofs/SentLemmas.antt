@@ -9,7 +9,7 @@ use Rattle.s3_uploads.specs.declared.listed.ListedPart.{ListedPart}
 use Rattle.s3_uploads.specs.declared.part.Part.{Part}
 use Rattle.s3_records.specs.Catalogue.{opening}
 use Rattle.s3_machine.specs.Step.{State}
-use Rattle.s3_machine.specs.Effects.{PartPlace, UploadPlace, sent}
+use Rattle.s3_machine.specs.Effects.{PartPlace, UploadPlace}
 use Rattle.s3_machine.specs.History.{Entry, after, after_entry}
 use Rattle.s3_machine.specs.Uploads.{IsListedPart, Sends, StaysPart}
 use Rattle.s3_machine.specs.UploadsKept as machine

@@ -29,7 +29,7 @@ use Rattle.s3_session.specs.declared.session.Stage.{Stage}
 use Rattle.s3_session.specs.declared.session.Stage.TheVariants as stages
 use Rattle.s3_session.specs.declared.session.Closing.TheVariants as closings
 use Rattle.s3_session.specs.Incoming.{IsInBody}
-use Rattle.s3_session.specs.Session.{Connection, IsLonger, KeepsHead, added, fed, moment_at, moment_if, standing_at, standing_of, turns_of, unsent_of}
+use Rattle.s3_session.specs.Session.{Connection, IsLonger, KeepsHead, added, fed, moment_at, moment_if, refused_at, standing_at, standing_of, turns_of, unsent_of}
 use Rattle.s3_session.specs.Verified.{IsNoted, is_admitted}
 use Rattle.s3_session.proofs.HeldLemmas.{held_here, held_on, left_still}
 use Rattle.s3_session.proofs.NotedLemmas.{dead_lives_not, dies_at, none_noted, noted_on, without_moment}
@@ -373,8 +373,8 @@ module _ (settings : Settings) (old new : Connection) (past : Past) (sent : List
         end = h.end ∙ sym end;
         counted = count ∙ h.counted;
         noted = noted_on settings old new keeps (ap moment_at stage ∙ sym late_is) (λ is. (let same = sym is ∙ ap is_admitted stage in absurd (cc)))
-            (dead_lives_not new.stage context.moment stage) h.noted;
-        head = left_still old new keeps.0 (dead_lives_not new.stage context.moment stage) h.left (ap moment_at stage ∙ sym late_is) h.head;
+            (dead_lives_not new.stage context.moment stage) (λ _. ap refused_at at) h.noted;
+        head = left_still old new keeps.0 (dead_lives_not new.stage context.moment stage) (λ _. ap refused_at at) h.left (ap moment_at stage ∙ sym late_is) h.head;
       }
 
 -- ---- what is sent
@@ -408,8 +408,8 @@ stands_sent settings old new past sent count stage searches ends counts verified
       end = h.end ∙ sym ends;
       counted = counts ∙ h.counted;
       noted = noted_on settings old new (searches, verified) (ap moment_at stage) (λ is. sym (ap is_admitted stage) ∙ is)
-          (λ lives. sym (ap dies_at stage) ∙ lives) h.noted;
-      head = left_still old new searches (λ lives. sym (ap dies_at stage) ∙ lives) h.left (ap moment_at stage) h.head;
+          (λ lives. sym (ap dies_at stage) ∙ lives) (λ none. sym (ap refused_at stage) ∙ none) h.noted;
+      head = left_still old new searches (λ lives. sym (ap dies_at stage) ∙ lives) (λ none. sym (ap refused_at stage) ∙ none) h.left (ap moment_at stage) h.head;
     }
 
 -- ---- the end of the bytes
@@ -480,8 +480,8 @@ module _ (stay : VerdictsStay) (invited : InvitationsStay) (heads : HeadsStay) (
           end = sym end;
           counted = count ∙ h.counted;
           noted = noted_on settings old new keeps (ap moment_at k.stage ∙ sym (ap moment_at at)) (λ is. (let same = sym is ∙ ap is_admitted k.stage in absurd (cc)))
-              (λ _. ap dies_at at) h.noted;
-          head = left_still old new keeps.0 (λ _. ap dies_at at) h.left (ap moment_at k.stage ∙ sym (ap moment_at at)) h.head;
+              (λ _. ap dies_at at) (λ _. ap refused_at at) h.noted;
+          head = left_still old new keeps.0 (λ _. ap dies_at at) (λ _. ap refused_at at) h.left (ap moment_at k.stage ∙ sym (ap moment_at at)) h.head;
         }
 
   -- and leaves all others as they are
@@ -524,8 +524,8 @@ module _ (stay : VerdictsStay) (invited : InvitationsStay) (heads : HeadsStay) (
           end = sym end;
           counted = count ∙ h.counted;
           noted = noted_on settings old new keeps (ap moment_at stage_same) (λ is. sym (ap is_admitted stage_same) ∙ is)
-              (λ lives. sym (ap dies_at stage_same) ∙ lives) h.noted;
-          head = left_still old new keeps.0 (λ lives. sym (ap dies_at stage_same) ∙ lives) h.left (ap moment_at stage_same) h.head;
+              (λ lives. sym (ap dies_at stage_same) ∙ lives) (λ none. sym (ap refused_at stage_same) ∙ none) h.noted;
+          head = left_still old new keeps.0 (λ lives. sym (ap dies_at stage_same) ∙ lives) (λ none. sym (ap refused_at stage_same) ∙ none) h.left (ap moment_at stage_same) h.head;
         }
 
 -- ---- a connection of which nothing came
@@ -578,10 +578,10 @@ module _ (stay : VerdictsStay) (invited : InvitationsStay) (settings : Settings)
       let unended = h.end ∙ goes_on in
       let a = receiving_at settings old past.ended incoming h.left h.waiting h.last at h.here in
       let later : moment_at new.stage ≡ moment_at old.stage ++ gave_between old new = rw (at, moment) refl in
-      let noted = noted_on settings old new keeps (moment ∙ sym (ap moment_at at)) (λ _. ap is_admitted at) (λ _. ap dies_at at) h.noted in
+      let noted = noted_on settings old new keeps (moment ∙ sym (ap moment_at at)) (λ _. ap is_admitted at) (λ _. ap dies_at at) (λ _. ap refused_at at) h.noted in
       fed_by stay invited settings old new past sent piece taken need unended longer later end count h.counted noted h.left a.0 h.waiting h.last a.1 a.2.none h.serves
       (feeds a.0 h.last a.2.body a.2.invites)
-      (λ _. held_on old new keeps.0 (λ _. ap dies_at at) a.0 (take taken piece) (h.head a.0 a.1 (λ none. (let clash = sym (ap moment_at at) ∙ none in absurd (cc)))))
+      (λ _. held_on old new keeps.0 (λ _. ap dies_at at) (λ _. ap refused_at at) a.0 (take taken piece) (h.head a.0 a.1 (λ none. (let clash = sym (ap moment_at at) ∙ none in absurd (cc)))))
 
 -- one stage has one body
 pub same_body : (a b : Incoming) → ◌≡◌ {A = Stage} (stages.Body a) (stages.Body b) → a ≡ b

@@ -1,6 +1,6 @@
 -- How a message stands whose head has come, and what its body brings.
 -- Only clauses of private functions and `Stands` cite these, and nobody has to believe them.
-use Rattle.std.specs.Prelude.{◌≡◌, ◌≢◌, ◌⊎◌, ℕ, ◌≤◌, Bool, true, false, List, [], ◌++◌, length, Option, Some, None, Result, Ok, Err, ⊤}
+use Rattle.std.specs.Prelude.{◌≡◌, ◌≢◌, ◌⊎◌, ℕ, ◌<◌, ◌≤◌, Bool, true, false, List, [], ◌++◌, length, Option, Some, None, Result, Ok, Err, IsOk, ⊤}
 use Rattle.s3_config.specs.Settings.{Settings}
 use Rattle.s3_terms.specs.declared.code.Code.{Code}
 use Rattle.s3_terms.specs.declared.dialect.Dialect.{Dialect}
@@ -11,11 +11,13 @@ use Rattle.s3_http_heads.specs.Head.{HeadParts, Says, HasNoHead, asks_head_only}
 use Rattle.s3_aws_chunked.specs.Verdict as bodies
 use Rattle.s3_payloads.specs.Reader as payloads
 use Rattle.s3_machine.specs.declared.command.Command.{Command}
-use Rattle.s3_requests.specs.Commands.{command_of}
+use Rattle.s3_requests.specs.declared.routing.Plan.{Plan}
+use Rattle.s3_requests.specs.Commands.{command_of, reads_body}
 use Rattle.s3_replies.specs.declared.context.Context.{Context}
 use Rattle.s3_session.specs.Verdict as verdicts
 use Rattle.s3_session.specs.Admission.{Asked, admission_of}
-use Rattle.s3_session.specs.Admitting.{IsRuled}
+use Rattle.s3_signing.specs.Verdict.{Checked}
+use Rattle.s3_session.specs.Admitting.{IsRuled, early_admission}
 use Rattle.s3_session.specs.Decision.{Judges, context_of}
 use Rattle.s3_session.specs.Invitation.{may_be_invited}
 use Rattle.s3_session.specs.declared.incoming.Incoming.{Incoming}
@@ -25,21 +27,23 @@ use Rattle.s3_session.specs.declared.opening.Opening.{Opening}
 use Rattle.s3_session.specs.declared.opening.Opening.TheVariants as opening
 
 -- what came of a head, in the dialect of its connection: it is admitted, and its client may be told to go on; it is refused; or memory
--- ran out
-abbrev pub HeadOpens : Dialect → HeadParts → ℕ → Result Asked Code → Opening → Type 0
-HeadOpens dialect head moment rule (opening.Admitted incoming invited) =
+-- ran out, and nothing that is judged without memory refuses it
+abbrev pub HeadOpens : Dialect → HeadParts → ℕ → Result Checked Code → Result Asked Code → Opening → Type 0
+HeadOpens dialect head moment early rule (opening.Admitted incoming invited) =
     IsRuled rule incoming.admission
     × (incoming.context ≡ context_of dialect head moment)
     × (invited ≡ may_be_invited dialect head incoming.admission.length)
-HeadOpens dialect head moment rule (opening.Refused code head_only) = (rule ≡ Err code) × (head_only ≡ asks_head_only head)
-HeadOpens dialect head moment rule opening.Died = Unit {0}
+HeadOpens dialect head moment early rule (opening.Refused code head_only) = (rule ≡ Err code) × (head_only ≡ asks_head_only head)
+HeadOpens dialect head moment early rule opening.Died = IsOk early
 
--- what came of a head text
+-- what came of a head text: memory ran out for its copy, and it isn't malformed; it is malformed; or what came of the head that it says
 abbrev pub TextOpens : Settings → ℕ → List ℕ → Opening → Type 0
 TextOpens settings moment text opened =
-    (opened ≡ opening.Died)
+    ((opened ≡ opening.Died) × ¬ (HasNoHead text))
     ⊎ (HasNoHead text × (opened ≡ opening.Refused MalformedHead false))
-    ⊎ ((head : HeadParts) × Says text head × HeadOpens settings.dialect head moment (admission_of settings head moment) opened)
+    ⊎ ((head : HeadParts)
+    × Says text head
+    × HeadOpens settings.dialect head moment (early_admission settings head moment) (admission_of settings head moment) opened)
 
 -- the same, where the text may have been lost
 abbrev pub Opens : Settings → ℕ → Option (List ℕ) → Opening → Type 0
@@ -92,11 +96,15 @@ abbrev pub settled_as : Result Command Code → Progress
 settled_as (Ok command) = progress.Whole command
 settled_as (Err code) = progress.Refused code
 
--- what becomes of a message by what its reader says; at its whole body memory may run out
+-- what becomes of a message with its whole body: memory may run out where its operation reads that, and where there are data in it
+abbrev pub IsCommanded : Plan → List ℕ → Progress → Type 0
+IsCommanded plan payload settled =
+    ((settled ≡ progress.Died) × (reads_body plan ≡ true) × (0 < length payload)) ⊎ (settled ≡ settled_as (command_of plan payload))
+
+-- what becomes of a message by what its reader says
 abbrev pub Settles : Incoming → bodies.Verdict → Progress → Type 0
 Settles incoming (bodies.Open held) settled = settled ≡ progress.Open incoming
-Settles incoming (bodies.Accepted payload) settled =
-    (settled ≡ progress.Died) ⊎ (settled ≡ settled_as (command_of incoming.admission.plan payload))
+Settles incoming (bodies.Accepted payload) settled = IsCommanded incoming.admission.plan payload settled
 Settles incoming (bodies.Refused place code) settled = Unit {0}
 
 -- a refusal by the reader or by the operation: want of memory is none of the message

@@ -5,12 +5,13 @@
 use Rattle.std.specs.Prelude.{◌≡◌, ◌≢◌, ◌<◌, ◌⊎◌, ℕ, min, take, Bool, true, false, List, [], ◌∷◌, ◌++◌, length, Option, Some, None}
 use Rattle.s3_config.specs.Settings.{Settings}
 use Rattle.s3_terms.specs.declared.code.Code.{Code}
-use Rattle.s3_http_heads.specs.Find.{found_in}
+use Rattle.s3_http_heads.specs.Find.{found_in, skip_pairs}
 use Rattle.s3_http_heads.specs.declared.find.Found.TheVariants as found
+use Rattle.s3_http_heads.specs.Head.{HasNoHead}
 use Rattle.s3_http_heads.specs.Search as search
 use Rattle.s3_machine.specs.declared.command.Command.{Command}
 use Rattle.s3_machine.specs.declared.turn.Turn.{Turn}
-use Rattle.s3_outbox.specs.Outbox.{with_room}
+use Rattle.s3_outbox.specs.Outbox.{Sending, with_room}
 use Rattle.s3_replies.specs.declared.context.Context.{Context}
 use Rattle.s3_replies.specs.Replies.{PrintsRefusal, internal_error}
 use Rattle.s3_session.specs.Verdict as verdicts
@@ -19,7 +20,7 @@ use Rattle.s3_session.specs.Fault.{most_counted}
 use Rattle.s3_session.specs.Invitation.{Invites}
 use Rattle.s3_session.specs.Incoming.{IsInBody}
 use Rattle.s3_session.specs.Output.{HasText, Past, Serves, Writes, IsOpen, IsRefused, IsDead, is_dead}
-use Rattle.s3_session.specs.Session.{Connection, added, moment_at, standing_of, turns_of, unsent_of}
+use Rattle.s3_session.specs.Session.{Connection, added, moment_at, refused_at, standing_of, turns_of, unsent_of}
 use Rattle.s3_session.specs.Verified.{IsNoted}
 use Rattle.s3_session.specs.declared.incoming.Incoming.{Incoming}
 use Rattle.s3_session.specs.declared.incoming.Progress.{Progress}
@@ -79,7 +80,8 @@ HereOr settings session ended (Some rest) waiting last = Here settings session e
 HereOr settings session ended None waiting last = (session.stage ≡ stages.Closed closings.Replied) × (waiting ≡ []) × (last ≡ [])
 
 -- A session holds the head at the front of these bytes: its search has taken them up to the byte with which the head was whole, or
--- too large. The text of a whole head isn't lost, unless memory ran out for its message.
+-- too large. The text of a whole head isn't lost, unless memory ran out for its message. A text that isn't lost is no malformed one,
+-- unless its message is refused: so memory runs out for none that is malformed.
 pub record HoldsHead (session : Connection) (rest : List ℕ) : Type 0 where
   pub front : List ℕ
   pub behind : List ℕ
@@ -87,6 +89,7 @@ pub record HoldsHead (session : Connection) (rest : List ℕ) : Type 0 where
   pub held : search.Holds session.search front
   pub decided : found_in front ≢ found.NeedMore
   pub whole : HasText front → is_dead (standing_of session) ≡ false → search.is_lost session.search ≡ false
+  pub says : refused_at session.stage ≡ None → search.is_lost session.search ≡ false → ¬ (HasNoHead (skip_pairs front))
 
 -- After all this, and with these bytes sent. The head of the message at hand is held as long as that has its moment, also where it
 -- is refused.
@@ -120,13 +123,17 @@ IsDying moment old new need =
     × (new.stage ≡ stages.Closed (closings.Died moment))
     × (unsent_of new ≡ unsent_of old ++ internal_error)
 
+-- there is no room for a reply, nor any that can be used again
+abbrev pub LacksRoom : Sending → Type 0
+LacksRoom outbox = (outbox.has_room ≡ false) × (outbox.had_room ≡ true → 0 < length outbox.unsent)
+
 -- a command waits from now on, or memory ran out for its reply
 abbrev pub Asks : Context → Command → Connection → Connection → Need → Type 0
 Asks context command old new need =
     ((need ≡ needs.Turn (record { command = command; moment = context.moment }))
     × (new.stage ≡ stages.Waiting context)
     × (new.outbox ≡ with_room old.outbox))
-    ⊎ IsDying context.moment old new need
+    ⊎ (IsDying context.moment old new need × LacksRoom old.outbox)
 
 -- what becomes of a session with what became of a message
 abbrev pub GoesOn : Context → Progress → Connection → Connection → Need → Type 0

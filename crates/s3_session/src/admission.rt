@@ -1,6 +1,7 @@
 //! Whether a head is admitted: what has to hold before its body is looked at.
 
-ghost use Rattle.std.specs.Prelude.{◌≡◌, ◌⊎◌, true, Err, IfOk};
+ghost use Rattle.std.specs.Prelude.{◌≡◌, ◌⊎◌, true, false, Err, IfErr, IfOk};
+ghost use Rattle.s3_requests.specs.Memory.{RouteTakes};
 ghost use Rattle.s3_session.specs.Admission.{admission_of};
 ghost use Rattle.s3_session.specs.Admitting as rules;
 ghost use Rattle.s3_session.specs.Verified.{IsSigned};
@@ -31,7 +32,7 @@ pub struct Admission {
 ///
 /// The error is the first fault. `InternalError` says that memory ran out; then nothing that shows before the signature
 /// refuses the head. `signer` is told whether the head was verified, also where the head is refused after that, and keeps
-/// what `verify_head` does.
+/// what `verify_head` does. From the signature on, memory runs out only where `route` takes it.
 #[tactic(auto, unfolding(crate::specs::Admission::admission_of, crate::specs::Admitting::early_admission, s3_signing::specs::Verdict::head_verdict), using(crate::proofs::SoundLemmas::announced_size))]
 pub fn admit(
     alloc: Global,
@@ -47,6 +48,10 @@ pub fn admit(
 
     // Whatever refuses it after its signature.
     ensures told { IsSigned config.now head.now moment → (signer.new.is_verified ≡ true) ⊎ (result ≡ Err Code.InternalError) }
+
+    // From then on memory runs out only where its routing takes it.
+    ensures routed { signer.old.is_verified ≡ false → signer.new.is_verified ≡ true
+        → IfErr result (λ code. ((code ≡ Code.InternalError) × RouteTakes config.now.dialect head.now) ⊎ (admission_of config.now head.now moment ≡ Err code)) }
 {
     let length = framing(head, config.body_limit())?;
     let verified = verify_head(alloc, config, head, moment, &mut signer.key)?;

@@ -4,7 +4,6 @@ ghost use Rattle.std.specs.Prelude.{◌≡◌, ◌≢◌, ◌⊎◌, ◌<◌, �
 ghost use Rattle.s3_config.specs.Settings.{Settings};
 ghost use Rattle.s3_payloads.specs.Form.{Announced};
 ghost use Rattle.s3_payloads.specs.Reader.{Stands, taken_of, verdict_of};
-ghost use Rattle.s3_requests.specs.Commands.{command_of};
 ghost use Rattle.s3_session.specs.Decision.{Judges, open_yet};
 ghost use Rattle.s3_session.specs.Incoming as rules;
 
@@ -144,7 +143,7 @@ impl Receiving {
 
 // What becomes of a message with its whole body.
 fn commanded(alloc: Global, plan: Plan, payload: Payload) -> Progress
-    ensures settles { (result ≡ Progress.Died) ⊎ (result ≡ rules.settled_as (command_of plan payload)) }
+    ensures settles { rules.IsCommanded plan payload result }
     ensures kept { (context : Context) → rules.context_in context result ≡ context }
 {
     match command(alloc, plan, payload) {

@@ -1,11 +1,12 @@
 //! What comes of a whole head.
 
-ghost use Rattle.std.specs.Prelude.{◌≡◌, ◌≢◌, ◌⊎◌, true, option_copied};
+ghost use Rattle.std.specs.Prelude.{◌≡◌, ◌≢◌, ◌⊎◌, true, false, option_copied};
 ghost use Rattle.s3_session.specs.Admission.{admission_of};
+ghost use Rattle.s3_session.specs.Admitting.{early_admission};
 ghost use Rattle.s3_session.specs.Decision.{context_of};
 ghost use Rattle.s3_session.specs.Incoming as rules;
 ghost use Rattle.s3_session.specs.Invitation.{may_be_invited};
-ghost use Rattle.s3_session.specs.Verified.{IsSigned, VerifiesIn, opens_body};
+ghost use Rattle.s3_session.specs.Verified.{IsSigned, RefusedTakes, TextTakes, VerifiesIn, is_refused, opens_body};
 
 use crate::admission::admit;
 use crate::incoming::{Incoming, Receiving};
@@ -40,6 +41,7 @@ pub(crate) fn open_text(
     ensures noted { signer.new.is_verified ≡ true → VerifiesIn config.now moment (option_copied text.entry) }
     ensures told { result ≢ Opening.Died → VerifiesIn config.now moment (option_copied text.entry) → signer.new.is_verified ≡ true }
     ensures admitted { opens_body result ≡ true → signer.new.is_verified ≡ true }
+    ensures spared { is_refused result ≡ false → signer.new.is_verified ≡ true → TextTakes config.now moment (option_copied text.entry) }
 {
     texts_say_one_thing();
     signer.begins();
@@ -57,6 +59,7 @@ pub(crate) fn open_text(
 }
 
 // What comes of this head.
+#[tactic(auto, using(crate::proofs::LackLemmas::lacks_past))]
 fn open_head(
     alloc: Global,
     config: &Config,
@@ -64,10 +67,13 @@ fn open_head(
     moment: Moment,
     signer: &mut HeadSigner,
 ) -> Opening
-    ensures opens { rules.HeadOpens config.now.dialect head.now moment (admission_of config.now head.now moment) result }
+    ensures opens { rules.HeadOpens config.now.dialect head.now moment (early_admission config.now head.now moment)
+        (admission_of config.now head.now moment) result }
     ensures noted { signer.new.is_verified ≡ true → (signer.old.is_verified ≡ true) ⊎ IsSigned config.now head.now moment }
     ensures told { result ≢ Opening.Died → IsSigned config.now head.now moment → signer.new.is_verified ≡ true }
     ensures admitted { opens_body result ≡ true → signer.new.is_verified ≡ true }
+    ensures spared { is_refused result ≡ false → signer.old.is_verified ≡ false → signer.new.is_verified ≡ true
+        → RefusedTakes config.now head.now moment }
 {
     match admit(alloc, config, head, moment, signer) {
         Ok(admission) => {

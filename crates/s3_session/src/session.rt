@@ -324,6 +324,7 @@ impl Session {
         ensures unended { self.new.outbox.is_ended ≡ false }
         ensures written { OnOk result (rules.unsent_of self.new ≡ rules.unsent_of self.old ++ (if invited then continue_line else [])) }
         ensures same { OnErr result (rules.unsent_of self.new ≡ rules.unsent_of self.old) }
+        ensures cause { OnErr result ((invited ≡ true) × inside.LacksRoom self.old.outbox) }
         ensures head { rules.KeepsHead self.old self.new }
         ensures end { self.new.is_ended ≡ self.old.is_ended }
         ensures count { self.new.answered ≡ self.old.answered }

@@ -4,8 +4,8 @@ use Rattle.s3_http_heads.specs.Search.{Holds, is_lost}
 use Rattle.s3_replies.specs.Replies.{PrintsRefusal, continue_line, internal_error}
 use Rattle.s3_terms.specs.declared.dialect.Dialect.{Dialect}
 use Rattle.s3_session.specs.declared.session.Need.TheVariants as needs
-use Rattle.s3_session.specs.Session.{Connection, Needs, added, moment_at, standing_at, unsent_of}
-use Rattle.s3_session.proofs.HeldLemmas.{held_begun, text_kept}
+use Rattle.s3_session.specs.Session.{Connection, Needs, added, moment_at, refused_at, standing_at, unsent_of}
+use Rattle.s3_session.proofs.HeldLemmas.{head_said, held_begun, text_kept}
 use Rattle.s3_session.proofs.NotedLemmas.{admitted_moment, closed_noted, dead_lives_not, noted_begun}
 use Rattle.s3_session.proofs.ReceivingLemmas.{begins_admitted, begins_dead, begins_refused, longer_by, longer_on}
 use Rattle.s3_session.proofs.session.Session.begin.Goals as goal
@@ -61,6 +61,7 @@ returns-in-Ok-clause-noted c rest held whole =
     (c.read_body.ensures.moment ∙ ap (λ (m : ℕ). m ∷ [])
     (admitted_moment c.args.config.now c.args.moment _ c.in-Admitted.incoming c.in-Admitted.invited c.in-Admitted.ensures.opens))
     (λ is. c.in-Admitted.ensures.noted (sym same ∙ is)) (λ _ _. same ∙ c.in-Admitted.ensures.admitted refl) (λ _. same ∙ c.in-Admitted.ensures.admitted refl)
+    (λ _ is. c.in-Admitted.ensures.spared refl (sym same ∙ is))
 
 pub returns-in-Refused-clause-noted : goal.returns-in-Refused-clause-noted
 returns-in-Refused-clause-noted c rest held whole =
@@ -70,6 +71,7 @@ returns-in-Refused-clause-noted c rest held whole =
     (c.refuse.ensures.head.0 ∙ ap (λ (s : Connection). s.search) c.self.view_is) (ap moment_at c.refuse.ensures.stage)
     (λ is. c.in-Refused.ensures.noted (sym c.refuse.ensures.head.1 ∙ is))
     (λ _ verifies. c.refuse.ensures.head.1 ∙ c.in-Refused.ensures.told (λ died. (let clash = died in absurd (cc))) verifies) (closed_noted _ _ _ c.refuse.ensures.stage)
+    (λ none. (let clash = sym none ∙ ap refused_at c.refuse.ensures.stage in absurd (cc)))
 
 pub returns-in-Err-clause-noted : goal.returns-in-Err-clause-noted
 returns-in-Err-clause-noted c rest held whole =
@@ -78,7 +80,7 @@ returns-in-Err-clause-noted c rest held whole =
     (c.text.ensures.lost ∙ ap (λ (s : Connection). is_lost s.search) c.self.view_is)
     (c.die.ensures.head.0 ∙ c.in-Err.ensures.head.0 ∙ ap (λ (s : Connection). s.search) c.self.view_is) (ap moment_at c.die.ensures.stage)
     (λ is. c.in-Admitted.ensures.noted (sym (c.die.ensures.head.1 ∙ c.in-Err.ensures.head.1) ∙ is)) (λ lives _. dead_lives_not _ _ c.die.ensures.stage lives)
-    (closed_noted _ _ _ c.die.ensures.stage)
+    (closed_noted _ _ _ c.die.ensures.stage) (λ _ is. c.in-Admitted.ensures.spared refl (sym (c.die.ensures.head.1 ∙ c.in-Err.ensures.head.1) ∙ is))
 
 pub returns-in-Died-clause-noted : goal.returns-in-Died-clause-noted
 returns-in-Died-clause-noted c rest held whole =
@@ -87,28 +89,39 @@ returns-in-Died-clause-noted c rest held whole =
     (c.text.ensures.lost ∙ ap (λ (s : Connection). is_lost s.search) c.self.view_is)
     (c.die-in-Died.ensures.head.0 ∙ ap (λ (s : Connection). s.search) c.self.view_is) (ap moment_at c.die-in-Died.ensures.stage)
     (λ is. c.in-Died.ensures.noted (sym c.die-in-Died.ensures.head.1 ∙ is)) (λ lives _. dead_lives_not _ _ c.die-in-Died.ensures.stage lives) (closed_noted _ _ _ c.die-in-Died.ensures.stage)
+    (λ _ is. c.in-Died.ensures.spared refl (sym c.die-in-Died.ensures.head.1 ∙ is))
 
 pub returns-in-Ok-clause-held : goal.returns-in-Ok-clause-held
 returns-in-Ok-clause-held c rest held whole =
     held_begun c.args.self.now _ rest _ held whole (c.read_body.ensures.head.0 ∙ c.in-Ok.ensures.head.0 ∙ ap (λ (s : Connection). s.search) c.self.view_is)
     (λ _. text_kept c.args.config.now c.args.moment c.text.result _ _ (c.text.ensures.lost ∙ ap (λ (s : Connection). is_lost s.search) c.self.view_is)
     c.in-Admitted.ensures.opens (λ died. (let clash = died in absurd (cc))))
+    (λ _. head_said c.args.config.now c.args.moment rest c.text.result _ _ (c.text.ensures.lost ∙ ap (λ (s : Connection). is_lost s.search) c.self.view_is)
+    (c.text.ensures.text rest (subst (λ (s : Connection). Holds s.search rest) (sym c.self.view_is) held))
+    (λ _ _ is. absurd (cc)) c.in-Admitted.ensures.opens)
 
 pub returns-in-Refused-clause-held : goal.returns-in-Refused-clause-held
 returns-in-Refused-clause-held c rest held whole =
     held_begun c.args.self.now _ rest _ held whole (c.refuse.ensures.head.0 ∙ ap (λ (s : Connection). s.search) c.self.view_is)
     (λ _. text_kept c.args.config.now c.args.moment c.text.result _ _ (c.text.ensures.lost ∙ ap (λ (s : Connection). is_lost s.search) c.self.view_is)
     c.in-Refused.ensures.opens (λ died. (let clash = died in absurd (cc))))
+    (λ none. (let clash = sym none ∙ ap refused_at c.refuse.ensures.stage in absurd (cc)))
 
 pub returns-in-Err-clause-held : goal.returns-in-Err-clause-held
 returns-in-Err-clause-held c rest held whole =
     held_begun c.args.self.now _ rest _ held whole (c.die.ensures.head.0 ∙ c.in-Err.ensures.head.0 ∙ ap (λ (s : Connection). s.search) c.self.view_is)
     (λ lives. dead_lives_not _ _ c.die.ensures.stage lives)
+    (λ _. head_said c.args.config.now c.args.moment rest c.text.result _ _ (c.text.ensures.lost ∙ ap (λ (s : Connection). is_lost s.search) c.self.view_is)
+    (c.text.ensures.text rest (subst (λ (s : Connection). Holds s.search rest) (sym c.self.view_is) held))
+    (λ _ _ is. absurd (cc)) c.in-Admitted.ensures.opens)
 
 pub returns-in-Died-clause-held : goal.returns-in-Died-clause-held
 returns-in-Died-clause-held c rest held whole =
     held_begun c.args.self.now _ rest _ held whole (c.die-in-Died.ensures.head.0 ∙ ap (λ (s : Connection). s.search) c.self.view_is)
     (λ lives. dead_lives_not _ _ c.die-in-Died.ensures.stage lives)
+    (λ _. head_said c.args.config.now c.args.moment rest c.text.result _ _ (c.text.ensures.lost ∙ ap (λ (s : Connection). is_lost s.search) c.self.view_is)
+    (c.text.ensures.text rest (subst (λ (s : Connection). Holds s.search rest) (sym c.self.view_is) held))
+    (λ _ _ is. absurd (cc)) c.in-Died.ensures.opens)
 
 -- what is closed is to be closed
 pub returns-in-Refused-clause-needs : goal.returns-in-Refused-clause-needs

@@ -5,7 +5,7 @@ use Rattle.s3_http_heads.specs.declared.find.Found.{Found}
 use Rattle.s3_replies.specs.Replies.{PrintsRefusal}
 use Rattle.s3_terms.specs.declared.code.Code.TheVariants.{HeadTooLarge}
 use Rattle.s3_terms.specs.declared.dialect.Dialect.{Dialect}
-use Rattle.s3_session.specs.Session.{Connection, added, moment_at, unsent_of}
+use Rattle.s3_session.specs.Session.{Connection, added, moment_at, refused_at, unsent_of}
 use Rattle.s3_session.specs.Verified.{is_admitted}
 use Rattle.s3_session.proofs.HeldLemmas.{held_large}
 use Rattle.s3_session.proofs.NotedLemmas.{none_noted, reads_unnoted, without_head, without_moment}
@@ -62,7 +62,7 @@ returns-in-TooLarge-clause-held c rest h given =
     let searched = c.feed-len.ensures.fed rest (subst (λ (s : Connection). Stands s.search rest) (sym c.self.view_is) h) in
     held_large _ (rest ++ take c.feed-len.result.0 c.args.piece.now)
     (subst (λ (s : HeadSearch). Holds s (rest ++ take c.feed-len.result.0 c.args.piece.now)) (sym c.refuse.ensures.head.0) searched.held)
-    (sym searched.found ∙ c.in-TooLarge.is)
+    (sym searched.found ∙ c.in-TooLarge.is) HeadTooLarge (ap refused_at c.refuse.ensures.stage)
 
 pub returns-in-Head-clause-held : goal.returns-in-Head-clause-held
 returns-in-Head-clause-held c rest h given =
