@@ -5,13 +5,14 @@ ghost use Rattle.std.specs.Io.Slices.{io_slices_bytes};
 ghost use mathlib.Core.List.{IsPrefix};
 ghost use Rattle.s3_config.specs.Settings.{Settings};
 ghost use Rattle.s3_http_heads.specs.Find.{skip_pairs};
+ghost use Rattle.s3_http_heads.specs.Head.{HasNoHead};
 ghost use Rattle.s3_http_heads.specs.Search as heads;
 ghost use Rattle.s3_machine.specs.History.{Entry};
 ghost use Rattle.s3_machine.specs.declared.turn.Turn.{Turn};
 ghost use Rattle.s3_session.specs.Fault.{HasNoFault, IsFault};
 ghost use Rattle.s3_session.specs.Output.{Reading, Over, Dead, is_closed, is_dead, is_waiting};
 ghost use Rattle.s3_session.specs.Session.{moment_if};
-ghost use Rattle.s3_session.specs.Verified.{HoldsVerified};
+ghost use Rattle.s3_session.specs.Verified.{HoldsVerified, RefusedTakes};
 ghost use Rattle.s3_connection.specs.Holds.{Holds};
 ghost use Rattle.s3_connection.specs.Output.{Input};
 
@@ -309,6 +310,11 @@ impl Connection {
     pub fn head(&self) -> Option<&[u8]>
         ensures text { (bytes : List ℕ) → heads.Holds self.now.session.search bytes → IfSome result (λ text. text.now ≡ skip_pairs bytes) }
         ensures lost { is_none result ≡ heads.is_lost self.now.session.search }
+
+        // Where memory ran out for its message, it isn't malformed.
+        ensures died { (settings : Settings) (input : Input) (moments : List ℕ) (entries : List Entry) (sent : List ℕ)
+            → Holds self.now settings input moments entries sent → is_dead (rules.standing_of self.now) ≡ true
+            → IfSome result (λ text. ¬ (HasNoHead text.now)) }
     {
         self.session.head()
     }
@@ -323,6 +329,11 @@ impl Connection {
         ensures told { (settings : Settings) (input : Input) (moments : List ℕ) (entries : List Entry) (sent : List ℕ)
             → Holds self.now settings input moments entries sent → is_dead (rules.standing_of self.now) ≡ false
             → HoldsVerified settings self.now.session → result ≡ true }
+
+        // Where memory ran out for that message, no rule refuses its head, or its routing takes memory.
+        ensures died { (settings : Settings) (input : Input) (moments : List ℕ) (entries : List Entry) (sent : List ℕ)
+            → Holds self.now settings input moments entries sent → is_dead (rules.standing_of self.now) ≡ true → result ≡ true
+            → (h : HoldsVerified settings self.now.session) → RefusedTakes settings h.verifies.0 h.moment }
         ensures waits { (settings : Settings) (input : Input) (moments : List ℕ) (entries : List Entry) (sent : List ℕ)
             → Holds self.now settings input moments entries sent → is_waiting (rules.standing_of self.now) ≡ true → result ≡ true }
     {

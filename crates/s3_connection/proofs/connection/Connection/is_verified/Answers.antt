@@ -2,7 +2,7 @@ use Rattle.std.proofs.Common.{◌≡◌, true, false, ap, subst, sym}
 use Rattle.s3_session.specs.Output.{is_dead, is_waiting}
 use Rattle.s3_session.specs.Session.{Connection, standing_of}
 use Rattle.s3_session.specs.Stands.{Stands}
-use Rattle.s3_session.specs.Verified.{HoldsVerified}
+use Rattle.s3_session.specs.Verified.{HoldsVerified, RefusedTakes}
 use Rattle.s3_connection.specs.Connection.{Connected}
 use Rattle.s3_connection.specs.Output.{past_of}
 use Rattle.s3_connection.proofs.connection.Connection.is_verified.Goals as goal
@@ -28,3 +28,11 @@ returns-clause-waits c settings input moments entries sent h waits =
     let same = ap (λ (k : Connected). k.session) c.self.view_is in
     let stands = subst (λ (s : Connection). Stands s settings past sent) (sym same) h.stands in
     c.is_verified.ensures.waits settings past sent stands (subst (λ (s : Connection). is_waiting (standing_of s) ≡ true) (sym same) waits)
+
+pub returns-clause-died : goal.returns-clause-died
+returns-clause-died c settings input moments entries sent h dead is =
+    let past = past_of h.taken h.told moments entries h.waiting in
+    let same = ap (λ (k : Connected). k.session) c.self.view_is in
+    let stands = subst (λ (s : Connection). Stands s settings past sent) (sym same) h.stands in
+    subst (λ (s : Connection). (holds : HoldsVerified settings s) → RefusedTakes settings holds.verifies.0 holds.moment) same
+    (c.is_verified.ensures.died settings past sent stands (subst (λ (s : Connection). is_dead (standing_of s) ≡ true) (sym same) dead) is)
