@@ -4,6 +4,7 @@
 //! eight threads at one desk; and of `s3_world`: events of two connections that share one store, and what is written for each.
 
 mod acts;
+mod answers;
 mod asked;
 mod connections;
 mod gate_overlap;

@@ -1,4 +1,5 @@
 //! Two connections at one desk: while the reply to a get is on its way, the object is replaced.
+use crate::workers::answers::got;
 use crate::workers::gate_overlap::{HELD, Marks, Meeting, is_answered};
 use crate::workers::stream::{PLAIN, Stream};
 use s3_config::Config;
@@ -43,15 +44,7 @@ const OTHER_ANSWER: &[u8] = b"HTTP/1.1 200 OK\r\n\
     Content-Length: 0\r\n\
     \r\n";
 
-const GET_ANSWER: &[u8] = b"HTTP/1.1 200 OK\r\n\
-    Date: Fri, 24 May 2013 00:00:00 GMT\r\n\
-    x-amz-request-id: 0000000000000001\r\n\
-    ETag: \"81615449a98aaaad8dc179b3bec87f38\"\r\n\
-    Last-Modified: Fri, 24 May 2013 00:00:00 GMT\r\n\
-    Accept-Ranges: bytes\r\n\
-    Content-Type: binary/octet-stream\r\n\
-    Content-Length: 131072\r\n\
-    \r\n";
+const GET_ANSWER: &str = got!("", 1, "81615449a98aaaad8dc179b3bec87f38", 131072, "");
 
 // The write that is held: the one behind the head of the answer to the get.
 const HELD_WRITE: u64 = 3;
@@ -77,7 +70,7 @@ fn wanted_by(alloc: Global, connection: u64) -> Result<Vec<u8>, NoMemory> {
         return Ok(Vec::from_slice(alloc, OTHER_ANSWER)?);
     }
     let letters = Vec::from_elem(alloc, b'a', SIZE)?;
-    Ok([PUT_ANSWER, GET_ANSWER, &letters].concat(alloc)?)
+    Ok([PUT_ANSWER, GET_ANSWER.as_bytes(), &letters].concat(alloc)?)
 }
 
 // Whether the connection of this number is answered as it has to be.

@@ -1,4 +1,5 @@
 //! Two connections that share a book in one thread, whose messages come in turns byte by byte.
+use crate::workers::answers::got;
 use crate::workers::served::{Sent, handle, moment};
 use crate::workers::stream::{Manner, PLAIN, Stream};
 use s3_calendar::Moment;
@@ -19,41 +20,33 @@ const STEPS: u32 = 10_000;
 
 // What the put of `hello` and the get of it are answered beside the other connection, whose put is the second command, and
 // whose get is the fourth.
-const FIRST: &[u8] = b"HTTP/1.1 100 Continue\r\n\r\n\
+const FIRST: &str = got!(
+    "HTTP/1.1 100 Continue\r\n\r\n\
     HTTP/1.1 200 OK\r\n\
     Date: Fri, 24 May 2013 00:00:00 GMT\r\n\
     x-amz-request-id: 0000000000000000\r\n\
     ETag: \"5d41402abc4b2a76b9719d911017c592\"\r\n\
     Content-Length: 0\r\n\
-    \r\n\
-    HTTP/1.1 200 OK\r\n\
-    Date: Fri, 24 May 2013 00:00:00 GMT\r\n\
-    x-amz-request-id: 0000000000000002\r\n\
-    ETag: \"5d41402abc4b2a76b9719d911017c592\"\r\n\
-    Last-Modified: Fri, 24 May 2013 00:00:00 GMT\r\n\
-    Accept-Ranges: bytes\r\n\
-    Content-Type: binary/octet-stream\r\n\
-    Content-Length: 5\r\n\
-    \r\n\
-    hello";
+    \r\n",
+    2,
+    "5d41402abc4b2a76b9719d911017c592",
+    5,
+    "hello"
+);
 
 // The same of the put in chunks and its get.
-const SECOND: &[u8] = b"HTTP/1.1 200 OK\r\n\
+const SECOND: &str = got!(
+    "HTTP/1.1 200 OK\r\n\
     Date: Fri, 24 May 2013 00:00:00 GMT\r\n\
     x-amz-request-id: 0000000000000001\r\n\
     ETag: \"5d41402abc4b2a76b9719d911017c592\"\r\n\
     Content-Length: 0\r\n\
-    \r\n\
-    HTTP/1.1 200 OK\r\n\
-    Date: Fri, 24 May 2013 00:00:00 GMT\r\n\
-    x-amz-request-id: 0000000000000003\r\n\
-    ETag: \"5d41402abc4b2a76b9719d911017c592\"\r\n\
-    Last-Modified: Fri, 24 May 2013 00:00:00 GMT\r\n\
-    Accept-Ranges: bytes\r\n\
-    Content-Type: binary/octet-stream\r\n\
-    Content-Length: 5\r\n\
-    \r\n\
-    hello";
+    \r\n",
+    3,
+    "5d41402abc4b2a76b9719d911017c592",
+    5,
+    "hello"
+);
 
 // A connection with its number, its stream, and what it has to write.
 #[derive(Drop)]
@@ -121,8 +114,8 @@ fn have_written(all: &[Served]) -> bool {
 // Whether the two are answered so by this book.
 fn serves_both(alloc: Global, config: &Config, handle: &mut BookHandle<MapRecords>) -> bool {
     let mut all = Vec::new(alloc);
-    connect(alloc, &mut all, 1, Sent::PutAndGet, FIRST);
-    connect(alloc, &mut all, 2, Sent::ChunksAndGet, SECOND);
+    connect(alloc, &mut all, 1, Sent::PutAndGet, FIRST.as_bytes());
+    connect(alloc, &mut all, 2, Sent::ChunksAndGet, SECOND.as_bytes());
     serve_all(alloc, config, handle, &mut all);
     let have_written = have_written(&all);
     drop(all);

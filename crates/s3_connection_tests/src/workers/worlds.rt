@@ -1,5 +1,6 @@
 //! Events of two connections that share one store, and what is written for each.
 use crate::workers::acts::{Act, Sent, events};
+use crate::workers::answers::got;
 use s3_calendar::Moment;
 use s3_config::Config;
 use s3_events::{Event, read_events};
@@ -16,7 +17,7 @@ use std::mem::drop;
 struct Row {
     name: &'static str,
     acts: &'static [Act],
-    outs: [&'static [u8]; 2],
+    outs: [&'static str; 2],
     entries: u64,
     refused: [Option<u64>; 2],
 }
@@ -32,13 +33,16 @@ static ROWS: [Row; 5] = [
             Act::Turn(1),
         ],
         outs: [
-            b"HTTP/1.1 200 OK\r\nDate: Fri, 24 May 2013 00:00:00 GMT\r\nx-amz-request-id: 0000000000000001\r\n\
+            "HTTP/1.1 200 OK\r\nDate: Fri, 24 May 2013 00:00:00 GMT\r\nx-amz-request-id: 0000000000000001\r\n\
              ETag: \"5d41402abc4b2a76b9719d911017c592\"\r\nContent-Length: 0\r\n\r\n",
-            b"HTTP/1.1 200 OK\r\nDate: Fri, 24 May 2013 00:00:00 GMT\r\nx-amz-request-id: 0000000000000000\r\n\
-             ETag: \"7d793037a0760186574b0282f2f435e7\"\r\nContent-Length: 0\r\n\r\n\
-             HTTP/1.1 200 OK\r\nDate: Fri, 24 May 2013 00:00:00 GMT\r\nx-amz-request-id: 0000000000000002\r\n\
-             ETag: \"5d41402abc4b2a76b9719d911017c592\"\r\nLast-Modified: Fri, 24 May 2013 00:00:00 GMT\r\n\
-             Accept-Ranges: bytes\r\nContent-Type: binary/octet-stream\r\nContent-Length: 5\r\n\r\nhello",
+            got!(
+                "HTTP/1.1 200 OK\r\nDate: Fri, 24 May 2013 00:00:00 GMT\r\nx-amz-request-id: 0000000000000000\r\n\
+             ETag: \"7d793037a0760186574b0282f2f435e7\"\r\nContent-Length: 0\r\n\r\n",
+                2,
+                "5d41402abc4b2a76b9719d911017c592",
+                5,
+                "hello"
+            ),
         ],
         entries: 3,
         refused: [None, None],
@@ -53,13 +57,16 @@ static ROWS: [Row; 5] = [
             Act::Turn(1),
         ],
         outs: [
-            b"HTTP/1.1 200 OK\r\nDate: Fri, 24 May 2013 00:00:00 GMT\r\nx-amz-request-id: 0000000000000000\r\n\
+            "HTTP/1.1 200 OK\r\nDate: Fri, 24 May 2013 00:00:00 GMT\r\nx-amz-request-id: 0000000000000000\r\n\
              ETag: \"5d41402abc4b2a76b9719d911017c592\"\r\nContent-Length: 0\r\n\r\n",
-            b"HTTP/1.1 200 OK\r\nDate: Fri, 24 May 2013 00:00:00 GMT\r\nx-amz-request-id: 0000000000000001\r\n\
-             ETag: \"7d793037a0760186574b0282f2f435e7\"\r\nContent-Length: 0\r\n\r\n\
-             HTTP/1.1 200 OK\r\nDate: Fri, 24 May 2013 00:00:00 GMT\r\nx-amz-request-id: 0000000000000002\r\n\
-             ETag: \"7d793037a0760186574b0282f2f435e7\"\r\nLast-Modified: Fri, 24 May 2013 00:00:00 GMT\r\n\
-             Accept-Ranges: bytes\r\nContent-Type: binary/octet-stream\r\nContent-Length: 5\r\n\r\nworld",
+            got!(
+                "HTTP/1.1 200 OK\r\nDate: Fri, 24 May 2013 00:00:00 GMT\r\nx-amz-request-id: 0000000000000001\r\n\
+             ETag: \"7d793037a0760186574b0282f2f435e7\"\r\nContent-Length: 0\r\n\r\n",
+                2,
+                "7d793037a0760186574b0282f2f435e7",
+                5,
+                "world"
+            ),
         ],
         entries: 3,
         refused: [None, None],
@@ -78,9 +85,9 @@ static ROWS: [Row; 5] = [
             Act::Turn(1),
         ],
         outs: [
-            b"HTTP/1.1 200 OK\r\nDate: Fri, 24 May 2013 00:00:00 GMT\r\nx-amz-request-id: 0000000000000000\r\n\
+            "HTTP/1.1 200 OK\r\nDate: Fri, 24 May 2013 00:00:00 GMT\r\nx-amz-request-id: 0000000000000000\r\n\
              ETag: \"5d41402abc4b2a76b9719d911017c592\"\r\nContent-Length: 0\r\n\r\n",
-            b"",
+            "",
         ],
         entries: 1,
         refused: [None, None],
@@ -93,7 +100,7 @@ static ROWS: [Row; 5] = [
             Act::End(2),
             Act::Turn(4_294_967_295),
         ],
-        outs: [b"", b""],
+        outs: ["", ""],
         entries: 0,
         refused: [None, None],
     },
@@ -108,12 +115,12 @@ static ROWS: [Row; 5] = [
             Act::Turn(1),
         ],
         outs: [
-            b"HTTP/1.1 200 OK\r\nDate: Fri, 24 May 2013 00:00:00 GMT\r\nx-amz-request-id: 0000000000000000\r\n\
+            "HTTP/1.1 200 OK\r\nDate: Fri, 24 May 2013 00:00:00 GMT\r\nx-amz-request-id: 0000000000000000\r\n\
              ETag: \"5d41402abc4b2a76b9719d911017c592\"\r\nContent-Length: 0\r\n\r\n\
              HTTP/1.1 400 Bad Request\r\nDate: Fri, 24 May 2013 00:00:00 GMT\r\nConnection: close\r\n\
              x-amz-request-id: 0000000000000000\r\nContent-Type: application/json\r\nContent-Length: 59\r\n\r\n\
              {\"Code\":\"MalformedHead\",\"Message\":\"The head is malformed.\"}",
-            b"HTTP/1.1 400 Bad Request\r\nDate: Fri, 24 May 2013 00:00:00 GMT\r\nConnection: close\r\n\
+            "HTTP/1.1 400 Bad Request\r\nDate: Fri, 24 May 2013 00:00:00 GMT\r\nConnection: close\r\n\
              x-amz-request-id: 0000000000000000\r\nContent-Type: application/json\r\nContent-Length: 59\r\n\r\n\
              {\"Code\":\"MalformedHead\",\"Message\":\"The head is malformed.\"}",
         ],
@@ -126,9 +133,9 @@ static ROWS: [Row; 5] = [
 const MOMENTS: &[u8] = b"moments 0 1369353600\nmoments 1 1369353600\n";
 
 // Whether this is all that a connection wrote.
-fn has_written(world: &World<'_, MapRecords>, connection: u32, wanted: &[u8]) -> bool {
+fn has_written(world: &World<'_, MapRecords>, connection: u32, wanted: &str) -> bool {
     match world.out(connection) {
-        Ok(out) => out.as_slice() == wanted,
+        Ok(out) => out.as_slice() == wanted.as_bytes(),
         Err(_) => false,
     }
 }
