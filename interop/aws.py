@@ -286,5 +286,3 @@ class Aws2Api(AwsApi):
 
 class Aws2Copy(AwsCopy):
     name, generation = "aws2 s3 cp", 2
-    # It asks for the tags of what it copies part by part, unless it is told `--copy-props metadata-directive`.
-    calls = dict.fromkeys(["large copy", "large move", "copy all"], "GetObjectTagging")

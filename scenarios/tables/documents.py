@@ -35,6 +35,8 @@ ORDER = {
     "CopyObjectResult": "ETag LastModified",
     "CopyPartResult": "ETag LastModified",
     "VersioningConfiguration": "Status",
+    "Tagging": "TagSet",
+    "TagSet": "",
     "DeleteResult": "Results",
     "Deleted": "DeleteMarker DeleteMarkerVersionId Key VersionId",
     # A refusal tells no key and no version; the error of a key tells no request.
@@ -53,6 +55,7 @@ ROOTS = {
     "InitiateMultipartUploadResult": "Bucket Key UploadId",
     "CompleteMultipartUploadResult": "Bucket ETag Key",
     "CopyObjectResult": "ETag LastModified",
+    "Tagging": "TagSet",
     "VersioningConfiguration": "",
 }
 # What XML tells that isn't a fact of JSON: whom all belongs to, and how it is stored.

@@ -30,8 +30,9 @@ CONFIGURATIONS = {
     b"tagging": "NoSuchTagSet",
     b"website": "NoSuchWebsiteConfiguration",
 }
-# Which sub-resources of a bucket that dialect answers, by the method.
+# Which sub-resources of a bucket that dialect answers, and which of a key, by the method.
 OF_BUCKETS = {"GET": {b"location", *CONFIGURATIONS}, "POST": {b"delete"}}
+OF_KEYS = {"GET": {b"tagging"}}
 # The conditions of a key that is to be deleted with others, which aren't there; and how a document says yes and no.
 CONDITIONS, TRUTHS = {"ETag", "LastModifiedTime", "Size"}, {"true": True, "false": False}
 VERSION_ID, UPLOAD_ID = re.compile(rb"null|v[0-9a-f]{16}"), re.compile(rb"u[0-9a-f]{16}")
@@ -346,6 +347,7 @@ OPERATIONS = [
     ("PUT", True, is_part, "upload_part"),
     ("PUT", True, is_copy, "copy_object"),
     ("PUT", True, always, "put_object"),
+    ("GET", True, has_in_s3("tagging"), "get_object_tagging"),
     ("GET", True, has("uploadId"), "list_parts"),
     ("GET", True, has("partNumber"), None),
     ("HEAD", True, has("partNumber"), None),
@@ -360,8 +362,9 @@ OPERATIONS = [
 
 def operation(request):
     """The operation that a request asks for: the first row that applies."""
-    is_answered = is_s3(request) and request.path != "/" and request.key == b""
-    lacking = SUB_RESOURCES - (OF_BUCKETS.get(request.method, set()) if is_answered else set())
+    answered = OF_KEYS if request.key else OF_BUCKETS
+    is_answered = is_s3(request) and request.path != "/"
+    lacking = SUB_RESOURCES - (answered.get(request.method, set()) if is_answered else set())
     refuse(lacking & set(request.asked), "NotImplemented")
     if request.path == "/":
         refuse(request.method != "GET", "MethodNotAllowed")

@@ -323,6 +323,12 @@ class Store:
         told.append(f"Content-Range: bytes {part[0]}-{part[1]}/{data.body.size}")
         return self.reply(206, told, data.body.cut(*part))
 
+    def get_object_tagging(self, request):
+        name = request.version_id()
+        bucket = self.bucket(request)
+        version = bucket.picked(request.key, name)
+        return self.told({"TagSet": {}}, shown(bucket.mode and version.name))
+
     def delete_object(self, request):
         name = request.version_id()
         bucket = self.bucket(request)

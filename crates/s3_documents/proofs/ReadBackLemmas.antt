@@ -14,7 +14,7 @@ use Rattle.s3_xml.specs.Documents.{goes_on, is_document, document_of}
 use Rattle.s3_xml.specs.Events.{Event, leaf, element, text_in}
 use Rattle.s3_xml.specs.Events as xml
 use Rattle.s3_xml.specs.Laws.{is_name, is_namespace, is_plain, Fits, ContentsFit, DocumentsAreReadBack}
-use Rattle.s3_documents.specs.Document.{Document, buckets, objects, versions, uploads, parts, begun, completed, deletions, copied, part_copied, versioning, location, error}
+use Rattle.s3_documents.specs.Document.{Document, buckets, objects, versions, uploads, parts, begun, completed, deletions, copied, part_copied, versioning, location, tags, error}
 use Rattle.s3_documents.specs.Laws.{XmlIsReadBack}
 use Rattle.s3_documents.specs.Location.{constraint_told}
 use Rattle.s3_documents.specs.Printed.{told}
@@ -269,6 +269,7 @@ root_named (copied tag made) = refl
 root_named (part_copied tag made) = refl
 root_named (versioning state) = refl
 root_named (location region) = refl
+root_named tags = refl
 root_named (error code answer) = refl
 
 namespace_fits : (document : Document) → is_namespace (namespace_of document) ≡ true
@@ -284,6 +285,7 @@ namespace_fits (copied tag made) = refl
 namespace_fits (part_copied tag made) = refl
 namespace_fits (versioning state) = refl
 namespace_fits (location region) = refl
+namespace_fits tags = refl
 namespace_fits (error code answer) = refl
 
 -- a text alone fits in a root, though not in front of another one
@@ -325,4 +327,5 @@ xml_read_back read law (versioning state) = fields_read_back law (versioning sta
 xml_read_back read law (location region) =
     read (codes "LocationConstraint") namespace (text_in (constraint_told region)) refl refl (text_plain (constraint_told region))
     (text_closed (constraint_told region))
+xml_read_back read law tags = fitting law tags (law.deeper 2 3 (events_of tags) (omega arith) (element_fits law plain (codes "TagSet") [] refl refl))
 xml_read_back read law (error code answer) = fields_read_back law (error code answer) (error_elements code answer) refl refl

@@ -3,7 +3,7 @@ use Rattle.std.proofs.Common.{◌≤◌, ◌+◌, length, arith, Result, Ok, Err
 use Rattle.s3_xml.specs.Printed.{event_text}
 use Rattle.s3_xml.specs.Events.{end}
 use Rattle.s3_xml.specs.Writer.{opening}
-use Rattle.s3_documents.specs.Document.{Document, buckets, objects, versions, uploads, parts, begun, completed, deletions, copied, part_copied, versioning, location, error}
+use Rattle.s3_documents.specs.Document.{Document, buckets, objects, versions, uploads, parts, begun, completed, deletions, copied, part_copied, versioning, location, tags, error}
 use Rattle.s3_documents.specs.Xml.{root_of, namespace_of}
 
 pub frame_room : (document : Document) → length (opening (root_of document) (namespace_of document)) + length (event_text (end (root_of document))) ≤ 192
@@ -20,6 +20,7 @@ frame_room (copied tag made) = omega arith
 frame_room (part_copied tag made) = omega arith
 frame_room (versioning state) = omega arith
 frame_room (location region) = omega arith
+frame_room tags = omega arith
 frame_room (error code number) = omega arith
 
 -- what follows from what is known of an error

@@ -48,11 +48,13 @@ pub data Document : Type 0 where
   versioning : Versioning → Document
   -- GetBucketLocation: the region
   location : List ℕ → Document
+  -- GetObjectTagging: no tags
+  tags : Document
   -- of a refusal: its code, and the number of the answer
   error : Code → ℕ → Document
 
--- what a document tells, under the names that JSON documents have for it; the rows of a DeleteObjects
--- are told in XML alone
+-- what a document tells, under the names that JSON documents have for it; the rows of a DeleteObjects and a set of tags are
+-- told in XML alone
 abbrev pub tree_of : Document → Tree
 tree_of (buckets rows) = buckets_tree rows
 tree_of (objects name asked page) = objects_tree name asked page
@@ -66,4 +68,5 @@ tree_of (copied tag made) = leaves (copied_fields tag made)
 tree_of (part_copied tag made) = leaves (copied_fields tag made)
 tree_of (versioning state) = leaves (versioning_fields state)
 tree_of (location region) = leaves (location_fields region)
+tree_of tags = []
 tree_of (error code number) = leaves (error_fields code)

@@ -24,7 +24,7 @@ use Rattle.s3_listings.specs.Pages.{Page, next_of}
 use Rattle.s3_documents.specs.Buckets.{bucket_row}
 use Rattle.s3_documents.specs.Copied.{tag_told, copied_fields}
 use Rattle.s3_documents.specs.Deleted.{deleted_fields, fault_fields}
-use Rattle.s3_documents.specs.Document.{Document, buckets, objects, versions, uploads, parts, begun, completed, deletions, copied, part_copied, versioning, location, error}
+use Rattle.s3_documents.specs.Document.{Document, buckets, objects, versions, uploads, parts, begun, completed, deletions, copied, part_copied, versioning, location, tags, error}
 use Rattle.s3_documents.specs.Error.{error_elements}
 use Rattle.s3_documents.specs.Location.{constraint_told}
 use Rattle.s3_documents.specs.ObjectList.{prefix_row, key_count, token_told, delimiter_told}
@@ -283,6 +283,7 @@ root_of (copied tag made) = codes "CopyObjectResult"
 root_of (part_copied tag made) = codes "CopyPartResult"
 root_of (versioning state) = codes "VersioningConfiguration"
 root_of (location region) = codes "LocationConstraint"
+root_of tags = codes "Tagging"
 root_of (error code answer) = codes "Error"
 
 -- the namespace of S3
@@ -303,6 +304,7 @@ namespace_of (copied tag made) = namespace
 namespace_of (part_copied tag made) = namespace
 namespace_of (versioning state) = namespace
 namespace_of (location region) = namespace
+namespace_of tags = namespace
 namespace_of (error code answer) = []
 
 -- rows, with fields in front of them and behind them
@@ -336,4 +338,5 @@ events_of (copied tag made) = fields_events plain (copied_fields tag made)
 events_of (part_copied tag made) = fields_events plain (copied_fields tag made)
 events_of (versioning state) = fields_events plain (versioning_fields state)
 events_of (location region) = xml.text_in (constraint_told region)
+events_of tags = element (codes "TagSet") []
 events_of (error code answer) = fields_events plain (error_elements code answer)

@@ -8,7 +8,6 @@ use Rattle.s3_terms.specs.declared.code.Code.{Code}
 use Rattle.s3_terms.specs.declared.code.Code.TheVariants.{NoSuchBucket, BucketAlreadyOwnedByYou, BucketNotEmpty, InvalidArgument, NoSuchUpload, PreconditionFailed, InvalidPartOrder, InvalidPart, EntityTooSmall}
 use Rattle.s3_names.specs.declared.ids.VersionId.{VersionId}
 use Rattle.s3_conditions.specs.declared.conditions.Conditions.{Conditions}
-use Rattle.s3_conditions.specs.declared.conditions.Selection.{Selection}
 use Rattle.s3_versions.specs.declared.picking.Refusal.{Refusal}
 use Rattle.s3_versions.specs.declared.version.Content.TheVariants.{Stored}
 use Rattle.s3_versions.specs.declared.version.Data.{Data}
@@ -256,8 +255,8 @@ module _ (places : ChangesAreByPlace (List ℕ)) (follow : FollowRules) where
       next_line s n t _ (not (has_bucket s name)) NoSuchBucket _ refl (λ there. unwritten s n t _ refl)
 
   -- a rule that only reads changes nothing
-  showing : (s : State) (n t : ℕ) (command : Command) (selection : Result Selection Refusal) (out : Selection → Outcome) → writes command ≡ [] → Does s n t command (stepped s (selection >>= (λ chosen. Ok (s, out chosen))))
-  showing s n t command (Ok selection) out none = unwritten s n t command none
+  showing : {A : Type 0} (s : State) (n t : ℕ) (command : Command) (read : Result A Refusal) (out : A → Outcome) → writes command ≡ [] → Does s n t command (stepped s (read >>= (λ found. Ok (s, out found))))
+  showing s n t command (Ok found) out none = unwritten s n t command none
   showing s n t command (Err refusal) out none = unwritten s n t command none
 
   reading : (s : State) (n t : ℕ) (command : Command) (read : Result (Version (List ℕ) × Data (List ℕ)) Refusal) (name : List ℕ) (conditions : Conditions) → writes command ≡ [] → Does s n t command (stepped s (read >>= shown s name conditions))
@@ -380,6 +379,8 @@ module _ (places : ChangesAreByPlace (List ℕ)) (follow : FollowRules) where
       (λ free. puts s n t name key (commands.Key name key (key_commands.Put put)) (data_of put) _ there refl refl refl refl refl refl)
   key_does s n t name key (key_commands.Read asked) there =
       reading s n t (commands.Key name key (key_commands.Read asked)) (pick asked.version (versions_of s name key)) name asked.conditions refl
+  key_does s n t name key (key_commands.ReadTags version) there =
+      showing s n t (commands.Key name key (key_commands.ReadTags version)) (pick version (versions_of s name key)) _ refl
   key_does s n t name key (key_commands.Delete None) there =
       emptying s n t name key (commands.Key name key (key_commands.Delete None)) (KeyChanged key (KeyDeleted n t)) (KeyDeleted n t) _
       (places s name (KeyChanged key (KeyDeleted n t)) there) refl refl refl (omega arith)

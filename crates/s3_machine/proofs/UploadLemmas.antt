@@ -9,7 +9,6 @@ use Rattle.s3_terms.specs.declared.code.Code.{Code}
 use Rattle.s3_terms.specs.declared.code.Code.TheVariants.{NoSuchBucket, BucketAlreadyOwnedByYou, BucketNotEmpty, InvalidArgument, NoSuchUpload, PreconditionFailed}
 use Rattle.s3_terms.specs.Fault.{◌>>◌, ◌>>=◌}
 use Rattle.s3_conditions.specs.declared.conditions.Conditions.{Conditions}
-use Rattle.s3_conditions.specs.declared.conditions.Selection.{Selection}
 use Rattle.s3_versions.specs.declared.picking.Refusal.{Refusal}
 use Rattle.s3_versions.specs.declared.version.Data.{Data}
 use Rattle.s3_versions.specs.declared.version.Version.{Version}
@@ -195,10 +194,10 @@ module _ (law : ChangesAreByUpload (List ℕ)) where
   copy_fate s n t name key copy (Ok what) upload there = key_changed s n t name key _ (VersionPut n t what) _ upload there refl refl refl
   copy_fate s n t name key copy (Err refusal) upload there = left_refused s n t _ _ upload refl
 
-  shown_fate : (s : State) (n t : ℕ) (command : Command) (selection : Result Selection Refusal) (out : Selection → Outcome) (upload : UploadPlace)
+  shown_fate : {A : Type 0} (s : State) (n t : ℕ) (command : Command) (read : Result A Refusal) (out : A → Outcome) (upload : UploadPlace)
       → begins command ≡ None → sends command ≡ None → ends command ≡ None
-      → Fate s n t command (stepped s (selection >>= (λ chosen. Ok (s, out chosen)))) upload
-  shown_fate s n t command (Ok selection) out upload = idle s n t command _ upload
+      → Fate s n t command (stepped s (read >>= (λ found. Ok (s, out found)))) upload
+  shown_fate s n t command (Ok found) out upload = idle s n t command _ upload
   shown_fate s n t command (Err refusal) out upload = idle s n t command _ upload
 
   read_fate : (s : State) (n t : ℕ) (command : Command) (read : Result (Version (List ℕ) × Data (List ℕ)) Refusal) (name : List ℕ)
@@ -245,6 +244,8 @@ module _ (law : ChangesAreByUpload (List ℕ)) where
   key_fate s n t name key (key_commands.Copy copy) upload there = copy_fate s n t name key copy (copied s copy) upload there
   key_fate s n t name key (key_commands.Read asked) upload there =
       read_fate s n t _ (pick asked.version (versions_of s name key)) name asked.conditions upload refl refl refl
+  key_fate s n t name key (key_commands.ReadTags version) upload there =
+      shown_fate s n t _ (pick version (versions_of s name key)) _ upload refl refl refl
   key_fate s n t name key (key_commands.Delete None) upload there = key_changed s n t name key _ (KeyDeleted n t) _ upload there refl refl refl
   key_fate s n t name key (key_commands.Delete (Some id)) upload there =
       key_changed s n t name key _ (VersionDropped id) _ upload there refl refl refl

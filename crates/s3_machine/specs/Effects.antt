@@ -284,6 +284,7 @@ only_reads_bucket other = true
 
 abbrev pub only_reads_key : KeyCommand → Bool
 only_reads_key (key_commands.Read asked) = true
+only_reads_key (key_commands.ReadTags version) = true
 only_reads_key other = false
 
 abbrev pub only_reads_upload : UploadCommand → Bool

@@ -229,6 +229,9 @@ key_done s n t name key (key_commands.Read asked) = do
   read ← pick asked.version (versions_of s name key)
   selection ← shown_by asked.conditions (facts_of read)
   Ok (s, outcome_shown (found_in (versioning_of s name) read) selection)
+key_done s n t name key (key_commands.ReadTags version) = do
+  read ← pick version (versions_of s name key)
+  Ok (s, outcomes.NoTags (shown_in (versioning_of s name) (id_of read.0)))
 key_done s n t name key (key_commands.Delete None) =
     Ok (
       changed s name (KeyChanged key (KeyDeleted n t)),

@@ -77,6 +77,8 @@ pub enum KeyCommand {
     Copy(ObjectCopy),
     /// Reads a version (GetObject and HeadObject, whose reply leaves the bytes out).
     Read(ObjectRead),
+    /// Asks for the tags of its version of this id, or of the current one: it has none (GetObjectTagging).
+    ReadTags { version: Option<VersionId> },
     /// Deletes it, or its version of this id (DeleteObject).
     Delete { version: Option<VersionId> },
     /// Begins an upload to it (CreateMultipartUpload).
@@ -233,6 +235,10 @@ pub enum Outcome {
     /// 15.5.17).
     OutOfRange {
         size: u64,
+    },
+    /// The version of this id is there, and has no tags.
+    NoTags {
+        shown: Option<VersionId>,
     },
     /// What was to be deleted is not there now: the id is that of the delete marker that was made, or the one
     /// that the request named. Says whether a delete marker was made or is gone.

@@ -101,7 +101,7 @@ unchanged_fields opening found modified =
     let base = bare opening in
     record base { version_id = shown_text found.shown; tag = Some found.stored.tag; modified = modified }
 
--- CopyObject and CompleteMultipartUpload: a document, and the id of the version that was made
+-- CopyObject, CompleteMultipartUpload and GetObjectTagging: a document, and the id of the version that was made, or is read
 abbrev pub stored_fields : Opening → Option VersionId → Fields
 stored_fields opening shown = let base = document_fields opening in record base { version_id = shown_text shown }
 
@@ -165,6 +165,7 @@ reply_to opening modified outcomes.VersioningSet = alone (bare opening)
 reply_to opening modified (outcomes.BucketVersioning versioning) = beside (document_fields opening) (document_text opening.dialect (documents.versioning versioning))
 reply_to opening modified (outcomes.Put tag shown) = alone (put_fields opening tag shown)
 reply_to opening modified (outcomes.Got found selection) = reply_with opening modified found selection
+reply_to opening modified (outcomes.NoTags shown) = beside (stored_fields opening shown) (document_text opening.dialect documents.tags)
 reply_to opening modified (outcomes.OutOfRange size) = outside_reply opening size
 reply_to opening modified (outcomes.Copied tag moment shown) = beside (stored_fields opening shown) (document_text opening.dialect (documents.copied tag moment))
 reply_to opening modified (outcomes.PartPut tag) = alone (put_fields opening tag None)

@@ -25,6 +25,7 @@ reply_status outcomes.VersioningSet = statuses.Ok
 reply_status (outcomes.BucketVersioning versioning) = statuses.Ok
 reply_status (outcomes.Put tag shown) = statuses.Ok
 reply_status (outcomes.Got found selection) = status_with selection
+reply_status (outcomes.NoTags shown) = statuses.Ok
 reply_status (outcomes.OutOfRange size) = statuses.RangeNotSatisfiable
 reply_status (outcomes.Copied tag moment shown) = statuses.Ok
 reply_status (outcomes.PartPut tag) = statuses.Ok

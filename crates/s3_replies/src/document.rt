@@ -1,4 +1,4 @@
-//! The documents of refusals, and those that tell of a bucket's versioning.
+//! The documents of refusals, and those that tell of a bucket's versioning and that there are no tags.
 
 ghost use Rattle.std.specs.Prelude.{◌≡◌, ◌+◌, ◌*◌, ◌≤◌, ℕ, ◌++◌, length};
 ghost use Rattle.arrayvec.specs.ArrayVec.{array_vec_len};
@@ -19,8 +19,8 @@ const TEXT_MAX: usize = 48;
 /// No document of a refusal is longer: a name, a message, an id, and what stands round them.
 const DOCUMENT_MAX: usize = 2 * TEXT_MAX + 128;
 
-/// No document that tells of a bucket's versioning is longer.
-const VERSIONING_MAX: usize = 256;
+/// No document that tells of a bucket's versioning or of no tags is longer.
+const SHORT_MAX: usize = 256;
 
 /// The type of a document.
 pub(crate) fn content_type_of(dialect: Dialect) -> &'static [u8]
@@ -87,7 +87,7 @@ fn write_texts(text: &mut ArrayVec<u8, DOCUMENT_MAX>, front: &[u8], code: Code, 
 /// The document that tells of a bucket's versioning.
 pub(crate) fn versioning_document(versioning: Versioning, dialect: Dialect) -> &'static [u8]
     ensures value { result.now ≡ document_text dialect (documents.versioning versioning) }
-    ensures bound { length result.now ≤ VERSIONING_MAX }
+    ensures bound { length result.now ≤ SHORT_MAX }
 {
     match dialect {
         Dialect::Json => versioning_object(versioning),
@@ -98,7 +98,7 @@ pub(crate) fn versioning_document(versioning: Versioning, dialect: Dialect) -> &
 #[tactic(auto, unfolding(s3_documents::specs::Tree::text_of_literals))]
 fn versioning_object(versioning: Versioning) -> &'static [u8]
     ensures value { result.now ≡ document_text Dialect.Json (documents.versioning versioning) }
-    ensures bound { length result.now ≤ VERSIONING_MAX }
+    ensures bound { length result.now ≤ SHORT_MAX }
 {
     match versioning {
         Versioning::Unversioned => b"{}",
@@ -110,7 +110,7 @@ fn versioning_object(versioning: Versioning) -> &'static [u8]
 #[tactic(auto, unfolding(s3_xml::specs::Printed::document_text, s3_xml::specs::Printed::escaped, s3_xml::specs::Printed::escaped_byte))]
 fn versioning_element(versioning: Versioning) -> &'static [u8]
     ensures value { result.now ≡ document_text Dialect.S3 (documents.versioning versioning) }
-    ensures bound { length result.now ≤ VERSIONING_MAX }
+    ensures bound { length result.now ≤ SHORT_MAX }
 {
     match versioning {
         Versioning::Unversioned => {
@@ -127,6 +127,21 @@ fn versioning_element(versioning: Versioning) -> &'static [u8]
             b"<?xml version=\"1.0\" encoding=\"UTF-8\"?>\n\
             <VersioningConfiguration xmlns=\"http://s3.amazonaws.com/doc/2006-03-01/\">\
             <Status>Suspended</Status></VersioningConfiguration>"
+        }
+    }
+}
+
+/// The document that tells that a version has no tags.
+#[tactic(auto, unfolding(s3_documents::specs::Tree::text_of_literals, s3_xml::specs::Printed::document_text, s3_xml::specs::Printed::escaped, s3_xml::specs::Printed::escaped_byte))]
+pub(crate) fn tags_document(dialect: Dialect) -> &'static [u8]
+    ensures value { result.now ≡ document_text dialect documents.tags }
+    ensures bound { length result.now ≤ SHORT_MAX }
+{
+    match dialect {
+        Dialect::Json => b"{}",
+        Dialect::S3 => {
+            b"<?xml version=\"1.0\" encoding=\"UTF-8\"?>\n\
+            <Tagging xmlns=\"http://s3.amazonaws.com/doc/2006-03-01/\"><TagSet></TagSet></Tagging>"
         }
     }
 }

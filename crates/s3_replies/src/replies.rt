@@ -7,6 +7,7 @@ ghost use Rattle.s3_replies.specs.Replies.{Prints, PrintsRefusal, back, front, h
 
 use crate::Context;
 use crate::date::DateText;
+use crate::document::tags_document;
 use crate::errors::{error_reply, outside_reply};
 use crate::head::{Head, Opening};
 use crate::objects::{
@@ -14,7 +15,7 @@ use crate::objects::{
 };
 use crate::room::Room;
 use crate::statuses::reply_status;
-use crate::told::{told_reply, versioning_reply};
+use crate::told::{short_reply, told_reply, versioning_reply};
 use crate::values::location_of;
 use arrayvec::ArrayVec;
 use s3_bodies::Body;
@@ -74,6 +75,10 @@ fn whole_reply<R: Room>(out: &mut R, opening: Opening, outcome: Outcome, head_on
             moment,
             source,
         } => part_copied_reply(out, opening, &tag, moment, source, head_only),
+        Outcome::NoTags { shown } => {
+            let document = tags_document(opening.dialect);
+            short_reply(out, opening, document, shown, None, head_only);
+        }
         Outcome::Deleted {
             shown,
             is_delete_marker,

@@ -23,7 +23,8 @@ pub fn reply_status(outcome: &Outcome) -> Status
         | Outcome::Copied { .. }
         | Outcome::PartPut { .. }
         | Outcome::PartCopied { .. }
-        | Outcome::Completed { .. } => Status::Ok,
+        | Outcome::Completed { .. }
+        | Outcome::NoTags { .. } => Status::Ok,
         Outcome::BucketDropped | Outcome::UploadDropped | Outcome::Deleted { .. } => {
             Status::NoContent
         }

@@ -53,7 +53,7 @@ use Rattle.s3_requests.specs.Copies.{directive_of, description_by, source_for, o
 use Rattle.s3_requests.specs.Description.{type_sent, content_type_of, front, name_in, names_of, entry_of, metadata_of, description_of}
 use Rattle.s3_requests.specs.ListArguments.{parts_asked_of}
 use Rattle.s3_requests.specs.UploadArguments.{upload_argument, part_argument}
-use Rattle.s3_requests.specs.Routing.{served, service_plan_for, service_plan, bucket_named, bucket_command_for, creation_plan, plan_in_bucket, plan_of_bucket, read_command, delete_command, key_command_for, put_plan, part_copy_plan, parts_plan, complete_plan, asked_for, key_plan, plan_under, plan_of_key, named_plan, route_of}
+use Rattle.s3_requests.specs.Routing.{served, service_plan_for, service_plan, bucket_named, bucket_command_for, creation_plan, plan_in_bucket, plan_of_bucket, read_command, tags_command, delete_command, key_command_for, put_plan, part_copy_plan, parts_plan, complete_plan, asked_for, key_plan, plan_under, plan_of_key, named_plan, route_of}
 use Rattle.s3_requests.specs.Laws.{is_unbroken_entry, AreUnbroken, IsUnbrokenSaid, IsUnbrokenAsk, IsUnbrokenPlan, PlansAreUnbroken, ReadyPlansBringNothing}
 
 both : (a b : Bool) → (a && b) ≡ true → (a ≡ true) × (b ≡ true)
@@ -282,6 +282,11 @@ module _ (head : HeadParts) where
       made_of (IsRightAsk head) (version_argument (codes "versionId") target)
       (λ (v : Option VersionId). key_commands.Read (record { version = v; conditions = conditions_of head })) asked (λ v named. ((λ lines. tt), refl)) is
 
+  tags_right : (target : TargetParts) (asked : KeyCommand) → tags_command target ≡ Ok asked → IsRightAsk head asked
+  unfolding tags_command
+  tags_right target asked is =
+      made_of (IsRightAsk head) (version_argument (codes "versionId") target) (λ (v : Option VersionId). key_commands.ReadTags v) asked (λ v named. ((λ lines. tt), refl)) is
+
   delete_right : (target : TargetParts) (asked : KeyCommand) → delete_command target ≡ Ok asked → IsRightAsk head asked
   unfolding delete_command
   delete_right target asked is =
@@ -294,6 +299,7 @@ module _ (head : HeadParts) where
       (λ copy made. ((λ lines. copy_unbroken head lines dialect target copy made), refl)) is
   command_right dialect operations.GetObject target asked is = read_right target asked is
   command_right dialect operations.HeadObject target asked is = read_right target asked is
+  command_right dialect operations.GetObjectTagging target asked is = tags_right target asked is
   command_right dialect operations.DeleteObject target asked is = delete_right target asked is
   command_right dialect operations.CreateMultipartUpload target asked is =
       made_of (IsRightAsk head) (description_of head) (λ (said : Description). key_commands.Begin said) asked

@@ -21,10 +21,11 @@ abbrev pub lacking : List (List ℕ)
 lacking =
     parts_at space (codes "accelerate acl analytics attributes intelligent-tiering inventory legal-hold logging metrics notification policyStatus requestPayment restore retention select torrent")
 
--- those that it answers where a bucket is read in XML: where the bucket is, and its configurations
+-- those that it answers where a bucket is read in XML: where the bucket is, and its configurations but for `tagging`, which a key
+-- has too
 abbrev pub answered : List (List ℕ)
 answered =
-    parts_at space (codes "cors encryption lifecycle location object-lock ownershipControls policy publicAccessBlock replication tagging website")
+    parts_at space (codes "cors encryption lifecycle location object-lock ownershipControls policy publicAccessBlock replication website")
 
 -- the query names one of these
 abbrev pub names_one_of : List (List ℕ) → TargetParts → Bool
@@ -48,19 +49,25 @@ abbrev pub is_post : Method → Bool
 is_post Post = true
 is_post _ = false
 
+-- a bucket or a key in it is read, and documents are XML
+abbrev pub reads_named : Dialect → HeadParts → TargetParts → Bool
+reads_named dialect head target = is_xml dialect && is_get (method_of head.method) && not (is_service target)
+
 -- a bucket is read, and documents are XML
 abbrev pub reads_bucket : Dialect → HeadParts → TargetParts → Bool
-reads_bucket dialect head target = is_xml dialect && is_get (method_of head.method) && is_bucket target
+reads_bucket dialect head target = reads_named dialect head target && is_bucket target
 
 -- a bucket is posted to, and documents are XML
 abbrev pub posts_to_bucket : Dialect → HeadParts → TargetParts → Bool
 posts_to_bucket dialect head target = is_xml dialect && is_post (method_of head.method) && is_bucket target
 
--- the query names a sub-resource that isn't there; `delete` is there where a bucket is posted to in XML
+-- the query names a sub-resource that isn't there; `tagging` is there where a bucket or a key is read in XML, and `delete` where
+-- a bucket is posted to in XML
 abbrev pub names_lacking : Dialect → HeadParts → TargetParts → Bool
 names_lacking dialect head target =
     names_one_of lacking target
     || (names_one_of answered target && not (reads_bucket dialect head target))
+    || (has_parameter (codes "tagging") target && not (reads_named dialect head target))
     || (has_parameter (codes "delete") target && not (posts_to_bucket dialect head target))
 
 -- the target of a head, which names no sub-resource that isn't there

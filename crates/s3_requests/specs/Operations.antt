@@ -13,7 +13,7 @@ use Rattle.s3_terms.specs.declared.dialect.Dialect.TheVariants.{Json, S3}
 use Rattle.s3_machine.specs.declared.configuration.Configuration.{Configuration}
 use Rattle.s3_machine.specs.declared.configuration.Configuration.TheVariants as configurations
 use Rattle.s3_requests.specs.declared.operations.Operation.{Operation}
-use Rattle.s3_requests.specs.declared.operations.Operation.TheVariants.{ListBuckets, CreateBucket, HeadBucket, DeleteBucket, PutBucketVersioning, GetBucketVersioning, GetBucketLocation, GetBucketConfiguration, ListObjects, ListObjectsV2, ListObjectVersions, ListMultipartUploads, DeleteObjects, PostObject, PutObject, CopyObject, GetObject, HeadObject, GetObjectPart, HeadObjectPart, DeleteObject, CreateMultipartUpload, UploadPart, UploadPartCopy, ListParts, CompleteMultipartUpload, AbortMultipartUpload}
+use Rattle.s3_requests.specs.declared.operations.Operation.TheVariants.{ListBuckets, CreateBucket, HeadBucket, DeleteBucket, PutBucketVersioning, GetBucketVersioning, GetBucketLocation, GetBucketConfiguration, ListObjects, ListObjectsV2, ListObjectVersions, ListMultipartUploads, DeleteObjects, PostObject, PutObject, CopyObject, GetObject, HeadObject, GetObjectTagging, GetObjectPart, HeadObjectPart, DeleteObject, CreateMultipartUpload, UploadPart, UploadPartCopy, ListParts, CompleteMultipartUpload, AbortMultipartUpload}
 
 -- the value of the first row whose condition holds, or the given one where none does
 abbrev pub first_row : {A : Type 0} → List (Bool × A) → A → A
@@ -82,7 +82,8 @@ bucket_operation Other target = None
 abbrev pub key_read : TargetParts → Operation
 key_read target =
     first_row (
-    (has_parameter (codes "uploadId") target, ListParts)
+    (has_parameter (codes "tagging") target, GetObjectTagging)
+    ∷ (has_parameter (codes "uploadId") target, ListParts)
     ∷ (has_parameter (codes "partNumber") target, GetObjectPart)
     ∷ []) GetObject
 
@@ -133,12 +134,13 @@ abbrev pub is_xml : Dialect → Bool
 is_xml Json = false
 is_xml S3 = true
 
--- this server has the operation: five of them where documents are XML alone, three not at all, and all others
+-- this server has the operation: six of them where documents are XML alone, three not at all, and all others
 abbrev pub is_served : Dialect → Operation → Bool
 is_served dialect ListObjects = is_xml dialect
 is_served dialect GetBucketLocation = is_xml dialect
 is_served dialect (GetBucketConfiguration which) = is_xml dialect
 is_served dialect DeleteObjects = is_xml dialect
+is_served dialect GetObjectTagging = is_xml dialect
 is_served dialect UploadPartCopy = is_xml dialect
 is_served dialect PostObject = false
 is_served dialect GetObjectPart = false

@@ -136,6 +136,12 @@ read_command head target = do
   version ← version_argument (codes "versionId") target
   Ok (key_commands.Read (record { version = version; conditions = conditions_of head }))
 
+-- GetObjectTagging
+unfoldable pub tags_command : TargetParts → Result KeyCommand Code
+tags_command target = do
+  version ← version_argument (codes "versionId") target
+  Ok (key_commands.ReadTags version)
+
 -- DeleteObject
 unfoldable pub delete_command : TargetParts → Result KeyCommand Code
 delete_command target = do
@@ -153,6 +159,7 @@ unfoldable pub key_command_for : Dialect → Operation → HeadParts → TargetP
 key_command_for dialect operations.CopyObject head target = copy_command dialect head target
 key_command_for dialect operations.GetObject head target = read_command head target
 key_command_for dialect operations.HeadObject head target = read_command head target
+key_command_for dialect operations.GetObjectTagging head target = tags_command target
 key_command_for dialect operations.DeleteObject head target = delete_command target
 key_command_for dialect operations.CreateMultipartUpload head target = begin_command head
 key_command_for dialect other head target = Err NotImplemented

@@ -14,9 +14,9 @@ use s3_terms::{Code, Dialect};
 const LACKING: &[u8] =
     b"accelerate acl analytics attributes intelligent-tiering inventory legal-hold logging metrics notification policyStatus requestPayment restore retention select torrent";
 
-/// Those that it answers where a bucket is read in XML, with a space between each two.
+/// Those that it answers where a bucket is read in XML, with a space between each two; and `tagging` where a key is, too.
 const ANSWERED: &[u8] =
-    b"cors encryption lifecycle location object-lock ownershipControls policy publicAccessBlock replication tagging website";
+    b"cors encryption lifecycle location object-lock ownershipControls policy publicAccessBlock replication website";
 
 // What the target says, unless it names a sub-resource that isn't there.
 #[tactic(auto, unfolding(crate::specs::Addresses::address_at))]
@@ -37,6 +37,7 @@ fn names_lacking(dialect: Dialect, head: &Head, target: &Target) -> bool
 {
     names_one_of(target, LACKING)
         || (names_one_of(target, ANSWERED) && !reads_bucket(dialect, head, target))
+        || (target.has_parameter(b"tagging") && !reads_named(dialect, head, target))
         || (target.has_parameter(b"delete") && !posts_to_bucket(dialect, head, target))
 }
 
@@ -44,7 +45,14 @@ fn names_lacking(dialect: Dialect, head: &Head, target: &Target) -> bool
 fn reads_bucket(dialect: Dialect, head: &Head, target: &Target) -> bool
     ensures { result ≡ rules.reads_bucket dialect head.now target.now }
 {
-    is_xml(dialect) && matches!(head.method(), Method::Get) && is_bucket(target)
+    reads_named(dialect, head, target) && is_bucket(target)
+}
+
+// Whether a bucket or a key in it is read, and documents are XML.
+fn reads_named(dialect: Dialect, head: &Head, target: &Target) -> bool
+    ensures { result ≡ rules.reads_named dialect head.now target.now }
+{
+    is_xml(dialect) && matches!(head.method(), Method::Get) && !is_service(target)
 }
 
 // Whether a bucket is posted to, and documents are XML.

@@ -29,6 +29,7 @@ pub(crate) enum Operation {
     CopyObject,
     GetObject,
     HeadObject,
+    GetObjectTagging,
     // GetObject and HeadObject of one part.
     GetObjectPart,
     HeadObjectPart,
@@ -159,7 +160,9 @@ pub(crate) fn key_operation(method: Method, head: &Head, target: &Target) -> Opt
 fn key_read(target: &Target) -> Operation
     ensures { result ≡ rules.key_read target.now }
 {
-    if target.has_parameter(b"uploadId") {
+    if target.has_parameter(b"tagging") {
+        Operation::GetObjectTagging
+    } else if target.has_parameter(b"uploadId") {
         Operation::ListParts
     } else if target.has_parameter(b"partNumber") {
         Operation::GetObjectPart
@@ -209,6 +212,7 @@ pub(crate) fn is_served(dialect: Dialect, operation: Operation) -> bool
         | Operation::GetBucketLocation
         | Operation::GetBucketConfiguration(_)
         | Operation::DeleteObjects
+        | Operation::GetObjectTagging
         | Operation::UploadPartCopy => is_xml(dialect),
         Operation::PostObject | Operation::GetObjectPart | Operation::HeadObjectPart => false,
         Operation::ListBuckets

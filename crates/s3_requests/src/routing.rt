@@ -440,6 +440,7 @@ fn key_command_for(
     match operation {
         Operation::CopyObject => copy_command(alloc, dialect, head, target),
         Operation::GetObject | Operation::HeadObject => read_command(alloc, head, target),
+        Operation::GetObjectTagging => tags_command(target),
         Operation::DeleteObject => delete_command(target),
         Operation::CreateMultipartUpload => begin_command(alloc, head),
         _ => Err(Code::NotImplemented),
@@ -470,6 +471,15 @@ fn read_command(alloc: Global, head: &Head, target: &Target) -> Result<KeyComman
         version,
         conditions,
     }))
+}
+
+// GetObjectTagging.
+#[tactic(auto, unfolding(crate::specs::Routing::tags_command))]
+fn tags_command(target: &Target) -> Result<KeyCommand, Code>
+    ensures { result ≡ rules.tags_command target.now }
+{
+    let version = version_argument(target, b"versionId")?;
+    Ok(KeyCommand::ReadTags { version })
 }
 
 // DeleteObject.

@@ -1,5 +1,5 @@
 -- What comes of commands, from what is told of the records.
-use Rattle.std.proofs.Common.{◌≡◌, refl, ap, ◌∙◌, ℕ, Bool, true, false, List, Option, Some, None, Result, Ok, Err, option_map, option_and_then}
+use Rattle.std.proofs.Common.{◌≡◌, ◌≢◌, refl, ap, ◌∙◌, ℕ, Bool, true, false, List, Option, Some, None, Result, Ok, Err, option_map, option_and_then}
 use Rattle.std.specs.Prelude.{◌&&◌, is_ok, is_some}
 use Rattle.std.specs.FinMap as map
 use Rattle.s3_terms.specs.declared.code.Code.TheVariants.{PreconditionFailed}
@@ -14,7 +14,7 @@ use Rattle.s3_versions.specs.declared.version.Data.{Data}
 use Rattle.s3_versions.specs.declared.version.Version.{Version}
 use Rattle.s3_versions.specs.declared.version.Versioning.{Versioning}
 use Rattle.s3_versions.specs.declared.version.Versioning.TheVariants.{Unversioned}
-use Rattle.s3_versions.specs.Rules.{stored, stored_in, current, judged, pick, facts_of as version_facts, facts_read, read_as}
+use Rattle.s3_versions.specs.Rules.{stored, stored_in, current, asked_for, id_of, judged, pick, facts_of as version_facts, facts_read, read_as}
 use Rattle.s3_records.specs.declared.records.BucketFacts.{BucketFacts}
 use Rattle.s3_records.specs.Catalogue.{Bucket, facts_of, facts_in, listed_buckets, versions_of, versioning_in, versioning_of}
 use Rattle.s3_documents.specs.Document as documents
@@ -31,8 +31,8 @@ use Rattle.s3_machine.specs.declared.command.Outcome.TheVariants as outcomes
 use Rattle.s3_machine.specs.declared.rules.Rules.{Rules}
 use Rattle.s3_terms.specs.Fault.{◌>>◌, ◌>>=◌}
 use Rattle.s3_machine.specs.Fault.{refuse}
-use Rattle.s3_machine.specs.Step.{State, step, is_taken, data_of, copied, key_done, done, Stepped, stepped, found_in, outcome_shown, shown_by}
-use Rattle.s3_store.specs.Steps.{bucket_step, key_step, put_step, copy_step, copied_as, read_as_found, selected_of, selected_by, got_of}
+use Rattle.s3_machine.specs.Step.{State, step, is_taken, data_of, copied, key_done, done, Stepped, stepped, found_in, outcome_shown, shown_by, shown_in}
+use Rattle.s3_store.specs.Steps.{bucket_step, key_step, put_step, copy_step, copied_as, read_as_found, selected_of, selected_by, got_of, tags_of}
 
 -- a bucket that is there tells its versioning
 abbrev told_versioning : Option BucketFacts → Versioning
@@ -137,6 +137,35 @@ told_of versioning None (Some v) read f reads told = told_as versioning _ v v.co
 told_of versioning (Some id) None read f reads told = absurd (cc)
 told_of versioning (Some id) (Some v) read f reads told = told_as versioning _ v v.content read f refl reads told
 
+-- what comes of a look at a version whose tags are asked for
+tags_looked : (s : State) (v : Versioning) (read : Result Read Refusal)
+    → stepped s (read >>= (λ r. Ok (s, outcomes.NoTags (shown_in v (id_of r.0))))) ≡ (s, tags_of (read_as_found v read))
+tags_looked s v (Ok read) = refl
+tags_looked s v (Err refusal) = refl
+
+tags_in : (v : Versioning) (w : Version (List ℕ)) (c : Content (List ℕ)) (refusal : Refusal) → stored_in c ≢ None
+    → is_refused (tags_of (read_as_found v (read_as refusal w c))) ≡ false
+tags_in v w DeleteMarker refusal there = absurd (there refl)
+tags_in v w (Stored d) refusal there = refl
+
+tags_there : (v : Versioning) (version : Option VersionId) (found : Option (Version (List ℕ))) → option_and_then stored found ≢ None
+    → is_refused (tags_of (read_as_found v (judged version found))) ≡ false
+tags_there v version None there = absurd (there refl)
+tags_there v None (Some w) there = tags_in v w w.content _ there
+tags_there v (Some id) (Some w) there = tags_in v w w.content _ there
+
+module _ (s : State) (n t : ℕ) (name key : List ℕ) (version : Option VersionId) where
+  pub tags_told : key_step s n t name key (key_commands.ReadTags version)
+      ≡ (s, tags_of (read_as_found (versioning_of s name) (pick version (versions_of s name key))))
+  unfolding key_done
+  tags_told = tags_looked s (versioning_of s name) (pick version (versions_of s name key))
+
+  pub tags_accepted : option_and_then stored (asked_for version (versions_of s name key)) ≢ None
+      → is_refused (key_step s n t name key (key_commands.ReadTags version)).1 ≡ false
+  tags_accepted there =
+      ap (λ (st : Stepped). is_refused st.1) tags_told
+      ∙ tags_there (versioning_of s name) version (asked_for version (versions_of s name key)) there
+
 -- ---- puts
 
 -- what comes behind a condition that holds, and one that fails
@@ -198,3 +227,5 @@ pub ruleset copy_steps = (copies, copy_accepted)
 pub ruleset all_steps = (lists, on_bucket)
 
 pub ruleset read_steps = (read_shown, read_refused, read_accepted)
+
+pub ruleset tags_steps = (tags_told, tags_accepted)

@@ -92,6 +92,11 @@ abbrev pub got_of : Selection → Result (Found (List ℕ)) Refusal → Outcome
 got_of selection (Ok found) = outcomes.Got found selection
 got_of selection (Err refusal) = outcomes.Refused refusal.code refusal.is_delete_marker
 
+-- what came of a look at a version whose tags are asked for
+abbrev pub tags_of : Result (Found (List ℕ)) Refusal → Outcome
+tags_of (Ok found) = outcomes.NoTags found.shown
+tags_of (Err refusal) = outcomes.Refused refusal.code refusal.is_delete_marker
+
 -- what a put does whose condition holds
 abbrev pub put_step : State → ℕ → ℕ → List ℕ → List ℕ → Data (List ℕ) → Stepped
 put_step s n t name key stored = (

@@ -7,7 +7,7 @@ ghost use Rattle.s3_records.specs.Places.{AreBelow};
 ghost use Rattle.s3_machine.specs.declared.rules.Rules.{Rules};
 ghost use Rattle.s3_machine.specs.Effects.{is_refused, takes_room, takes_room_at_key};
 ghost use Rattle.s3_machine.specs.Step.{step, data_of, makes_marker};
-ghost use Rattle.s3_store.specs.Steps.{key_step, put_step, got_of, selected_by, MayEnter};
+ghost use Rattle.s3_store.specs.Steps.{key_step, put_step, got_of, selected_by, tags_of, MayEnter};
 
 use crate::bucket_steps::refused;
 use crate::conditions::is_barred;
@@ -101,6 +101,9 @@ fn take_in_bucket<R: Records>(
             let told = read(records, alloc, bucket, versioning, &key, &asked);
             drop(asked);
             told
+        }
+        KeyCommand::ReadTags { version } => {
+            read_tags(records, alloc, bucket, versioning, &key, version)
         }
         KeyCommand::Delete { version } => delete(
             records, alloc, bucket, versioning, key, version, number, moment,
@@ -237,6 +240,37 @@ fn got(read: Result<Found<Body>, Refusal>, selection: Selection) -> Outcome
 {
     match read {
         Ok(found) => Outcome::Got { found, selection },
+        Err(refusal) => refused_with(refusal),
+    }
+}
+
+// GetObjectTagging.
+#[tactic(auto, using(crate::proofs::StepLemmas::tags_steps))]
+fn read_tags<R: Records>(
+    records: &mut R,
+    alloc: Global,
+    bucket: &BucketName,
+    versioning: Versioning,
+    key: &Key,
+    version: Option<VersionId>,
+) -> Result<Outcome, NoMemory>
+    requires { versioning ≡ versioning_of (R.catalogue records.old) bucket.now }
+    ensures ok { IfOk result (λ outcome. (n t : ℕ)
+        → key_step (R.catalogue records.old) n t bucket.now key.now (KeyCommand.ReadTags version) ≡ (R.catalogue records.new, outcome)) }
+    ensures same { R.catalogue records.new ≡ R.catalogue records.old }
+    ensures memory { OnErr result (R.is_in_memory ≡ true → (n t : ℕ)
+        → is_refused (key_step (R.catalogue records.old) n t bucket.now key.now (KeyCommand.ReadTags version)).1 ≡ false) }
+{
+    let read = look(records, alloc, bucket, versioning, key, version)?;
+    Ok(tags_of(read))
+}
+
+// What came of a look at a version whose tags are asked for.
+fn tags_of(read: Result<Found<Body>, Refusal>) -> Outcome
+    ensures { result ≡ tags_of read }
+{
+    match read {
+        Ok(found) => Outcome::NoTags { shown: found.shown },
         Err(refusal) => refused_with(refusal),
     }
 }

@@ -43,6 +43,7 @@ fn key_operation(asked: &KeyCommand) -> (&'static str, Option<VersionId>) {
         KeyCommand::Put(_) => ("PutObject", None),
         KeyCommand::Copy(_) => ("CopyObject", None),
         KeyCommand::Read(asked) => ("GetObject", asked.version),
+        KeyCommand::ReadTags { version } => ("GetObjectTagging", *version),
         KeyCommand::Delete { version } => ("DeleteObject", *version),
         KeyCommand::Begin(_) => ("CreateMultipartUpload", None),
     }
@@ -473,6 +474,7 @@ pub(crate) fn outcome_text(alloc: Global, outcome: Outcome) -> Told {
         } => completed_text(alloc, document, &tag, shown),
         Outcome::UploadDropped => word(alloc, "upload dropped"),
         Outcome::Got { found, selection } => got_text(alloc, &found, selection),
+        Outcome::NoTags { shown } => shown_text(alloc, b"no tags ", shown, b""),
         Outcome::OutOfRange { size } => joined(alloc, b"out of range ", &number(alloc, size)?),
         Outcome::Deleted {
             shown,
