@@ -5,12 +5,13 @@ use Rattle.s3_devices.specs.declared.device.Reading.TheVariants as reads
 use Rattle.s3_devices.specs.declared.device.Writing.{Writing}
 use Rattle.s3_devices.specs.declared.device.Writing.TheVariants as writes
 
--- all bytes that a device gave, and whether it said that no more come; all bytes that it took; how often a read and a
--- write of it failed, and would have had to wait
+-- all bytes that a device gave, and whether it said that no more come; all bytes that it took, and whether it was told that no more
+-- do; how often a read and a write of it failed, and would have had to wait
 pub record Traffic : Type 0 where
   pub received : List ℕ
   pub is_ended : Bool
   pub sent : List ℕ
+  pub is_shut : Bool
   pub failed_reads : ℕ
   pub failed_writes : ℕ
   pub late_reads : ℕ
@@ -22,6 +23,10 @@ with_received t bytes = record t { received = t.received ++ bytes }
 
 abbrev pub with_sent : Traffic → List ℕ → Traffic
 with_sent t bytes = record t { sent = t.sent ++ bytes }
+
+-- it was told that it takes no more
+abbrev pub with_shut : Traffic → Traffic
+with_shut t = record t { is_shut = true }
 
 -- what a read into a buffer is in the device's traffic: some bytes, which stand at the front of the buffer; the end; or one
 -- more that would have had to wait, or that failed

@@ -5,19 +5,20 @@ use Rattle.s3_devices.specs.declared.device.Reading.{Reading}
 use Rattle.s3_devices.specs.declared.device.Reading.TheVariants as reads
 use Rattle.s3_devices.specs.declared.device.Writing.{Writing}
 use Rattle.s3_devices.specs.declared.device.Writing.TheVariants as writes
-use Rattle.s3_devices.specs.Device.{Traffic, with_received, with_sent}
+use Rattle.s3_devices.specs.Device.{Traffic, with_received, with_sent, with_shut}
 use Rattle.s3_devices.specs.declared.events.DeviceEvent.{DeviceEvent}
 use Rattle.s3_devices.specs.declared.events.DeviceEvent.TheVariants as events
 
 -- nothing came or went
 abbrev pub no_traffic : Traffic
-no_traffic = record { received = []; is_ended = false; sent = []; failed_reads = 0; failed_writes = 0; late_reads = 0; late_writes = 0 }
+no_traffic = record { received = []; is_ended = false; sent = []; is_shut = false; failed_reads = 0; failed_writes = 0; late_reads = 0; late_writes = 0 }
 
 -- the traffic with what a device did
 abbrev pub with_event : Traffic → DeviceEvent → Traffic
 with_event t (events.Gave bytes) = with_received t bytes
 with_event t events.Ended = record t { is_ended = true }
 with_event t (events.Took bytes) = with_sent t bytes
+with_event t events.Shut = with_shut t
 with_event t events.ReadFailed = record t { failed_reads = suc t.failed_reads }
 with_event t events.WriteFailed = record t { failed_writes = suc t.failed_writes }
 with_event t events.ReadLater = record t { late_reads = suc t.late_reads }

@@ -1,8 +1,8 @@
 //! The other end of a connection, as a worker sees it.
 
-ghost use Rattle.std.specs.Prelude.{◌≡◌, ◌≢◌, ◌<◌, [], length};
+ghost use Rattle.std.specs.Prelude.{◌≡◌, ◌≢◌, ◌<◌, true, [], length};
 ghost use Rattle.std.specs.Io.Slices.{io_slices_bytes};
-ghost use Rattle.s3_devices.specs.Device.{Reads, Traffic, Writes};
+ghost use Rattle.s3_devices.specs.Device.{Reads, Traffic, Writes, with_shut};
 
 use std::io::IoSlice;
 
@@ -30,15 +30,6 @@ pub enum Writing {
     Failed,
 }
 
-/// What a connection waits for.
-#[derive(Clone, Copy)]
-pub enum Wanted {
-    /// That its device can be read.
-    Input,
-    /// That its device has room for what is unsent.
-    Room,
-}
-
 /// The other end of a connection: bytes are read from it and written to it.
 ///
 /// Contracts see all that it gave and took. A real device knows that too without keeping it: `Recorded` is one over any
@@ -56,9 +47,29 @@ pub trait Device {
         requires some { io_slices_bytes parts.now ≢ [] }
         ensures writes { Writes result (traffic self.old) (traffic self.new) (io_slices_bytes parts.now) };
 
-    /// Waits for this. A device that never answers `Later` needs none; one that does, and is served by `serve`, has to wait
-    /// here, or its worker asks it again and again.
-    fn wait(&mut self, _wanted: Wanted)
+    /// Waits until it can be read. A device that never answers `Later` needs none; one that does, and is served by `serve` of
+    /// `s3_driver`, has to wait here, or it is asked again and again.
+    fn wait_for_input(&mut self)
         ensures { traffic self.new ≡ traffic self.old }
     {}
+
+    /// Waits until it has room, likewise.
+    fn wait_for_room(&mut self)
+        ensures { traffic self.new ≡ traffic self.old }
+    {}
+}
+
+/// A device with two directions, of which one is closed before the other, as a socket has them.
+///
+/// What comes after it was told that it takes no more can be dropped: nobody answers that.
+pub trait Stream: Device {
+    /// Tells it that it takes no more, and answers whether it could be told.
+    fn shut(&mut self) -> bool
+        ensures { Self.Device.traffic self.new ≡ with_shut (Self.Device.traffic self.old) };
+
+    /// Drops what has come, as far as the buffer has room, and answers what that was. The traffic tells nothing of it.
+    fn drop_input(&mut self, buffer: &mut [u8]) -> Reading
+        requires shut { (Self.Device.traffic self.old).is_shut ≡ true }
+        requires room { 0 < length buffer.old }
+        ensures { Self.Device.traffic self.new ≡ Self.Device.traffic self.old };
 }

@@ -16,6 +16,8 @@ pub enum DeviceEvent {
     Ended,
     /// It took these bytes.
     Took(LinkedList<u8>),
+    /// It was told that it takes no more.
+    Shut,
     /// A read failed.
     ReadFailed,
     /// A write failed.
@@ -58,6 +60,13 @@ pub(crate) struct AsEnd;
 
 impl Describes<(), DeviceEvent> for AsEnd {
     ghost entry = { λ nothing. events.Ended };
+}
+
+// It was told that it takes no more.
+pub(crate) struct AsShut;
+
+impl Describes<(), DeviceEvent> for AsShut {
+    ghost entry = { λ nothing. events.Shut };
 }
 
 // A read failed.

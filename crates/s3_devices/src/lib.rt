@@ -9,8 +9,8 @@ mod parts;
 mod recorded;
 mod streams;
 
-pub use device::{Device, Reading, Wanted, Writing};
+pub use device::{Device, Reading, Stream, Writing};
 pub use events::DeviceEvent;
 pub use parts::WriteParts;
-pub use recorded::Recorded;
+pub use recorded::{Recorded, ShutWrite};
 pub use streams::Streams;

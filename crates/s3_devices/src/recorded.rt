@@ -2,17 +2,17 @@
 
 ghost use Rattle.std.specs.Prelude.{◌≡◌, ◌≢◌, ◌<◌, [], length, IfSome};
 ghost use Rattle.std.specs.Io.Slices.{io_slices_bytes};
-ghost use Rattle.s3_devices.specs.Device.{Reads, Writes};
+ghost use Rattle.s3_devices.specs.Device.{Reads, Writes, with_shut};
 ghost use Rattle.s3_devices.specs.Recorded.{HasGiven, HasTaken, no_traffic, traffic_of};
 
-use crate::device::{Device, Reading, Writing};
+use crate::device::{Device, Reading, Stream, Writing};
 use crate::events::{
-    AsEnd, AsFailedRead, AsFailedWrite, AsGiven, AsLateRead, AsLateWrite, AsTaken, DeviceEvent,
-    Front, Piece,
+    AsEnd, AsFailedRead, AsFailedWrite, AsGiven, AsLateRead, AsLateWrite, AsShut, AsTaken,
+    DeviceEvent, Front, Piece,
 };
 use crate::parts::WriteParts;
 use s3_history::Recorder;
-use std::io::{ErrorKind, IoSlice, Read};
+use std::io::{self, ErrorKind, IoSlice, Read};
 use std::marker::Model;
 
 /// A device over a stream that is a reader and a writer. What it gave and took is told by a history that stands in the proofs
@@ -71,6 +71,38 @@ impl<S: Read + WriteParts> Device for Recorded<S> {
     fn write(&mut self, parts: &[IoSlice<'_>]) -> Writing {
         write_some(&mut self.stream, &mut self.recorder, parts)
     }
+}
+
+/// A stream that can be told that nothing more is written to it.
+pub trait ShutWrite {
+    /// Tells it.
+    fn shut_write(&mut self) -> io::Result<()>;
+}
+
+impl<S: Read + WriteParts + ShutWrite> Stream for Recorded<S> {
+    fn shut(&mut self) -> bool {
+        shut_recorded(&mut self.stream, &mut self.recorder)
+    }
+
+    fn drop_input(&mut self, buffer: &mut [u8]) -> Reading {
+        match self.stream.read(buffer) {
+            Ok(0) => Reading::End,
+            Ok(count) => Reading::Bytes(count),
+            Err(e) => match e.kind() {
+                ErrorKind::WouldBlock | ErrorKind::Interrupted => Reading::Later,
+                _ => Reading::Failed,
+            },
+        }
+    }
+}
+
+// Tells the stream that nothing more is written to it, and the recorder that.
+fn shut_recorded<S: ShutWrite>(stream: &mut S, recorder: &mut Recorder<DeviceEvent>) -> bool
+    ensures { traffic_of recorder.new.entries ≡ with_shut (traffic_of recorder.old.entries) }
+{
+    let is_told = stream.shut_write().is_ok();
+    recorder.record::<(), AsShut>(&());
+    is_told
 }
 
 // Reads what has come, and tells the recorder. Where the stream says what it has left to give, that loses just what is told.

@@ -4,8 +4,9 @@ use Rattle.std.proofs.lemmas.Bool.Decides.{nat_tests}
 use Rattle.s3_machine.specs.History.{Entry}
 use Rattle.s3_journal.specs.Book.{Journal, KeepsHistory}
 use Rattle.s3_journal.specs.Recorded.{Recorded, entries_of_seat, history_of}
-use Rattle.s3_journal.specs.Desk.{Base, IsAmong}
-use Rattle.s3_journal.specs.Gone.{Gone, AreApart, AreGone, AreWhole, IsApart, IsClosed, IsRoom, Numbered, count_of}
+use Rattle.s3_journal.specs.Desk.{Base, Continues, IsAmong}
+use Rattle.s3_journal.specs.Gone.{Gone, AreApart, AreWhole, IsApart, IsClosed, count_of}
+use Rattle.s3_journal.specs.Roster.{AreGathered, HasGathered, Rostered, all_gone, first_of}
 use Rattle.s3_journal.proofs.AmongLemmas.{among_length, among_all}
 
 -- the entries of all others than this seat
@@ -92,25 +93,28 @@ module _ {P : Type 0} where
         all_others g.number entries gone apart.0 (given_all (others g.number entries) gone apart.1 left (omega (arith, few, all, many))),
       )
 
-  module _ (fits : P → List Entry → Type 0) (entries : List Recorded) (numbers : Numbered) where
-    gone_among : (gone : List (Gone P)) → AreGone fits entries numbers gone → AreAmong entries gone
+  module _ (fits : P → List Entry → Type 0) (entries : List Recorded) (first : ℕ) where
+    gone_among : (gone : List (Gone P)) → AreGathered fits entries first gone → AreAmong entries gone
     gone_among [] are = tt
     gone_among (g ∷ gone) are =
         (subst (λ (es : List Entry). IsAmong g.calls es) (of_seat_is g.number entries) are.0.among, gone_among gone are.1)
 
-    whole : (gone : List (Gone P)) → AreGone fits entries numbers gone → AreAll entries gone → AreWhole fits entries gone
+    whole : (gone : List (Gone P)) → AreGathered fits entries first gone → AreAll entries gone → AreWhole fits entries gone
     whole [] are all = tt
-    whole (g ∷ gone) are all = (record { all = of_seat_is g.number entries ∙ all.0; told = are.0.told }, whole gone are.1 all.1)
+    whole (g ∷ gone) are all =
+        (record { all = of_seat_is g.number entries ∙ all.0; told = are.0.told; seen = are.0.begins }, whole gone are.1 all.1)
 
-  pub is_closed : (fits : P → List Entry → Type 0) (base : Base) (all : ℕ) (book : Journal) (counted parts amount : ℕ) (numbers : Numbered) (gone : List (Gone P))
-      → IsRoom fits base all book counted parts amount numbers gone → KeepsHistory book → amount ≡ counted → IsClosed fits base book gone
-  is_closed fits base all book counted parts amount numbers gone room keeps same =
-      let count = room.count in
-      let given = room.given in record {
-        continues = room.continues;
+  -- where all rosters came back, and their shares count as many entries as there are
+  pub is_closed : (fits : P → List Entry → Type 0) (base : Base) (book : Journal) (rosters : List (Rostered P)) (index parts counted all : ℕ)
+      → HasGathered fits book.entries index rosters parts counted → Continues base book → KeepsHistory book → length book.entries ≡ all → counted ≡ all
+      → IsClosed fits base book (all_gone rosters)
+  is_closed fits base book rosters index parts counted all gathered continues keeps same total =
+      let given = gathered.given in
+      let gone = all_gone rosters in record {
+        continues = continues;
         keeps = keeps;
-        apart = room.apart;
-        each = whole fits book.entries numbers gone room.each
-            (given_all book.entries gone room.apart (gone_among fits book.entries numbers gone room.each) (omega (arith, count, given, same)));
-        count = omega (arith, count, given, same);
+        apart = gathered.apart;
+        each = whole fits book.entries (first_of index) gone gathered.each
+            (given_all book.entries gone gathered.apart (gone_among fits book.entries (first_of index) gone gathered.each) (omega (arith, given, same, total)));
+        count = omega (arith, given, same, total);
       }

@@ -1,7 +1,9 @@
 pub mod AmongLemmas
 pub mod CountLemmas
+pub mod GatherLemmas
 pub mod GoneLemmas
 pub mod HistoryLemmas
 pub mod NumberLemmas
 pub mod RoomLemmas
+pub mod RosterLemmas
 pub mod SeatLemmas

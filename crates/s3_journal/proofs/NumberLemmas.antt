@@ -2,7 +2,7 @@
 use Rattle.std.proofs.Common.{◌≡◌, ◌+◌, ◌||◌, ℕ, Bool, false, cond, eqb, sym, ◌∙◌, ap, arith, inl, inr}
 use Rattle.std.proofs.lemmas.Bool.Decides.{nat_tests}
 use Rattle.std.proofs.lemmas.Bool.{cases_Bool}
-use Rattle.s3_journal.specs.Gone.{AreBelow, Numbered, is_out}
+use Rattle.s3_journal.specs.Roster.{AreBelow, Numbered, is_out}
 
 -- those that are out are below the next number, and so stay when it is given
 pub below_given : (old new : Numbered) → AreBelow old → new.next ≡ old.next + 1

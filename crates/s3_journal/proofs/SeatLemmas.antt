@@ -6,7 +6,7 @@ use mathlib.Core.List.{IsPrefix}
 use Rattle.s3_history.specs.Log.{Origin}
 use Rattle.s3_machine.specs.History.{Entry}
 use Rattle.s3_journal.specs.Recorded.{Recorded, entries_of_seat, history_of}
-use Rattle.s3_journal.specs.Desk.{Base, IsAmong, IsLegal, IsSeat, Seated}
+use Rattle.s3_journal.specs.Desk.{Base, IsAmong, IsSeat, Seated}
 use Rattle.s3_journal.proofs.AmongLemmas.{among_with_more, among_push, none_among}
 
 -- the entries of a seat, with more entries
@@ -37,33 +37,31 @@ among_next seat mine earlier r own among =
 
 -- a new seat is one
 pub seat_begins : (base : Base) (number : ℕ) (calls : List Entry) (seen : List Recorded) (origin : Origin) (shares counted : ℕ) → calls ≡ [] → origin ≡ base.origin
-    → shares ≡ 1 → counted ≡ 0 → IsLegal base seen → IsSeat base (record { number = number; mine = calls; seen = seen }) origin shares counted
-seat_begins base number calls seen origin shares counted none same one nothing legal = record {
+    → shares ≡ 1 → counted ≡ 0 → IsSeat base (record { number = number; mine = calls; seen = seen }) origin shares counted
+seat_begins base number calls seen origin shares counted none same one nothing = record {
   same = same;
   one = one;
   count = nothing ∙ sym (ap length none);
   among = subst (λ (es : List Entry). IsAmong es (entries_of_seat number seen)) (sym none) (none_among (entries_of_seat number seen));
-  legal = legal;
 }
 
 -- a seat that has seen more stays one
 pub seat_sees : (base : Base) (seat : Seated) (known : List Recorded) (was origin : Origin) (shares counted : ℕ) → IsSeat base seat was shares counted
-    → IsPrefix seat.seen known → origin ≡ base.origin → IsLegal base known
+    → IsPrefix seat.seen known → origin ≡ base.origin
     → IsSeat base (record { number = seat.number; mine = seat.mine; seen = known }) origin shares counted
-seat_sees base seat known was origin shares counted is later same legal = record {
+seat_sees base seat known was origin shares counted is later same = record {
   same = same;
   one = is.one;
   count = is.count;
   among = among_later seat.number seat.mine seat.seen known later is.among;
-  legal = legal;
 }
 
 -- and so does one that takes an entry of its own, which ends what it has then seen
 pub seat_takes : (base : Base) (seat : Seated) (r : Recorded) (earlier known : List Recorded) (mine : List Entry) (was origin : Origin) (shares shares' counted counted' : ℕ)
     → IsSeat base seat was shares counted → r.seat ≡ seat.number → IsPrefix seat.seen earlier → known ≡ earlier ++ r ∷ [] → mine ≡ seat.mine ++ r.entry ∷ []
-    → origin ≡ base.origin → shares' ≡ shares → counted' ≡ counted + 1 → IsLegal base known
+    → origin ≡ base.origin → shares' ≡ shares → counted' ≡ counted + 1
     → IsSeat base (record { number = seat.number; mine = mine; seen = known }) origin shares' counted'
-seat_takes base seat r earlier known mine was origin shares shares' counted counted' is own later ends adds same alike more legal =
+seat_takes base seat r earlier known mine was origin shares shares' counted counted' is own later ends adds same alike more =
     let among : IsAmong (seat.mine ++ r.entry ∷ []) (entries_of_seat seat.number (earlier ++ r ∷ [])) =
     among_next seat.number seat.mine earlier r own (among_later seat.number seat.mine seat.seen earlier later is.among) in
     let longer = length_push seat.mine r.entry in
@@ -75,5 +73,4 @@ seat_takes base seat r earlier known mine was origin shares shares' counted coun
       count = omega (arith, more, count, longer, long);
       among = subst (λ (es : List Recorded). IsAmong mine (entries_of_seat seat.number es)) (sym ends)
           (subst (λ (xs : List Entry). IsAmong xs (entries_of_seat seat.number (earlier ++ r ∷ []))) (sym adds) among);
-      legal = legal;
     }

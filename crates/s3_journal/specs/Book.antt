@@ -1,6 +1,6 @@
 -- What a book is: a store, and the history of the commands that it answered. No memory holds the history: only contracts
 -- and proofs speak of it.
-use Rattle.std.specs.Prelude.{◌≡◌, ◌≢◌, IsTrue, ℕ, ◌+◌, Bool, true, false, List, [], ◌∷◌, length}
+use Rattle.std.specs.Prelude.{◌≡◌, ◌≢◌, IsTrue, ◌+◌, Bool, true, false, List, [], ◌∷◌, length}
 use Rattle.s3_history.specs.Log.{Origin}
 use Rattle.s3_machine.specs.Effects.{is_refused, takes_room}
 use Rattle.s3_machine.specs.History.{Legal, after}

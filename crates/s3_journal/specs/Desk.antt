@@ -1,5 +1,5 @@
 -- A desk: one store that many share, whose one history is that of its book.
-use Rattle.std.specs.Prelude.{◌≡◌, ℕ, List, [], ◌∷◌, ◌⊎◌, length}
+use Rattle.std.specs.Prelude.{◌≡◌, ℕ, ◌*◌, List, [], ◌∷◌, ◌⊎◌, length}
 use Rattle.s3_config.specs.Settings.{Settings}
 use Rattle.s3_terms.specs.declared.dialect.Dialect.TheVariants.{Json}
 use Rattle.s3_history.specs.Log.{Origin}
@@ -34,14 +34,15 @@ pub record Continues (base : Base) (book : Journal) : Type 0 where
 abbrev pub IsLegal : Base → List Recorded → Type 0
 IsLegal base entries = Legal (rules_of base.settings) base.store.state base.store.number (history_of entries)
 
--- how many may have a seat at a time
-abbrev pub most_seats : ℕ
-most_seats = 18446744073709551615
+-- how many parts of the ledger each roster has: 2^40
+abbrev pub seats_each : ℕ
+seats_each = 1099511627776
 
--- what a desk is opened with: the name of the ledger that counts its entries, and what it stands on
+-- what a desk is opened with: the name of the ledger that counts its entries, what it stands on, and how many rosters there will be
 pub record Opening : Type 0 where
   pub name : ℕ
   pub base : Base
+  pub rosters : ℕ
 
 -- a seat: its number, the entries that it was given, and the history as far as it has seen it
 pub record Seated : Type 0 where
@@ -55,11 +56,21 @@ module _ {A : Type 0} where
   IsAmong some [] = some ≡ []
   IsAmong some (x ∷ all) = IsAmong some all ⊎ ((rest : List A) × (some ≡ x ∷ rest) × IsAmong rest all)
 
--- what a seat keeps: one share of the desk's ledger, which counts its entries; these are among those of its number in the history
--- as far as it has seen it; and that is legal
+-- The rest serves clauses of private functions alone.
+
+-- what a seat keeps: one share of the desk's ledger, which counts its entries; and these are among those of its number in the history
+-- as far as it has seen it
 pub record IsSeat (base : Base) (seat : Seated) (origin : Origin) (shares counted : ℕ) : Type 0 where
   pub same : origin ≡ base.origin
   pub one : shares ≡ 1
   pub count : counted ≡ length seat.mine
   pub among : IsAmong seat.mine (entries_of_seat seat.number seat.seen)
-  pub legal : IsLegal base seat.seen
+
+-- What lies under a desk's lock: the book goes on from the base, the ledger counts its entries, and its parts are those that the
+-- rosters were given.
+pub record IsRoom (base : Base) (all rosters : ℕ) (book : Journal) (counted parts amount : ℕ) : Type 0 where
+  pub whole : all ≡ rosters * seats_each
+  pub continues : Continues base book
+  pub count : length book.entries ≡ counted
+  pub nothing_left : parts ≡ 0
+  pub nothing_counted : amount ≡ 0

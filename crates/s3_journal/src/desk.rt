@@ -1,14 +1,17 @@
 //! The desk.
-ghost use Rattle.std.specs.Prelude.{◌≡◌, [], IfOk, IfSome, OnErr};
+ghost use Rattle.std.specs.Prelude.{◌≡◌, ◌*◌, length, IfOk, IfSome, IsSome, OnErr};
 ghost use Rattle.s3_journal.specs.Calls.{IsAnswered, LacksMemory};
-ghost use Rattle.s3_journal.specs.Desk.{most_seats};
+ghost use Rattle.s3_journal.specs.Desk.{seats_each};
 ghost use Rattle.s3_journal.specs.Gone.{IsClosed};
+ghost use Rattle.s3_journal.specs.Roster.{AreBack, AreNew, all_gone};
 
+use crate::gather::hand_out;
 use crate::gone::Report;
 use crate::ground::{Ground, Start};
 use crate::room::{Closed, Room};
+use crate::roster::Roster;
 use crate::seat::Seat;
-use s3_history::Describes;
+use crate::turns::Turns;
 use s3_machine::{Answer, Turn};
 use s3_records::Records;
 use s3_terms::NoMemory;
@@ -20,39 +23,46 @@ use std::thread::yield_now;
 const TRIES: u32 = 1024;
 
 /// A store that many share, each from a thread of its own if it likes. Its book is under one lock. The brand `J` says
-/// what it stands on, and `P` what is told of those who leave.
+/// what it stands on. Who comes to it and who has left it stands in its rosters, of which each worker has one.
 #[derive(Drop)]
-pub struct Desk<J: Ground, R: Records + Drop, P: Report> {
-    room: Mutex<Room<J, R, P>>,
+pub struct Desk<J: Ground, R: Records + Drop> {
+    room: Mutex<Room<J, R>>,
 }
 
-impl<J: Ground, R: Records + Drop, P: Report> Desk<J, R, P> {
-    /// Opens a desk. The brand has to say what it stands on, and that there are `u64::MAX` shares. The error never
-    /// comes, though no contract can say so.
-    pub fn open(alloc: Global, start: Start<R>) -> Result<Desk<J, R, P>, NoMemory>
-        requires name { J.name ≡ start.name }
-        requires base { J.base ≡ start.base }
-        requires parts { J.parts ≡ most_seats }
-    {
-        let (book, calls, spare) = start.into_parts::<J>();
-        let room = Room::new(alloc, book, calls, spare)?;
-        Ok(Desk {
-            room: Mutex::new(room),
-        })
-    }
-
-    /// A seat for one who comes, which was given nothing yet. It waits for the lock.
+impl<J: Ground, R: Records + Drop> Desk<J, R> {
+    /// Opens a desk, with as many rosters as its start says, in the order of their indices. The brand has to say what it stands on,
+    /// and that the rosters have all parts of its ledger.
     ///
     /// # Errors
     ///
-    /// `NoMemory` where there is no room for its number.
-    pub fn seat(&self, rt: &impl Wait) -> Result<Seat<J>, NoMemory>
-        ensures { IfOk result (λ seat. seat.mine ≡ []) }
+    /// `NoMemory` where there is no room for the list of rosters.
+    pub fn open<P: Report>(
+        alloc: Global,
+        start: Start<R>,
+    ) -> Result<(Desk<J, R>, Vec<Roster<J, P>>), NoMemory>
+        requires name { J.name ≡ start.name }
+        requires base { J.base ≡ start.base }
+        requires parts { J.parts ≡ start.rosters * seats_each }
+        ensures new { IfOk result (λ opened. AreNew 0 opened.1.items) }
+        ensures len { IfOk result (λ opened. length opened.1.items ≡ start.rosters) }
     {
-        self.room.lock(rt).seat()
+        let (book, calls, mut shares, count) = start.into_parts::<J>();
+        let rosters = hand_out::<J, P>(alloc, count, &book.prefix(), &mut shares)?;
+        let room = Room::new(book, calls, shares, count);
+        Ok((
+            Desk {
+                room: Mutex::new(room),
+            },
+            rosters,
+        ))
     }
 
-    /// Answers a seat's turn: one entry more of the desk's history, and of the seat's.
+    /// Begins a batch of turns. It waits for the lock, and holds it until the batch is committed or dropped. It takes no memory.
+    pub fn turns(&self, rt: &impl Wait) -> Turns<'_, J, R> {
+        Turns::new(self.enter(rt))
+    }
+
+    /// Answers a seat's turn as a batch of its own: one entry more of the desk's history, and of the seat's.
     ///
     /// It waits for the lock, and promises what it does if it returns. It holds the lock for one step of the store.
     /// Reading, verifying and printing are the caller's, without the lock.
@@ -66,12 +76,15 @@ impl<J: Ground, R: Records + Drop, P: Report> Desk<J, R, P> {
         ensures answered { IfOk result (λ answer. IsAnswered J.base seat.old seat.new turn answer) }
         ensures memory { OnErr result (LacksMemory R.is_in_memory J.base seat.old seat.new turn) }
     {
-        self.enter(rt).serve(seat, turn)
+        let mut turns = self.turns(rt);
+        let answer = turns.answer(seat, turn);
+        turns.commit();
+        answer
     }
 
     // Takes the lock, or waits for it. Most turns are short, and a thread that sleeps is woken late: so it tries the lock a
     // while before it does, and has others run meanwhile.
-    fn enter(&self, rt: &impl Wait) -> MutexGuard<'_, Room<J, R, P>> {
+    fn enter(&self, rt: &impl Wait) -> MutexGuard<'_, Room<J, R>> {
         for _ in 0..TRIES {
             if let Some(guard) = self.room.try_lock() {
                 return guard;
@@ -81,23 +94,17 @@ impl<J: Ground, R: Records + Drop, P: Report> Desk<J, R, P> {
         self.room.lock(rt)
     }
 
-    /// Takes a seat back, with what `D` tells of a value. That has to fit the seat's entries. It waits for the lock,
-    /// and takes no memory.
-    pub fn leave<X, D: Describes<X, P>>(&self, rt: &impl Wait, seat: Seat<J>, about: &X)
-        requires fits { P.fits J.base (D.entry about.now) seat.mine }
-    {
-        self.room.lock(rt).leave::<X, D>(seat, about);
-    }
-
-    /// Ends the desk after all have left, and hands out its book with what was told of each seat.
+    /// Ends the desk, to which all rosters come back, and hands out its book with what the rosters knew.
     ///
-    /// The book's history is legal. It has of each seat just the entries that this was given, in their order, and no
-    /// others. It waits for nobody, and compares no entries. `None` where somebody still has a seat, or dropped one
-    /// without `leave`; nothing is left of the desk then.
-    pub fn close(self) -> Option<Closed<R, P>>
-        ensures { IfSome result (λ closed. IsClosed (P.fits J.base) J.base closed.book closed.gone.entries) }
+    /// The book's history is legal. It has of each who has left just the entries that this was given, in their order, and no
+    /// others. It waits for nobody, compares no entries, and takes no memory. `None` comes only where a roster is missing or not at
+    /// its place, or where somebody who came to one is still out; nothing is left of the desk then.
+    pub fn close<P: Report>(self, rosters: Vec<Roster<J, P>>) -> Option<Closed<J, R, P>>
+        ensures closed { IfSome result (λ closed. IsClosed (P.fits J.base) J.base closed.book (all_gone rosters.items)) }
+        ensures rosters { IfSome result (λ closed. closed.rosters.value ≡ rosters) }
+        ensures some { AreBack 0 rosters.items → length rosters.items * seats_each ≡ J.parts → IsSome result }
     {
         let Desk { room } = self;
-        room.into_inner().close()
+        room.into_inner().close(rosters)
     }
 }

@@ -1,5 +1,6 @@
 //! What is known of those who have left a desk.
 
+use crate::book::Prefix;
 use crate::calls::Calls;
 use s3_history::Describes;
 use std::marker::{Model, PhantomData};
@@ -22,10 +23,12 @@ impl Report for () {
     ghost fits = { NothingIsTold };
 }
 
-/// A seat that has left: its number, the entries that it was given, and what was told of it. No value of it is made.
+/// A seat that has left: its number, the entries that it was given, the history as far as it had seen it, and what was told
+/// of it. No value of it is made.
 pub struct Gone<P> {
     number: u64,
     calls: Snapshot<Calls>,
+    seen: Snapshot<Prefix>,
     report: Snapshot<P>,
 }
 
@@ -34,7 +37,7 @@ impl<P> Model for Gone<P> {
 
     ghost Value = { rules.Gone P };
 
-    ghost view = { λ g. record { number = g.number; calls = g.calls.value; report = g.report.value } };
+    ghost view = { λ g. record { number = g.number; calls = g.calls.value; seen = g.seen.value.entries; report = g.report.value } };
 }
 
 // What a seat leaves with. It has the bytes of the number alone.
@@ -42,6 +45,7 @@ impl<P> Model for Gone<P> {
 pub(crate) struct Leaving<X> {
     pub(crate) number: u64,
     pub(crate) calls: Snapshot<Calls>,
+    pub(crate) seen: Snapshot<Prefix>,
     pub(crate) about: Snapshot<X>,
 }
 
@@ -49,5 +53,5 @@ pub(crate) struct Leaving<X> {
 pub(crate) struct AsGone<D>(PhantomData<D>);
 
 impl<X, P, D: Describes<X, P>> Describes<Leaving<X>, Gone<P>> for AsGone<D> {
-    ghost entry = { λ leaving. record { number = leaving.number; calls = leaving.calls.value; report = D.entry leaving.about.value } };
+    ghost entry = { λ leaving. record { number = leaving.number; calls = leaving.calls.value; seen = leaving.seen.value.entries; report = D.entry leaving.about.value } };
 }

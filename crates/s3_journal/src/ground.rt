@@ -1,7 +1,7 @@
 //! What a desk stands on, and what it is opened with.
 
-ghost use Rattle.std.specs.Prelude.{◌≡◌, [], IfOk};
-ghost use Rattle.s3_journal.specs.Desk.{Continues, most_seats};
+ghost use Rattle.std.specs.Prelude.{◌≡◌, ◌*◌, [], IfOk};
+ghost use Rattle.s3_journal.specs.Desk.{Continues, seats_each};
 
 use crate::book::Book;
 use s3_config::Config;
@@ -14,7 +14,10 @@ use std::marker::{Brand, Model};
 use std::snapshot::Snapshot;
 use std::sync::ledger::{self, Blank, Ledger, Share};
 
-/// The brand of a desk, which tells it from all others: what it stands on, and, as a ledger, how many may have a seat at a time.
+/// How many parts of the ledger each roster has, and how many numbers.
+pub(crate) const SEATS: u64 = 1 << 40;
+
+/// The brand of a desk, which tells it from all others: what it stands on, and, as a ledger, how many parts its rosters have.
 /// What uses a desk is generic in the brand, and its caller passes `Brand` of `std::marker` for it.
 pub trait Ground: Ledger {
     ghost use Rattle.s3_journal.specs.Desk.{Base};
@@ -35,58 +38,69 @@ pub struct Start<R: Records + Drop> {
     book: Book<R>,
     blank: Blank,
     settings: Snapshot<Config>,
+    rosters: u16,
 }
 
 impl<R: Records + Drop> Model for Start<R> {
-    ghost use Rattle.std.specs.Prelude.{◌≡◌, []};
+    ghost use Rattle.std.specs.Prelude.{◌≡◌, ◌*◌, []};
     ghost use Rattle.std.specs.Coded.{codes};
     ghost use Rattle.s3_store.specs.Steps.{coded_standing};
     ghost use Rattle.s3_machine.specs.Rules.{rules_of};
-    ghost use Rattle.s3_journal.specs.Desk.{Opening, most_seats};
+    ghost use Rattle.s3_journal.specs.Desk.{Opening, seats_each};
 
     ghost Value = { Opening };
 
     ghost coded = { Prim.hlevel (codes, coded_standing) };
 
-    ghost view = { λ s. record { name = s.blank.name; base = record { origin = s.book.origin; settings = s.settings.value; store = s.book.opening } } };
+    ghost view = { λ s. record { name = s.blank.name; base = record { origin = s.book.origin; settings = s.settings.value; store = s.book.opening }; rosters = s.rosters } };
 
-    ghost invariant = { λ s. (s.blank.parts ≡ most_seats) × (s.book.entries ≡ []) × (s.book.rules ≡ rules_of s.settings.value) };
+    ghost invariant = { λ s. (s.blank.parts ≡ s.rosters * seats_each) × (s.book.entries ≡ []) × (s.book.rules ≡ rules_of s.settings.value) };
 }
 
 impl<R: Records + Drop> Start<R> {
-    /// What a desk over this store is opened with, with these settings.
+    /// What a desk over this store is opened with, with these settings. It will have so many rosters, one for each worker;
+    /// nobody comes to a desk that has none.
     ///
     /// # Errors
     ///
     /// `NoMemory` where there is no memory for a copy of the region's name.
-    pub fn new(alloc: Global, config: &Config, store: Store<R>) -> Result<Start<R>, NoMemory>
+    pub fn new(
+        alloc: Global,
+        config: &Config,
+        store: Store<R>,
+        rosters: u16,
+    ) -> Result<Start<R>, NoMemory>
         ensures settings { IfOk result (λ start. start.base.settings ≡ config.now) }
         ensures store { IfOk result (λ start. start.base.store ≡ store) }
+        ensures rosters { IfOk result (λ start. start.rosters ≡ rosters) }
     {
         let rules = Rules::of(alloc, config)?;
         let book = Book::new(alloc, rules, store)?;
         Ok(Start {
             book,
-            blank: Blank::new(u64::MAX),
+            blank: Blank::new(u64::from(rosters) * SEATS),
             settings: Snapshot::of(config),
+            rosters,
         })
     }
 
-    // The book, and the ledger that counts its entries, with all its shares.
-    pub(crate) fn into_parts<J: Ground>(self) -> (Book<R>, ledger::Book<J>, Share<J>)
+    // The book, the ledger that counts its entries, with all its shares, and how many rosters there will be.
+    pub(crate) fn into_parts<J: Ground>(self) -> (Book<R>, ledger::Book<J>, Share<J>, u16)
         requires name { J.name ≡ self.name }
         requires base { J.base ≡ self.base }
-        requires parts { J.parts ≡ most_seats }
+        requires parts { J.parts ≡ self.rosters * seats_each }
         ensures book { Continues J.base result.0 × (result.0.entries ≡ []) }
         ensures total { result.1.total ≡ 0 }
         ensures shares { (result.2.parts ≡ J.parts) × (result.2.amount ≡ 0) }
+        ensures rosters { result.3 ≡ self.rosters }
     {
         let Start {
             book,
             blank,
             settings: _,
+            rosters,
         } = self;
         let (calls, shares) = blank.open::<J>();
-        (book, calls, shares)
+        (book, calls, shares, rosters)
     }
 }

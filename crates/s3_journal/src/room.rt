@@ -1,53 +1,53 @@
 //! What lies under a desk's lock.
-ghost use Rattle.std.specs.Prelude.{◌≡◌, [], IfOk, IfSome, OnErr};
-ghost use Rattle.std.specs.BTreeSet.{btree_set_len};
+ghost use Rattle.std.specs.Prelude.{◌≡◌, ◌++◌, ◌∷◌, [], ◌*◌, length, true, IfOk, IfSome, IsSome, OnErr};
 ghost use mathlib.Core.List.{IsPrefix};
 ghost use Rattle.s3_journal.specs.Book.{KeepsHistory, MayLack};
 ghost use Rattle.s3_journal.specs.Calls.{HasAnswered, IsAnswered, LacksMemory};
-ghost use Rattle.s3_journal.specs.Desk.{Continues, most_seats};
+ghost use Rattle.s3_journal.specs.Desk.{Continues, seats_each};
 ghost use Rattle.s3_journal.specs.Gone.{IsClosed};
+ghost use Rattle.s3_journal.specs.Recorded.{recorded};
+ghost use Rattle.s3_journal.specs.Roster.{AreBack, all_gone};
 
 use crate::book::{Book, Prefix};
-use crate::calls::Calls;
-use crate::gone::{AsGone, Gone, Leaving, Report};
+use crate::gather::gather;
+use crate::gone::Report;
 use crate::ground::Ground;
-use crate::numbers::Numbers;
+use crate::roster::Roster;
 use crate::seat::Seat;
-use s3_history::{Describes, Recorder};
 use s3_machine::{Answer, Turn};
 use s3_records::Records;
 use s3_terms::NoMemory;
-use std::alloc::Global;
 use std::marker::Model;
 use std::snapshot::Snapshot;
 use std::sync::ledger::{self, Share};
 
-/// What lies under a desk's lock.
+/// What lies under a desk's lock. Contracts see the history.
 #[derive(Drop)]
-pub(crate) struct Room<J: Ground, R: Records + Drop, P: Report> {
+pub(crate) struct Room<J: Ground, R: Records + Drop> {
     book: Book<R>,
     calls: ledger::Book<J>,
-    // The share of those that have left.
+    // What the rosters left of the ledger's shares, which is nothing.
     spare: Share<J>,
-    numbers: Numbers,
-    gone: Recorder<Gone<P>>,
+    rosters: u16,
 }
 
-impl<J: Ground, R: Records + Drop, P: Report> Model for Room<J, R, P> {
-    ghost use Rattle.s3_journal.specs.Gone.{IsRoom};
+impl<J: Ground, R: Records + Drop> Model for Room<J, R> {
+    ghost use Rattle.std.specs.Prelude.{List};
+    ghost use Rattle.s3_journal.specs.Desk.{IsRoom};
+    ghost use Rattle.s3_journal.specs.Recorded.{Recorded};
 
-    ghost Value = { Unit {0} };
+    ghost Value = { List Recorded };
 
-    ghost view = { λ r. tt };
+    ghost view = { λ r. r.book.entries };
 
-    ghost invariant = { λ r. IsRoom (P.fits J.base) J.base J.parts r.book r.calls.total r.spare.parts r.spare.amount r.numbers r.gone.entries };
+    ghost invariant = { λ r. IsRoom J.base J.parts r.rosters r.book r.calls.total r.spare.parts r.spare.amount };
 }
 
-/// What a desk leaves: its book, and what is known of its seats, which no memory holds.
+/// What a desk leaves: its book, and its rosters as they were given back, of which contracts alone know.
 #[derive(Drop)]
-pub struct Closed<R: Records + Drop, P: Report> {
+pub struct Closed<J: Ground, R: Records + Drop, P: Report> {
     pub book: Book<R>,
-    pub gone: Recorder<Gone<P>>,
+    pub rosters: Snapshot<Vec<Roster<J, P>>>,
 }
 
 // Answers a turn for a seat that knows this much of the book's history.
@@ -71,48 +71,35 @@ fn answer_turn<R: Records + Drop>(
     Ok(answer)
 }
 
-impl<J: Ground, R: Records + Drop, P: Report> Room<J, R, P> {
-    /// A room in which nobody has been.
+impl<J: Ground, R: Records + Drop> Room<J, R> {
+    /// A room of so many rosters, to which nobody has come.
     pub(crate) fn new(
-        alloc: Global,
         book: Book<R>,
         calls: ledger::Book<J>,
         spare: Share<J>,
-    ) -> Result<Room<J, R, P>, NoMemory>
-        requires parts { J.parts ≡ most_seats }
+        rosters: u16,
+    ) -> Room<J, R>
+        requires parts { J.parts ≡ rosters * seats_each }
         requires book { Continues J.base book × (book.entries ≡ []) }
         requires calls { calls.total ≡ 0 }
-        requires spare { (spare.parts ≡ J.parts) × (spare.amount ≡ 0) }
+        requires spare { (spare.parts ≡ 0) × (spare.amount ≡ 0) }
     {
-        let Some(gone) = Recorder::new() else {
-            return Err(NoMemory);
-        };
-        Ok(Room {
+        Room {
             book,
             calls,
             spare,
-            numbers: Numbers::new(alloc),
-            gone,
-        })
-    }
-
-    /// A seat for one who comes.
-    pub(crate) fn seat(&mut self) -> Result<Seat<J>, NoMemory>
-        ensures { IfOk result (λ seat. seat.mine ≡ []) }
-    {
-        let Some(calls) = Calls::new() else {
-            return Err(NoMemory);
-        };
-        let number = self.numbers.give()?;
-        let share = self.spare.split_off(1, 0);
-        let _ = self.book.store();
-        Ok(Seat::new(number, calls, self.book.prefix(), share))
+            rosters,
+        }
     }
 
     /// Answers a turn for a seat.
-    pub(crate) fn serve(&mut self, seat: &mut Seat<J>, turn: Turn) -> Result<Answer, NoMemory>
+    pub(crate) fn answer(&mut self, seat: &mut Seat<J>, turn: Turn) -> Result<Answer, NoMemory>
         ensures answered { IfOk result (λ answer. IsAnswered J.base seat.old seat.new turn answer) }
+        ensures entry { IfOk result (λ answer. self.new ≡ self.old ++ recorded seat.old.number turn answer ∷ []) }
         ensures memory { OnErr result (LacksMemory R.is_in_memory J.base seat.old seat.new turn) }
+        ensures err { OnErr result (self.new ≡ self.old) }
+        ensures begins { IsPrefix seat.old.seen self.old }
+        ensures seen { seat.new.seen ≡ self.new }
     {
         let asked = Snapshot::of(&turn);
         match answer_turn(&mut self.book, seat.known(), seat.number(), turn) {
@@ -128,40 +115,37 @@ impl<J: Ground, R: Records + Drop, P: Report> Room<J, R, P> {
         }
     }
 
-    /// Takes a seat back, of which this is told.
-    pub(crate) fn leave<X, D: Describes<X, P>>(&mut self, seat: Seat<J>, about: &X)
-        requires fits { P.fits J.base (D.entry about.now) seat.mine }
+    /// What is left when all rosters have come back.
+    pub(crate) fn close<P: Report>(self, rosters: Vec<Roster<J, P>>) -> Option<Closed<J, R, P>>
+        ensures closed { IfSome result (λ closed. IsClosed (P.fits J.base) J.base closed.book (all_gone rosters.items)) }
+        ensures rosters { IfSome result (λ closed. closed.rosters.value ≡ rosters) }
+        ensures some { AreBack 0 rosters.items → length rosters.items * seats_each ≡ J.parts → IsSome result }
     {
-        let (number, calls, known, share) = seat.into_parts();
-        if !self.numbers.take(number) {
-            return;
+        if rosters.len() != usize::from(self.rosters) {
+            return None;
         }
-        self.book.check(&known);
-        self.spare.merge(share);
-        let leaving = Leaving {
-            number,
-            calls: Snapshot::of(&calls),
-            about: Snapshot::of(about),
-        };
-        self.gone.record::<Leaving<X>, AsGone<D>>(&leaving);
+        let all = Snapshot::of(&rosters);
+        let book = self.into_book(rosters)?;
+        Some(Closed { book, rosters: all })
     }
 
-    /// What is left when nobody has a seat.
-    pub(crate) fn close(self) -> Option<Closed<R, P>>
-        ensures { IfSome result (λ closed. IsClosed (P.fits J.base) J.base closed.book closed.gone.entries) }
+    // Its book, where all rosters that come back are at their places.
+    fn into_book<P: Report>(self, rosters: Vec<Roster<J, P>>) -> Option<Book<R>>
+        requires all { length rosters.items * seats_each ≡ J.parts }
+        ensures closed { IfSome result (λ book. IsClosed (P.fits J.base) J.base book (all_gone rosters.items)) }
+        ensures some { AreBack 0 rosters.items → IsSome result }
     {
         let Room {
-            book,
+            mut book,
             mut calls,
             mut spare,
-            numbers,
-            gone,
+            rosters: _,
         } = self;
-        if !numbers.is_empty() {
+        if !gather(&mut book, &mut spare, rosters) {
             return None;
         }
         calls.audit(&mut spare);
         let _ = book.store();
-        Some(Closed { book, gone })
+        Some(book)
     }
 }

@@ -2,7 +2,7 @@
 ghost use Rattle.std.specs.Prelude.{◌≡◌, ◌++◌, ◌∷◌, [], ◌+◌, ◌⊎◌, List};
 ghost use mathlib.Core.List.{IsPrefix};
 ghost use Rattle.s3_journal.specs.Recorded.{Recorded, entries_of_seat, entry_of, recorded};
-ghost use Rattle.s3_journal.specs.Desk.{IsAmong, IsLegal, IsSeat};
+ghost use Rattle.s3_journal.specs.Desk.{IsAmong, IsSeat};
 
 use crate::book::Prefix;
 use crate::calls::Calls;
@@ -14,7 +14,7 @@ use std::snapshot::Snapshot;
 use std::sync::ledger::{Book, Share};
 
 /// Who may submit turns to a desk. It has its number and a word, however much it submits. Contracts see its number, the
-/// entries that it was given, and the history as far as it has seen it, which is legal.
+/// entries that it was given, and the history as far as it has seen it.
 #[derive(Drop)]
 pub struct Seat<J: Ground> {
     number: u64,
@@ -38,7 +38,6 @@ impl<J: Ground> Seat<J> {
     pub(crate) fn new(number: u64, calls: Calls, known: Prefix, share: Share<J>) -> Seat<J>
         requires origin { known.origin ≡ J.base.origin }
         requires none { calls ≡ [] }
-        requires legal { IsLegal J.base known.entries }
         requires share { (share.parts ≡ 1) × (share.amount ≡ 0) }
         ensures { result ≡ record { number = number; mine = []; seen = known.entries } }
     {
@@ -84,7 +83,6 @@ impl<J: Ground> Seat<J> {
         requires origin { known.origin ≡ J.base.origin }
         requires seen { (earlier : List Recorded) × IsPrefix self.old.seen earlier
             × (known.entries ≡ earlier ++ recorded self.old.number asked.value answer.now ∷ []) }
-        requires legal { IsLegal J.base known.entries }
         ensures seat { self.new
             ≡ record { number = self.old.number; mine = self.old.mine ++ entry_of asked.value answer.now ∷ []; seen = known.entries } }
         ensures total { calls.new.total ≡ calls.old.total + 1 }
@@ -102,7 +100,6 @@ impl<J: Ground> Seat<J> {
     pub(crate) fn see(&mut self, known: Prefix)
         requires origin { known.origin ≡ J.base.origin }
         requires begins { IsPrefix self.old.seen known.entries }
-        requires legal { IsLegal J.base known.entries }
         ensures { self.new ≡ record { number = self.old.number; mine = self.old.mine; seen = known.entries } }
     {
         self.known = known;

@@ -12,8 +12,8 @@ use Rattle.s3_text.specs.Characters.{line_feed}
 use Rattle.s3_documents.specs.Printed.{begun, told}
 use Rattle.s3_documents.specs.Timestamp.{timestamp}
 use Rattle.s3_documents.specs.Tree.{Branch, Fields, Tree, Value, branch_text, leaves, moment, number, tree_text, value_text, with_commas}
-use Rattle.s3_log.specs.Line.{Begun, behind, begun_document, beginning, lead_of, led, member_behind, some_text, text_told, told_fields}
-use Rattle.s3_log.specs.Result.{answered}
+use Rattle.s3_log.specs.Line.{Begun, behind, begun_document, beginning, lead_of, led, member_behind, some_text, text_told, texts_told, told_fields}
+use Rattle.s3_driver.specs.Told.{answered}
 
 -- bytes that are a text are told as one
 pub told_text : (bytes : List ℕ) → IsUtf8 bytes → text_told bytes ≡ some_text bytes
@@ -90,7 +90,33 @@ led_behind lead name (Some value) same = ap (λ (l : List ℕ). l ++ value_text 
 pub both_behind : (a b : List ℕ) (x y : Fields) → a ≡ behind x → b ≡ behind y → a ++ b ≡ behind (x ++ y)
 both_behind a b x y first second = ap₂ (λ (k l : List ℕ). k ++ l) first second ∙ sym (behind_append x y)
 
+pub three_behind : (x y z : Fields) → (behind x ++ behind y) ++ behind z ≡ behind ((x ++ y) ++ z)
+three_behind x y z = ap (λ (l : List ℕ). l ++ behind z) (sym (behind_append x y)) ∙ sym (behind_append (x ++ y) z)
+
+-- two texts one behind the other
+pub texts_behind_leads : (lead name other_lead other_name one other : List ℕ) → lead ≡ lead_of name → other_lead ≡ lead_of other_name
+    → led lead (text_told one) ++ led other_lead (text_told other) ≡ behind (texts_told name one other_name other)
+texts_behind_leads lead name other_lead other_name one other is other_is =
+    both_behind (led lead (text_told one)) (led other_lead (text_told other)) (told name (text_told one)) (told other_name (text_told other))
+    (led_behind lead name (text_told one) is) (led_behind other_lead other_name (text_told other) other_is)
+
 -- the commas, names and colons, as they are spelled
+pub peer_lead : codes ",\"peer\":" ≡ lead_of (codes "peer")
+unfolding escape_byte
+peer_lead = refl
+
+pub request_id_lead : codes ",\"request_id\":" ≡ lead_of (codes "request_id")
+unfolding escape_byte
+request_id_lead = refl
+
+pub operation_lead : codes ",\"operation\":" ≡ lead_of (codes "operation")
+unfolding escape_byte
+operation_lead = refl
+
+pub query_lead : codes ",\"query\":" ≡ lead_of (codes "query")
+unfolding escape_byte
+query_lead = refl
+
 pub method_lead : codes ",\"method\":" ≡ lead_of (codes "method")
 unfolding escape_byte
 method_lead = refl
@@ -112,9 +138,9 @@ unfolding escape_byte
 status_lead = refl
 
 -- what is told of a message that is answered with what was asked for
-pub status_told : codes ",\"status\":200" ≡ behind (told_fields answered)
+pub status_told : (n : Option ℕ) → codes ",\"status\":200" ≡ behind (told_fields (answered n))
 unfolding escape_byte digits
-status_told = refl
+status_told n = refl
 
 pub code_lead : codes ",\"code\":" ≡ lead_of (codes "code")
 unfolding escape_byte
@@ -130,18 +156,19 @@ microseconds_lead = refl
 
 -- ---- the whole line of a message
 
-regroup_line : (name value member h t e : List ℕ)
-    → (123 ∷ ((name ++ value) ++ ((member ++ ((h ++ t) ++ e)) ++ 125 ∷ []))) ++ 10 ∷ [] ≡ ((((123 ∷ ((name ++ value) ++ member)) ++ h) ++ t) ++ e) ++ 125 ∷ 10 ∷ []
-regroup_line name value member h t e = simp append_assoc
+regroup_line : (name value member f h t e : List ℕ)
+    → (123 ∷ ((name ++ value) ++ ((member ++ (((f ++ h) ++ t) ++ e)) ++ 125 ∷ []))) ++ 10 ∷ []
+    ≡ (((((123 ∷ ((name ++ value) ++ member)) ++ f) ++ h) ++ t) ++ e) ++ 125 ∷ 10 ∷ []
+regroup_line name value member f h t e = simp append_assoc
 
-pub line_told : (begun : Begun) (h t e : Fields)
-    → (((beginning begun.moment begun.connection ++ behind h) ++ behind t) ++ behind e) ++ 125 ∷ 10 ∷ []
-    ≡ tree_text (leaves ((((told (codes "time") (Some (moment begun.moment)) ++ told (codes "connection") (Some (number begun.connection))) ++ h) ++ t) ++ e)) ++ 10 ∷ []
-line_told begun h t e =
+pub line_told : (begun : Begun) (f h t e : Fields)
+    → ((((beginning begun.moment begun.connection ++ behind f) ++ behind h) ++ behind t) ++ behind e) ++ 125 ∷ 10 ∷ []
+    ≡ tree_text (leaves (((((told (codes "time") (Some (moment begun.moment)) ++ told (codes "connection") (Some (number begun.connection))) ++ f) ++ h) ++ t) ++ e)) ++ 10 ∷ []
+line_told begun f h t e =
     let name = quoted (codes "time") in
     let value = 58 ∷ quoted (timestamp begun.moment) in
     let member = member_behind (codes "connection", number begun.connection) in
-    let all = behind_append (h ++ t) e ∙ ap (λ (l : List ℕ). l ++ behind e) (behind_append h t) in
-    sym (ap (λ (l : List ℕ). l ++ 10 ∷ []) (document (codes "time") (moment begun.moment) ((codes "connection", number begun.connection) ∷ ((h ++ t) ++ e))
+    let all = behind_append ((f ++ h) ++ t) e ∙ ap (λ (l : List ℕ). l ++ behind e) (behind_append (f ++ h) t ∙ ap (λ (l : List ℕ). l ++ behind t) (behind_append f h)) in
+    sym (ap (λ (l : List ℕ). l ++ 10 ∷ []) (document (codes "time") (moment begun.moment) ((codes "connection", number begun.connection) ∷ (((f ++ h) ++ t) ++ e))
     ∙ ap (λ (l : List ℕ). 123 ∷ ((name ++ value) ++ ((member ++ l) ++ 125 ∷ []))) all)
-    ∙ regroup_line name value member (behind h) (behind t) (behind e))
+    ∙ regroup_line name value member (behind f) (behind h) (behind t) (behind e))

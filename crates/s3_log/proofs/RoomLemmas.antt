@@ -60,6 +60,15 @@ pub ok_behind : {E : Type 0} (r : Result ℕ E) (y c : List ℕ) {a b x z : List
 ok_behind (Ok end) y c p same q = puts_as same (puts_then p q)
 ok_behind (Err e) y c p same q = tt
 
+-- the same text, and what was kept
+pub ok_as : {E : Type 0} (r : Result ℕ E) (a c : List ℕ) (i : ℕ) {x y : List ℕ} → x ≡ y → IfOk r (λ end. Puts x i a c end) → IfOk r (λ end. Puts y i a c end)
+ok_as (Ok end) a c i same p = puts_as same p
+ok_as (Err e) a c i same p = tt
+
+pub kept_after : {E : Type 0} (r : Result ℕ E) (c : List ℕ) {a b x : List ℕ} {i j : ℕ} → Puts x i a b j → OnErr r (Keeps j b c) → OnErr r (Keeps i a c)
+kept_after (Ok end) c p k = tt
+kept_after (Err e) c p k = keeps_behind p k
+
 pub kept_behind : {E : Type 0} (r : Result ℕ E) (c : List ℕ) {a b x : List ℕ} {i j : ℕ} → Puts x i a b j → OnErr r (c ≡ b) → OnErr r (Keeps i a c)
 kept_behind (Ok end) c p same = tt
 kept_behind (Err e) c p same = keeps_behind p (keeps_all same)

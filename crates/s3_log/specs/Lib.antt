@@ -1,7 +1,8 @@
 pub mod KeyId
 pub mod Line
 pub mod Lines
+pub mod Operation
 pub mod Pending
+pub mod Query
 pub mod Request
-pub mod Result
 pub mod Room

@@ -7,13 +7,16 @@ use Rattle.s3_documents.specs.Printed.{told}
 use Rattle.s3_documents.specs.Timestamp.{timestamp}
 use Rattle.s3_documents.specs.Tree.{Fields, Value, leaves, moment, number, text, tree_text, value_text}
 use Rattle.s3_text.specs.Characters.{line_feed}
+use Rattle.s3_text.specs.Digits.{number_digits}
 use Rattle.s3_terms.specs.Code.{name_of}
 use Rattle.s3_terms.specs.Status.{number_of}
 use Rattle.s3_terms.specs.declared.code.Code.{Code}
 use Rattle.s3_log.specs.KeyId.{key_id}
+use Rattle.s3_log.specs.Operation.{operation_of}
+use Rattle.s3_log.specs.Query.{shown_query}
 use Rattle.s3_log.specs.Request.{bucket_of, key_of, method_of, query_of}
 use Rattle.s3_log.specs.declared.line.Message.{Message}
-use Rattle.s3_log.specs.declared.result.Told.{Told}
+use Rattle.s3_driver.specs.declared.told.Told.{Told}
 
 -- a text, if it isn't empty
 abbrev pub some_text : List ℕ → Option Value
@@ -31,15 +34,29 @@ code_told code = option_map (λ c. text (name_of c)) code
 abbrev pub id_told : Bool → List ℕ → List ℕ
 id_told is_verified head = if is_verified then key_id head (query_of head) else []
 
--- what is told of a request: its method, its bucket and key, and the id of its access key
-abbrev pub request_fields : List ℕ → List ℕ → List ℕ → List ℕ → Fields
-request_fields method bucket key id =
-    told (codes "method") (text_told method) ++ told (codes "bucket") (text_told bucket)
-    ++ told (codes "key") (text_told key) ++ told (codes "access_key") (text_told id)
+-- two texts, each under its name
+abbrev pub texts_told : List ℕ → List ℕ → List ℕ → List ℕ → Fields
+texts_told name one other_name other = told name (text_told one) ++ told other_name (text_told other)
+
+-- the id of the request: the number of its answer as the reply has it
+abbrev pub id_of : Option ℕ → List ℕ
+id_of None = []
+id_of (Some n) = number_digits n
+
+-- who asks: the address of the peer, and the id of the request
+abbrev pub front_fields : List ℕ → Option ℕ → Fields
+front_fields peer counted = texts_told (codes "peer") peer (codes "request_id") (id_of counted)
+
+-- what is told of a request: its operation and its method, its bucket and its key, its query, and the id of its access key
+abbrev pub request_fields : List ℕ → List ℕ → List ℕ → List ℕ → List ℕ → List ℕ → Fields
+request_fields operation method bucket key query id =
+    texts_told (codes "operation") operation (codes "method") method ++ texts_told (codes "bucket") bucket (codes "key") key
+    ++ texts_told (codes "query") (shown_query query) (codes "access_key") id
 
 -- what the head of a message says of it
 abbrev pub head_fields : Bool → List ℕ → Fields
-head_fields is_verified head = request_fields (method_of head) (bucket_of head) (key_of head) (id_told is_verified head)
+head_fields is_verified head =
+    request_fields (operation_of head) (method_of head) (bucket_of head) (key_of head) (query_of head) (id_told is_verified head)
 
 -- what came of it
 abbrev pub told_fields : Told → Fields
@@ -59,7 +76,7 @@ pub record Begun : Type 0 where
 abbrev pub message_fields : Begun → Message → Fields
 message_fields begun m =
     told (codes "time") (Some (moment begun.moment)) ++ told (codes "connection") (Some (number begun.connection))
-    ++ head_fields m.is_verified m.head.now ++ told_fields m.told ++ end_fields m.bytes m.microseconds
+    ++ front_fields m.peer.now m.told.number ++ head_fields m.is_verified m.head.now ++ told_fields m.told ++ end_fields m.bytes m.microseconds
 
 -- the line of a message
 abbrev pub line_of : Begun → Message → List ℕ

@@ -10,15 +10,14 @@ mod lines;
 mod log;
 mod member;
 mod message_log;
+mod operation;
+mod peer;
 mod pending;
+mod query;
 mod request;
-mod result;
 mod room;
-mod witness;
 
 pub use beginning::Beginning;
 pub use line::{Message, lost_line};
 pub use log::{Log, LogWriter};
 pub use message_log::MessageLog;
-pub use result::{Told, told_of};
-pub use witness::{Nobody, Witness};

@@ -1,20 +1,23 @@
 //! The line that tells of a message.
 
-ghost use Rattle.std.specs.Prelude.{◌≡◌, ◌∷◌, [], ◌++◌, IfOk, OnErr};
+ghost use Rattle.std.specs.Prelude.{◌≡◌, ◌∷◌, [], ◌++◌, codes, IfOk, OnErr};
 ghost use Rattle.s3_documents.specs.Printed.{begun};
 ghost use Rattle.s3_documents.specs.Tree.{Fields, leaves, tree_text};
 ghost use Rattle.s3_text.specs.Characters.{line_feed};
 ghost use Rattle.s3_log.specs.Line as rules;
+ghost use Rattle.s3_log.specs.Query.{shown_query};
 ghost use Rattle.s3_log.specs.Room.{Keeps, Puts};
 
 use crate::beginning::Beginning;
 use crate::key_id::{id_in_head, id_in_query};
-use crate::member::{put_code, put_count, put_number, put_text};
+use crate::member::{put_code, put_count, put_number, put_texts};
+use crate::query::{shown_parts, without_first};
 use crate::request::Request;
-use crate::result::Told;
 use crate::room::put;
 use s3_documents::{Field, Leaf, Printer};
+use s3_driver::Told;
 use s3_terms::NoMemory;
+use s3_text::number_digits;
 use std::alloc::Global;
 
 // What the line of a loss takes.
@@ -23,6 +26,8 @@ const LOST_ROOM: usize = 40;
 /// What is told of a message once it is answered or refused, and all is written for it.
 #[derive(Clone, Copy)]
 pub struct Message<'a> {
+    /// The address of its connection's peer, as a text; empty where it isn't known.
+    pub peer: &'a [u8],
     /// The text of its head; empty where that can't be read or isn't known.
     pub head: &'a [u8],
     /// Whether its signature was verified.
@@ -46,11 +51,52 @@ pub(crate) fn put_line(
     ensures put { IfOk result (λ end. Puts (rules.line_of beginning.now message.now) at room.old room.new end) }
     ensures kept { OnErr result (Keeps at room.old room.new) }
 {
-    let head = put(room, at, beginning.as_slice());
+    let front = put(room, at, beginning.as_slice());
+    let head = put_front(alloc, room, front, message.peer, message.told.number)?;
     let told = put_head(alloc, room, head, message)?;
     let end = put_told(alloc, room, told, message.told)?;
     let brace = put_end(room, end, message);
     Ok(put(room, brace, b"}\n"))
+}
+
+// Puts who asks, and the id of the request.
+fn put_front(
+    alloc: Global,
+    room: &mut [u8],
+    at: usize,
+    peer: &[u8],
+    number: Option<u64>,
+) -> Result<usize, NoMemory>
+    ensures put { IfOk result (λ end. Puts (rules.behind (rules.front_fields peer.now number)) at room.old room.new end) }
+    ensures kept { OnErr result (Keeps at room.old room.new) }
+{
+    match number {
+        Some(number) => put_peer(alloc, room, at, peer, &number_digits(number)),
+        None => put_peer(alloc, room, at, peer, &[]),
+    }
+}
+
+// The same by the id as a text.
+fn put_peer(
+    alloc: Global,
+    room: &mut [u8],
+    at: usize,
+    peer: &[u8],
+    id: &[u8],
+) -> Result<usize, NoMemory>
+    ensures put { IfOk result (λ end.
+        Puts (rules.behind (rules.texts_told (codes "peer") peer.now (codes "request_id") id.now)) at room.old room.new end) }
+    ensures kept { OnErr result (Keeps at room.old room.new) }
+{
+    put_texts(
+        alloc,
+        room,
+        at,
+        b",\"peer\":",
+        peer,
+        b",\"request_id\":",
+        id,
+    )
 }
 
 // Puts what the head of a message says.
@@ -86,14 +132,93 @@ fn put_request(
     id: &[u8],
 ) -> Result<usize, NoMemory>
     ensures put { IfOk result (λ end.
-        Puts (rules.behind (rules.request_fields request.entry.method.now request.entry.bucket.now request.entry.key.now id.now))
+        Puts (rules.behind (rules.request_fields request.entry.operation.now request.entry.method.now request.entry.bucket.now request.entry.key.now request.entry.query.now id.now))
         at room.old room.new end) }
     ensures kept { OnErr result (Keeps at room.old room.new) }
 {
-    let bucket = put_text(alloc, room, at, b",\"method\":", request.method)?;
-    let key = put_text(alloc, room, bucket, b",\"bucket\":", request.bucket)?;
-    let access_key = put_text(alloc, room, key, b",\"key\":", request.key)?;
-    put_text(alloc, room, access_key, b",\"access_key\":", id)
+    let bucket = put_asked(alloc, room, at, request.operation, request.method)?;
+    let query = put_address(alloc, room, bucket, request.bucket, request.key)?;
+    put_signed(alloc, room, query, request.query, id)
+}
+
+// Puts an operation and a method.
+fn put_asked(
+    alloc: Global,
+    room: &mut [u8],
+    at: usize,
+    operation: &[u8],
+    method: &[u8],
+) -> Result<usize, NoMemory>
+    ensures put { IfOk result (λ end.
+        Puts (rules.behind (rules.texts_told (codes "operation") operation.now (codes "method") method.now)) at room.old room.new end) }
+    ensures kept { OnErr result (Keeps at room.old room.new) }
+{
+    put_texts(
+        alloc,
+        room,
+        at,
+        b",\"operation\":",
+        operation,
+        b",\"method\":",
+        method,
+    )
+}
+
+// Puts a bucket and a key.
+fn put_address(
+    alloc: Global,
+    room: &mut [u8],
+    at: usize,
+    bucket: &[u8],
+    key: &[u8],
+) -> Result<usize, NoMemory>
+    ensures put { IfOk result (λ end.
+        Puts (rules.behind (rules.texts_told (codes "bucket") bucket.now (codes "key") key.now)) at room.old room.new end) }
+    ensures kept { OnErr result (Keeps at room.old room.new) }
+{
+    put_texts(alloc, room, at, b",\"bucket\":", bucket, b",\"key\":", key)
+}
+
+// Puts what may stand in a log of a query, and the id of an access key.
+fn put_signed(
+    alloc: Global,
+    room: &mut [u8],
+    at: usize,
+    query: &[u8],
+    id: &[u8],
+) -> Result<usize, NoMemory>
+    ensures put { IfOk result (λ end.
+        Puts (rules.behind (rules.texts_told (codes "query") (shown_query query.now) (codes "access_key") id.now)) at room.old room.new end) }
+    ensures kept { OnErr result (Keeps at room.old room.new) }
+{
+    if query.is_empty() {
+        return put_shown(alloc, room, at, &[], id);
+    }
+    let parts = shown_parts(alloc, query)?;
+    put_shown(alloc, room, at, without_first(&parts), id)
+}
+
+// The same of what is shown of a query.
+fn put_shown(
+    alloc: Global,
+    room: &mut [u8],
+    at: usize,
+    shown: &[u8],
+    id: &[u8],
+) -> Result<usize, NoMemory>
+    ensures put { IfOk result (λ end.
+        Puts (rules.behind (rules.texts_told (codes "query") shown.now (codes "access_key") id.now)) at room.old room.new end) }
+    ensures kept { OnErr result (Keeps at room.old room.new) }
+{
+    put_texts(
+        alloc,
+        room,
+        at,
+        b",\"query\":",
+        shown,
+        b",\"access_key\":",
+        id,
+    )
 }
 
 // Puts what came of a message. Most are answered, and with what was asked for.

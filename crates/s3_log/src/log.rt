@@ -66,6 +66,8 @@ pub struct LogWriter {
     lines: Lines,
     // How many lines were lost of which nothing is written yet.
     lost: u64,
+    // Whether the last write failed, which may have left half a line.
+    has_failed: bool,
 }
 
 impl LogWriter {
@@ -74,6 +76,7 @@ impl LogWriter {
         Ok(LogWriter {
             lines: Lines::new(alloc)?,
             lost: 0,
+            has_failed: false,
         })
     }
 
@@ -81,7 +84,8 @@ impl LogWriter {
     ///
     /// Every 50 milliseconds it writes what waits then, in one write for each log. It writes to the file that has the
     /// path at that time, so that a file which was moved away is left alone from then on. What can't be written is
-    /// lost. Before the next lines it writes how many were lost.
+    /// lost. Before the next lines it writes how many were lost; after a write that failed, which may have left half a line,
+    /// a line feed comes first.
     pub fn write<R: Wait + Clock, F: Files>(
         &mut self,
         rt: &R,
@@ -134,19 +138,29 @@ impl LogWriter {
     // Writes the lines that were given, or counts them as lost.
     fn write_given<F: Files>(&mut self, alloc: Global, files: &F, path: &str, given: Given) {
         self.lost = self.lost.saturating_add(given.lost);
+        if self.has_failed {
+            self.has_failed = files.append(path, b"\n").is_err();
+        }
         if self.lost > 0 && self.tells_loss(alloc, files, path) {
             self.lost = 0;
         }
-        if given.count > 0 && files.append(path, self.lines.as_slice()).is_err() {
+        if given.count > 0 && !self.tells_lines(files, path) {
             self.lost = self.lost.saturating_add(given.count);
         }
     }
 
+    // Writes the lines that were given, and answers whether it could.
+    fn tells_lines<F: Files>(&mut self, files: &F, path: &str) -> bool {
+        self.has_failed = self.has_failed || files.append(path, self.lines.as_slice()).is_err();
+        !self.has_failed
+    }
+
     // Writes how many lines were lost, and answers whether it could.
-    fn tells_loss<F: Files>(&self, alloc: Global, files: &F, path: &str) -> bool {
-        match lost_line(alloc, self.lost) {
-            Ok(line) => files.append(path, &line).is_ok(),
-            Err(NoMemory) => false,
-        }
+    fn tells_loss<F: Files>(&mut self, alloc: Global, files: &F, path: &str) -> bool {
+        let Ok(line) = lost_line(alloc, self.lost) else {
+            return false;
+        };
+        self.has_failed = self.has_failed || files.append(path, &line).is_err();
+        !self.has_failed
     }
 }

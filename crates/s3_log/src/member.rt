@@ -5,7 +5,7 @@ ghost use Rattle.std.specs.List.{list_all};
 ghost use Rattle.json.specs.Print.{quoted};
 ghost use Rattle.s3_documents.specs.Tree as values;
 ghost use Rattle.s3_log.specs.Line as rules;
-ghost use Rattle.s3_log.specs.Room.{Puts};
+ghost use Rattle.s3_log.specs.Room.{Keeps, Puts};
 
 use crate::room::put;
 use itoa::Buffer;
@@ -32,6 +32,24 @@ pub(crate) fn put_text(
         Some(text) => put_quoted(alloc, room, at, lead, text),
         None => Ok(at),
     }
+}
+
+/// Puts two such texts one behind the other, each with what stands in front of it, and answers where they end.
+pub(crate) fn put_texts(
+    alloc: Global,
+    room: &mut [u8],
+    at: usize,
+    lead: &[u8],
+    bytes: &[u8],
+    other_lead: &[u8],
+    other: &[u8],
+) -> Result<usize, NoMemory>
+    ensures put { IfOk result (λ end.
+        Puts (rules.led lead.now (rules.text_told bytes.now) ++ rules.led other_lead.now (rules.text_told other.now)) at room.old room.new end) }
+    ensures kept { OnErr result (Keeps at room.old room.new) }
+{
+    let behind = put_text(alloc, room, at, lead, bytes)?;
+    put_text(alloc, room, behind, other_lead, other)
 }
 
 /// Puts the name of a code at a place, where there is one, and answers where it ends.

@@ -5,11 +5,12 @@ ghost use Rattle.std.specs.Prelude.{◌≡◌, true, is_some, IfOk, OnErr};
 use crate::beginning::Beginning;
 use crate::line::Message;
 use crate::log::Log;
-use crate::result::Told;
-use crate::witness::Witness;
+use crate::peer::peer_text;
 use s3_calendar::Moment;
+use s3_driver::{MessageObserver, Told};
 use s3_terms::{Code, NoMemory};
 use std::alloc::Global;
+use std::net::SocketAddr;
 use std::sync::Wait;
 use std::time::{Clock, Instant};
 
@@ -30,6 +31,8 @@ struct Telling<'a, W: Wait> {
     alloc: Global,
     log: &'a Log,
     connection: u64,
+    // The address of its peer, as a text.
+    peer: Vec<u8>,
     // When what happens now was found ready.
     now: Instant,
     // The moment of the message at hand, when its head was found whole, and how many bytes were written since then.
@@ -52,12 +55,14 @@ struct Came {
 }
 
 impl<'a, W: Wait + Clock> MessageLog<'a, W> {
-    /// Nothing is told yet of the connection of this number, which comes now. `NoMemory` comes only where there is a log.
+    /// Nothing is told yet of the connection of this number, which comes now from its peer, if that is known. `NoMemory` comes only
+    /// where there is a log.
     pub fn new(
         rt: &'a W,
         alloc: Global,
         log: Option<&'a Log>,
         connection: u64,
+        peer: Option<SocketAddr>,
         now: Instant,
     ) -> Result<MessageLog<'a, W>, NoMemory>
         ensures memory { OnErr result (is_some log.entry ≡ true) }
@@ -70,6 +75,7 @@ impl<'a, W: Wait + Clock> MessageLog<'a, W> {
             alloc,
             log,
             connection,
+            peer: peer_text(alloc, peer)?,
             now,
             moment: None,
             since: now,
@@ -82,23 +88,9 @@ impl<'a, W: Wait + Clock> MessageLog<'a, W> {
             telling: Some(Box::new(alloc, telling)?),
         })
     }
-
-    /// What happens from now on was found ready at a time.
-    pub fn set_time(&mut self, now: Instant) {
-        if let Some(telling) = &mut self.telling {
-            telling.now = now;
-        }
-    }
-
-    /// The connection has ended: what is still to be told is told.
-    pub fn leave(&mut self) {
-        if let Some(telling) = &mut self.telling {
-            telling.tell();
-        }
-    }
 }
 
-impl<W: Wait + Clock> Witness for MessageLog<'_, W> {
+impl<W: Wait + Clock> MessageObserver for MessageLog<'_, W> {
     fn begins(&mut self, now: Moment) {
         if let Some(telling) = &mut self.telling {
             telling.begins(now);
@@ -114,6 +106,18 @@ impl<W: Wait + Clock> Witness for MessageLog<'_, W> {
     fn wrote(&mut self, count: usize, is_all: bool) {
         if let Some(telling) = &mut self.telling {
             telling.wrote(count, is_all);
+        }
+    }
+
+    fn at(&mut self, now: Instant) {
+        if let Some(telling) = &mut self.telling {
+            telling.now = now;
+        }
+    }
+
+    fn leaves(&mut self) {
+        if let Some(telling) = &mut self.telling {
+            telling.tell();
         }
     }
 }
@@ -164,8 +168,12 @@ impl<W: Wait + Clock> Telling<'_, W> {
     }
 
     // What is told of a message to which this came.
-    fn message(&self, came: Came) -> Message<'_> {
+    fn message(&self, came: Came) -> Message<'_>
+        ensures peer { result.peer.now ≡ self.entry.now.peer.items }
+        ensures told { result.told ≡ came.told }
+    {
         Message {
+            peer: &self.peer,
             head: &self.head,
             is_verified: came.is_verified,
             told: came.told,

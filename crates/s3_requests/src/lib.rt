@@ -19,6 +19,7 @@ mod write_condition;
 
 pub use commands::command;
 pub use laws::{plans_are_unbroken, ready_plans_bring_nothing, tokens_are_read_back};
+pub use operations::Operation;
 pub use routing::{Plan, route};
 pub use s3_machine::{
     BucketCommand, Command, Description, KeyCommand, ObjectPut, ObjectRead, UploadCommand,

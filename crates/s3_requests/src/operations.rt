@@ -7,9 +7,10 @@ use s3_http_heads::{Head, Method, Target};
 use s3_machine::Configuration;
 use s3_terms::Dialect;
 
-/// An operation, by its name in the Amazon S3 API Reference.
+/// An operation, by its name in the Amazon S3 API Reference. Routing tells none to its caller: the definitions of the table speak
+/// of them, also those of crates above.
 #[derive(Clone, Copy)]
-pub(crate) enum Operation {
+pub enum Operation {
     ListBuckets,
     CreateBucket,
     HeadBucket,
@@ -17,7 +18,7 @@ pub(crate) enum Operation {
     PutBucketVersioning,
     GetBucketVersioning,
     GetBucketLocation,
-    // GetBucketPolicy and its like.
+    /// GetBucketPolicy and its like.
     GetBucketConfiguration(Configuration),
     ListObjects,
     ListObjectsV2,
@@ -30,7 +31,7 @@ pub(crate) enum Operation {
     GetObject,
     HeadObject,
     GetObjectTagging,
-    // GetObject and HeadObject of one part.
+    /// GetObject and HeadObject of one part.
     GetObjectPart,
     HeadObjectPart,
     DeleteObject,

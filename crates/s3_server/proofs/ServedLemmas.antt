@@ -4,7 +4,7 @@ use Rattle.std.proofs.KnownBytes.{Appends-trans}
 use Rattle.std.proofs.Math.Seq.{take-append-add}
 use Rattle.std.proofs.Transfers.{starts_with_length}
 use Rattle.std.proofs.lemmas.List.{length-append, take_all, take-append-le}
-use Rattle.std.specs.Prelude.{IfOk, OnErr, OnOk}
+use Rattle.std.specs.Prelude.{IfOk, IfSome, OnErr, OnOk}
 use Rattle.std.specs.Io.{StartsWith}
 use Rattle.std.specs.Io.KnownBytes.{Appends}
 use Rattle.std.specs.declared.net.socket_addr.SocketAddr.{SocketAddr}
@@ -19,11 +19,11 @@ use Rattle.s3_journal.specs.Book.{Journal}
 use Rattle.s3_journal.specs.Recorded.{history_of}
 use Rattle.s3_journal.specs.Desk.{Base}
 use Rattle.s3_journal.specs.Gone.{Gone, AreWhole, IsClosed}
-use Rattle.s3_sockets.specs.Account.{Account, Fits}
+use Rattle.s3_driver.specs.Account.{Account, Fits}
 use Rattle.s3_settings.specs.declared.options.ServeOptions.{ServeOptions}
 use Rattle.s3_settings.specs.declared.server.ServeMode.{ServeMode}
 use Rattle.s3_settings.specs.Server.{IsServer}
-use Rattle.s3_server.specs.Served.{HasServed, HasServedAs, HasServedAndTold, IsToldInPart, IsToldLines, IsToldPlace, address_line, entries_line}
+use Rattle.s3_server.specs.Served.{HasServed, HasServedAs, HasServedAndTold, IsToldInPart, IsToldPlace, address_line, entries_line}
 
 pub has_served : (settings : Settings) (base : Base) (book : Journal) (gone : List (Gone Account)) (entries : ℕ) → IsClosed (Fits base.settings) base book gone
     → base.settings ≡ settings → base.store ≡ opened (opening settings.buckets) → entries ≡ length book.entries → HasServed settings entries
@@ -134,3 +134,9 @@ served_still {E = E} entries (Ok count) settings served same = subst (λ (e : Re
 served_still {E = E} entries (Err e) settings served same = tt
 
 pub ruleset telling = (nothing_told, nothing_begun, begun_still, place_still, place_told, place_begun, place_alone, lines_told, lines_begun, served_as, served_still)
+
+-- what holds of what a desk was closed with, by what it hands out
+pub told_by : {X V : Type 0} (F : X → V → Type 0) (handed : X → V) (given : V) (closed : Option X) → IfSome closed (λ c. F c given)
+    → IfSome closed (λ c. handed c ≡ given) → IfSome closed (λ c. F c (handed c))
+told_by F handed given (Some c) f is = subst (F c) (sym is) f
+told_by F handed given None f is = tt

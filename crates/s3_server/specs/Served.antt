@@ -15,7 +15,7 @@ use Rattle.s3_journal.specs.Recorded.{Recorded, history_of}
 use Rattle.s3_journal.specs.Gone.{Gone, AreApart, AreWhole, count_of}
 use Rattle.s3_settings.specs.declared.server.ServeMode.{ServeMode}
 use Rattle.s3_settings.specs.Server.{IsServer}
-use Rattle.s3_sockets.specs.Account.{Account, Fits}
+use Rattle.s3_driver.specs.Account.{Account, Fits}
 
 -- There is one legal history, from the store with the first buckets on, of so many entries. Each connection has a number of its own;
 -- the entries of this number are just those that its commands made, in their order; its account fits them: what it wrote is, message

@@ -3,47 +3,77 @@
 use crate::places::Places;
 use crate::worker::Now;
 use mio::{Registry, Token};
+use s3_driver::{Moved, State};
 use s3_sockets::{Service, Socket};
-use slab::Slab;
 use std::alloc::Global;
 use std::time::{Duration, Instant};
 
-// How many milliseconds a connection has waited for its next message at least before it is let go for another one.
+// How many milliseconds a connection has waited for its next message, or its head has been on its way, at least before
+// it is let go for another one.
 const LEAST_IDLE: u64 = 1000;
+
+// For how many turns there is room from the beginning.
+const TURNS: usize = 256;
 
 /// The connections that a worker holds. Their keys are below `capacity`. Each leaves its seat when it is let go, and
 /// all have to be before the end.
 pub(crate) struct ConnectionTable<S: Service> {
-    held: Slab<S::Held>,
+    // The places, by their keys; the keys of those that are free; and how many are taken. A connection whose turn is at the
+    // store isn't in its place, which is its own still.
+    places: Vec<S::Place>,
+    free: Vec<usize>,
+    count: usize,
+    roster: S::Roster,
+    // The keys of those whose turns wait, in their order; and those that haven't heard their answers.
+    asking: Vec<usize>,
+    answered: Vec<S::Answered>,
 }
 
 impl<S: Service> ConnectionTable<S> {
-    /// None.
-    pub(crate) fn new(alloc: Global) -> ConnectionTable<S> {
+    /// None, of those that come to this roster. It takes the memory for turns, or, where there is none, when they come.
+    pub(crate) fn new(alloc: Global, roster: S::Roster) -> ConnectionTable<S> {
         ConnectionTable {
-            held: Slab::new(alloc),
+            places: Vec::new(alloc),
+            free: Vec::new(alloc),
+            count: 0,
+            roster,
+            asking: list(alloc),
+            answered: list(alloc),
         }
     }
 
-    /// All have been let go, and what held them is given back.
-    pub(crate) fn end(self) {
-        let ConnectionTable { held } = self;
-        S::give_back(held);
+    /// All have been let go, and what held them is given back. Hands out the roster.
+    pub(crate) fn end(self) -> S::Roster {
+        let ConnectionTable {
+            places,
+            free: _,
+            count: _,
+            roster,
+            asking: _,
+            answered,
+        } = self;
+        S::give_back(places, answered);
+        roster
     }
 
     /// Whether there is none.
     pub(crate) fn is_empty(&self) -> bool {
-        self.held.is_empty()
+        self.count == 0
     }
 
     /// How many there are.
     pub(crate) fn len(&self) -> usize {
-        self.held.len()
+        self.count
     }
 
     /// A number that is greater than all keys.
     pub(crate) fn capacity(&self) -> usize {
-        self.held.capacity()
+        self.places.len()
+    }
+
+    /// Whether turns of some wait.
+    pub(crate) fn has_turns(&self) -> bool {
+        !self.asking.is_empty()
     }
 
     /// Holds a connection that came as the one of this number, which is reported from now on, and answers whether it
@@ -68,29 +98,83 @@ impl<S: Service> ConnectionTable<S> {
 
     // The key of a further one, unless there is no memory for it.
     fn add(&mut self, service: &S, socket: Socket, number: u64, now: Instant) -> Option<usize> {
-        let held = service.open(socket, number, now)?;
-        match self.held.insert(held) {
-            Ok(key) => Some(key),
-            Err(failed) => {
-                S::leave(failed.value);
+        let key = self.free_key(service)?;
+        match service.open(&mut self.roster, socket, number, now) {
+            Some(held) => {
+                self.count = self.count.saturating_add(1);
+                self.put(key, held);
+                Some(key)
+            }
+            None => {
+                self.free(key);
                 None
             }
         }
     }
 
+    // The key of a place that is free, which it isn't from now on.
+    fn free_key(&mut self, service: &S) -> Option<usize> {
+        if let Some(key) = self.free.pop() {
+            return Some(key);
+        }
+        let key = self.places.len();
+        if service.add_place(&mut self.places) {
+            Some(key)
+        } else {
+            None
+        }
+    }
+
+    // The place of this key is free. Where that can't be noted, it stays empty.
+    fn free(&mut self, key: usize) {
+        drop(self.free.push(key));
+    }
+
+    // Puts one into its place. One that was there leaves.
+    fn put(&mut self, key: usize, held: S::Held) {
+        let before = match self.places.get_mut(key) {
+            Some(place) => S::put(place, held),
+            None => Some(held),
+        };
+        match before {
+            Some(held) => S::leave(held, &mut self.roster),
+            None => {}
+        }
+    }
+
+    // The one under a key.
+    fn get(&self, key: usize) -> Option<&S::Held> {
+        S::held(self.places.get(key)?)
+    }
+
+    // Takes the one under a key out of its place.
+    fn take(&mut self, key: usize) -> Option<S::Held> {
+        S::take(self.places.get_mut(key)?)
+    }
+
     // Has the one under a key reported from now on, and answers whether it is.
     fn register(&self, registry: &Registry, key: usize) -> bool {
-        match self.held.get(key) {
-            Some(held) => S::register(held, registry, Token(key)),
+        match self.get(key) {
+            Some(held) => S::socket(held).register(registry, Token(key)),
+            None => false,
+        }
+    }
+
+    // Has the one under a key reported once more, if it is ready, and answers whether it is.
+    fn report_again(&self, registry: &Registry, key: usize) -> bool {
+        match self.get(key) {
+            Some(held) => S::socket(held).report_again(registry, Token(key)),
             None => false,
         }
     }
 
     // Has the one under a key leave, and answers whether there was one.
     fn remove(&mut self, key: usize) -> bool {
-        match self.held.try_remove(key) {
+        match self.take(key) {
             Some(held) => {
-                S::leave(held);
+                S::leave(held, &mut self.roster);
+                self.count = self.count.saturating_sub(1);
+                self.free(key);
                 true
             }
             None => false,
@@ -104,7 +188,8 @@ impl<S: Service> ConnectionTable<S> {
         }
     }
 
-    /// Has the one under a key go on, if there is one; where it has ended it is let go.
+    /// Has the one under a key go on, if there is one. Where its turn waits, that is noted; where it has ended, it is let
+    /// go.
     pub(crate) fn serve(
         &mut self,
         service: &S,
@@ -114,19 +199,107 @@ impl<S: Service> ConnectionTable<S> {
         key: usize,
         now: &Now,
     ) {
-        let Some(held) = self.held.get_mut(key) else {
+        let Some(place) = self.places.get_mut(key) else {
             return;
         };
-        if !service.go_on(held, now.moment, buffer, registry, Token(key), now.instant) {
+        let Some(held) = S::held_mut(place) else {
+            return;
+        };
+        let moved = service.go_on(held, buffer, now.moment, now.instant);
+        if !self.stays(registry, key, moved) {
             self.let_go(places, key);
         }
     }
 
-    /// The key of the one that has waited longest for its next message, and not just begun to.
+    // Whether the one under a key stays that has moved so. One that may go on is reported again, behind the others that
+    // are ready.
+    fn stays(&mut self, registry: &Registry, key: usize, moved: Moved) -> bool {
+        match moved.state {
+            State::Ended(_) => false,
+            State::Turn => self.asking.push(key).is_ok() || self.report_again(registry, key),
+            _ if moved.may_go_on => self.report_again(registry, key),
+            State::Head => !self.begins_no_head(key),
+            State::Message | State::Body | State::Room | State::Closing => true,
+        }
+    }
+
+    // Whether the peer of the one under a key speaks another protocol.
+    fn begins_no_head(&self, key: usize) -> bool {
+        match self.get(key) {
+            Some(held) => S::begins_no_head(held),
+            None => false,
+        }
+    }
+
+    /// Takes the turns that wait to the store in one go, in their order, and has each of their connections go on.
+    pub(crate) fn take_turns(
+        &mut self,
+        service: &S,
+        places: &Places,
+        buffer: &mut [u8],
+        registry: &Registry,
+        now: &Now,
+    ) {
+        if !self.has_turns() {
+            return;
+        }
+        self.submit_all(service, now);
+        self.answered.reverse();
+        for _ in 0..self.answered.len() {
+            if let Some(answered) = self.answered.pop() {
+                let key = self.hear(service, answered, now);
+                self.serve(service, places, buffer, registry, key, now);
+            }
+        }
+    }
+
+    // Takes the turns that wait to the store.
+    fn submit_all(&mut self, service: &S, now: &Now) {
+        let mut turns = service.begin();
+        for place in 0..self.asking.len() {
+            if let Some(&key) = self.asking.get(place) {
+                self.submit(service, key, &mut turns, now);
+            }
+        }
+        S::commit(turns);
+        self.asking.clear();
+    }
+
+    // Takes the turn of the one under a key to the store, if there is one. Where there is no room for its answer, it hears
+    // it at once.
+    fn submit(&mut self, service: &S, key: usize, turns: &mut S::Turns, now: &Now) {
+        let Some(held) = self.take(key) else {
+            return;
+        };
+        match self.answered.push(S::submit(held, key, turns)) {
+            Ok(()) => {}
+            Err(failed) => {
+                self.hear(service, failed.value, now);
+            }
+        }
+    }
+
+    // Gives one its answer, puts it back into its place, and answers the key of that.
+    fn hear(&mut self, service: &S, answered: S::Answered, now: &Now) -> usize {
+        let key = S::key(&answered);
+        self.put(key, service.hear(answered, now.instant));
+        key
+    }
+
+    /// The key of the one that has waited longest for its next message, and not just begun to; where none does, of the
+    /// one whose head has been on its way longest.
     pub(crate) fn longest_idle(&self, now: Instant) -> Option<usize> {
+        match self.first(now, false) {
+            Some(key) => Some(key),
+            None => self.first(now, true),
+        }
+    }
+
+    // The key of the one that has waited longest for its next message, or for the rest of its head.
+    fn first(&self, now: Instant, in_head: bool) -> Option<usize> {
         let mut longest: Option<(usize, Instant)> = None;
-        for key in 0..self.held.capacity() {
-            if let Some(since) = self.idle_since(key, now) {
+        for key in 0..self.places.len() {
+            if let Some(since) = self.spare_since(key, now, in_head) {
                 longest = match longest {
                     Some((_, before)) if before <= since => longest,
                     _ => Some((key, since)),
@@ -136,20 +309,40 @@ impl<S: Service> ConnectionTable<S> {
         longest.map(|(key, _)| key)
     }
 
-    /// Since when the one under a key waits for its next message, if not for so short a time that it may be on its way.
-    pub(crate) fn idle_since(&self, key: usize, now: Instant) -> Option<Instant> {
-        let since = S::waits_since(self.held.get(key)?)?;
+    // Since when the one under a key waits for its next message, or for the rest of its head, if not for so short a time
+    // that it may be on its way.
+    fn spare_since(&self, key: usize, now: Instant, in_head: bool) -> Option<Instant> {
+        let held = self.get(key)?;
+        let since = if in_head {
+            S::head_since(held)?
+        } else {
+            S::idle_since(held)?
+        };
         if now.duration_since(since) < Duration::from_millis(LEAST_IDLE) {
             return None;
         }
         Some(since)
     }
 
+    /// Whether the one under a key may be let go for another one: it waits for its next message or for the rest of its
+    /// head, and not just begun to.
+    pub(crate) fn is_spare(&self, key: usize, now: Instant) -> bool {
+        self.spare_since(key, now, false).is_some() || self.spare_since(key, now, true).is_some()
+    }
+
     /// Whether the one under a key has waited too long.
     pub(crate) fn is_over(&self, key: usize, now: Instant) -> bool {
-        match self.held.get(key) {
+        match self.get(key) {
             Some(held) => S::is_over(held, now),
             None => false,
         }
+    }
+}
+
+// A list with room for turns, where there is memory for it.
+fn list<T>(alloc: Global) -> Vec<T> {
+    match Vec::with_capacity(alloc, TURNS) {
+        Ok(list) => list,
+        Err(_) => Vec::new(alloc),
     }
 }

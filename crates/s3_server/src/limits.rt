@@ -63,8 +63,9 @@ impl<S: Service> Worker<'_, S> {
         }
     }
 
-    /// The key of the connection that has waited longest for its next message, and waits for it still where it has gone
-    /// on once more: a request may just have come. To look through all of them takes time where there are thousands.
+    /// The key of the connection that has waited longest for its next message, or, where none does, for the rest of its
+    /// head; and waits for it still where it has gone on once more: a request may just have come. To look through all of
+    /// them takes time where there are thousands.
     pub(crate) fn spare_key(&mut self, now: &Now) -> Option<usize> {
         if !is_ago(self.looks.none_idle, BETWEEN_SEARCHES, now.instant) {
             return None;
@@ -74,9 +75,10 @@ impl<S: Service> Worker<'_, S> {
             return None;
         };
         self.serve_key(key, now);
-        match self.held.idle_since(key, now.instant) {
-            Some(_) => Some(key),
-            None => None,
+        if self.held.is_spare(key, now.instant) {
+            Some(key)
+        } else {
+            None
         }
     }
 }

@@ -1,15 +1,16 @@
 //! A server from its options to its end.
 
-ghost use Rattle.std.specs.Prelude.{◌≡◌, ◌⊎◌, Ok, IfOk, IfErr, IfSome, OnErr, OnOk};
+ghost use Rattle.std.specs.Prelude.{◌≡◌, ◌⊎◌, ◌*◌, Ok, IfOk, IfErr, IfSome, OnErr, OnOk};
 ghost use Rattle.std.specs.Io.KnownBytes.{Appends};
-ghost use Rattle.s3_journal.specs.Desk.{most_seats};
+ghost use Rattle.s3_journal.specs.Desk.{seats_each};
 ghost use Rattle.s3_journal.specs.Gone.{IsClosed};
+ghost use Rattle.s3_journal.specs.Roster.{all_gone};
 ghost use Rattle.s3_records.specs.Catalogue.{opening};
 ghost use Rattle.s3_store.specs.Steps.{opened};
 ghost use Rattle.s3_settings.specs.Devices.{AppendsBeginning, IsTold};
 ghost use Rattle.s3_settings.specs.Fault.{line_of};
 ghost use Rattle.s3_settings.specs.declared.fault.Fault.{Fault};
-ghost use Rattle.s3_sockets.specs.Account.{Fits};
+ghost use Rattle.s3_driver.specs.Account.{Fits};
 ghost use Rattle.s3_server.specs.Serve.{IsServeFault, IsModeFault, IsToldFault, IsListenFault};
 ghost use Rattle.s3_server.specs.Served.{HasServed, HasServedAs, HasServedAndTold, IsToldInPart, IsToldPlace, address_line, entries_line};
 
@@ -19,11 +20,12 @@ use crate::places::Places;
 use crate::worker::{Means, NoMeans, Worker};
 use s3_config::Config;
 use s3_devices::Device;
-use s3_journal::{Closed, Desk, Ground, Start};
+use s3_driver::Account;
+use s3_journal::{Closed, Desk, Ground, Roster, Start};
 use s3_log::{Log, LogWriter};
 use s3_records::MapRecords;
 use s3_settings::{Fault, Files, ServeMode, ServeOptions, server_settings, write_flushed};
-use s3_sockets::{Account, Service, Sharing};
+use s3_sockets::{Service, Sharing, WorkerClock};
 use s3_store::Store;
 use s3_terms::NoMemory;
 use std::alloc::Global;
@@ -135,18 +137,23 @@ fn serve_logged<'a, R: Wait + Threads + Net + Clock + Sync, F: Files + Sync, W: 
     ensures refused { IfErr result (IsToldFault mode.now.address) }
     ensures begun { OnErr result (IsToldInPart (W.contents output.old) (W.contents output.new)) }
 {
-    let start = start(alloc, config)?;
+    let start = start(alloc, config, mode.workers)?;
     let entries = serve_start(rt, alloc, mode, config, logging, start, output)?;
     tell_entries(alloc, entries, output)
 }
 
-// What a desk over a store with the opening buckets is opened with.
-fn start(alloc: Global, config: &Config) -> Result<Start<MapRecords>, NoMemory>
+// What a desk over a store with the opening buckets is opened with, for so many workers.
+fn start(alloc: Global, config: &Config, workers: u64) -> Result<Start<MapRecords>, NoMemory>
     ensures settings { IfOk result (λ start. start.base.settings ≡ config.now) }
     ensures store { IfOk result (λ start. start.base.store ≡ opened (opening config.now.buckets)) }
 {
     let store = Store::open(alloc, config.buckets())?;
-    Start::new(alloc, config, store)
+    Start::new(
+        alloc,
+        config,
+        store,
+        u16::try_from(workers).unwrap_or(u16::MAX),
+    )
 }
 
 // Serves from there, and answers how many commands were answered.
@@ -268,23 +275,24 @@ fn run<J: Ground + Send + Sync, R: Wait + Threads + Clock + Sync, F: Files + Syn
 ) -> Result<u64, NoMemory>
     requires name { J.name ≡ start.name }
     requires base { J.base ≡ start.base }
-    requires parts { J.parts ≡ most_seats }
+    requires parts { J.parts ≡ start.rosters * seats_each }
     requires settings { J.base.settings ≡ config.now }
     requires store { J.base.store ≡ opened (opening config.now.buckets) }
     ensures served { IfOk result (HasServed config.now) }
 {
-    let desk = Desk::<J, MapRecords, Account>::open(alloc, start)?;
-    work_all(rt, alloc, config, places, &desk, logging, jobs)?;
-    entries_left::<J>(config, desk.close())
+    let (desk, rosters) = Desk::<J, MapRecords>::open::<Account>(alloc, start)?;
+    let tasks = tasks(alloc, jobs, rosters)?;
+    let rosters = work_all(rt, alloc, config, places, &desk, logging, tasks)?;
+    entries_left::<J>(config, desk.close::<Account>(rosters))
 }
 
 // How many entries a desk left, where all have left it. The error comes where somebody has a seat still.
 #[tactic(auto, using(crate::proofs::ServedLemmas::has_served))]
 fn entries_left<J: Ground>(
     config: &Config,
-    closed: Option<Closed<MapRecords, Account>>,
+    closed: Option<Closed<J, MapRecords, Account>>,
 ) -> Result<u64, NoMemory>
-    requires closed { IfSome closed (λ closed. IsClosed (Fits J.base.settings) J.base closed.book closed.gone.entries) }
+    requires closed { IfSome closed (λ closed. IsClosed (Fits J.base.settings) J.base closed.book (all_gone closed.rosters.value.items)) }
     requires settings { J.base.settings ≡ config.now }
     requires store { J.base.store ≡ opened (opening config.now.buckets) }
     ensures served { IfOk result (HasServed config.now) }
@@ -296,56 +304,79 @@ fn entries_left<J: Ground>(
     }
 }
 
-// Has all of these done.
+// What one thread does, with the roster of those that come to it.
+#[derive(Drop)]
+struct Task<J: Ground> {
+    job: Job,
+    roster: Option<Roster<J, Account>>,
+}
+
+// These jobs, with a roster for each worker.
+fn tasks<J: Ground>(
+    alloc: Global,
+    jobs: Vec<Job>,
+    rosters: Vec<Roster<J, Account>>,
+) -> Result<Vec<Task<J>>, NoMemory> {
+    let mut tasks = Vec::with_capacity(alloc, jobs.len())?;
+    let mut rosters = rosters.into_iter();
+    for job in jobs {
+        let roster = rosters.next();
+        tasks.push(Task { job, roster })?;
+    }
+    Ok(tasks)
+}
+
+// Has all of these done, and hands out the rosters.
 fn work_all<J: Ground + Send + Sync, R: Wait + Threads + Clock + Sync, F: Files + Sync>(
     rt: &R,
     alloc: Global,
     config: &Config,
     places: &Places,
-    desk: &Desk<J, MapRecords, Account>,
+    desk: &Desk<J, MapRecords>,
     logging: Option<&Logging<'_, F>>,
-    jobs: Vec<Job>,
-) -> Result<(), NoMemory>
+    tasks: Vec<Task<J>>,
+) -> Result<Vec<Roster<J, Account>>, NoMemory>
     requires settings { J.base.settings ≡ config.now }
 {
+    let mut rosters = Vec::with_capacity(alloc, tasks.len())?;
     let worked = thread::map_vec(
         rt,
-        jobs,
-        &|job: Job| { does(rt, alloc, config, places, desk, logging, job) },
+        tasks,
+        &|task: Task<J>| { does(rt, alloc, config, places, desk, logging, task) },
     )?;
-    drop(worked);
-    Ok(())
+    for roster in worked {
+        if let Some(roster) = roster {
+            rosters.push(roster)?;
+        }
+    }
+    Ok(rosters)
 }
 
-// Does one of these to its end.
+// Does one of these to its end, and hands out its roster, if it is a worker's.
 fn does<J: Ground, R: Wait + Clock, F: Files>(
     rt: &R,
     alloc: Global,
     config: &Config,
     places: &Places,
-    desk: &Desk<J, MapRecords, Account>,
+    desk: &Desk<J, MapRecords>,
     logging: Option<&Logging<'_, F>>,
-    job: Job,
-)
+    task: Task<J>,
+) -> Option<Roster<J, Account>>
     requires settings { J.base.settings ≡ config.now }
 {
-    match job {
-        Job::Work(number, means) => {
-            works(
-                rt,
-                alloc,
-                config,
-                places,
-                desk,
-                log_of(logging, number),
-                means,
-            );
+    let Task { job, roster } = task;
+    match (job, roster) {
+        (Job::Work(number, means), Some(roster)) => {
+            let log = log_of(logging, number);
+            Some(works(rt, alloc, config, places, desk, log, means, roster))
         }
-        Job::Write(writer) => {
+        (Job::Write(writer), roster) => {
             if let Some(logging) = logging {
                 logging.write(rt, alloc, writer);
             }
+            roster
         }
+        (Job::Work(_, _), None) => None,
     }
 }
 
@@ -363,23 +394,31 @@ fn works<J: Ground, R: Wait + Clock>(
     alloc: Global,
     config: &Config,
     places: &Places,
-    desk: &Desk<J, MapRecords, Account>,
+    desk: &Desk<J, MapRecords>,
     log: Option<&Log>,
     means: Means,
-)
+    roster: Roster<J, Account>,
+) -> Roster<J, Account>
     requires settings { J.base.settings ≡ config.now }
 {
     let sharing = Sharing::new(rt, alloc, config, desk, log);
-    works_with(&sharing, places, means);
+    let roster = works_with(&sharing, places, means, roster);
     if let Some(log) = log {
         log.leave(rt);
     }
+    roster
 }
 
 // The same with what serves its connections. There is no worker without a clock.
-fn works_with<S: Service>(service: &S, places: &Places, means: Means) {
-    if let Some(worker) = Worker::new(service, places, means) {
-        worker.work();
+fn works_with<S: Service>(
+    service: &S,
+    places: &Places,
+    means: Means,
+    roster: S::Roster,
+) -> S::Roster {
+    match WorkerClock::new() {
+        Some(clock) => Worker::new(service, places, means, clock, roster).work(),
+        None => roster,
     }
 }
 

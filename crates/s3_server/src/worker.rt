@@ -99,16 +99,21 @@ pub(crate) struct Worker<'a, S: Service> {
 }
 
 impl<'a, S: Service> Worker<'a, S> {
-    /// A worker that holds nothing yet. `None` never comes, though no contract can say so.
-    pub(crate) fn new(service: &'a S, places: &'a Places, means: Means) -> Option<Worker<'a, S>> {
-        let clock = WorkerClock::new()?;
+    /// A worker that holds nothing yet, for those that come to this roster.
+    pub(crate) fn new(
+        service: &'a S,
+        places: &'a Places,
+        means: Means,
+        clock: WorkerClock,
+        roster: S::Roster,
+    ) -> Worker<'a, S> {
         let Means {
             poll,
             listener,
             events,
             buffer,
         } = means;
-        Some(Worker {
+        Worker {
             service,
             places,
             poll,
@@ -116,14 +121,15 @@ impl<'a, S: Service> Worker<'a, S> {
             events,
             buffer,
             clock,
-            held: ConnectionTable::new(service.memory()),
+            held: ConnectionTable::new(service.memory(), roster),
             arrivals: Arrivals::new(),
             looks: Looks::new(),
-        })
+        }
     }
 
-    /// Serves connections until no more are taken and the last one has ended, or the system fails. Then it lets all go.
-    pub(crate) fn work(mut self) {
+    /// Serves connections until no more are taken and the last one has ended, or the system fails. Then it lets all go,
+    /// and hands out the roster of those that came.
+    pub(crate) fn work(mut self) -> S::Roster {
         let rt = self.service.runtime();
         self.places.begin_work();
         for _ in rt.forever() {
@@ -133,11 +139,11 @@ impl<'a, S: Service> Worker<'a, S> {
         }
         self.places.end_work();
         self.let_all_go();
-        self.end();
+        self.end()
     }
 
     // Gives back what it works with.
-    fn end(self) {
+    fn end(self) -> S::Roster {
         let Worker {
             service: _,
             places: _,
@@ -150,7 +156,7 @@ impl<'a, S: Service> Worker<'a, S> {
             arrivals: _,
             looks: _,
         } = self;
-        held.end();
+        held.end()
     }
 
     // Whether no more connections are taken, and the last one has ended.
@@ -167,6 +173,7 @@ impl<'a, S: Service> Worker<'a, S> {
             moment: self.clock.now(rt),
         };
         self.serve_ready(&now);
+        self.take_turns(&now);
         self.take_and_give_up(&now);
         self.look(&now);
         Ok(())
@@ -175,7 +182,9 @@ impl<'a, S: Service> Worker<'a, S> {
     // How long it waits for events.
     fn patience(&self) -> Duration {
         let is_short = self.arrivals.has_one() || self.arrivals.are_left();
-        Duration::from_millis(if is_short || self.places.lacks_places() {
+        Duration::from_millis(if self.held.has_turns() {
+            0
+        } else if is_short || self.places.lacks_places() {
             SHORT_PATIENCE
         } else if self.arrivals.has_waiting && !self.places.is_full() {
             0
@@ -198,6 +207,13 @@ impl<'a, S: Service> Worker<'a, S> {
             self.held
                 .serve(self.service, self.places, buffer, registry, token.0, now);
         }
+    }
+
+    // Takes the turns that wait to the store, and has their connections go on.
+    fn take_turns(&mut self, now: &Now) {
+        let (buffer, registry) = (self.buffer.as_mut_slice(), self.poll.registry());
+        self.held
+            .take_turns(self.service, self.places, buffer, registry, now);
     }
 
     /// Has the connection under a key go on, if there is one.

@@ -5,7 +5,7 @@ ghost use Rattle.s3_settings.specs.Devices.{Takes, TakesBeginning};
 ghost use Rattle.s3_settings.specs.Devices as rules;
 
 use crate::fault::Fault;
-use s3_devices::{Device, Reading, Wanted, Writing};
+use s3_devices::{Device, Reading, Writing};
 use std::io::IoSlice;
 use std::sync::Wait;
 
@@ -26,7 +26,7 @@ pub fn read_piece<'a, D: Device>(
         Reading::Bytes(count) => Ok(Some(count)),
         Reading::End => Ok(None),
         Reading::Later => {
-            device.wait(Wanted::Input);
+            device.wait_for_input();
             Ok(Some(0))
         }
         Reading::Failed => Err(Fault::InputFailed),
@@ -68,7 +68,7 @@ fn write_piece<'a, D: Device>(device: &mut D, bytes: &[u8]) -> Result<usize, Fau
     match device.write(&[IoSlice::new(bytes)]) {
         Writing::Took(count) => Ok(count),
         Writing::Later => {
-            device.wait(Wanted::Room);
+            device.wait_for_room();
             Ok(0)
         }
         Writing::Failed => Err(Fault::OutputFailed),

@@ -1,8 +1,8 @@
 //! Connections to their end.
-use crate::workers::served::{Sent, ending, moment};
+use crate::workers::served::{Sent, end_over, moment};
 use crate::workers::stream::{Manner, PLAIN};
 use s3_config::Config;
-use s3_pump::Outcome;
+use s3_driver::Ending;
 use s3_world::replay_one;
 use std::alloc::Global;
 use std::mem::drop;
@@ -16,7 +16,7 @@ struct Row {
     manner: Manner,
     places: usize,
     // How it ends, and how many bytes it has written of what is replayed, where these aren't all.
-    outcome: Outcome,
+    ending: Ending,
     written: Option<usize>,
 }
 
@@ -41,7 +41,7 @@ static ROWS: [Row; 10] = [
         sent: Sent::PutAndGet,
         manner: BLOCKED,
         places: usize::MAX,
-        outcome: Outcome::Closed,
+        ending: Ending::Closed,
         written: None,
     },
     Row {
@@ -49,7 +49,7 @@ static ROWS: [Row; 10] = [
         sent: Sent::PutAndGet,
         manner: SLOW,
         places: usize::MAX,
-        outcome: Outcome::Closed,
+        ending: Ending::Closed,
         written: None,
     },
     Row {
@@ -57,7 +57,7 @@ static ROWS: [Row; 10] = [
         sent: Sent::PutAndGet,
         manner: SLOW_BYTES,
         places: usize::MAX,
-        outcome: Outcome::Closed,
+        ending: Ending::Closed,
         written: None,
     },
     Row {
@@ -65,7 +65,7 @@ static ROWS: [Row; 10] = [
         sent: Sent::ChunksAndGet,
         manner: BLOCKED,
         places: usize::MAX,
-        outcome: Outcome::Closed,
+        ending: Ending::Closed,
         written: None,
     },
     Row {
@@ -73,7 +73,7 @@ static ROWS: [Row; 10] = [
         sent: Sent::ChunksAndGet,
         manner: SLOW,
         places: usize::MAX,
-        outcome: Outcome::Closed,
+        ending: Ending::Closed,
         written: None,
     },
     Row {
@@ -81,7 +81,7 @@ static ROWS: [Row; 10] = [
         sent: Sent::ChunksAndGet,
         manner: SLOW_BYTES,
         places: usize::MAX,
-        outcome: Outcome::Closed,
+        ending: Ending::Closed,
         written: None,
     },
     Row {
@@ -92,7 +92,7 @@ static ROWS: [Row; 10] = [
             ..PLAIN
         },
         places: 1,
-        outcome: Outcome::ReadFailed,
+        ending: Ending::ReadFailed,
         written: Some(0),
     },
     Row {
@@ -103,7 +103,7 @@ static ROWS: [Row; 10] = [
             ..PLAIN
         },
         places: 1,
-        outcome: Outcome::ReadFailed,
+        ending: Ending::ReadFailed,
         written: Some(439),
     },
     Row {
@@ -114,7 +114,7 @@ static ROWS: [Row; 10] = [
             ..PLAIN
         },
         places: 1,
-        outcome: Outcome::WriteFailed,
+        ending: Ending::WriteFailed,
         written: Some(0),
     },
     Row {
@@ -125,7 +125,7 @@ static ROWS: [Row; 10] = [
             ..PLAIN
         },
         places: 1,
-        outcome: Outcome::WriteFailed,
+        ending: Ending::WriteFailed,
         written: Some(CONTINUE.len()),
     },
 ];
@@ -145,7 +145,7 @@ fn comes_out<R: Wait>(
         ..row.manner
     };
     let written = Some(row.written.unwrap_or(wanted.len()));
-    ending(rt, alloc, config, bytes, manner, wanted) == Some((row.outcome, written))
+    end_over(rt, alloc, config, bytes, manner, wanted) == Some((row.ending, written))
 }
 
 // Whether it comes out so at all places, where this is wanted.

@@ -1,13 +1,12 @@
 //! Two connections at one desk, each in a thread of its own: while one is inside a body, the other is answered.
-use crate::workers::served::{HEAD, Sent, outcome_over};
-use crate::workers::stream::{Manner, PLAIN, Stream};
+use crate::workers::desk_handle::DeskHandle;
+use crate::workers::served::{HEAD, Sent, ending_over};
+use crate::workers::stream::{Manner, MemoryStream, PLAIN};
 use s3_config::Config;
 use s3_devices::{Recorded, WriteParts};
-use s3_history::AsItself;
-use s3_journal::{Desk, Ground};
-use s3_pump::Outcome;
+use s3_driver::Ending;
+use s3_journal::{Desk, Ground, Roster};
 use s3_records::MapRecords;
-use s3_sockets::DeskHandle;
 use std::alloc::Global;
 use std::io::{Read, Write};
 use std::sync::Wait;
@@ -102,7 +101,7 @@ impl Marks {
 /// when the one is held, and tells when it is answered. What is counted from 1 is 0 where it never comes.
 #[derive(Drop)]
 pub(crate) struct Meeting<'a, R: Clock> {
-    pub(crate) stream: Stream<'a>,
+    pub(crate) stream: MemoryStream<'a>,
     pub(crate) rt: &'a R,
     pub(crate) marks: &'a Marks,
     pub(crate) connection: u64,
@@ -118,7 +117,7 @@ impl<'a, R: Clock> Meeting<'a, R> {
         rt: &'a R,
         marks: &'a Marks,
         connection: u64,
-        stream: Stream<'a>,
+        stream: MemoryStream<'a>,
     ) -> Meeting<'a, R> {
         Meeting {
             stream,
@@ -170,11 +169,12 @@ impl<R: Clock> Write for Meeting<'_, R> {
 
 impl<R: Clock> WriteParts for Meeting<'_, R> {}
 
-/// Whether a connection over this stream, which has a seat of its own at the desk, is closed and has written just what is wanted.
+/// Whether a connection over this stream, which has a seat of this roster, is closed and has written just what is wanted.
 pub(crate) fn is_answered<J: Ground, R: Wait + Clock>(
     rt: &R,
     alloc: Global,
-    desk: &Desk<J, MapRecords, ()>,
+    desk: &Desk<J, MapRecords>,
+    roster: &mut Roster<J, ()>,
     config: &Config,
     meeting: Meeting<'_, R>,
     wanted: &[u8],
@@ -182,12 +182,13 @@ pub(crate) fn is_answered<J: Ground, R: Wait + Clock>(
     let Some(mut device) = Recorded::new(meeting) else {
         return false;
     };
-    let Ok(mut seat) = DeskHandle::open(rt, desk) else {
+    let Ok(seat) = roster.seat() else {
         return false;
     };
-    let outcome = outcome_over(rt, alloc, config, &mut seat, &mut device);
-    seat.leave::<(), AsItself>(&());
-    outcome == Some(Outcome::Closed) && device.stream().stream.output.as_slice() == wanted
+    let mut handle = DeskHandle::new(rt, desk, seat);
+    let ending = ending_over(rt, alloc, config, &mut handle, &mut device);
+    handle.leave(roster);
+    ending == Some(Ending::Closed) && device.stream().stream.output.as_slice() == wanted
 }
 
 // The answer that a connection has to have, and how its stream gives: the first read of the one that is held ends with its head.
@@ -209,15 +210,16 @@ fn wanted_of(connection: u64) -> (&'static [u8], Manner) {
 pub(crate) fn overlaps<J: Ground, R: Wait + Clock>(
     rt: &R,
     alloc: Global,
-    desk: &Desk<J, MapRecords, ()>,
+    desk: &Desk<J, MapRecords>,
+    roster: &mut Roster<J, ()>,
     config: &Config,
     marks: &Marks,
     connection: u64,
 ) -> bool {
     let (answer, manner) = wanted_of(connection);
     let put = Sent::PutAndGet.bytes().get(..HEAD + 5).unwrap_or(b"");
-    let stream = Stream::new(put, Vec::new(alloc), manner);
+    let stream = MemoryStream::new(put, Vec::new(alloc), manner);
     let mut meeting = Meeting::new(rt, marks, connection, stream);
     meeting.held_read = WITHIN_BODY;
-    is_answered(rt, alloc, desk, config, meeting, answer)
+    is_answered(rt, alloc, desk, roster, config, meeting, answer)
 }

@@ -1,4 +1,4 @@
-//! Seats of a desk that put and get.
+//! Players who put and get, each with a seat at a desk.
 use crate::workers::asked::{is_body, turn};
 use s3_journal::{Desk, Ground, Seat};
 use s3_machine::Outcome;
@@ -7,20 +7,20 @@ use std::alloc::Global;
 use std::mem::drop;
 use std::sync::Wait;
 
-/// How many seats there are.
-pub(crate) const SEATS: u64 = 8;
+/// How many play.
+pub(crate) const PLAYERS: u16 = 8;
 
 // How often each puts and gets.
 const ROUNDS: u64 = 100;
 
-// The key of a seat.
-fn key_of(seat: u64) -> [u8; 1] {
-    [b'a'.wrapping_add(seat.to_le_bytes()[0])]
+// The key of a player.
+fn key_of(player: u64) -> [u8; 1] {
+    [b'a'.wrapping_add(player.to_le_bytes()[0])]
 }
 
-// What a seat puts in a round.
-fn bytes_of(seat: u64, round: u64) -> [u8; 16] {
-    (u128::from(seat) + u128::from(round) * 256).to_le_bytes()
+// What a player puts in a round.
+fn bytes_of(player: u64, round: u64) -> [u8; 16] {
+    (u128::from(player) + u128::from(round) * 256).to_le_bytes()
 }
 
 // Whether something was stored where these bytes were put, or they were found.
@@ -32,11 +32,11 @@ fn is_outcome(alloc: Global, outcome: &Outcome, put: Option<&[u8]>, bytes: &[u8]
     }
 }
 
-// Whether these bytes are stored under the key of a seat, or are found there where nothing is put.
+// Whether these bytes are stored under the key of a player, or are found there where nothing is put.
 fn has<J: Ground>(
     rt: &impl Wait,
     alloc: Global,
-    desk: &Desk<J, MapRecords, ()>,
+    desk: &Desk<J, MapRecords>,
     seat: &mut Seat<J>,
     whose: u64,
     put: Option<&[u8]>,
@@ -55,14 +55,14 @@ fn has<J: Ground>(
     }
 }
 
-/// Whether a seat reads back what it puts under its own key, in each of its rounds.
+/// Whether the player of this number reads back what it puts under its own key, in each of its rounds.
 pub(crate) fn plays<J: Ground>(
     rt: &impl Wait,
     alloc: Global,
-    desk: &Desk<J, MapRecords, ()>,
+    desk: &Desk<J, MapRecords>,
     seat: &mut Seat<J>,
+    own: u64,
 ) -> bool {
-    let own = seat.number();
     for round in 0..ROUNDS {
         let bytes = bytes_of(own, round);
         if !has(rt, alloc, desk, seat, own, Some(&bytes), &bytes)
@@ -74,14 +74,14 @@ pub(crate) fn plays<J: Ground>(
     true
 }
 
-/// Whether a seat finds the last put of all others.
+/// Whether a seat finds the last put of all players but the first.
 pub(crate) fn finds_others<J: Ground>(
     rt: &impl Wait,
     alloc: Global,
-    desk: &Desk<J, MapRecords, ()>,
+    desk: &Desk<J, MapRecords>,
     seat: &mut Seat<J>,
 ) -> bool {
-    for other in 1..SEATS {
+    for other in 1..u64::from(PLAYERS) {
         let bytes = bytes_of(other, ROUNDS - 1);
         if !has(rt, alloc, desk, seat, other, None, &bytes) {
             return false;

@@ -1,14 +1,14 @@
 //! Those who share a desk, each in a thread of its own.
-ghost use Rattle.std.specs.Prelude.{◌≡◌};
-ghost use Rattle.s3_journal.specs.Desk.{most_seats};
+ghost use Rattle.std.specs.Prelude.{◌≡◌, ◌*◌};
+ghost use Rattle.s3_journal.specs.Desk.{seats_each};
 
+use crate::workers::desk_handle::leave;
 use crate::workers::gate_overlap::{Marks, overlaps};
 use crate::workers::old_bytes::replaces;
-use crate::workers::play::{SEATS, finds_others, plays};
+use crate::workers::play::{PLAYERS, finds_others, plays};
 use crate::workers::served::store;
 use s3_config::Config;
-use s3_history::AsItself;
-use s3_journal::{Desk, Ground, Start};
+use s3_journal::{Desk, Ground, Roster, Start};
 use s3_records::MapRecords;
 use std::alloc::Global;
 use std::marker::Brand;
@@ -29,73 +29,144 @@ enum Work<'a> {
     Replace(&'a Config, &'a Marks),
 }
 
-// Whether all goes well with one who comes, puts and gets, and leaves.
-fn plays_once<J: Ground>(rt: &impl Wait, alloc: Global, desk: &Desk<J, MapRecords, ()>) -> bool {
-    let Ok(mut seat) = desk.seat(rt) else {
+// One of those who share a desk: their number, the roster that they come to, and whether all went well.
+#[derive(Drop)]
+struct Sharer<J: Ground> {
+    number: u64,
+    roster: Roster<J, ()>,
+    went_well: bool,
+}
+
+// Whether all goes well with the player of this number, who comes, puts and gets, and leaves.
+fn plays_once<J: Ground>(
+    rt: &impl Wait,
+    alloc: Global,
+    desk: &Desk<J, MapRecords>,
+    roster: &mut Roster<J, ()>,
+    number: u64,
+) -> bool {
+    let Ok(mut seat) = roster.seat() else {
         return false;
     };
-    let went_well = plays(rt, alloc, desk, &mut seat);
-    desk.leave::<(), AsItself>(rt, seat, &());
+    let went_well = plays(rt, alloc, desk, &mut seat, number);
+    leave(seat, roster);
     went_well
 }
 
 // Whether one who comes last finds what the others have put, and whoever comes then has seen no other history.
-fn reads_back<J: Ground>(rt: &impl Wait, alloc: Global, desk: &Desk<J, MapRecords, ()>) -> bool {
-    let (Ok(mut first), Ok(second)) = (desk.seat(rt), desk.seat(rt)) else {
+fn reads_back<J: Ground>(
+    rt: &impl Wait,
+    alloc: Global,
+    desk: &Desk<J, MapRecords>,
+    roster: &mut Roster<J, ()>,
+) -> bool {
+    let (Ok(mut first), Ok(second)) = (roster.seat(), roster.seat()) else {
         return false;
     };
     let finds = finds_others(rt, alloc, desk, &mut first);
     first.meet(&second);
-    desk.leave::<(), AsItself>(rt, first, &());
-    desk.leave::<(), AsItself>(rt, second, &());
+    leave(first, roster);
+    leave(second, roster);
     finds
 }
 
 // Whether all goes well with the one of this number.
-fn works<J: Ground, R: Wait + Clock>(
+fn goes_well<J: Ground, R: Wait + Clock>(
     rt: &R,
     alloc: Global,
-    desk: &Desk<J, MapRecords, ()>,
+    desk: &Desk<J, MapRecords>,
+    roster: &mut Roster<J, ()>,
     work: &Work<'_>,
     number: u64,
 ) -> bool {
     match work {
-        Work::Play => plays_once(rt, alloc, desk),
-        Work::Overlap(config, marks) => overlaps(rt, alloc, desk, config, marks, number),
-        Work::Replace(config, marks) => replaces(rt, alloc, desk, config, marks, number),
+        Work::Play => plays_once(rt, alloc, desk, roster, number),
+        Work::Overlap(config, marks) => overlaps(rt, alloc, desk, roster, config, marks, number),
+        Work::Replace(config, marks) => replaces(rt, alloc, desk, roster, config, marks, number),
     }
 }
 
-// Whether all goes well with so many, each in a thread of its own.
+// Has one of them do their work.
+fn works<J: Ground, R: Wait + Clock>(
+    rt: &R,
+    alloc: Global,
+    desk: &Desk<J, MapRecords>,
+    work: &Work<'_>,
+    sharer: Sharer<J>,
+) -> Sharer<J> {
+    let Sharer {
+        number,
+        mut roster,
+        ..
+    } = sharer;
+    let went_well = goes_well(rt, alloc, desk, &mut roster, work, number);
+    Sharer {
+        number,
+        roster,
+        went_well,
+    }
+}
+
+// One for each roster, in their order.
+fn sharers<J: Ground>(alloc: Global, rosters: Vec<Roster<J, ()>>) -> Vec<Sharer<J>> {
+    let mut sharers = Vec::new(alloc);
+    for roster in rosters {
+        let number = sharers.len() as u64;
+        drop(sharers.push(Sharer {
+            number,
+            roster,
+            went_well: false,
+        }));
+    }
+    sharers
+}
+
+// Has all do their work, each in a thread of its own, and hands out the rosters of those with whom all went well.
 fn all_work<J: Ground + Send + Sync, R: Threads + Wait + Clock + Sync>(
     rt: &R,
     alloc: Global,
-    desk: &Desk<J, MapRecords, ()>,
+    desk: &Desk<J, MapRecords>,
     work: &Work<'_>,
-    count: u64,
-) -> bool {
-    let mut numbers = Vec::new(alloc);
-    for number in 0..count {
-        drop(numbers.push(number));
+    rosters: Vec<Roster<J, ()>>,
+) -> Vec<Roster<J, ()>> {
+    let mut left = Vec::new(alloc);
+    let sharers = sharers(alloc, rosters);
+    let worked = thread::map_vec(
+        rt,
+        sharers,
+        &|sharer: Sharer<J>| { works(rt, alloc, desk, work, sharer) },
+    );
+    if let Ok(worked) = worked {
+        for sharer in worked {
+            let Sharer {
+                roster,
+                went_well,
+                ..
+            } = sharer;
+            if went_well {
+                drop(left.push(roster));
+            }
+        }
     }
-    match thread::map_vec(rt, numbers, &|number| works(rt, alloc, desk, work, number)) {
-        Ok(all) => all.iter().all(|went_well| *went_well),
-        Err(_) => false,
-    }
+    left
 }
 
-// How many entries a desk leaves, where all went well.
+// How many entries a desk leaves, where all went well: one that lacks a roster can't be closed.
 fn entries_of<J: Ground + Send + Sync, R: Threads + Wait + Clock + Sync>(
     rt: &R,
     alloc: Global,
-    desk: Desk<J, MapRecords, ()>,
+    desk: Desk<J, MapRecords>,
+    rosters: Vec<Roster<J, ()>>,
     work: &Work<'_>,
-    count: u64,
 ) -> Option<u64> {
-    let went_well = all_work(rt, alloc, &desk, work, count);
-    let is_found = !matches!(work, Work::Play) || reads_back(rt, alloc, &desk);
-    match desk.close() {
-        Some(closed) if went_well && is_found => Some(closed.book.entries()),
+    let mut rosters = all_work(rt, alloc, &desk, work, rosters);
+    let is_found = match (work, rosters.last_mut()) {
+        (Work::Play, Some(roster)) => reads_back(rt, alloc, &desk, roster),
+        (Work::Play, None) => false,
+        (_, _) => true,
+    };
+    match desk.close::<()>(rosters) {
+        Some(closed) if is_found => Some(closed.book.entries()),
         _ => None,
     }
 }
@@ -106,28 +177,27 @@ fn entries_left<J: Ground + Send + Sync, R: Threads + Wait + Clock + Sync>(
     alloc: Global,
     start: Start<MapRecords>,
     work: &Work<'_>,
-    count: u64,
 ) -> Option<u64>
     requires name { J.name ≡ start.name }
     requires base { J.base ≡ start.base }
-    requires parts { J.parts ≡ most_seats }
+    requires parts { J.parts ≡ start.rosters * seats_each }
 {
-    match Desk::<J, MapRecords, ()>::open(alloc, start) {
-        Ok(desk) => entries_of(rt, alloc, desk, work, count),
+    match Desk::<J, MapRecords>::open::<()>(alloc, start) {
+        Ok((desk, rosters)) => entries_of(rt, alloc, desk, rosters, work),
         Err(_) => None,
     }
 }
 
-// The same at a desk over a new store.
+// The same at a desk over a new store, of so many rosters.
 fn entries_of_new<R: Threads + Wait + Clock + Sync>(
     rt: &R,
     alloc: Global,
     config: &Config,
     work: &Work<'_>,
-    count: u64,
+    rosters: u16,
 ) -> Option<u64> {
-    match Start::new(alloc, config, store(alloc, config)?) {
-        Ok(start) => entries_left::<Brand, R>(rt, alloc, start, work, count),
+    match Start::new(alloc, config, store(alloc, config)?, rosters) {
+        Ok(start) => entries_left::<Brand, R>(rt, alloc, start, work),
         Err(_) => None,
     }
 }
@@ -139,7 +209,7 @@ pub(crate) fn seats_work<R: Threads + Wait + Clock + Sync>(
     config: &Config,
 ) -> bool {
     let marks = Marks::new();
-    let played = entries_of_new(rt, alloc, config, &Work::Play, SEATS);
+    let played = entries_of_new(rt, alloc, config, &Work::Play, PLAYERS);
     let served = entries_of_new(rt, alloc, config, &Work::Overlap(config, &marks), 2);
     played == Some(1_607) && served == Some(2) && marks.met() == 2
 }

@@ -1,5 +1,5 @@
 //! A stream in memory.
-use s3_devices::WriteParts;
+use s3_devices::{ShutWrite, WriteParts};
 use std::io;
 use std::io::{ErrorKind, Read, Write};
 
@@ -29,9 +29,11 @@ pub(crate) const PLAIN: Manner = Manner {
 
 /// A stream over bytes in memory.
 #[derive(Drop)]
-pub(crate) struct Stream<'a> {
+pub(crate) struct MemoryStream<'a> {
     input: &'a [u8],
     pub(crate) output: Vec<u8>,
+    /// Whether it was told that nothing more is written.
+    pub(crate) is_shut: bool,
     manner: Manner,
     given: usize,
     has_blocked: bool,
@@ -39,12 +41,13 @@ pub(crate) struct Stream<'a> {
     writes: u64,
 }
 
-impl<'a> Stream<'a> {
+impl<'a> MemoryStream<'a> {
     /// A stream that gives these bytes and then ends.
-    pub(crate) fn new(input: &'a [u8], output: Vec<u8>, manner: Manner) -> Stream<'a> {
-        Stream {
+    pub(crate) fn new(input: &'a [u8], output: Vec<u8>, manner: Manner) -> MemoryStream<'a> {
+        MemoryStream {
             input,
             output,
+            is_shut: false,
             manner,
             given: 0,
             has_blocked: false,
@@ -71,7 +74,7 @@ impl<'a> Stream<'a> {
     }
 }
 
-impl Read for Stream<'_> {
+impl Read for MemoryStream<'_> {
     fn read(&mut self, buf: &mut [u8]) -> io::Result<usize> {
         self.reads = self.reads.wrapping_add(1);
         if self.reads == self.manner.failing_read {
@@ -92,7 +95,7 @@ impl Read for Stream<'_> {
     }
 }
 
-impl Write for Stream<'_> {
+impl Write for MemoryStream<'_> {
     fn write(&mut self, buf: &[u8]) -> io::Result<usize> {
         self.writes = self.writes.wrapping_add(1);
         if self.writes == self.manner.failing_write {
@@ -113,4 +116,11 @@ impl Write for Stream<'_> {
     }
 }
 
-impl WriteParts for Stream<'_> {}
+impl WriteParts for MemoryStream<'_> {}
+
+impl ShutWrite for MemoryStream<'_> {
+    fn shut_write(&mut self) -> io::Result<()> {
+        self.is_shut = true;
+        Ok(())
+    }
+}

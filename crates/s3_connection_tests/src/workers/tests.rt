@@ -2,15 +2,16 @@
 use crate::checks::{check, check_none};
 use crate::workers::connections::first_other_connection;
 use crate::workers::journal::two_seats_are_answered;
-use crate::workers::lines::messages_are_told;
+use crate::workers::limits::waits_are_limited;
+use crate::workers::lines::{heads_are_told, losses_are_told, messages_are_told};
 use crate::workers::seats::{old_bytes_are_sent, seats_work};
 use crate::workers::served::config;
 use crate::workers::turns::two_take_turns;
-use crate::workers::within::parts_are_told;
+use crate::workers::within::waits_are_told;
 use crate::workers::worlds::first_other_world;
 use s3_config::Config;
+use s3_driver::Driver;
 use s3_journal::Seat;
-use s3_pump::Pump;
 use std::alloc::Global;
 use std::marker::Brand;
 use std::mem::{drop, size_of};
@@ -37,11 +38,20 @@ fn first_other<R: Threads + Wait + Clock + Sync>(
     if !two_take_turns(alloc, config) {
         return Some("two connections in turns");
     }
-    if !parts_are_told(alloc, config) {
-        return Some("whether a part of a message has come");
+    if !waits_are_told(alloc, config) {
+        return Some("what a connection waits for");
+    }
+    if !waits_are_limited(rt) {
+        return Some("limits of time");
     }
     if !messages_are_told(rt, alloc, config) {
         return Some("lines of a log");
+    }
+    if !heads_are_told(rt, alloc, config) {
+        return Some("operations and queries in lines of a log");
+    }
+    if !losses_are_told(rt, alloc, config) {
+        return Some("lines of a log that can't be written");
     }
     if let Some(name) = first_other_world(alloc, config) {
         return Some(name);
@@ -73,7 +83,7 @@ fn all_comes_out(rt: HostRuntime) {
     check_none(&rt, other);
     check(
         &rt,
-        size_of::<Pump>() + HEAD_ROOM <= 4_096 && size_of::<Seat<Brand>>() == 16,
+        size_of::<Driver>() + HEAD_ROOM <= 4_096 && size_of::<Seat<Brand>>() == 16,
         "sizes",
     );
 }

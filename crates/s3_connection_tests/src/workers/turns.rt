@@ -1,13 +1,12 @@
 //! Two connections that share a book in one thread, whose messages come in turns byte by byte.
 use crate::workers::answers::got;
-use crate::workers::served::{Sent, handle, moment};
-use crate::workers::stream::{Manner, PLAIN, Stream};
+use crate::workers::served::{Sent, go_on, handle};
+use crate::workers::stream::{Manner, MemoryStream, PLAIN};
 use s3_calendar::Moment;
 use s3_config::Config;
 use s3_devices::Recorded;
+use s3_driver::{BookHandle, Driver, Nobody};
 use s3_history::Recorder;
-use s3_log::Nobody;
-use s3_pump::{BookHandle, Pump};
 use s3_records::MapRecords;
 use std::alloc::Global;
 use std::mem::drop;
@@ -15,11 +14,11 @@ use std::mem::drop;
 // A stream that gives and takes one byte at a time.
 const BYTE_BY_BYTE: Manner = Manner { most: 1, ..PLAIN };
 
-// How many steps the two have at most.
-const STEPS: u32 = 10_000;
+// How many moves the two have at most.
+const MOVES: u32 = 10_000;
 
-// What the put of `hello` and the get of it are answered beside the other connection, whose put is the second command, and
-// whose get is the fourth.
+/// What the put of `hello` and the get of it are answered beside the other connection, whose put is the second command, and
+/// whose get is the fourth.
 const FIRST: &str = got!(
     "HTTP/1.1 100 Continue\r\n\r\n\
     HTTP/1.1 200 OK\r\n\
@@ -34,7 +33,7 @@ const FIRST: &str = got!(
     "hello"
 );
 
-// The same of the put in chunks and its get.
+/// The same of the put in chunks and its get.
 const SECOND: &str = got!(
     "HTTP/1.1 200 OK\r\n\
     Date: Fri, 24 May 2013 00:00:00 GMT\r\n\
@@ -52,20 +51,20 @@ const SECOND: &str = got!(
 #[derive(Drop)]
 struct Served {
     number: u64,
-    pump: Pump,
+    driver: Driver,
     moments: Recorder<Moment>,
-    device: Recorded<Stream<'static>>,
+    device: Recorded<MemoryStream<'static>>,
     wanted: &'static [u8],
 }
 
 // Adds a connection that sends this, unless there is no memory for it.
 fn connect(alloc: Global, all: &mut Vec<Served>, number: u64, sent: Sent, wanted: &'static [u8]) {
-    let stream = Stream::new(sent.bytes(), Vec::new(alloc), BYTE_BY_BYTE);
+    let stream = MemoryStream::new(sent.bytes(), Vec::new(alloc), BYTE_BY_BYTE);
     if let (Some(device), Some(moments)) = (Recorded::new(stream), Recorder::new()) {
-        let pump = Pump::new(alloc);
+        let driver = Driver::new(alloc);
         drop(all.push(Served {
             number,
-            pump,
+            driver,
             moments,
             device,
             wanted,
@@ -80,21 +79,18 @@ fn serve_all(
     handle: &mut BookHandle<MapRecords>,
     all: &mut [Served],
 ) {
-    for _ in 0..STEPS {
+    for _ in 0..MOVES {
         for served in &mut *all {
             handle.seat = served.number;
             let (moments, device) = (&mut served.moments, &mut served.device);
-            let buffer = &mut [0; 16];
-            let pump = &mut served.pump;
-            pump.step(
+            go_on(
                 alloc,
                 config,
                 handle,
+                &mut served.driver,
                 moments,
                 &mut Nobody,
                 device,
-                buffer,
-                moment(),
                 1,
             );
         }

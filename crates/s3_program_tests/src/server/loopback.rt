@@ -17,7 +17,7 @@ use std::{io, thread};
 // How many milliseconds the clients wait until they are told the port.
 const TURNS: u32 = 10_000;
 
-// A keys file, under any path, and how many lines were appended.
+// A keys file, under any path, and how many lines were appended that tell of a client of this machine.
 #[derive(Drop)]
 struct Keys {
     lines: AtomicU64,
@@ -32,12 +32,19 @@ impl Files for Keys {
     }
 
     fn append(&self, _path: &str, bytes: &[u8]) -> io::Result<()> {
-        for byte in bytes {
+        for line in bytes.split_inclusive(|byte| *byte == b'\n') {
             self.lines
-                .fetch_add(u64::from(*byte == b'\n'), Ordering::SeqCst);
+                .fetch_add(u64::from(is_local(line)), Ordering::SeqCst);
         }
         Ok(())
     }
+}
+
+// Whether a line tells of a client of this machine.
+fn is_local(line: &[u8]) -> bool {
+    str::from_utf8(line).is_ok_and(|line| {
+        line.ends_with('\n') && line.contains("\"peer\":\"127.0.0.1:")
+    })
 }
 
 // A server that ends after two connections.

@@ -10,4 +10,4 @@ invariant_of-self g c =
     let seat : Seated = record { number = old.number; mine = old.calls; seen = old.known.entries } in
     let known = c.args.known in
     let later : IsPrefix seat.seen known.entries = subst (λ (s : Seated). IsPrefix s.seen known.entries) (sym c.self.view_is) c.requires.begins in
-    seat_sees g.J.Ground.base seat known.entries old.known.origin known.origin old.share.parts old.share.amount c.self.invariant later c.requires.origin c.requires.legal
+    seat_sees g.J.Ground.base seat known.entries old.known.origin known.origin old.share.parts old.share.amount c.self.invariant later c.requires.origin

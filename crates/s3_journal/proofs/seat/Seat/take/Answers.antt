@@ -20,4 +20,4 @@ invariant_of-self g c =
     let adds : c.add.new.self ≡ seat.mine ++ entry_of turn answer ∷ [] = c.add.ensures ∙ ap (λ (a : Answer). seat.mine ++ entry_of turn a ∷ []) c.of.ensures in
     seat_takes g.J.Ground.base seat (recorded seat.number turn answer) earlier known c.add.new.self old.known.origin c.args.known.origin
     old.share.parts c.add-2.new.share.parts old.share.amount c.add-2.new.share.amount
-    c.self.invariant refl later ends adds c.requires.origin c.add-2.ensures.parts c.add-2.ensures.amount c.requires.legal
+    c.self.invariant refl later ends adds c.requires.origin c.add-2.ensures.parts c.add-2.ensures.amount

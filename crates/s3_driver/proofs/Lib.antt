@@ -1,0 +1,3 @@
+pub mod EndedLemmas
+pub mod ServedConnectionLemmas
+pub mod ServedLemmas

@@ -1,0 +1,44 @@
+//! What is told of a connection that has left its worker.
+
+use crate::state::Ending;
+use s3_calendar::Moment;
+use s3_devices::Device;
+use s3_history::{Describes, Recorder};
+use s3_journal::Report;
+use std::marker::{Model, PhantomData};
+
+/// What is told of a connection that has left its worker: what its stream gave and took, the moments of its messages,
+/// and how it has ended, or that it was given up before. No value of it is made: a history consists of them, which
+/// stands in the proofs alone.
+pub struct Account;
+
+impl Model for Account {
+    ghost use Rattle.s3_driver.specs.Account as rules;
+    ghost use Rattle.s3_driver.specs.Account.{nothing_told};
+
+    ghost Value = { rules.Account };
+
+    ghost view = { λ account. nothing_told };
+}
+
+/// What it wrote is the output for what came, for these moments and for the entries of its seat.
+impl Report for Account {
+    ghost use Rattle.s3_driver.specs.Account.{Fits};
+
+    ghost fits = { λ base account entries. Fits base.settings account entries };
+}
+
+// What an account is told of.
+#[derive(Drop)]
+pub(crate) struct Telling<'a, S> {
+    pub(crate) stream: &'a S,
+    pub(crate) moments: &'a Recorder<Moment>,
+    pub(crate) ending: Option<Ending>,
+}
+
+// The account that tells so.
+pub(crate) struct AsAccount<S>(PhantomData<S>);
+
+impl<'a, S: Device> Describes<Telling<'a, S>, Account> for AsAccount<S> {
+    ghost entry = { λ told. record { traffic = S.traffic told.stream.now; moments = told.moments.now.entries; ending = told.ending } };
+}

@@ -1,2 +1,0 @@
-pub mod EndedLemmas
-pub mod ServedLemmas

@@ -1,5 +1,0 @@
-use Rattle.s3_pump.proofs.EndedLemmas.{are_served}
-use Rattle.s3_pump.proofs.laws.connections_are_served.Goals as goal
-
-pub returns : goal.returns
-returns c = are_served
