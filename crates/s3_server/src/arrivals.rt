@@ -8,7 +8,7 @@ use std::io::{self, ErrorKind};
 use std::net::{self, Net};
 use std::time::{Duration, Instant};
 
-/// The token of the listener; no slab has so many places.
+/// The token of the listener; no worker has so many places.
 pub(crate) const LISTENER: Token = Token(usize::MAX);
 
 // For how many milliseconds at least a worker with more than its share leaves those that wait to the others.
@@ -211,7 +211,8 @@ impl<S: Service> Worker<'_, S> {
     }
 
     // Takes a place for the connection that was taken, and answers whether it did: a free one, or that of the
-    // connection which has waited longest for its next message. Where it holds none such, the other workers are asked.
+    // connection which has waited longest for its next message, or whose head is longest on its way. Where it holds neither,
+    // the other workers are asked.
     // It asks no more before it takes one, so that they offer none behind that; and no place is given up for a
     // connection that has gone, which counts as one that came.
     fn take_place(&mut self, now: &Now) -> bool {
@@ -243,7 +244,7 @@ impl<S: Service> Worker<'_, S> {
         }
     }
 
-    // Lets the connection go that has waited longest for its next message, where another worker wants a place, none is
+    // Lets the connection go that has waited longest, as above, where another worker wants a place, none is
     // free, and no third one lets one go for it.
     fn give_up_one(&mut self, now: &Now) {
         if self.arrivals.has_one() || self.places.is_full() || !self.places.lacks_places() {

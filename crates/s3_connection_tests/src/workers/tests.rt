@@ -1,5 +1,6 @@
 //! All that is tested at one server.
 use crate::checks::{check, check_none};
+use crate::workers::batches::first_other_batch;
 use crate::workers::connections::first_other_connection;
 use crate::workers::journal::two_seats_are_answered;
 use crate::workers::limits::waits_are_limited;
@@ -54,6 +55,9 @@ fn first_other<R: Threads + Wait + Clock + Sync>(
         return Some("lines of a log that can't be written");
     }
     if let Some(name) = first_other_world(alloc, config) {
+        return Some(name);
+    }
+    if let Some(name) = first_other_batch(rt, alloc, config) {
         return Some(name);
     }
     first_other_connection(rt, alloc, config)

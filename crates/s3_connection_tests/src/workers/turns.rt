@@ -19,7 +19,7 @@ const MOVES: u32 = 10_000;
 
 /// What the put of `hello` and the get of it are answered beside the other connection, whose put is the second command, and
 /// whose get is the fourth.
-const FIRST: &str = got!(
+pub(crate) const FIRST: &str = got!(
     "HTTP/1.1 100 Continue\r\n\r\n\
     HTTP/1.1 200 OK\r\n\
     Date: Fri, 24 May 2013 00:00:00 GMT\r\n\
@@ -34,7 +34,7 @@ const FIRST: &str = got!(
 );
 
 /// The same of the put in chunks and its get.
-const SECOND: &str = got!(
+pub(crate) const SECOND: &str = got!(
     "HTTP/1.1 200 OK\r\n\
     Date: Fri, 24 May 2013 00:00:00 GMT\r\n\
     x-amz-request-id: 0000000000000001\r\n\
