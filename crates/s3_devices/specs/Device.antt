@@ -5,9 +5,10 @@ use Rattle.s3_devices.specs.declared.device.Reading.TheVariants as reads
 use Rattle.s3_devices.specs.declared.device.Writing.{Writing}
 use Rattle.s3_devices.specs.declared.device.Writing.TheVariants as writes
 
--- all bytes that a device gave, and whether it said that no more come; all bytes that it took, and whether it was told that no more
--- do; how often a read and a write of it failed, and would have had to wait
+-- by which number a device is known; all bytes that it gave, and whether it said that no more come; all bytes that it took, and
+-- whether it was told that no more do; how often a read and a write of it failed, and would have had to wait
 pub record Traffic : Type 0 where
+  pub name : ℕ
   pub received : List ℕ
   pub is_ended : Bool
   pub sent : List ℕ

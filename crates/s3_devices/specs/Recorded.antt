@@ -9,9 +9,12 @@ use Rattle.s3_devices.specs.Device.{Traffic, with_received, with_sent, with_shut
 use Rattle.s3_devices.specs.declared.events.DeviceEvent.{DeviceEvent}
 use Rattle.s3_devices.specs.declared.events.DeviceEvent.TheVariants as events
 
--- nothing came or went
+-- nothing came or went by the device of this name; and by one that needs none, which is 0
+abbrev pub untouched : ℕ → Traffic
+untouched name = record { name = name; received = []; is_ended = false; sent = []; is_shut = false; failed_reads = 0; failed_writes = 0; late_reads = 0; late_writes = 0 }
+
 abbrev pub no_traffic : Traffic
-no_traffic = record { received = []; is_ended = false; sent = []; is_shut = false; failed_reads = 0; failed_writes = 0; late_reads = 0; late_writes = 0 }
+no_traffic = untouched 0
 
 -- the traffic with what a device did
 abbrev pub with_event : Traffic → DeviceEvent → Traffic
@@ -29,8 +32,8 @@ abbrev pub after_events : Traffic → List DeviceEvent → Traffic
 after_events t [] = t
 after_events t (e ∷ es) = after_events (with_event t e) es
 
-abbrev pub traffic_of : List DeviceEvent → Traffic
-traffic_of events = after_events no_traffic events
+abbrev pub traffic_of : ℕ → List DeviceEvent → Traffic
+traffic_of name events = after_events (untouched name) events
 
 -- what a stream has left to give after a read, where it tells that: it loses the bytes that were read, has none at the end, and stays
 -- as it is otherwise

@@ -1,9 +1,9 @@
 //! A device over any reader and writer.
 
-ghost use Rattle.std.specs.Prelude.{◌≡◌, ◌≢◌, ◌<◌, [], length, IfSome};
+ghost use Rattle.std.specs.Prelude.{◌≡◌, ◌≢◌, ◌<◌, ℕ, [], length, IfSome};
 ghost use Rattle.std.specs.Io.Slices.{io_slices_bytes};
 ghost use Rattle.s3_devices.specs.Device.{Reads, Writes, with_shut};
-ghost use Rattle.s3_devices.specs.Recorded.{HasGiven, HasTaken, no_traffic, traffic_of};
+ghost use Rattle.s3_devices.specs.Recorded.{HasGiven, HasTaken, no_traffic, traffic_of, untouched};
 
 use crate::device::{Device, Reading, Stream, Writing};
 use crate::events::{
@@ -14,6 +14,7 @@ use crate::parts::WriteParts;
 use s3_history::Recorder;
 use std::io::{self, ErrorKind, IoSlice, Read};
 use std::marker::Model;
+use std::snapshot::Snapshot;
 
 /// A device over a stream that is a reader and a writer. What it gave and took is told by a history that stands in the proofs
 /// alone: it has a few words beside the stream, whatever goes through it.
@@ -24,6 +25,7 @@ use std::marker::Model;
 pub struct Recorded<S> {
     stream: S,
     recorder: Recorder<DeviceEvent>,
+    name: Snapshot<u64>,
 }
 
 impl<S> Model for Recorded<S> {
@@ -32,7 +34,7 @@ impl<S> Model for Recorded<S> {
 
     ghost Value = { Traffic };
 
-    ghost view = { λ r. traffic_of r.recorder.entries };
+    ghost view = { λ r. traffic_of r.name.value r.recorder.entries };
 }
 
 impl<S> Recorded<S> {
@@ -43,7 +45,19 @@ impl<S> Recorded<S> {
         ensures { IfSome result (λ device. device ≡ no_traffic) }
     {
         let recorder = Recorder::new()?;
-        Some(Recorded { stream, recorder })
+        Some(Recorded::named(stream, recorder, 0))
+    }
+
+    /// The same with a name of its own, by which contracts tell it from others. The recorder may have no entry. It can't fail.
+    pub fn named(stream: S, recorder: Recorder<DeviceEvent>, name: u64) -> Recorded<S>
+        requires none { recorder.entries ≡ [] }
+        ensures { result ≡ untouched name }
+    {
+        Recorded {
+            stream,
+            recorder,
+            name: Snapshot::of(&name),
+        }
     }
 
     /// The stream.
@@ -56,6 +70,7 @@ impl<S> Recorded<S> {
         let Recorded {
             stream,
             recorder: _,
+            name: _,
         } = self;
         stream
     }
@@ -98,7 +113,7 @@ impl<S: Read + WriteParts + ShutWrite> Stream for Recorded<S> {
 
 // Tells the stream that nothing more is written to it, and the recorder that.
 fn shut_recorded<S: ShutWrite>(stream: &mut S, recorder: &mut Recorder<DeviceEvent>) -> bool
-    ensures { traffic_of recorder.new.entries ≡ with_shut (traffic_of recorder.old.entries) }
+    ensures { (name : ℕ) → traffic_of name recorder.new.entries ≡ with_shut (traffic_of name recorder.old.entries) }
 {
     let is_told = stream.shut_write().is_ok();
     recorder.record::<(), AsShut>(&());
@@ -112,7 +127,7 @@ fn read_some<S: Read>(
     buffer: &mut [u8],
 ) -> Reading
     requires room { 0 < length buffer.old }
-    ensures reads { Reads result (traffic_of recorder.old.entries) (traffic_of recorder.new.entries) buffer.new }
+    ensures reads { (name : ℕ) → Reads result (traffic_of name recorder.old.entries) (traffic_of name recorder.new.entries) buffer.new }
     ensures told { HasGiven result (S.remaining stream.old) (S.remaining stream.new) buffer.new }
 {
     match stream.read(buffer) {
@@ -147,7 +162,7 @@ fn write_some<S: WriteParts>(
     parts: &[IoSlice<'_>],
 ) -> Writing
     requires some { io_slices_bytes parts.now ≢ [] }
-    ensures writes { Writes result (traffic_of recorder.old.entries) (traffic_of recorder.new.entries) (io_slices_bytes parts.now) }
+    ensures writes { (name : ℕ) → Writes result (traffic_of name recorder.old.entries) (traffic_of name recorder.new.entries) (io_slices_bytes parts.now) }
     ensures told { HasTaken result (S.contents stream.old) (S.contents stream.new) (io_slices_bytes parts.now) }
 {
     match stream.write_parts(parts) {

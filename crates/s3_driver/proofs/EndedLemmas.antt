@@ -17,7 +17,7 @@ use Rattle.s3_driver.specs.Ended.{HasClosed, HasFailedToRead, input_of}
 use Rattle.s3_driver.specs.Served.{ConnectionsAreServed, ConnectionsEnd, ConnectionsHaveWritten, IsServed}
 
 pub are_served : ConnectionsAreServed
-are_served settings c new = record { holds = new.begins settings; idle = new.idle }
+are_served settings c name new = record { holds = new.begins settings; idle = new.idle }
 
 pub have_written : ConnectionsWrite → ConnectionsHaveWritten
 have_written write settings c traffic moments entries s =

@@ -1,26 +1,30 @@
 -- How a connection stands in the hands of its worker after a step.
 use mathlib.Core.List.{IsPrefix}
-use Rattle.std.proofs.Common.{append-nil, IfSome, ◌≡◌, ℕ, suc, Bool, true, false, List, [], Option, None, Some, sym, ap, subst, ◌∙◌, ◌≢◌, refl, Result, Ok, Err}
+use Rattle.std.proofs.lemmas.Bool.Decides.{nat_tests}
+use Rattle.std.proofs.Common.{append-nil, IfSome, ◌≡◌, ◌≤◌, ◌+◌, ◌||◌, inl, inr, nat_lt, length, arith, ℕ, suc, Bool, true, false, List, [], Option, None, Some, sym, ap, subst, ◌∙◌, ◌≢◌, refl, Result, Ok, Err}
 use Rattle.s3_config.specs.Settings.{Settings}
 use Rattle.s3_machine.specs.History.{Entry}
 use Rattle.s3_connection.specs.Connection.{Connected}
 use Rattle.s3_devices.specs.Device.{Traffic}
-use Rattle.s3_devices.specs.Recorded.{no_traffic}
+use Rattle.s3_devices.specs.Recorded.{no_traffic, untouched}
+use Rattle.s3_driver.specs.declared.state.Departure.TheVariants as departures
+use Rattle.s3_driver.specs.declared.state.Moved.{Moved}
 use Rattle.s3_driver.specs.declared.state.Ending.{Ending}
 use Rattle.s3_driver.specs.declared.state.Ending.TheVariants as endings
 use Rattle.s3_driver.specs.declared.state.State.{State}
 use Rattle.s3_driver.specs.declared.state.State.TheVariants as states
 use Rattle.s3_driver.specs.Ended.{Fails}
 use Rattle.s3_driver.specs.Ended.{input_of}
-use Rattle.s3_driver.specs.Served.{ConnectionsEnd, ConnectionsHaveWritten, GoesOn, HasMet, IsAsking, IsServed, StandsAt, StopsAt, ending_of}
-use Rattle.s3_driver.specs.Account.{EndsSo, Fits}
-use Rattle.s3_driver.specs.ServedConnection.{HasGoneOn, HasSubmitted, HearsOf, IsAsked, Rests, Served, Stands, StandsBefore, account_of}
+use Rattle.s3_driver.specs.Served.{ConnectionsAreServed, ConnectionsEnd, ConnectionsHaveWritten, GoesOn, HasMet, IsAsking, IsNew, IsServed, StandsAt, StopsAt, TellsMoves, departure_of, ending_of, moved_then, progress_of}
+use Rattle.s3_driver.specs.Account.{DepartsSo, EndsSo, Fits, turned_away}
+use Rattle.s3_driver.specs.ServedConnection.{HasGoneOn, HasMoved, HasSubmitted, HearsOf, IsAsked, IsEnding, IsQuiet, Rests, Served, Stands, StandsBefore, account_of, moves_each}
 use Rattle.s3_terms.specs.declared.memory.NoMemory.{NoMemory}
 use Rattle.s3_machine.specs.declared.command.Answer.{Answer}
 use Rattle.s3_machine.specs.declared.turn.Turn.{Turn}
 use Rattle.s3_connection.specs.Connection.{entries_with, taken_of}
 use Rattle.s3_devices.specs.Device.{with_shut}
 use Rattle.s3_journal.specs.Desk.{Base, Seated}
+use Rattle.s3_journal.specs.Recorded.{Recorded}
 
 -- failures where there was none before
 fails_first : (ending : Ending) (before after : Traffic) → before.failed_reads ≡ 0 → before.failed_writes ≡ 0 → Fails ending before after
@@ -29,11 +33,41 @@ fails_first endings.Closed before after no_reads no_writes f = (f.0 ∙ no_reads
 fails_first endings.ReadFailed before after no_reads no_writes f = (f.0 ∙ ap (λ n. suc n) no_reads, f.1 ∙ no_writes)
 fails_first endings.WriteFailed before after no_reads no_writes f = (f.0 ∙ no_reads, f.1 ∙ ap (λ n. suc n) no_writes)
 
+-- a new one stands so
+pub new_stands : ConnectionsAreServed → (settings : Settings) (c : Connected) (traffic : Traffic) (moments : List ℕ) (seat : Seated) (state : State)
+    → IsNew c → traffic ≡ untouched seat.number → moments ≡ [] → seat.mine ≡ [] → state ≡ states.Message
+    → Stands settings (record { connection = c; traffic = traffic; moments = moments; seat = seat; state = state })
+new_stands serve settings c traffic moments seat state new named none nothing is =
+    subst (λ (t : Traffic). Stands settings (record { connection = c; traffic = t; moments = moments; seat = seat; state = state })) (sym named)
+    (subst (λ (ms : List ℕ). Stands settings (record { connection = c; traffic = untouched seat.number; moments = ms; seat = seat; state = state })) (sym none)
+    (subst (λ (s : State). Stands settings (record { connection = c; traffic = untouched seat.number; moments = []; seat = seat; state = s })) (sym is)
+    (record {
+      named = refl;
+      served = subst (λ (es : List Entry). IsServed settings c (untouched seat.number) [] es) (sym nothing) (serve settings c seat.number new);
+      ends = (refl, refl, refl);
+      shut = λ closing. absurd (cc);
+    })))
+
+-- what one did is as its departure says
+departs_so : (settings : Settings) (traffic : Traffic) (moments : List ℕ) (entries : List Entry) (ending : Option Ending)
+    → EndsSo settings traffic moments entries ending → DepartsSo settings traffic moments entries (departure_of ending)
+departs_so settings traffic moments entries None ends = ends
+departs_so settings traffic moments entries (Some ending) ends = ends
+
+-- the account of one that was turned away fits no entries
+pub turned_away_fits : ConnectionsAreServed → ConnectionsHaveWritten → (settings : Settings) (c : Connected) (traffic : Traffic) (name : ℕ)
+    (entries : List Entry) → IsNew c → traffic ≡ untouched name → entries ≡ []
+    → Fits settings (record { traffic = traffic; moments = []; departure = departures.TurnedAway }) entries
+turned_away_fits serve write settings c traffic name entries new named none =
+    subst (λ (t : Traffic). Fits settings (record { traffic = t; moments = []; departure = departures.TurnedAway }) entries) (sym named)
+    (subst (λ (es : List Entry). Fits settings (turned_away name) es) (sym none)
+    (record { written = write settings c (untouched name) [] [] (serve settings c name new); ends = (refl, refl, refl) }))
+
 -- the account of one that stands so fits its entries
 pub fits_so : ConnectionsHaveWritten → (settings : Settings) (s : Served) → Stands settings s → Fits settings (account_of s) s.seat.mine
 fits_so write settings s stands = record {
   written = write settings s.connection s.traffic s.moments s.seat.mine stands.served;
-  ends = stands.ends;
+  ends = departs_so settings s.traffic s.moments s.seat.mine (ending_of s.state) stands.ends;
 }
 
 -- one that made its moves stands as its state says
@@ -69,7 +103,7 @@ step_stands end settings config c d before after earlier later seat old state ne
     subst (λ (s : Settings). IsServed s d after later seat.mine) same (serves seat.mine (subst (λ (s : Settings). IsServed s c before earlier seat.mine) (sym same) stands.served)) in
     let was : EndsSo settings before later seat.mine None = subst (λ (e : Option Ending). EndsSo settings before earlier seat.mine e) goes stands.ends in
     subst (λ (s : State). Stands settings (record { connection = d; traffic = after; moments = later; seat = seat; state = s })) (sym is)
-    (record { served = served; ends = ends_after end settings d before after later seat.mine on state served stops was on_goes met; shut = λ closing. absurd (not_closing on state d stops closing) })
+    (record { named = on_goes.named ∙ stands.named; served = served; ends = ends_after end settings d before after later seat.mine on state served stops was on_goes met; shut = λ closing. absurd (not_closing on state d stops closing) })
 
 -- one that is closed stands as it did once its stream is told so
 pub shut_stands : (settings : Settings) (c : Connected) (before after : Traffic) (moments : List ℕ) (seat : Seated) (old new : State)
@@ -86,7 +120,7 @@ shut_stands settings c before after moments seat old new stands was is shut =
     ) in
     let served : IsServed settings c (with_shut before) moments seat.mine = record { holds = stands.served.holds; idle = stands.served.idle } in
     subst (λ (t : Traffic). Stands settings (record { connection = c; traffic = t; moments = moments; seat = seat; state = new })) (sym shut)
-    (record { served = served; ends = subst (λ (e : Option Ending). EndsSo settings (with_shut before) moments seat.mine e) (sym is) told; shut = λ closing. refl })
+    (record { named = stands.named; served = served; ends = subst (λ (e : Option Ending). EndsSo settings (with_shut before) moments seat.mine e) (sym is) told; shut = λ closing. refl })
 
 -- what is left of a closed one stands as it did
 pub closing_stands : (settings : Settings) (c : Connected) (before after : Traffic) (moments : List ℕ) (seat : Seated) (old new : State)
@@ -96,27 +130,30 @@ pub closing_stands : (settings : Settings) (c : Connected) (before after : Traff
 closing_stands settings c before after moments seat old new stands was is as_before =
     subst (λ (t : Traffic). Stands settings (record { connection = c; traffic = t; moments = moments; seat = seat; state = new })) (sym as_before)
     (record {
+      named = stands.named;
       served = stands.served;
       ends = subst (λ (e : Option Ending). EndsSo settings before moments seat.mine e) (ap ending_of was ∙ sym is) stands.ends;
       shut = λ closing. stands.shut was;
     })
 
 -- its turn has come to the store
-entered_so : (in_memory : Bool) (base : Base) (old new : Seated) (turn : Turn) (answered : Result Answer NoMemory)
-    → HasSubmitted in_memory base old new turn answered → new.mine ≡ entries_with old.mine turn answered
-entered_so in_memory base old new turn (Ok answer) has = has.answer.mine
-entered_so in_memory base old new turn (Err e) has = has.memory.mine
+entered_so : (in_memory : Bool) (base : Base) (old new : Seated) (history grown : List Recorded) (turn : Turn) (answered : Result Answer NoMemory)
+    → HasSubmitted in_memory base old new history grown turn answered
+    → (new.mine ≡ entries_with old.mine turn answered) × (new.number ≡ old.number)
+entered_so in_memory base old new history grown turn (Ok answer) has = (has.answer.mine, has.answer.number)
+entered_so in_memory base old new history grown turn (Err e) has = (has.memory.mine, has.memory.number)
 
 pub submit_stands : (settings : Settings) (c d : Connected) (traffic : Traffic) (moments : List ℕ) (old new : Seated) (state : State) (in_memory : Bool) (base : Base)
-    (answered : Result Answer NoMemory)
+    (history grown : List Recorded) (answered : Result Answer NoMemory)
     → Stands settings (record { connection = c; traffic = traffic; moments = moments; seat = old; state = state }) → state ≡ states.Turn
-    → IsAsked in_memory base c d old new answered
+    → IsAsked in_memory base c d old new history grown answered
     → StandsBefore settings (record { connection = d; traffic = traffic; moments = moments; seat = new; state = state }) answered
-submit_stands settings c d traffic moments old new state in_memory base answered stands is has = record {
+submit_stands settings c d traffic moments old new state in_memory base history grown answered stands is has = record {
   turn = has.turn;
   before = old.mine;
+  named = stands.named ∙ sym (entered_so in_memory base old new history grown has.turn answered has.submitted).1;
   asks = record { holds = has.asked.holds settings (input_of traffic) moments old.mine traffic.sent stands.served.holds; taken = has.asked.taken };
-  mine = entered_so in_memory base old new has.turn answered has.submitted;
+  mine = (entered_so in_memory base old new history grown has.turn answered has.submitted).0;
   ending = ap ending_of is;
   ends = λ entries. subst (λ (e : Option Ending). EndsSo settings traffic moments old.mine e) (ap ending_of is) stands.ends;
 }
@@ -130,7 +167,7 @@ pub hear_stands : (settings : Settings) (c d : Connected) (traffic : Traffic) (m
 hear_stands settings c d traffic moments seat old new answered before hears is =
     let served : IsServed settings d traffic moments seat.mine =
     subst (λ (entries : List Entry). IsServed settings d traffic moments entries) (sym before.mine) (hears settings traffic moments before.before before.turn before.asks) in
-    record { served = served; ends = subst (λ (e : Option Ending). EndsSo settings traffic moments seat.mine e) (sym (ap ending_of is)) (before.ends seat.mine); shut = λ closing. absurd (cc) }
+    record { named = before.named; served = served; ends = subst (λ (e : Option Ending). EndsSo settings traffic moments seat.mine e) (sym (ap ending_of is)) (before.ends seat.mine); shut = λ closing. absurd (cc) }
 
 pub taken_before : (settings : Settings) (s : Served) (answered : Result Answer NoMemory) → StandsBefore settings s answered → taken_of s.connection ≢ None
 taken_before settings s answered before none = let taken = before.asks.taken in absurd (cc)
@@ -155,15 +192,76 @@ rests_after now old mid new on r = record {
   moments = record { more = on.moments.more; added = r.moments ∙ on.moments.added; all = on.moments.all };
 }
 
+-- how one has moved: what it told of bytes where nothing came or went, and where something did before
+not_grown : (xs ys : List ℕ) → ys ≡ xs → nat_lt (length xs) (length ys) ≡ false
+not_grown xs ys same = let is = ap length same in grind (arith, nat_tests, is)
+
+pub tells_rest : (m : Moved) (old new : Served) → IsQuiet m → Rests old new → TellsMoves m old.traffic new.traffic
+tells_rest m old new quiet r = record {
+  read = quiet.read ∙ sym (not_grown old.traffic.received new.traffic.received r.received);
+  written = quiet.written ∙ sym (not_grown old.traffic.sent new.traffic.sent r.sent);
+}
+
+or_false : (x y : Bool) → y ≡ false → (x || y) ≡ x
+or_false true y is = refl
+or_false false y is = is
+
+pub tells_then : (m n : Moved) (old mid new : Served) → TellsMoves m old.traffic mid.traffic → IsQuiet n → Rests mid new
+    → TellsMoves (moved_then m n) old.traffic new.traffic
+tells_then m n old mid new told quiet r = record {
+  read = or_false m.has_read n.has_read quiet.read ∙ told.read ∙ ap (λ (xs : List ℕ). nat_lt (length old.traffic.received) (length xs)) (sym r.received);
+  written = or_false m.has_written n.has_written quiet.written ∙ told.written ∙ ap (λ (xs : List ℕ). nat_lt (length old.traffic.sent) (length xs)) (sym r.sent);
+}
+
+-- and how it stands then: behind its moves, and behind what was dropped where it was closed
+pub stepped_moved : (on : Bool) (state : State) (old new : Served) → StopsAt on state new.connection → HasMet on state old.traffic new.traffic
+    → (on ≡ true → progress_of old.connection old.traffic + moves_each ≤ progress_of new.connection new.traffic) → HasMoved on state old new
+stepped_moved true states.Message old new stops met moves = (stops, moves refl)
+stepped_moved true states.Head old new stops met moves = (stops, moves refl)
+stepped_moved true states.Body old new stops met moves = (stops, moves refl)
+stepped_moved true states.Turn old new stops met moves = (stops, moves refl)
+stepped_moved true states.Room old new stops met moves = (stops, moves refl)
+stepped_moved true states.Closing old new stops met moves = absurd (cc)
+stepped_moved true (states.Ended ending) old new stops met moves = absurd (cc)
+stepped_moved false states.Message old new stops met moves = (stops, met.1)
+stepped_moved false states.Head old new stops met moves = (stops, met.1)
+stepped_moved false states.Body old new stops met moves = (stops, met.1)
+stepped_moved false states.Turn old new stops met moves = (stops, met.1)
+stepped_moved false states.Room old new stops met moves = (stops, met.1)
+stepped_moved false states.Closing old new stops met moves = absurd stops
+stepped_moved false (states.Ended ending) old new stops met moves = (stops, met.1)
+
+stood_closed : (on : Bool) (state : State) (c : Connected) → StopsAt on state c → state ≡ states.Ended endings.Closed
+    → StandsAt (states.Ended endings.Closed) c
+stood_closed true state c stops is = absurd (cc)
+stood_closed false state c stops is = subst (λ (s : State). StandsAt s c) is stops
+
+closing_moved : (on : Bool) (old new : Served) → StandsAt (states.Ended endings.Closed) new.connection → HasMoved on states.Closing old new
+closing_moved true old new stands = stands
+closing_moved false old new stands = stands
+
+ending_moved : (n : Moved) (old new : Served) → IsEnding n → StandsAt (states.Ended endings.Closed) new.connection → HasMoved n.may_go_on n.state old new
+ending_moved n old new (inl closing) stands =
+    subst (λ (s : State). HasMoved n.may_go_on s old new) (sym closing) (closing_moved n.may_go_on old new stands)
+ending_moved n old new (inr ended) stands =
+    subst (λ (on : Bool). HasMoved on n.state old new) (sym ended.1)
+    (subst (λ (s : State). HasMoved false s old new) (sym ended.0) (stands, tt))
+
+pub closed_moved : (m n : Moved) (old mid new : Served) → StopsAt m.may_go_on m.state mid.connection → m.state ≡ states.Ended endings.Closed
+    → IsEnding n → Rests mid new → HasMoved n.may_go_on n.state old new
+closed_moved m n old mid new stops is ending r =
+    ending_moved n old new ending
+    (subst (λ (c : Connected). StandsAt (states.Ended endings.Closed) c) (sym r.connection) (stood_closed m.may_go_on m.state mid.connection stops is))
+
 -- one that has submitted its turn, if it had one, hears of it
 pub hears_so : (settings : Settings) (c d : Connected) (traffic : Traffic) (moments : List ℕ) (old new : Seated) (state : State) (in_memory : Bool) (base : Base)
-    (answered : Option (Result Answer NoMemory))
+    (history grown : List Recorded) (answered : Option (Result Answer NoMemory))
     → Stands settings (record { connection = c; traffic = traffic; moments = moments; seat = old; state = state })
-    → IfSome answered (IsAsked in_memory base c d old new) → IfSome answered (λ _. state ≡ states.Turn) → (answered ≡ None → (d ≡ c) × (new ≡ old))
+    → IfSome answered (IsAsked in_memory base c d old new history grown) → IfSome answered (λ _. state ≡ states.Turn) → (answered ≡ None → (d ≡ c) × (new ≡ old))
     → HearsOf settings (record { connection = d; traffic = traffic; moments = moments; seat = new; state = state }) answered
-hears_so settings c d traffic moments old new state in_memory base (Some answered) stands asked is none =
-    submit_stands settings c d traffic moments old new state in_memory base answered stands is asked
-hears_so settings c d traffic moments old new state in_memory base None stands asked is none =
+hears_so settings c d traffic moments old new state in_memory base history grown (Some answered) stands asked is none =
+    submit_stands settings c d traffic moments old new state in_memory base history grown answered stands is asked
+hears_so settings c d traffic moments old new state in_memory base history grown None stands asked is none =
     let same = none refl in
     subst (λ (e : Connected). Stands settings (record { connection = e; traffic = traffic; moments = moments; seat = new; state = state })) (sym same.0)
     (subst (λ (s : Seated). Stands settings (record { connection = c; traffic = traffic; moments = moments; seat = s; state = state })) (sym same.1) stands)

@@ -1,5 +1,5 @@
 -- How a connection that is served stands after each move.
-use Rattle.std.proofs.Common.{◌≡◌, ◌<◌, ◌+◌, ◌*◌, ℕ, suc, Bool, true, false, List, [], ◌∷◌, ◌++◌, length, refl, sym, ap, subst, ◌∙◌, append-nil, append_assoc, arith, Option, Some, None, ◌≢◌, Result, Ok, Err, IfOk, OnErr, ap₂, nat_lt, ◌||◌, ◌≤◌}
+use Rattle.std.proofs.Common.{◌≡◌, ◌<◌, ℕ, suc, Bool, true, false, List, [], ◌∷◌, ◌++◌, length, refl, sym, ap, subst, ◌∙◌, append-nil, append_assoc, arith, Option, Some, None, ◌≢◌, Result, Ok, Err, IfOk, OnErr, ap₂, nat_lt, ◌||◌, ◌≤◌}
 use Rattle.std.proofs.lemmas.List.{length-append}
 use Rattle.std.proofs.lemmas.Bool.Decides.{nat_tests}
 use Rattle.s3_terms.specs.declared.memory.NoMemory.{NoMemory}
@@ -19,11 +19,11 @@ use Rattle.std.specs.List.{AllByRecursion}
 use Rattle.s3_config.specs.Settings.{Settings}
 use Rattle.s3_machine.specs.History.{Entry}
 use Rattle.s3_session.specs.Session.{moment_if}
-use Rattle.s3_connection.specs.Connection.{Connected, entries_with, is_answered_at, taken_at, taken_of, turn_at, wants_at}
+use Rattle.s3_connection.specs.Connection.{Connected, entries_with, is_answered_at, taken_of, wants_at}
 use Rattle.s3_connection.specs.Holds.{Holds}
 use Rattle.s3_devices.specs.Device.{Traffic}
 use Rattle.s3_driver.specs.Ended.{Fails, input_of}
-use Rattle.s3_driver.specs.Served.{FailsSo, GoesOn, HasAsked, HasMet, HasRead, HasSent, HasTaken, HaveMore, IsAsking, IsLater, IsServed, TellsMoves, ending_of, moved_then, stage_weight}
+use Rattle.s3_driver.specs.Served.{FailsSo, GoesOn, HasAsked, HasCalled, HasMet, HasRead, HasSent, HasTaken, HaveMore, IsAsking, IsLater, IsServed, TellsMoves, ending_of, moved_then, stage_weight}
 
 -- no more moments, one more, and more behind more
 pub more_none : (now : ℕ) (moments : List ℕ) → HaveMore now moments moments
@@ -53,10 +53,11 @@ begins_on : {A : Type 0} → (xs ys zs : List A) → IsPrefix xs ys → IsPrefix
 begins_on {A = A} xs ys zs p q = (p.0 ++ q.0, sym (append_assoc xs p.0 q.0) ∙ ap (λ (begun : List A). begun ++ q.0) p.1 ∙ q.1)
 
 pub goes_on_none : (traffic : Traffic) → GoesOn traffic traffic
-goes_on_none traffic = record { received = begins_itself traffic.received; sent = begins_itself traffic.sent; shut = refl }
+goes_on_none traffic = record { named = refl; received = begins_itself traffic.received; sent = begins_itself traffic.sent; shut = refl }
 
 pub goes_on_after : (a b d : Traffic) → GoesOn a b → GoesOn b d → GoesOn a d
 goes_on_after a b d p q = record {
+  named = q.named ∙ p.named;
   received = begins_on a.received b.received d.received p.received q.received;
   sent = begins_on a.sent b.sent d.sent p.sent q.sent;
   shut = q.shut ∙ p.shut;
@@ -64,14 +65,16 @@ goes_on_after a b d p q = record {
 
 pub sent_goes_on : (c d : Connected) (before after : Traffic) → HasSent c d before after → GoesOn before after
 sent_goes_on c d before after h = record {
+  named = ap (λ (t : Traffic). t.name) h.traffic;
   received = ([], append-nil before.received ∙ sym (ap (λ (t : Traffic). t.received) h.traffic));
   sent = (h.bytes, sym (ap (λ (t : Traffic). t.sent) h.traffic));
   shut = ap (λ (t : Traffic). t.is_shut) h.traffic;
 }
 
-pub read_goes_on : (before after : Traffic) → IsPrefix before.received after.received → after.sent ≡ before.sent → after.is_shut ≡ before.is_shut
-    → GoesOn before after
-read_goes_on before after more same shut = record {
+pub read_goes_on : (before after : Traffic) → after.name ≡ before.name → IsPrefix before.received after.received → after.sent ≡ before.sent
+    → after.is_shut ≡ before.is_shut → GoesOn before after
+read_goes_on before after named more same shut = record {
+  named = named;
   received = more;
   sent = ([], append-nil before.sent ∙ sym same);
   shut = shut;
@@ -85,12 +88,6 @@ entered before after turn (Err e) entry same = same
 
 pub some_asked : (told asked : Option Turn) (turn : Turn) → told ≡ asked → told ≡ Some turn → asked ≢ None
 some_asked told asked turn value is none = cc
-
--- where a turn waits that was not taken, there is one
-pub waits_asked : (stage : Stage) → wants_at stage ≡ wanted.Answer → taken_at stage ≡ None → turn_at stage ≡ None → ⊥
-waits_asked (stages.Waiting turn) waits idle none = cc
-waits_asked (stages.HandedOut turn) waits idle none = cc
-waits_asked _ waits idle none = cc
 
 -- and it moves
 answer_weight : (stage : Stage) → wants_at stage ≡ wanted.Answer → stage_weight stage ≡ 1
@@ -193,3 +190,19 @@ answered_turn settings c d e traffic moments before after turn answered asked en
     subst (λ (es : List Entry). IsServed settings e traffic moments es) (sym (entered before after turn answered entry same))
     (hears settings traffic moments before turn
     (record { holds = asked.holds settings (input_of traffic) moments before traffic.sent served.holds; taken = asked.taken }))
+
+-- and its connection has heard of what the handle said
+pub called_turn : (may_lack : Turn → Type 0) (c d e : Connected) (before after : List Entry) (turn : Turn) (answered : Result Answer NoMemory)
+    → HasAsked c d turn → IfOk answered (λ answer. after ≡ before ++ entry_of turn answer ∷ []) → OnErr answered (after ≡ before) → OnErr answered (may_lack turn)
+    → ((s : Settings) (t : Traffic) (ms : List ℕ) (entries : List Entry) (asked : Turn) → IsAsking s d t ms entries asked
+    → IsServed s e t ms (entries_with entries asked answered))
+    → HasCalled may_lack before after c e turn
+called_turn may_lack c d e before after turn answered asked entry same memory hears = record {
+  answered = answered;
+  entry = entry;
+  same = same;
+  memory = memory;
+  heard = λ settings traffic moments entries served.
+      hears settings traffic moments entries turn
+      (record { holds = asked.holds settings (input_of traffic) moments entries traffic.sent served.holds; taken = asked.taken });
+}

@@ -1,7 +1,7 @@
 -- A connection that is served over a device, and how it stands after all that it did there.
 -- `IsServed` is what the clauses of a step carry along. What it comes to is said by the laws at the end. So its inside need not
 -- be believed.
-use Rattle.std.specs.Prelude.{◌≡◌, ◌≢◌, ◌⊎◌, ◌||◌, ◌<◌, ◌≤◌, ◌+◌, ◌*◌, nat_lt, length, ℕ, Bool, true, false, List, [], ◌++◌, Option, None, Some, Result}
+use Rattle.std.specs.Prelude.{◌≡◌, ◌≢◌, ◌⊎◌, ◌||◌, ◌<◌, ◌≤◌, ◌+◌, ◌*◌, nat_lt, length, ℕ, Bool, true, false, List, [], ◌∷◌, ◌++◌, Option, None, Some, Result, IfOk, OnErr}
 use Rattle.std.specs.List.{AllByRecursion}
 use mathlib.Core.List.{IsPrefix}
 use Rattle.s3_config.specs.Settings.{Settings}
@@ -16,7 +16,10 @@ use Rattle.s3_connection.specs.Connection.{Connected, entries_with, nothing_rece
 use Rattle.s3_connection.specs.Holds.{Holds}
 use Rattle.s3_connection.specs.Output.{Input}
 use Rattle.s3_devices.specs.Device.{Traffic}
-use Rattle.s3_devices.specs.Recorded.{no_traffic}
+use Rattle.s3_devices.specs.Recorded.{untouched}
+use Rattle.s3_journal.specs.Recorded.{entry_of}
+use Rattle.s3_driver.specs.declared.state.Departure.{Departure}
+use Rattle.s3_driver.specs.declared.state.Departure.TheVariants as departures
 use Rattle.s3_driver.specs.declared.state.Ending.{Ending}
 use Rattle.s3_driver.specs.declared.state.Ending.TheVariants as endings
 use Rattle.s3_driver.specs.declared.state.Moved.{Moved}
@@ -41,8 +44,9 @@ pub record HaveMore (now : ℕ) (old new : List ℕ) : Type 0 where
   pub added : new ≡ old ++ more
   pub all : AllByRecursion (λ (m : ℕ). m ≡ now) more
 
--- nothing that a device gave or took is undone, and it wasn't told that it takes no more
+-- it is the same device; nothing that it gave or took is undone, and it wasn't told that it takes no more
 pub record GoesOn (before after : Traffic) : Type 0 where
+  pub named : after.name ≡ before.name
   pub received : IsPrefix before.received after.received
   pub sent : IsPrefix before.sent after.sent
   pub shut : after.is_shut ≡ before.is_shut
@@ -66,6 +70,7 @@ pub record HasTaken (settings : Settings) (now : ℕ) (old new : Connected) (byt
 -- what a read brought it: some bytes, the end, or nothing
 pub record HasRead (settings : Settings) (now : ℕ) (old new : Connected) (before after : Traffic) (earlier later : List ℕ) : Type 0 where
   pub moments : HaveMore now earlier later
+  pub named : after.name ≡ before.name
   pub sent : after.sent ≡ before.sent
   pub shut : after.is_shut ≡ before.is_shut
   pub holds : (entries : List Entry) (sent : List ℕ)
@@ -84,15 +89,26 @@ pub record IsAsking (settings : Settings) (c : Connected) (traffic : Traffic) (m
   pub holds : Holds c settings (input_of traffic) moments entries traffic.sent
   pub taken : taken_of c ≡ Some turn
 
--- what has become of its turn: one entry more, or none where memory ran out
-abbrev pub IsEntered : List Entry → Turn → Result Answer NoMemory → List Entry → Type 0
-IsEntered before turn answered after = after ≡ entries_with before turn answered
+-- A turn was taken to a handle, which made an entry of it, or made none since memory may be lacking for it; and its connection has heard
+-- of just that.
+pub record HasCalled (may_lack : Turn → Type 0) (before after : List Entry) (old new : Connected) (turn : Turn) : Type 0 where
+  pub answered : Result Answer NoMemory
+  pub entry : IfOk answered (λ answer. after ≡ before ++ entry_of turn answer ∷ [])
+  pub same : OnErr answered (after ≡ before)
+  pub memory : OnErr answered (may_lack turn)
+  pub heard : (settings : Settings) (traffic : Traffic) (moments : List ℕ) (entries : List Entry)
+      → IsServed settings old traffic moments entries → IsServed settings new traffic moments (entries_with entries turn answered)
 
 -- how it has ended, if it has
 abbrev pub ending_of : State → Option Ending
 ending_of (states.Ended ending) = Some ending
 ending_of states.Closing = Some endings.Closed
 ending_of _ = None
+
+-- how one leaves that has ended so, or that has not ended
+abbrev pub departure_of : Option Ending → Departure
+departure_of None = departures.GivenUp
+departure_of (Some ending) = departures.Ended ending
 
 -- A device was asked in vain for what is waited for: bytes, or room.
 abbrev pub IsLater : State → Traffic → Traffic → Type 0
@@ -164,9 +180,9 @@ StopsAt false state c = StandsAt state c
 
 -- ---- what it comes to
 
--- a new connection is served
+-- a new connection is served, whatever its device is called
 abbrev pub ConnectionsAreServed : Type 0
-ConnectionsAreServed = (settings : Settings) (c : Connected) → IsNew c → IsServed settings c no_traffic [] []
+ConnectionsAreServed = (settings : Settings) (c : Connected) (name : ℕ) → IsNew c → IsServed settings c (untouched name) [] []
 
 -- one that is served has written a beginning of its output
 abbrev pub ConnectionsHaveWritten : Type 0

@@ -284,7 +284,6 @@ impl Driver {
         ensures value { result ≡ connections.turn_of self.old }
         ensures asked { IfSome result (rules.HasAsked self.old self.new) }
         ensures none { result ≡ None → self.new ≡ self.old }
-        ensures waits { connections.wants_of self.old ≡ Wants.Answer → taken_of self.old ≡ None → result ≢ None }
     {
         self.connection.take_turn()
     }

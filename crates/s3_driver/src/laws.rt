@@ -4,7 +4,7 @@ ghost use Rattle.s3_driver.specs.Served.{ConnectionsAreServed, ConnectionsEnd, C
 
 use s3_connection::connections_write;
 
-/// A law: a connection of which nothing came is served, over a device that gave and took nothing. There is nothing to run.
+/// A law: a connection of which nothing came is served, over a device of any name that gave and took nothing. There is nothing to run.
 pub fn connections_are_served()
     ensures { ConnectionsAreServed }
 {}

@@ -13,6 +13,7 @@ mod served_connection;
 mod serving;
 mod state;
 mod told;
+mod turned_away;
 mod waits;
 
 pub use account::Account;
@@ -22,5 +23,6 @@ pub use laws::{connections_are_served, connections_end, connections_have_written
 pub use observer::{MessageObserver, Nobody};
 pub use served_connection::{AnsweredConnection, ServedConnection, new_driver};
 pub use serving::serve;
-pub use state::{Ending, Moved, State};
+pub use state::{Departure, Ending, Moved, State};
 pub use told::{Told, told_of};
+pub use turned_away::turn_away;

@@ -1,12 +1,12 @@
 //! A connection that a worker serves.
 
-ghost use Rattle.std.specs.Prelude.{◌≡◌, ◌≢◌, ◌<◌, ◌++◌, ◌∷◌, ◌==◌, if◌then◌else◌, ℕ, [], length, true, false, None, Some, IfOk, IfSome};
+ghost use Rattle.std.specs.Prelude.{◌≡◌, ◌≢◌, ◌<◌, ◌≤◌, ◌+◌, ◌++◌, ◌∷◌, ◌==◌, if◌then◌else◌, ℕ, [], length, true, false, None, Some, IfOk, IfSome};
 ghost use Rattle.s3_connection.specs.Connection.{turn_of};
-ghost use Rattle.s3_devices.specs.Recorded.{no_traffic};
+ghost use Rattle.s3_devices.specs.Recorded.{untouched};
 ghost use Rattle.s3_journal.specs.Roster.{is_out};
 ghost use Rattle.s3_driver.specs.Account.{Fits};
-ghost use Rattle.s3_driver.specs.Served.{IsNew, ending_of};
-ghost use Rattle.s3_driver.specs.ServedConnection.{HasGoneOn, HasSubmitted, IsAsked, Rests, account_of};
+ghost use Rattle.s3_driver.specs.Served.{HasMet, IsNew, StopsAt, TellsMoves, ending_of, progress_of};
+ghost use Rattle.s3_driver.specs.ServedConnection.{HasGoneOn, HasMoved, HasSubmitted, IsAsked, IsEnding, IsQuiet, Rests, account_of, is_going, moves_each};
 
 use crate::account::{Account, AsAccount, Telling};
 use crate::driver::Driver;
@@ -90,7 +90,7 @@ pub fn new_driver(alloc: Global) -> Result<Box<Driver>, NoMemory>
 }
 
 impl<J: Ground, S: Stream + Drop, O: MessageObserver + Drop> ServedConnection<J, S, O> {
-    /// A connection that comes now over a stream, with a seat of its own. It takes no memory.
+    /// A connection that comes now over a stream, which has the number of its seat for a name. It takes no memory.
     pub fn new(
         driver: Box<Driver>,
         stream: S,
@@ -100,10 +100,10 @@ impl<J: Ground, S: Stream + Drop, O: MessageObserver + Drop> ServedConnection<J,
         now: Instant,
     ) -> ServedConnection<J, S, O>
         requires driver { IsNew driver.value }
-        requires traffic { S.Device.traffic stream ≡ no_traffic }
+        requires traffic { S.Device.traffic stream ≡ untouched seat.number }
         requires moments { moments.entries ≡ [] }
         requires entries { seat.mine ≡ [] }
-        ensures traffic { result.traffic ≡ no_traffic }
+        ensures traffic { result.traffic ≡ untouched seat.number }
         ensures seat { result.seat ≡ seat }
         ensures state { result.state ≡ State.Message }
     {
@@ -176,6 +176,8 @@ impl<J: Ground, S: Stream + Drop, O: MessageObserver + Drop> ServedConnection<J,
         requires settings { config.now ≡ J.base.settings }
         ensures goes_on { HasGoneOn moment self.old self.new }
         ensures state { self.new.state ≡ result.state }
+        ensures told { TellsMoves result self.old.traffic self.new.traffic }
+        ensures moved { 0 < length buffer.old → is_going self.old.state ≡ true → HasMoved result.may_go_on result.state self.old self.new }
     {
         let state = self.parts.waits.state;
 
@@ -207,10 +209,12 @@ impl<J: Ground, S: Stream + Drop, O: MessageObserver + Drop> ServedConnection<J,
         requires goes { ending_of self.old.state ≡ None }
         ensures goes_on { HasGoneOn moment self.old self.new }
         ensures state { self.new.state ≡ result.state }
+        ensures told { TellsMoves result self.old.traffic self.new.traffic }
+        ensures moved { HasMoved result.may_go_on result.state self.old self.new }
     {
         let moved = self.step(alloc, config, buffer, moment, now);
         match moved.state {
-            State::Ended(Ending::Closed) => self.close(buffer, now),
+            State::Ended(Ending::Closed) => moved.then(self.close(buffer, now)),
             _ => moved,
         }
     }
@@ -229,6 +233,11 @@ impl<J: Ground, S: Stream + Drop, O: MessageObserver + Drop> ServedConnection<J,
         requires goes { ending_of self.old.state ≡ None }
         ensures goes_on { HasGoneOn moment self.old self.new }
         ensures state { self.new.state ≡ result.state }
+        ensures told { TellsMoves result self.old.traffic self.new.traffic }
+        ensures met { HasMet result.may_go_on result.state self.old.traffic self.new.traffic }
+        ensures stops { StopsAt result.may_go_on result.state self.new.connection }
+        ensures moves { result.may_go_on ≡ true
+            → progress_of self.old.connection self.old.traffic + moves_each ≤ progress_of self.new.connection self.new.traffic }
     {
         connections_end();
         let parts = &mut self.parts;
@@ -254,6 +263,8 @@ impl<J: Ground, S: Stream + Drop, O: MessageObserver + Drop> ServedConnection<J,
         requires closed { self.old.state ≡ State.Ended Ending.Closed }
         ensures rests { Rests self.old self.new }
         ensures state { self.new.state ≡ result.state }
+        ensures quiet { IsQuiet result }
+        ensures ending { IsEnding result }
     {
         if self.parts.driver.has_ended() || !self.shut(now) {
             return Moved::stopped(self.parts.waits.state);
@@ -281,6 +292,8 @@ impl<J: Ground, S: Stream + Drop, O: MessageObserver + Drop> ServedConnection<J,
         requires closing { self.old.state ≡ State.Closing }
         ensures rests { Rests self.old self.new }
         ensures state { self.new.state ≡ result.state }
+        ensures quiet { IsQuiet result }
+        ensures ending { IsEnding result }
     {
         for _ in 0..DROPPED {
             match self.parts.stream.drop_input(buffer) {
@@ -297,6 +310,8 @@ impl<J: Ground, S: Stream + Drop, O: MessageObserver + Drop> ServedConnection<J,
         requires closing { self.old.state ≡ State.Closing }
         ensures rests { Rests self.old self.new }
         ensures state { self.new.state ≡ result.state }
+        ensures quiet { IsQuiet result }
+        ensures ending { IsEnding result }
     {
         self.parts.waits.state = State::Ended(Ending::Closed);
         Moved::stopped(State::Ended(Ending::Closed))
@@ -312,7 +327,7 @@ impl<J: Ground, S: Stream + Drop, O: MessageObserver + Drop> ServedConnection<J,
         ensures moments { result.served.moments ≡ self.moments }
         ensures number { result.served.seat.number ≡ self.seat.number }
         ensures submitted { IfSome (turn_of self.connection) (λ turn.
-            IfSome result.answered (λ answered. HasSubmitted R.is_in_memory J.base self.seat result.served.seat turn answered)) }
+            IfSome result.answered (λ answered. HasSubmitted R.is_in_memory J.base self.seat result.served.seat turns.old turns.new turn answered)) }
         ensures asked { self.state ≡ State.Turn → turn_of self.connection ≢ None → result.answered ≢ None }
         ensures entries { result.answered ≡ None → (result.served.seat ≡ self.seat) × (turns.new ≡ turns.old) }
     {
@@ -322,13 +337,16 @@ impl<J: Ground, S: Stream + Drop, O: MessageObserver + Drop> ServedConnection<J,
         AnsweredConnection { parts, answered }
     }
 
-    /// Gives its seat back to the roster that it is from, with the account of what it did. It takes no memory.
-    pub fn leave(self, roster: &mut Roster<J, Account>)
+    /// Gives its seat back to the roster that it is from, with the account of what it did, and hands its stream out. It takes no
+    /// memory.
+    pub fn leave(self, roster: &mut Roster<J, Account>) -> S
         requires out { is_out roster.old.numbers self.seat.number ≡ true }
         ensures gone { roster.new.gone
             ≡ roster.old.gone ++ record { number = self.seat.number; calls = self.seat.mine; seen = self.seat.seen; report = account_of self } ∷ [] }
         ensures out { (n : ℕ) → is_out roster.new.numbers n ≡ (if n == self.seat.number then false else is_out roster.old.numbers n) }
         ensures index { roster.new.index ≡ roster.old.index }
+        ensures stream { S.Device.traffic result ≡ self.traffic }
+        ensures named { self.traffic.name ≡ self.seat.number }
     {
         connections_have_written();
         let Parts {
@@ -344,11 +362,11 @@ impl<J: Ground, S: Stream + Drop, O: MessageObserver + Drop> ServedConnection<J,
         let telling = Telling {
             stream: &stream,
             moments: &moments,
-            ending: waits.state.ending(),
+            departure: waits.state.departure(),
         };
         roster.leave::<Telling<'_, S>, AsAccount<S>>(seat, &telling);
         drop(moments);
-        drop(stream);
+        stream
     }
 }
 
@@ -387,7 +405,7 @@ fn ask<J: Ground, R: Records + Drop>(
     state: State,
     turns: &mut Turns<'_, J, R>,
 ) -> Option<Result<Answer, NoMemory>>
-    ensures asked { IfSome result (IsAsked R.is_in_memory J.base driver.old driver.new seat.old seat.new) }
+    ensures asked { IfSome result (IsAsked R.is_in_memory J.base driver.old driver.new seat.old seat.new turns.old turns.new) }
     ensures waits { IfSome result (λ answered. state ≡ State.Turn) }
     ensures none { result ≡ None → (driver.new ≡ driver.old) × (seat.new ≡ seat.old) × (turns.new ≡ turns.old) }
     ensures has { state ≡ State.Turn → turn_of driver.old ≢ None → result ≢ None }

@@ -1,12 +1,12 @@
 //! A connection to its end.
 
-ghost use Rattle.std.specs.Prelude.{◌≡◌, ◌≢◌, ◌<◌, ℕ, List, [], length, false, None};
+ghost use Rattle.std.specs.Prelude.{◌≡◌, ◌≢◌, ◌<◌, ℕ, List, [], length, false, None, IfSome};
 ghost use Rattle.s3_config.specs.Settings.{Settings};
-ghost use Rattle.s3_connection.specs.Connection.{taken_of, wants_of};
+ghost use Rattle.s3_connection.specs.Connection.{taken_of, turn_of, wants_of};
 ghost use Rattle.s3_devices.specs.Device.{Traffic};
 ghost use Rattle.s3_devices.specs.Recorded.{no_traffic};
 ghost use Rattle.s3_driver.specs.Ended.{Ends, Fails};
-ghost use Rattle.s3_driver.specs.Served.{IsServed, StandsAt};
+ghost use Rattle.s3_driver.specs.Served.{HasCalled, HaveMore, IsServed, StandsAt};
 
 use crate::driver::Driver;
 use crate::handle::StoreHandle;
@@ -46,6 +46,7 @@ pub fn serve<R: Wait, N: StoreHandle, D: Device>(
     requires nothing { N.entries handle.old ≡ [] }
     requires room { 0 < length buffer.old }
     ensures ended { Ends config.now (D.traffic device.new) moments.new.entries (N.entries handle.new) result }
+    ensures moments { HaveMore now moments.old.entries moments.new.entries }
 
     // It ends at the first failure of its device.
     ensures fails { Fails result (D.traffic device.old) (D.traffic device.new) }
@@ -83,6 +84,7 @@ fn serve_on<R: Wait, N: StoreHandle, D: Device>(
     requires room { 0 < length buffer.old }
     ensures served { IsServed config.now driver.old (D.traffic device.old) moments.old.entries (N.entries handle.old)
         → IsServed config.now driver.new (D.traffic device.new) moments.new.entries (N.entries handle.new) }
+    ensures moments { HaveMore now moments.old.entries moments.new.entries }
     ensures stands { StandsAt (State.Ended result) driver.new }
     ensures fails { Fails result (D.traffic device.old) (D.traffic device.new) }
 {
@@ -126,6 +128,7 @@ fn answer_turn<N: StoreHandle>(alloc: Global, handle: &mut N, driver: &mut Drive
     ensures answered { (settings : Settings) (traffic : Traffic) (moments : List ℕ)
         → IsServed settings driver.old traffic moments (N.entries handle.old)
         → IsServed settings driver.new traffic moments (N.entries handle.new) }
+    ensures called { IfSome (turn_of driver.old) (HasCalled (N.may_lack handle.new) (N.entries handle.old) (N.entries handle.new) driver.old driver.new) }
 {
     if let Some(turn) = driver.take_turn() {
         let answered = handle.call(turn);

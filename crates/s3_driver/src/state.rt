@@ -1,7 +1,7 @@
 //! How a connection over a device stands.
 
 ghost use Rattle.std.specs.Prelude.{◌≡◌, true, false};
-ghost use Rattle.s3_driver.specs.Served.{ending_of, moved_then};
+ghost use Rattle.s3_driver.specs.Served.{departure_of, ending_of, moved_then};
 
 /// How a connection has ended.
 #[derive(Clone, Copy, PartialEq, Eq)]
@@ -12,6 +12,17 @@ pub enum Ending {
     ReadFailed,
     /// A write failed, or took nothing.
     WriteFailed,
+}
+
+/// How a connection left its worker.
+#[derive(Clone, Copy, PartialEq, Eq)]
+pub enum Departure {
+    /// There was no place or no memory for it: nothing was read and nothing written.
+    TurnedAway,
+    /// It was given up: its time was over, its place was wanted, or the server ended.
+    GivenUp,
+    /// It has ended so.
+    Ended(Ending),
 }
 
 /// What a connection over a device waits for, or how it has ended.
@@ -34,14 +45,16 @@ pub enum State {
 }
 
 impl State {
-    // How it has ended, if it has.
-    pub(crate) fn ending(self) -> Option<Ending>
-        ensures { result ≡ ending_of self }
+    // How one leaves that stands so.
+    pub(crate) fn departure(self) -> Departure
+        ensures { result ≡ departure_of (ending_of self) }
     {
         match self {
-            State::Ended(ending) => Some(ending),
-            State::Closing => Some(Ending::Closed),
-            State::Message | State::Head | State::Body | State::Turn | State::Room => None,
+            State::Ended(ending) => Departure::Ended(ending),
+            State::Closing => Departure::Ended(Ending::Closed),
+            State::Message | State::Head | State::Body | State::Turn | State::Room => {
+                Departure::GivenUp
+            }
         }
     }
 }

@@ -28,6 +28,14 @@ no_keys (k ∷ ks) none = absurd (let not = none k in let own = ap (λ (b : Bool
 pub none_out : (numbers : Numbered) → ((n : ℕ) → is_out numbers n ≡ false) → btree_set_len numbers.out ≡ 0
 none_out numbers none = no_keys numbers.out.keys none
 
+-- and where a set is empty, no number is in it
+no_key : (n : ℕ) (ks : List ℕ) → length ks ≡ 0 → list_any (is_at (nat_cmp n)) ks ≡ false
+no_key n [] none = refl
+no_key n (k ∷ ks) none = absurd (omega (arith, none))
+
+pub nobody_out : (numbers : Numbered) → btree_set_len numbers.out ≡ 0 → (n : ℕ) → is_out numbers n ≡ false
+nobody_out numbers none n = no_key n numbers.out.keys none
+
 -- a test of a place and of how many are out
 pub both_hold : (index place len : ℕ) (result : Bool) → result ≡ (eqb index place && eqb len 0) → index ≡ place → len ≡ 0 → result ≡ true
 both_hold index place len result is same none = grind (arith, nat_tests, is, same, none)
@@ -120,6 +128,7 @@ module _ {P : Type 0} (fits : P → List Entry → Type 0) (entries : List Recor
       let both = count_join roster.gone (all_gone back) in
       let less : roster.numbers.next ≤ first_of (index + 1) = omega (arith, few, place) in
       record {
+        all_back = (place, nobody_out roster.numbers nobody, others.all_back);
         shares = omega (arith, all, nobody, share_each, more_parts);
         given = omega (arith, given, others_given, both, more_counted);
         apart = apart_join (first_of roster.index) (first_of (index + 1)) roster.numbers roster.seen roster.gone (all_gone back) is.apart is.each less others.apart others.each;
@@ -129,4 +138,4 @@ module _ {P : Type 0} (fits : P → List Entry → Type 0) (entries : List Recor
 
   -- none has come back yet
   pub gathered_none : (index : ℕ) (parts counted : ℕ) → parts ≡ 0 → counted ≡ 0 → HasGathered fits entries index [] parts counted
-  gathered_none index parts counted no_parts nothing = record { shares = no_parts; given = nothing; apart = tt; each = tt }
+  gathered_none index parts counted no_parts nothing = record { all_back = tt; shares = no_parts; given = nothing; apart = tt; each = tt }

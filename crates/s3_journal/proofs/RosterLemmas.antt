@@ -113,3 +113,29 @@ module _ {P : Type 0} (fits : P → List Entry → Type 0) (base : Base) where
               (are_apart_push roster.gone g is.apart (is_apart fits (first_of roster.index) roster.numbers roster.seen seat.number roster.gone was is.each));
           each = subst (AreGone fits (first_of roster.index) new more) (sym added) (gone_push fits (first_of roster.index) new more roster.gone g others is_gone);
         }
+
+    -- one is back to whom nothing was given, whose number was out
+    pub roster_withdrawn : (new : Numbered) (seat : Seated) (shares counts parts' amount' : ℕ) (more : List Recorded) (origin' : Origin)
+        → new.next ≡ roster.numbers.next → ((n : ℕ) → is_out new n ≡ cond (eqb n seat.number) false (is_out roster.numbers n))
+        → btree_set_len new.out + 1 ≡ btree_set_len roster.numbers.out → seat.mine ≡ [] → IsSeat base seat base.origin shares counts
+        → IsPrefix roster.seen more → origin' ≡ origin → parts' ≡ parts + shares → amount' ≡ amount + counts
+        → IsRoster fits base (record { index = roster.index; numbers = new; gone = roster.gone; seen = more }) origin' parts' amount'
+    roster_withdrawn new seat shares counts parts' amount' more origin' next out len unused is_seat known same more_parts more_amount =
+        let came = is.came in
+        let few = is.few in
+        let all = is.parts in
+        let one = is_seat.one in
+        let own = is_seat.count in
+        let nothing = ap length unused in
+        let given = is.given in
+        record {
+          same = same ∙ is.same;
+          came = omega (arith, came, next, len);
+          few = omega (arith, few, next);
+          own = λ (n : ℕ) (now : is_out new n ≡ true). is.own n (was_out (eqb n seat.number) (is_out roster.numbers n) (sym (out n) ∙ now));
+          parts = omega (arith, all, len, more_parts, one);
+          given = omega (arith, given, more_amount, own, nothing);
+          apart = is.apart;
+          each = gone_learned fits (first_of roster.index) new roster.seen more roster.gone known
+              (gone_taken fits (first_of roster.index) roster.numbers new seat.number roster.seen roster.gone next out is.each);
+        }

@@ -80,11 +80,12 @@ module _ {P : Type 0} (fits : P → List Entry → Type 0) where
   AreGone first numbers seen [] = Unit {0}
   AreGone first numbers seen (g ∷ gone) = IsGone first numbers seen g × AreGone first numbers seen gone
 
-  -- What a roster keeps: each number that it gave is that of one who is out or has left, and at least one is never given; each of its
-  -- shares is that of one who is out, or its own; and its own count the entries of those who have left.
+  -- What a roster keeps: each who is out or has left has a number of its own among those that it gave, of which some may have been given
+  -- in vain, and at least one is never given; each of its shares is that of one who is out, or its own; and its own count the entries of
+  -- those who have left.
   pub record IsRoster (base : Base) (roster : Rostered P) (origin : Origin) (shares counted : ℕ) : Type 0 where
     pub same : origin ≡ base.origin
-    pub came : roster.numbers.next ≡ first_of roster.index + (btree_set_len roster.numbers.out + length roster.gone)
+    pub came : first_of roster.index + (btree_set_len roster.numbers.out + length roster.gone) ≤ roster.numbers.next
     pub few : roster.numbers.next < first_of roster.index + seats_each
     pub own : (n : ℕ) → is_out roster.numbers n ≡ true → first_of roster.index ≤ n
     pub parts : shares + btree_set_len roster.numbers.out ≡ seats_each
@@ -113,9 +114,10 @@ module _ {P : Type 0} (fits : P → List Entry → Type 0) where
   AreGathered entries first [] = Unit {0}
   AreGathered entries first (g ∷ gone) = IsBack entries first g × AreGathered entries first gone
 
-  -- What is known when the last of all rosters were taken back, from this index on: all their shares, which count the entries of those
-  -- who had left them, whose numbers differ.
+  -- What is known when the last of all rosters were taken back, from this index on: each was at its place with nobody out; and all their
+  -- shares, which count the entries of those who had left them, whose numbers differ.
   pub record HasGathered (entries : List Recorded) (index : ℕ) (back : List (Rostered P)) (parts counted : ℕ) : Type 0 where
+    pub all_back : AreBack index back
     pub shares : parts ≡ length back * seats_each
     pub given : counted ≡ count_of (all_gone back)
     pub apart : AreApart (all_gone back)

@@ -97,11 +97,12 @@ impl<J: Ground, R: Records + Drop> Desk<J, R> {
     /// Ends the desk, to which all rosters come back, and hands out its book with what the rosters knew.
     ///
     /// The book's history is legal. It has of each who has left just the entries that this was given, in their order, and no
-    /// others. It waits for nobody, compares no entries, and takes no memory. `None` comes only where a roster is missing or not at
-    /// its place, or where somebody who came to one is still out; nothing is left of the desk then.
+    /// others. It waits for nobody, compares no entries, and takes no memory. `None` comes where a roster is not at its place or
+    /// somebody who came to one is still out, and else only where one is missing; nothing is left of the desk then.
     pub fn close<P: Report>(self, rosters: Vec<Roster<J, P>>) -> Option<Closed<J, R, P>>
         ensures closed { IfSome result (λ closed. IsClosed (P.fits J.base) J.base closed.book (all_gone rosters.items)) }
         ensures rosters { IfSome result (λ closed. closed.rosters.value ≡ rosters) }
+        ensures back { IfSome result (λ closed. AreBack 0 rosters.items) }
         ensures some { AreBack 0 rosters.items → length rosters.items * seats_each ≡ J.parts → IsSome result }
     {
         let Desk { room } = self;

@@ -119,6 +119,7 @@ impl<J: Ground, R: Records + Drop> Room<J, R> {
     pub(crate) fn close<P: Report>(self, rosters: Vec<Roster<J, P>>) -> Option<Closed<J, R, P>>
         ensures closed { IfSome result (λ closed. IsClosed (P.fits J.base) J.base closed.book (all_gone rosters.items)) }
         ensures rosters { IfSome result (λ closed. closed.rosters.value ≡ rosters) }
+        ensures back { IfSome result (λ closed. AreBack 0 rosters.items) }
         ensures some { AreBack 0 rosters.items → length rosters.items * seats_each ≡ J.parts → IsSome result }
     {
         if rosters.len() != usize::from(self.rosters) {
@@ -133,6 +134,7 @@ impl<J: Ground, R: Records + Drop> Room<J, R> {
     fn into_book<P: Report>(self, rosters: Vec<Roster<J, P>>) -> Option<Book<R>>
         requires all { length rosters.items * seats_each ≡ J.parts }
         ensures closed { IfSome result (λ book. IsClosed (P.fits J.base) J.base book (all_gone rosters.items)) }
+        ensures back { IfSome result (λ book. AreBack 0 rosters.items) }
         ensures some { AreBack 0 rosters.items → IsSome result }
     {
         let Room {

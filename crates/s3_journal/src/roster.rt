@@ -140,6 +140,23 @@ impl<J: Ground, P: Report> Roster<J, P> {
         self.share.merge(share);
     }
 
+    /// Takes back a seat to which nobody has come: it was given nothing, and leaves no account. Its number isn't given again. It takes
+    /// no memory.
+    pub fn take_unused(&mut self, seat: Seat<J>)
+        requires unused { seat.mine ≡ [] }
+        requires out { is_out self.old.numbers seat.number ≡ true }
+        ensures gone { self.new.gone ≡ self.old.gone }
+        ensures out { (n : ℕ) → is_out self.new.numbers n ≡ (if n == seat.number then false else is_out self.old.numbers n) }
+        ensures index { self.new.index ≡ self.old.index }
+        ensures known { IsPrefix self.old.seen self.new.seen }
+        ensures learned { IsPrefix seat.seen self.new.seen }
+    {
+        let (number, _, known, share) = seat.into_parts();
+        self.numbers.take(number);
+        self.known.learn(&known);
+        self.share.merge(share);
+    }
+
     // Whether it is the roster of this index, and nobody who came to it is out.
     pub(crate) fn is_back(&self, index: usize) -> bool
         ensures { result ≡ (self.now.index == index && btree_set_len self.now.numbers.out == 0) }

@@ -1,5 +1,5 @@
 -- What a desk leaves is what its server has done; what a server tells, one line after the other.
-use Rattle.std.proofs.Common.{◌≡◌, ℕ, List, [], ◌++◌, Some, None, Option, Result, Ok, Err, length, take, inl, inr, ap, ◌∙◌, refl, sym, subst, arith, append-nil}
+use Rattle.std.proofs.Common.{◌≡◌, ◌+◌, ℕ, List, [], ◌∷◌, ◌++◌, append_assoc, Some, None, Option, Result, Ok, Err, length, take, inl, inr, ap, ◌∙◌, refl, sym, subst, arith, append-nil}
 use Rattle.std.proofs.KnownBytes.{Appends-trans}
 use Rattle.std.proofs.Math.Seq.{take-append-add}
 use Rattle.std.proofs.Transfers.{starts_with_length}
@@ -19,20 +19,26 @@ use Rattle.s3_journal.specs.Book.{Journal}
 use Rattle.s3_journal.specs.Recorded.{history_of}
 use Rattle.s3_journal.specs.Desk.{Base}
 use Rattle.s3_journal.specs.Gone.{Gone, AreWhole, IsClosed}
+use Rattle.s3_journal.specs.Roster.{AreBack, AreNew, NobodyIsOut, Rostered, all_gone}
+use Rattle.s3_devices.specs.Device.{Traffic}
 use Rattle.s3_driver.specs.Account.{Account, Fits}
+use Rattle.s3_sockets.specs.Door.{AreNamed, HasPassed, Passed, numbers_of, once_if, times, traffic_told}
+use Rattle.s3_sockets.specs.Network.{AllAreClosed, Networked, all_back, all_handed}
 use Rattle.s3_settings.specs.declared.options.ServeOptions.{ServeOptions}
 use Rattle.s3_settings.specs.declared.server.ServeMode.{ServeMode}
 use Rattle.s3_settings.specs.Server.{IsServer}
-use Rattle.s3_server.specs.Served.{HasServed, HasServedAs, HasServedAndTold, IsToldInPart, IsToldPlace, address_line, entries_line}
+use Rattle.s3_server.specs.Served.{AllHavePassed, AreFresh, HasLeft, HasListened, HasServed, HasServedAs, HasServedAndTold, HasWorked, HaveClosed, IsToldInPart, IsToldPlace, ServerRun, address_line, entries_line}
 
-pub has_served : (settings : Settings) (base : Base) (book : Journal) (gone : List (Gone Account)) (entries : ℕ) → IsClosed (Fits base.settings) base book gone
-    → base.settings ≡ settings → base.store ≡ opened (opening settings.buckets) → entries ≡ length book.entries → HasServed settings entries
-has_served settings base book gone entries closed same store counted =
+-- what a desk left
+pub has_left : (settings : Settings) (base : Base) (book : Journal) (gone : List (Gone Account)) (earlier later : List ServerRun) (entries : ℕ)
+    → IsClosed (Fits base.settings) base book gone → base.settings ≡ settings → base.store ≡ opened (opening settings.buckets)
+    → later ≡ earlier ++ record { history = book.entries; gone = gone } ∷ [] → entries ≡ length book.entries → HasLeft settings gone earlier later entries
+has_left settings base book gone earlier later entries closed same store told counted =
     let rules : book.rules ≡ rules_of settings = closed.continues.rules ∙ ap rules_of same in
     let from : book.opening ≡ opened (opening settings.buckets) = closed.continues.store ∙ store in
     record {
       history = book.entries;
-      connections = gone;
+      reported = told;
       legal = subst (λ (r : Rules). Legal r (opening settings.buckets) 0 (history_of book.entries)) rules
           (subst (λ (s : Standing). Legal book.rules s.state s.number (history_of book.entries)) from closed.keeps.legal);
       apart = closed.apart;
@@ -40,6 +46,133 @@ has_served settings base book gone entries closed same store counted =
       count = closed.count;
       counted = sym counted;
     }
+
+-- ---- doors
+
+times_join : (n : ℕ) (some more : List ℕ) → times n (some ++ more) ≡ times n some + times n more
+times_join n [] more = omega arith
+times_join n (m ∷ some) more = let rest = times_join n some more in omega (arith, rest)
+
+numbers_join : (some more : List (Gone Account)) → numbers_of (some ++ more) ≡ numbers_of some ++ numbers_of more
+numbers_join [] more = refl
+numbers_join (g ∷ some) more = ap (λ (ns : List ℕ). g.number ∷ ns) (numbers_join some more)
+
+told_join : (some more : List (Gone Account)) → traffic_told (some ++ more) ≡ traffic_told some ++ traffic_told more
+told_join [] more = refl
+told_join (g ∷ some) more = ap (λ (ts : List Traffic). g.report.traffic ∷ ts) (told_join some more)
+
+named_join : (some more : List (Gone Account)) → AreNamed some → AreNamed more → AreNamed (some ++ more)
+named_join [] more one two = two
+named_join (g ∷ some) more one two = (one.0, named_join some more one.1 two)
+
+-- where nobody is out, the sockets that doors handed out are those of the accounts
+all_counted : (index : ℕ) (doors : List Passed) (rosters : List (Rostered Account)) → AllHavePassed doors rosters → AreBack index rosters
+    → (n : ℕ) → times n (all_handed doors) ≡ times n (numbers_of (all_gone rosters))
+all_counted index [] [] passed back n = refl
+all_counted index [] (roster ∷ rosters) passed back n = absurd passed
+all_counted index (door ∷ doors) [] passed back n = absurd passed
+all_counted index (door ∷ doors) (roster ∷ rosters) passed back n =
+    let here = passed.0.each n in
+    let none = ap once_if (back.1 n) in
+    let rest = all_counted (index + 1) doors rosters passed.1 back.2 n in
+    let handed = times_join n door.handed (all_handed doors) in
+    let gone = ap (times n) (numbers_join roster.gone (all_gone rosters)) ∙ times_join n (numbers_of roster.gone) (numbers_of (all_gone rosters)) in
+    omega (arith, here, none, rest, handed, gone)
+
+all_told : (doors : List Passed) (rosters : List (Rostered Account)) → AllHavePassed doors rosters → all_back doors ≡ traffic_told (all_gone rosters)
+all_told [] [] passed = refl
+all_told [] (roster ∷ rosters) passed = absurd passed
+all_told (door ∷ doors) [] passed = absurd passed
+all_told (door ∷ doors) (roster ∷ rosters) passed =
+    ap (λ (ts : List Traffic). ts ++ all_back doors) passed.0.back ∙ ap (λ (ts : List Traffic). traffic_told roster.gone ++ ts) (all_told doors rosters passed.1)
+    ∙ sym (told_join roster.gone (all_gone rosters))
+
+all_named : (doors : List Passed) (rosters : List (Rostered Account)) → AllHavePassed doors rosters → AreNamed (all_gone rosters)
+all_named [] [] passed = tt
+all_named [] (roster ∷ rosters) passed = absurd passed
+all_named (door ∷ doors) [] passed = absurd passed
+all_named (door ∷ doors) (roster ∷ rosters) passed = named_join roster.gone (all_gone rosters) passed.0.named (all_named doors rosters passed.1)
+
+has_worked : (settings : Settings) (before after : Networked) (earlier later : List ServerRun) (rosters : List (Rostered Account)) (entries : ℕ)
+    → HasLeft settings (all_gone rosters) earlier later entries → HaveClosed before after rosters → AreBack 0 rosters → AllAreClosed after
+    → HasWorked settings before after earlier later entries
+has_worked settings before after earlier later rosters entries left have back closed = record {
+  gone = all_gone rosters;
+  left = left;
+  doors = have.doors;
+  passed = have.passed;
+  closed = closed;
+  handed = all_counted 0 have.doors rosters have.each back;
+  back = all_told have.doors rosters have.each;
+  named = all_named have.doors rosters have.each;
+  asked = have.asked;
+}
+
+-- where it answers how many entries there are
+pub worked_so : {E : Type 0} (r : Result ℕ E) (settings : Settings) (before after : Networked) (earlier later : List ServerRun) (rosters : List (Rostered Account))
+    → IfOk r (HasLeft settings (all_gone rosters) earlier later) → OnOk r (AreBack 0 rosters) → HaveClosed before after rosters → AllAreClosed after
+    → IfOk r (HasWorked settings before after earlier later)
+worked_so (Ok entries) settings before after earlier later rosters left back have closed =
+    has_worked settings before after earlier later rosters entries left have back closed
+worked_so (Err e) settings before after earlier later rosters left back have closed = tt
+
+-- it listened before
+pub has_served : (settings : Settings) (address : List ℕ) (before between after : Networked) (earlier later : List ServerRun) (entries : ℕ)
+    → HasListened address before between → HasWorked settings between after earlier later entries → HasServed settings address before after earlier later entries
+has_served settings address before between after earlier later entries listened worked = record {
+  run = record { history = worked.left.history; gone = worked.gone };
+  reported = worked.left.reported;
+  asked = worked.asked ∙ listened.asked;
+  doors = worked.doors;
+  passed = worked.passed ∙ ap (λ (ps : List Passed). ps ++ worked.doors) listened.closed;
+  closed = worked.closed;
+  handed = worked.handed;
+  back = worked.back;
+  named = worked.named;
+  legal = worked.left.legal;
+  apart = worked.left.apart;
+  each = worked.left.each;
+  count = worked.left.count;
+  counted = worked.left.counted;
+}
+
+-- doors are closed one after another
+passed_push : (doors : List Passed) (rosters : List (Rostered Account)) (door : Passed) (roster : Rostered Account) → AllHavePassed doors rosters → HasPassed door roster
+    → AllHavePassed (doors ++ door ∷ []) (rosters ++ roster ∷ [])
+passed_push [] [] door roster have is = (is, tt)
+passed_push [] (first ∷ rosters) door roster have is = absurd have
+passed_push (first ∷ doors) [] door roster have is = absurd have
+passed_push (first ∷ doors) (other ∷ rosters) door roster have is = (have.0, passed_push doors rosters door roster have.1 is)
+
+pub closed_none : (network : Networked) (rosters : List (Rostered Account)) → rosters ≡ [] → HaveClosed network network rosters
+closed_none network rosters none = record {
+  doors = [];
+  passed = sym (append-nil network.closed);
+  each = subst (AllHavePassed []) (sym none) tt;
+  asked = refl;
+}
+
+pub closed_more : (before between after : Networked) (some more : List (Rostered Account)) (door : Passed) (roster : Rostered Account) → HaveClosed before between some
+    → after.closed ≡ between.closed ++ door ∷ [] → after.asked ≡ between.asked → HasPassed door roster → more ≡ some ++ roster ∷ [] → HaveClosed before after more
+closed_more before between after some more door roster have noted asked is added = record {
+  doors = have.doors ++ door ∷ [];
+  passed = noted ∙ ap (λ (ps : List Passed). ps ++ door ∷ []) have.passed ∙ append_assoc before.closed have.doors (door ∷ []);
+  each = subst (AllHavePassed (have.doors ++ door ∷ [])) (sym added) (passed_push have.doors some door roster have.each is);
+  asked = asked ∙ have.asked;
+}
+
+-- ---- rosters to which nobody has come
+
+pub fresh_from : (index : ℕ) (rosters : List (Rostered Account)) → AreNew index rosters → AreFresh rosters
+fresh_from index [] are = tt
+fresh_from index (roster ∷ rosters) are = (are.0.nobody, are.0.nobody_left, fresh_from (index + 1) rosters are.1)
+
+pub fresh_last : (rosters : List (Rostered Account)) (roster : Rostered Account) → AreFresh (rosters ++ roster ∷ [])
+    → NobodyIsOut roster × (roster.gone ≡ []) × AreFresh rosters
+fresh_last [] roster are = (are.0, are.1, tt)
+fresh_last (first ∷ rosters) roster are =
+    let rest = fresh_last rosters roster are.2 in
+    (rest.0, rest.1, (are.0, are.1, rest.2))
 
 -- ---- what is told
 
@@ -101,11 +234,12 @@ place_alone (Err e) before after told =
     )
 
 -- the second line after the first, or a beginning of it
-pub lines_told : {T E : Type 0} (r : Result T E) (settings : Settings) (entries : ℕ) (before between after : Option (List ℕ)) → HasServed settings entries
-    → IsToldPlace before between → OnOk r (Appends between after (entries_line entries)) → OnOk r (HasServedAndTold settings before after)
-lines_told (Ok x) settings entries before between after served place told =
+pub lines_told : {T E : Type 0} (r : Result T E) (settings : Settings) (address : List ℕ) (old new : Networked) (earlier later : List ServerRun) (entries : ℕ)
+    (before between after : Option (List ℕ)) → HasServed settings address old new earlier later entries
+    → IsToldPlace before between → OnOk r (Appends between after (entries_line entries)) → OnOk r (HasServedAndTold settings address old new earlier later before after)
+lines_told (Ok x) settings address old new earlier later entries before between after served place told =
     (entries, served, (place.0, Appends-trans before between after (address_line place.0) (entries_line entries) place.1 told))
-lines_told (Err e) settings entries before between after served place told = tt
+lines_told (Err e) settings address old new earlier later entries before between after served place told = tt
 
 pub lines_begun : {T E : Type 0} (r : Result T E) (entries : ℕ) (before between after : Option (List ℕ)) → IsToldPlace before between
     → OnErr r (AppendsBeginning between after (entries_line entries)) → OnErr r (IsToldInPart before after)
@@ -122,16 +256,22 @@ lines_begun (Err e) entries before between after place part =
     )
 
 -- the same with the options
-pub served_as : {T E : Type 0} (r : Result T E) (known : List ℕ → Option (List ℕ)) (o : ServeOptions) (mode : ServeMode) (settings : Settings) (before after : Option (List ℕ))
-    → IsServer known o mode settings → OnOk r (HasServedAndTold settings before after) → OnOk r (HasServedAs known o before after)
-served_as (Ok x) known o mode settings before after asked (entries, served, lines) =
+pub served_as : {T E : Type 0} (r : Result T E) (known : List ℕ → Option (List ℕ)) (o : ServeOptions) (mode : ServeMode) (settings : Settings)
+    (old new : Networked) (earlier later : List ServerRun) (before after : Option (List ℕ))
+    → IsServer known o mode settings → OnOk r (HasServedAndTold settings mode.address.now old new earlier later before after)
+    → OnOk r (HasServedAs known o old new earlier later before after)
+served_as (Ok x) known o mode settings old new earlier later before after asked (entries, served, lines) =
     record { mode = mode; settings = settings; entries = entries; place = lines.0; asked = asked; served = served; told = lines.1 }
-served_as (Err e) known o mode settings before after asked all = tt
+served_as (Err e) known o mode settings old new earlier later before after asked all = tt
 
 -- the number of the entries, with another reason why there is none
-pub served_still : {E F : Type 0} (entries : Result ℕ E) (r : Result ℕ F) (settings : Settings) → IfOk entries (HasServed settings) → IfOk r (λ count. entries ≡ Ok count) → IfOk r (HasServed settings)
-served_still {E = E} entries (Ok count) settings served same = subst (λ (e : Result ℕ E). IfOk e (HasServed settings)) same served
-served_still {E = E} entries (Err e) settings served same = tt
+pub served_still : {E F : Type 0} (entries : Result ℕ E) (r : Result ℕ F) (settings : Settings) (address : List ℕ) (before between after : Networked) (earlier later : List ServerRun)
+    → HasListened address before between → IfOk entries (HasWorked settings between after earlier later) → IfOk r (λ count. entries ≡ Ok count)
+    → IfOk r (HasServed settings address before after earlier later)
+served_still {E = E} entries (Ok count) settings address before between after earlier later listened worked same =
+    has_served settings address before between after earlier later count listened
+    (subst (λ (e : Result ℕ E). IfOk e (HasWorked settings between after earlier later)) same worked)
+served_still {E = E} entries (Err e) settings address before between after earlier later listened worked same = tt
 
 pub ruleset telling = (nothing_told, nothing_begun, begun_still, place_still, place_told, place_begun, place_alone, lines_told, lines_begun, served_as, served_still)
 

@@ -13,22 +13,46 @@ use Rattle.s3_machine.specs.History.{Legal}
 use Rattle.s3_machine.specs.Rules.{rules_of}
 use Rattle.s3_journal.specs.Recorded.{Recorded, history_of}
 use Rattle.s3_journal.specs.Gone.{Gone, AreApart, AreWhole, count_of}
+use Rattle.s3_journal.specs.Roster.{NobodyIsOut, Rostered}
 use Rattle.s3_settings.specs.declared.server.ServeMode.{ServeMode}
 use Rattle.s3_settings.specs.Server.{IsServer}
 use Rattle.s3_driver.specs.Account.{Account, Fits}
+use Rattle.s3_sockets.specs.Door.{AreNamed, HasPassed, Passed, numbers_of, times, traffic_told}
+use Rattle.s3_sockets.specs.Network.{AllAreClosed, Networked, all_back, all_handed}
 
--- There is one legal history, from the store with the first buckets on, of so many entries. Each connection has a number of its own;
--- the entries of this number are just those that its commands made, in their order; its account fits them: what it wrote is, message
--- by message, the printed answer of an entry or a refusal, for the bytes that it was given, whole where it was closed, and else a
--- beginning of that. And there are no other entries.
-pub record HasServed (settings : Settings) (entries : ℕ) : Type 0 where
+-- what a server has done that has ended: the history of its store, and the connections that have left it
+pub record ServerRun : Type 0 where
   pub history : List Recorded
-  pub connections : List (Gone Account)
-  pub legal : Legal (rules_of settings) (opening settings.buckets) 0 (history_of history)
-  pub apart : AreApart connections
-  pub each : AreWhole (Fits settings) history connections
-  pub count : length history ≡ count_of connections
-  pub counted : length history ≡ entries
+  pub gone : List (Gone Account)
+
+abbrev pub nothing_done : ServerRun
+nothing_done = record { history = []; gone = [] }
+
+-- A server has served, by what the network was asked and what its doors did, and by what was reported of it, over what there was before
+-- and after. It was asked to listen on this address, and all its doors are closed.
+--
+-- The sockets that they handed out are those of the accounts, each once. Each was taken back, and its account has just the traffic that
+-- it had then, under its own name.
+--
+-- The history is legal, from the store with the first buckets on, and has so many entries. Each connection has a number of its own; the
+-- entries of this number are just those that its commands made, in their order; its account fits them: what it wrote is, message by
+-- message, the printed answer of an entry or a refusal, for the bytes that it was given, whole where it was closed, and else a beginning
+-- of that. And there are no other entries.
+pub record HasServed (settings : Settings) (address : List ℕ) (before after : Networked) (earlier later : List ServerRun) (entries : ℕ) : Type 0 where
+  pub run : ServerRun
+  pub reported : later ≡ earlier ++ run ∷ []
+  pub asked : after.asked ≡ before.asked ++ address ∷ []
+  pub doors : List Passed
+  pub passed : after.closed ≡ before.closed ++ doors
+  pub closed : AllAreClosed after
+  pub handed : (n : ℕ) → times n (all_handed doors) ≡ times n (numbers_of run.gone)
+  pub back : all_back doors ≡ traffic_told run.gone
+  pub named : AreNamed run.gone
+  pub legal : Legal (rules_of settings) (opening settings.buckets) 0 (history_of run.history)
+  pub apart : AreApart run.gone
+  pub each : AreWhole (Fits settings) run.history run.gone
+  pub count : length run.history ≡ count_of run.gone
+  pub counted : length run.history ≡ entries
 
 -- the line that tells where the server listens
 abbrev pub address_line : SocketAddr → List ℕ
@@ -38,16 +62,17 @@ address_line place = codes "listening " ++ socket_text place ++ line_feed ∷ []
 abbrev pub entries_line : ℕ → List ℕ
 entries_line entries = codes "entries " ++ decimal entries ++ line_feed ∷ []
 
--- so with the settings that the options ask for; and the output, over what it holds before and after, gained two lines: an address,
--- and the number of the entries
-pub record HasServedAs (known : List ℕ → Option (List ℕ)) (o : ServeOptions) (before after : Option (List ℕ)) : Type 0 where
+-- so with the settings and on the address that the options ask for; and the output, over what it holds before and after, gained two
+-- lines: an address, and the number of the entries
+pub record HasServedAs (known : List ℕ → Option (List ℕ)) (o : ServeOptions) (before after : Networked) (earlier later : List ServerRun)
+    (held holds : Option (List ℕ)) : Type 0 where
   pub mode : ServeMode
   pub settings : Settings
   pub entries : ℕ
   pub place : SocketAddr
   pub asked : IsServer known o mode settings
-  pub served : HasServed settings entries
-  pub told : Appends before after (address_line place ++ entries_line entries)
+  pub served : HasServed settings mode.address.now before after earlier later entries
+  pub told : Appends held holds (address_line place ++ entries_line entries)
 
 -- the output gained a beginning of two such lines: nothing, or with the address of some place
 abbrev pub IsToldInPart : Option (List ℕ) → Option (List ℕ) → Type 0
@@ -66,5 +91,51 @@ abbrev pub IsToldLines : ℕ → Option (List ℕ) → Option (List ℕ) → Typ
 IsToldLines entries before after = (place : SocketAddr) × Appends before after (address_line place ++ entries_line entries)
 
 -- the server has served, and told both lines
-abbrev pub HasServedAndTold : Settings → Option (List ℕ) → Option (List ℕ) → Type 0
-HasServedAndTold settings before after = (entries : ℕ) × HasServed settings entries × IsToldLines entries before after
+abbrev pub HasServedAndTold : Settings → List ℕ → Networked → Networked → List ServerRun → List ServerRun → Option (List ℕ) → Option (List ℕ) → Type 0
+HasServedAndTold settings address before after earlier later held holds =
+    (entries : ℕ) × HasServed settings address before after earlier later entries × IsToldLines entries held holds
+
+-- doors were closed whose rosters are these, each with what its door did
+abbrev pub AllHavePassed : List Passed → List (Rostered Account) → Type 0
+AllHavePassed [] [] = Unit {0}
+AllHavePassed [] (roster ∷ rosters) = ⊥
+AllHavePassed (passed ∷ doors) [] = ⊥
+AllHavePassed (passed ∷ doors) (roster ∷ rosters) = HasPassed passed roster × AllHavePassed doors rosters
+
+pub record HaveClosed (before after : Networked) (rosters : List (Rostered Account)) : Type 0 where
+  pub doors : List Passed
+  pub passed : after.closed ≡ before.closed ++ doors
+  pub each : AllHavePassed doors rosters
+  pub asked : after.asked ≡ before.asked
+
+-- a desk left a history and these connections, which is reported
+pub record HasLeft (settings : Settings) (gone : List (Gone Account)) (earlier later : List ServerRun) (entries : ℕ) : Type 0 where
+  pub history : List Recorded
+  pub reported : later ≡ earlier ++ record { history = history; gone = gone } ∷ []
+  pub legal : Legal (rules_of settings) (opening settings.buckets) 0 (history_of history)
+  pub apart : AreApart gone
+  pub each : AreWhole (Fits settings) history gone
+  pub count : length history ≡ count_of gone
+  pub counted : length history ≡ entries
+
+-- a server has served on an address on which it was asked to listen before
+pub record HasWorked (settings : Settings) (before after : Networked) (earlier later : List ServerRun) (entries : ℕ) : Type 0 where
+  pub gone : List (Gone Account)
+  pub left : HasLeft settings gone earlier later entries
+  pub doors : List Passed
+  pub passed : after.closed ≡ before.closed ++ doors
+  pub closed : AllAreClosed after
+  pub handed : (n : ℕ) → times n (all_handed doors) ≡ times n (numbers_of gone)
+  pub back : all_back doors ≡ traffic_told gone
+  pub named : AreNamed gone
+  pub asked : after.asked ≡ before.asked
+
+-- it was asked to listen on an address, and no door was closed
+pub record HasListened (address : List ℕ) (before after : Networked) : Type 0 where
+  pub asked : after.asked ≡ before.asked ++ address ∷ []
+  pub closed : after.closed ≡ before.closed
+
+-- rosters to which nobody has come
+abbrev pub AreFresh : List (Rostered Account) → Type 0
+AreFresh [] = Unit {0}
+AreFresh (roster ∷ rosters) = NobodyIsOut roster × (roster.gone ≡ []) × AreFresh rosters

@@ -1,11 +1,9 @@
 //! How a worker takes the connections that come, and finds places for them.
 
 use crate::worker::{Now, Worker};
-use mio::net::{TcpListener, TcpStream};
-use mio::{Interest, Poll, Token};
-use s3_sockets::{Service, Socket};
-use std::io::{self, ErrorKind};
-use std::net::{self, Net};
+use mio::Token;
+use s3_sockets::Service;
+use std::io::ErrorKind;
 use std::time::{Duration, Instant};
 
 /// The token of the listener; no worker has so many places.
@@ -26,22 +24,21 @@ enum Stance {
 }
 
 /// The connections that come to a worker.
-#[derive(Drop)]
-pub(crate) struct Arrivals {
+pub(crate) struct Arrivals<S: Service> {
     // Whether connections may wait to be taken; whether the listener has reported one since the last try; and whether
     // one that is held may be let go for such a one.
     pub(crate) has_waiting: bool,
     is_reported: bool,
     may_make_room: bool,
     // One that was taken, and has no place yet; and whether the other workers were asked for one.
-    taken: Option<TcpStream>,
+    taken: Option<S::Arrival>,
     has_asked: bool,
     stance: Stance,
 }
 
-impl Arrivals {
+impl<S: Service> Arrivals<S> {
     /// Some may wait.
-    pub(crate) fn new() -> Arrivals {
+    pub(crate) fn new() -> Arrivals<S> {
         Arrivals {
             has_waiting: true,
             is_reported: false,
@@ -74,10 +71,23 @@ impl Arrivals {
         self.may_make_room = true;
     }
 
+    /// The one that was taken, if one was.
+    pub(crate) fn into_taken(self) -> Option<S::Arrival> {
+        let Arrivals {
+            has_waiting: _,
+            is_reported: _,
+            may_make_room: _,
+            taken,
+            has_asked: _,
+            stance: _,
+        } = self;
+        taken
+    }
+
     // Whether the peer of the one that was taken has gone.
     fn is_nobody_there(&self) -> bool {
         match &self.taken {
-            Some(stream) => has_gone(stream),
+            Some(arrival) => S::has_gone(arrival),
             None => true,
         }
     }
@@ -114,17 +124,38 @@ impl<S: Service> Worker<'_, S> {
         if self.arrivals.has_one() {
             return;
         }
-        match self.listener.accept() {
-            Ok((stream, _)) => {
-                self.arrivals.taken = Some(stream);
+        match S::accept(&mut self.held.door) {
+            Ok(arrival) => {
+                self.keep(arrival);
                 self.arrivals.may_make_room = true;
             }
-            Err(error) => {
-                self.arrivals.has_waiting = self.recover(error.kind(), now);
+            Err(refused) => {
+                self.arrivals.has_waiting = self.recover(refused, now);
                 self.arrivals.stance = Stance::Shares;
             }
         }
         self.arrivals.is_reported = false;
+    }
+
+    // Keeps one that was taken until there is a place for it. None is kept already.
+    fn keep(&mut self, arrival: S::Arrival) {
+        match self.arrivals.taken.replace(arrival) {
+            Some(before) => self.turn_away(before),
+            None => {}
+        }
+    }
+
+    // Has one leave that was taken, and for which there is no place.
+    fn turn_away(&mut self, arrival: S::Arrival) {
+        self.service.turn_away(arrival, &mut self.held.door);
+    }
+
+    // Has the one leave that is kept, if one is.
+    fn turn_away_kept(&mut self) {
+        match self.arrivals.taken.take() {
+            Some(arrival) => self.turn_away(arrival),
+            None => {}
+        }
     }
 
     // Does what can be done where one was refused so, and answers whether one may be taken at once. Beside what passes
@@ -164,17 +195,13 @@ impl<S: Service> Worker<'_, S> {
 
     // Has the listener report who waits already. If the system can't, the next look tries again.
     fn ask_who_waits(&mut self) {
-        drop(
-            self.poll
-                .registry()
-                .reregister(&mut self.listener, LISTENER, Interest::READABLE),
-        );
+        S::report_waiting(&mut self.held.door, self.poll.registry(), LISTENER);
     }
 
     // Lets the connection in that was taken, if there is a place for it; where the server takes no more, it ends.
     fn let_in(&mut self, now: &Now) {
         if self.places.is_full() {
-            self.arrivals.taken = None;
+            self.turn_away_kept();
         }
         if !self.arrivals.has_one() {
             self.ask_no_more();
@@ -188,7 +215,7 @@ impl<S: Service> Worker<'_, S> {
     // Holds the connection that was taken, for which a place is taken.
     fn take_in(&mut self, now: &Now) {
         let is_held = match self.arrivals.taken.take() {
-            Some(stream) => self.hold(stream, now),
+            Some(arrival) => self.hold(arrival, now),
             None => false,
         };
         if !is_held {
@@ -197,14 +224,15 @@ impl<S: Service> Worker<'_, S> {
     }
 
     // Holds this connection, which is counted, and answers whether it does.
-    fn hold(&mut self, stream: TcpStream, now: &Now) -> bool {
+    fn hold(&mut self, arrival: S::Arrival, now: &Now) -> bool {
         let Some(number) = self.places.count_one() else {
+            self.turn_away(arrival);
             return false;
         };
         self.held.hold(
             self.service,
             self.poll.registry(),
-            Socket::new(stream),
+            arrival,
             number,
             now.instant,
         )
@@ -221,7 +249,7 @@ impl<S: Service> Worker<'_, S> {
             return true;
         }
         if self.arrivals.is_nobody_there() {
-            self.arrivals.taken = None;
+            self.turn_away_kept();
             let _ = self.places.count_one();
             return false;
         }
@@ -262,24 +290,4 @@ impl<S: Service> Worker<'_, S> {
 // Whether a worker has left those that wait to the others for long enough.
 fn is_over(since: Instant, now: Instant) -> bool {
     now.duration_since(since) >= Duration::from_millis(LEAVES_THEM)
-}
-
-// Whether the peer of a connection from which nothing was read has gone: nothing came, and nothing will.
-fn has_gone(stream: &TcpStream) -> bool {
-    match stream.peek(&mut [0]) {
-        Ok(count) => count == 0,
-        Err(error) => !matches!(error.kind(), ErrorKind::WouldBlock | ErrorKind::Interrupted),
-    }
-}
-
-/// A poll that reports the connections that come, and what they are taken from.
-pub(crate) fn listening_poll<R: Net>(
-    rt: &R,
-    listener: &net::TcpListener,
-) -> io::Result<(Poll, TcpListener)> {
-    let poll = Poll::new(rt)?;
-    let mut listener = TcpListener::from_std(listener.try_clone()?);
-    poll.registry()
-        .register(&mut listener, LISTENER, Interest::READABLE)?;
-    Ok((poll, listener))
 }

@@ -4,7 +4,7 @@ use crate::places::Places;
 use crate::worker::Now;
 use mio::{Registry, Token};
 use s3_driver::{Moved, State};
-use s3_sockets::{Service, Socket};
+use s3_sockets::Service;
 use std::alloc::Global;
 use std::time::{Duration, Instant};
 
@@ -15,45 +15,49 @@ const LEAST_IDLE: u64 = 1000;
 // For how many turns there is room from the beginning.
 const TURNS: usize = 256;
 
-/// The connections that a worker holds. Their keys are below `capacity`. Each leaves its seat when it is let go, and
-/// all have to be before the end.
+/// The connections that a worker holds. Their keys are below `capacity`. Each leaves by the door when it is let go, or at the end.
 pub(crate) struct ConnectionTable<S: Service> {
     // The places, by their keys; the keys of those that are free; and how many are taken. A connection whose turn is at the
     // store isn't in its place, which is its own still.
     places: Vec<S::Place>,
     free: Vec<usize>,
     count: usize,
-    roster: S::Roster,
+    /// By which they come and leave.
+    pub(crate) door: S::Door,
     // The keys of those whose turns wait, in their order; and those that haven't heard their answers.
     asking: Vec<usize>,
     answered: Vec<S::Answered>,
 }
 
 impl<S: Service> ConnectionTable<S> {
-    /// None, of those that come to this roster. It takes the memory for turns, or, where there is none, when they come.
-    pub(crate) fn new(alloc: Global, roster: S::Roster) -> ConnectionTable<S> {
+    /// None, of those that come by this door. It takes the memory for turns, or, where there is none, when they come.
+    pub(crate) fn new(alloc: Global, door: S::Door) -> ConnectionTable<S> {
         ConnectionTable {
             places: Vec::new(alloc),
             free: Vec::new(alloc),
             count: 0,
-            roster,
+            door,
             asking: list(alloc),
             answered: list(alloc),
         }
     }
 
-    /// All have been let go, and what held them is given back. Hands out the roster.
-    pub(crate) fn end(self) -> S::Roster {
+    /// Has all leave that are still there, and the one that was taken and has no place. Hands out the door.
+    pub(crate) fn end(self, service: &S, taken: Option<S::Arrival>) -> S::Door {
         let ConnectionTable {
             places,
             free: _,
             count: _,
-            roster,
+            mut door,
             asking: _,
             answered,
         } = self;
-        S::give_back(places, answered);
-        roster
+        match taken {
+            Some(arrival) => service.turn_away(arrival, &mut door),
+            None => {}
+        }
+        service.leave_all(places, answered, &mut door);
+        door
     }
 
     /// Whether there is none.
@@ -77,16 +81,16 @@ impl<S: Service> ConnectionTable<S> {
     }
 
     /// Holds a connection that came as the one of this number, which is reported from now on, and answers whether it
-    /// does: one for which there is no memory, or which the system can't report, is let go.
+    /// does: one for which there is no memory, or which the system can't report, leaves.
     pub(crate) fn hold(
         &mut self,
         service: &S,
         registry: &Registry,
-        socket: Socket,
+        arrival: S::Arrival,
         number: u64,
         now: Instant,
     ) -> bool {
-        let Some(key) = self.add(service, socket, number, now) else {
+        let Some(key) = self.add(service, arrival, number, now) else {
             return false;
         };
         if self.register(registry, key) {
@@ -96,17 +100,27 @@ impl<S: Service> ConnectionTable<S> {
         false
     }
 
-    // The key of a further one, unless there is no memory for it.
-    fn add(&mut self, service: &S, socket: Socket, number: u64, now: Instant) -> Option<usize> {
-        let key = self.free_key(service)?;
-        match service.open(&mut self.roster, socket, number, now) {
-            Some(held) => {
+    // The key of a further one, unless there is no memory for it: then it leaves.
+    fn add(
+        &mut self,
+        service: &S,
+        arrival: S::Arrival,
+        number: u64,
+        now: Instant,
+    ) -> Option<usize> {
+        let Some(key) = self.free_key(service) else {
+            service.turn_away(arrival, &mut self.door);
+            return None;
+        };
+        match service.open(arrival, number, now) {
+            Ok(held) => {
                 self.count = self.count.saturating_add(1);
                 self.put(key, held);
                 Some(key)
             }
-            None => {
+            Err(arrival) => {
                 self.free(key);
+                service.turn_away(arrival, &mut self.door);
                 None
             }
         }
@@ -137,7 +151,7 @@ impl<S: Service> ConnectionTable<S> {
             None => Some(held),
         };
         match before {
-            Some(held) => S::leave(held, &mut self.roster),
+            Some(held) => S::leave(held, &mut self.door),
             None => {}
         }
     }
@@ -172,7 +186,7 @@ impl<S: Service> ConnectionTable<S> {
     fn remove(&mut self, key: usize) -> bool {
         match self.take(key) {
             Some(held) => {
-                S::leave(held, &mut self.roster);
+                S::leave(held, &mut self.door);
                 self.count = self.count.saturating_sub(1);
                 self.free(key);
                 true
@@ -247,7 +261,7 @@ impl<S: Service> ConnectionTable<S> {
         self.answered.reverse();
         for _ in 0..self.answered.len() {
             if let Some(answered) = self.answered.pop() {
-                let key = self.hear(service, answered, now);
+                let key = self.hear(service, answered);
                 self.serve(service, places, buffer, registry, key, now);
             }
         }
@@ -271,18 +285,18 @@ impl<S: Service> ConnectionTable<S> {
         let Some(held) = self.take(key) else {
             return;
         };
-        match self.answered.push(S::submit(held, key, turns)) {
+        match self.answered.push(S::submit(held, key, turns, now.instant)) {
             Ok(()) => {}
             Err(failed) => {
-                self.hear(service, failed.value, now);
+                self.hear(service, failed.value);
             }
         }
     }
 
     // Gives one its answer, puts it back into its place, and answers the key of that.
-    fn hear(&mut self, service: &S, answered: S::Answered, now: &Now) -> usize {
+    fn hear(&mut self, service: &S, answered: S::Answered) -> usize {
         let key = S::key(&answered);
-        self.put(key, service.hear(answered, now.instant));
+        self.put(key, service.hear(answered));
         key
     }
 

@@ -6,12 +6,15 @@
 
 mod arrivals;
 mod connection_table;
+mod jobs;
 mod limits;
-mod listener;
 mod logging;
 mod places;
+mod report;
+mod running;
 mod serve;
 mod worker;
 
 pub use places::Places;
+pub use report::{EndedServer, ServerReport};
 pub use serve::serve_words;

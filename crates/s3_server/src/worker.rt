@@ -1,16 +1,14 @@
 //! A worker: it waits until some of its connections are ready, and has these go on.
 
-use crate::arrivals::{Arrivals, LISTENER, listening_poll};
+use crate::arrivals::{Arrivals, LISTENER};
 use crate::connection_table::ConnectionTable;
 use crate::limits::Looks;
 use crate::places::Places;
-use mio::net::TcpListener;
 use mio::{Events, Poll};
 use s3_calendar::Moment;
 use s3_sockets::{Service, WorkerClock};
 use std::alloc::{AllocError, Global};
 use std::io;
-use std::net::{self, Net};
 use std::time::{Clock, Duration, Instant};
 
 // How many events a wait reports at most.
@@ -29,49 +27,30 @@ const SHORT_PATIENCE: u64 = 20;
 #[derive(Drop)]
 pub(crate) struct Means {
     poll: Poll,
-    listener: TcpListener,
+    memory: Memory,
+}
+
+/// The memory that a worker works with, but that of its connections.
+#[derive(Drop)]
+pub(crate) struct Memory {
     events: Events,
     buffer: Vec<u8>,
 }
 
-/// Why there are none.
-#[derive(Drop)]
-pub(crate) enum NoMeans {
-    /// There was no memory.
-    OutOfMemory,
-    /// The system gave none of its own means, as where it has no more descriptors.
-    NoDescriptor,
-}
-
-impl From<AllocError> for NoMeans {
-    fn from(_e: AllocError) -> NoMeans {
-        NoMeans::OutOfMemory
-    }
-}
-
-impl From<io::Error> for NoMeans {
-    fn from(_e: io::Error) -> NoMeans {
-        NoMeans::NoDescriptor
+impl Memory {
+    /// The memory of one worker.
+    pub(crate) fn new(alloc: Global) -> Result<Memory, AllocError> {
+        Ok(Memory {
+            events: Events::with_capacity(alloc, EVENTS)?,
+            buffer: Vec::from_elem(alloc, 0, BUFFER)?,
+        })
     }
 }
 
 impl Means {
-    /// What one worker works with, for connections from a listener that others have too. It takes all the memory that
-    /// the worker works with but that of its connections.
-    pub(crate) fn new<R: Net>(
-        rt: &R,
-        alloc: Global,
-        listener: &net::TcpListener,
-    ) -> Result<Means, NoMeans> {
-        let events = Events::with_capacity(alloc, EVENTS)?;
-        let buffer = Vec::from_elem(alloc, 0, BUFFER)?;
-        let (poll, listener) = listening_poll(rt, listener)?;
-        Ok(Means {
-            poll,
-            listener,
-            events,
-            buffer,
-        })
+    /// What a worker waits with by this poll, which reports those that come under the token `LISTENER`.
+    pub(crate) fn new(poll: Poll, memory: Memory) -> Means {
+        Means { poll, memory }
     }
 }
 
@@ -89,47 +68,41 @@ pub(crate) struct Worker<'a, S: Service> {
     pub(crate) service: &'a S,
     pub(crate) places: &'a Places,
     pub(crate) poll: Poll,
-    pub(crate) listener: TcpListener,
     events: Events,
     buffer: Vec<u8>,
     clock: WorkerClock,
     pub(crate) held: ConnectionTable<S>,
-    pub(crate) arrivals: Arrivals,
+    pub(crate) arrivals: Arrivals<S>,
     pub(crate) looks: Looks,
 }
 
 impl<'a, S: Service> Worker<'a, S> {
-    /// A worker that holds nothing yet, for those that come to this roster.
+    /// A worker that holds nothing yet, for those that come by this door.
     pub(crate) fn new(
         service: &'a S,
         places: &'a Places,
         means: Means,
         clock: WorkerClock,
-        roster: S::Roster,
+        door: S::Door,
     ) -> Worker<'a, S> {
-        let Means {
-            poll,
-            listener,
-            events,
-            buffer,
-        } = means;
+        let Means { poll, memory } = means;
+        let Memory { events, buffer } = memory;
         Worker {
             service,
             places,
             poll,
-            listener,
             events,
             buffer,
             clock,
-            held: ConnectionTable::new(service.memory(), roster),
+            held: ConnectionTable::new(service.memory(), door),
             arrivals: Arrivals::new(),
             looks: Looks::new(),
         }
     }
 
-    /// Serves connections until no more are taken and the last one has ended, or the system fails. Then it lets all go,
-    /// and hands out the roster of those that came.
-    pub(crate) fn work(mut self) -> S::Roster {
+    /// Serves connections until no more are taken and the last one has ended, or the system fails. Then it has all leave,
+    /// and hands out the door.
+    pub(crate) fn work(mut self) -> S::Door {
         let rt = self.service.runtime();
         self.places.begin_work();
         for _ in rt.forever() {
@@ -143,20 +116,19 @@ impl<'a, S: Service> Worker<'a, S> {
     }
 
     // Gives back what it works with.
-    fn end(self) -> S::Roster {
+    fn end(self) -> S::Door {
         let Worker {
-            service: _,
+            service,
             places: _,
             poll: _,
-            listener: _,
             events: _,
             buffer: _,
             clock: _,
             held,
-            arrivals: _,
+            arrivals,
             looks: _,
         } = self;
-        held.end()
+        held.end(service, arrivals.into_taken())
     }
 
     // Whether no more connections are taken, and the last one has ended.

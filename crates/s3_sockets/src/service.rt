@@ -1,16 +1,41 @@
 //! What a worker asks of those that serve its connections.
 
+ghost use Rattle.std.specs.Prelude.{◌≡◌, ◌==◌, if◌then◌else◌, ℕ, Bool, false, Option, Some, None, option_map, IfOk, IfErr};
+
 use crate::socket::Socket;
+use mio::{Registry, Token};
 use s3_calendar::Moment;
 use s3_driver::Moved;
 use std::alloc::Global;
+use std::io::ErrorKind;
 use std::sync::Wait;
 use std::time::{Clock, Instant};
 
 /// What serves the connections of a worker, which knows nothing else of them: so what it does with them is proved
 /// without what they are made of, and without their drops.
+///
+/// Nothing says of a connection, before and after it is opened, that it may be dropped: a worker has each leave by its door. Contracts
+/// see by which number it is known, which doesn't change, whose place it is, and which numbers are out of a door: none is lost here.
 pub trait Service: Sized {
-    /// A connection. Nothing says that it may be dropped, so that a worker has it leave.
+    // The number of one that has come, of a connection, of one that was answered, and of the one in a place; and whether the one of
+    // a number came by a door and hasn't left.
+    ghost came: { Self.Arrival → ℕ };
+
+    ghost name: { Self.Held → ℕ };
+
+    ghost answered: { Self.Answered → ℕ };
+
+    ghost within: { Self.Place → Option ℕ };
+
+    ghost is_out: { Self.Door → ℕ → Bool };
+
+    /// By what connections come to a worker, and leave it.
+    type Door;
+
+    /// One that has come.
+    type Arrival;
+
+    /// A connection.
     type Held;
 
     /// A place for one, in which it is or isn't.
@@ -18,9 +43,6 @@ pub trait Service: Sized {
 
     /// One whose turn has come to the store, and which hasn't heard the answer.
     type Answered;
-
-    /// The connections that came to a worker, and those that have left it.
-    type Roster;
 
     /// Turns at the store that are taken in one go.
     type Turns;
@@ -34,32 +56,42 @@ pub trait Service: Sized {
     /// What gives memory.
     fn memory(&self) -> Global;
 
-    /// Opens the connection of this number, which came at a time; `None` where there is no memory for it.
+    /// The next that has come. The error says why there is none: `WouldBlock` where nobody waits.
+    fn accept(door: &mut Self::Door) -> Result<Self::Arrival, ErrorKind>;
+
+    /// Has the door report who waits already, under a token.
+    fn report_waiting(door: &mut Self::Door, registry: &Registry, token: Token);
+
+    /// Whether the peer of one that has come has gone: nothing came, and nothing will.
+    fn has_gone(arrival: &Self::Arrival) -> bool;
+
+    /// Has one leave for which there is no place.
+    fn turn_away(&self, arrival: Self::Arrival, door: &mut Self::Door)
+        ensures out { (n : ℕ) → is_out door.new n ≡ (if n == came arrival then false else is_out door.old n) };
+
+    /// Opens the connection of this number, which came at a time, or gives back what came where there is no memory for it.
     fn open(
         &self,
-        roster: &mut Self::Roster,
-        socket: Socket,
+        arrival: Self::Arrival,
         number: u64,
         now: Instant,
-    ) -> Option<Self::Held>;
+    ) -> Result<Self::Held, Self::Arrival>
+        ensures opened { IfOk result (λ held. name held ≡ came arrival) }
+        ensures back { IfErr result (λ back. came back ≡ came arrival) };
 
     /// Its socket.
     fn socket<'h>(held: &'h Self::Held) -> &'h Socket;
 
     /// Has it go on as far as it can without waiting, and says how it moved.
-    fn go_on(
-        &self,
-        held: &mut Self::Held,
-        buffer: &mut [u8],
-        moment: Moment,
-        now: Instant,
-    ) -> Moved;
+    fn go_on(&self, held: &mut Self::Held, buffer: &mut [u8], moment: Moment, now: Instant) -> Moved
+        ensures name { name held.new ≡ name held.old };
 
     /// Begins to take turns to the store. It waits for the store, and others wait until they are committed.
     fn begin(&self) -> Self::Turns;
 
-    /// Takes the turn of a connection to the store, if it has one. Its place has this key.
-    fn submit(held: Self::Held, key: usize, turns: &mut Self::Turns) -> Self::Answered;
+    /// Takes the turn of a connection to the store at a time, if it has one. Its place has this key.
+    fn submit(held: Self::Held, key: usize, turns: &mut Self::Turns, now: Instant) -> Self::Answered
+        ensures name { answered result ≡ name held };
 
     /// Commits the turns, before their answers are told.
     fn commit(turns: Self::Turns);
@@ -67,20 +99,26 @@ pub trait Service: Sized {
     /// The key of its place.
     fn key(answered: &Self::Answered) -> usize;
 
-    /// Gives a connection its answer.
-    fn hear(&self, answered: Self::Answered, now: Instant) -> Self::Held;
+    /// Gives a connection its answer. Its times count from the one at which its turn was taken.
+    fn hear(&self, one: Self::Answered) -> Self::Held
+        ensures name { name result ≡ answered one };
 
-    /// Has it leave its seat.
-    fn leave(held: Self::Held, roster: &mut Self::Roster);
+    /// Has it leave.
+    fn leave(held: Self::Held, door: &mut Self::Door)
+        ensures out { (n : ℕ) → is_out door.new n ≡ (if n == name held then false else is_out door.old n) };
 
     /// Adds an empty place, and answers whether there was memory for it.
     fn add_place(&self, places: &mut Vec<Self::Place>) -> bool;
 
     /// Puts a connection into a place, and hands out the one that was there, if one was.
-    fn put(place: &mut Self::Place, held: Self::Held) -> Option<Self::Held>;
+    fn put(place: &mut Self::Place, held: Self::Held) -> Option<Self::Held>
+        ensures within { within place.new ≡ Some (name held) }
+        ensures before { option_map name result ≡ within place.old };
 
     /// Takes the connection of a place, if there is one.
-    fn take(place: &mut Self::Place) -> Option<Self::Held>;
+    fn take(place: &mut Self::Place) -> Option<Self::Held>
+        ensures within { within place.new ≡ None }
+        ensures taken { option_map name result ≡ within place.old };
 
     /// The connection of a place, if there is one.
     fn held<'p>(place: &'p Self::Place) -> Option<&'p Self::Held>;
@@ -88,9 +126,13 @@ pub trait Service: Sized {
     /// The same, to go on.
     fn held_mut<'p>(place: &'p mut Self::Place) -> Option<&'p mut Self::Held>;
 
-    /// Gives the memory back that connections were held in. All have to have left: one that hasn't is dropped, and
-    /// keeps its seat.
-    fn give_back(places: Vec<Self::Place>, answered: Vec<Self::Answered>);
+    /// Has all leave that are still there, and gives the memory back that they were held in.
+    fn leave_all(
+        &self,
+        places: Vec<Self::Place>,
+        answered: Vec<Self::Answered>,
+        door: &mut Self::Door,
+    );
 
     /// Since when it waits for its next message, or for its peer's end, if it does.
     fn idle_since(held: &Self::Held) -> Option<Instant>;

@@ -1,18 +1,23 @@
 //! What all connections of a server share.
 
-ghost use Rattle.std.specs.Prelude.{◌≡◌};
+ghost use Rattle.std.specs.Prelude.{◌≡◌, [], IfSome};
+ghost use Rattle.s3_driver.specs.Served.{IsNew};
 
+use crate::arrival::Arrival;
+use crate::door::Door;
 use crate::service::Service;
 use crate::socket::Socket;
+use mio::{Registry, Token};
 use s3_calendar::Moment;
 use s3_config::Config;
 use s3_devices::Recorded;
-use s3_driver::{Account, AnsweredConnection, Moved, ServedConnection, new_driver};
+use s3_driver::{AnsweredConnection, Driver, Moved, ServedConnection, new_driver};
 use s3_history::Recorder;
-use s3_journal::{Desk, Ground, Roster, Turns};
+use s3_journal::{Desk, Ground, Turns};
 use s3_log::{Log, MessageLog};
 use s3_records::MapRecords;
 use std::alloc::Global;
+use std::io::ErrorKind;
 use std::marker::Model;
 use std::sync::Wait;
 use std::time::{Clock, Instant};
@@ -33,11 +38,21 @@ pub struct Place<'a, J: Ground, W: Wait + Clock> {
     rt: &'a W,
 }
 
-/// One that hasn't heard the answer to its turn, with the key of its place.
+/// One that hasn't heard the answer to its turn, with the key of its place, and when its turn was taken.
 #[derive(Drop)]
 pub struct Answered<'a, J: Ground, W: Wait + Clock> {
     connection: AnsweredConnection<J, Recorded<Socket>, MessageLog<'a, W>>,
     key: usize,
+    at: Instant,
+    rt: &'a W,
+}
+
+// What a connection is made of, beside its socket and its seat.
+#[derive(Drop)]
+struct Outfit<'a, W: Wait + Clock> {
+    driver: Box<Driver>,
+    observer: MessageLog<'a, W>,
+    moments: Recorder<Moment>,
     rt: &'a W,
 }
 
@@ -88,17 +103,51 @@ impl<'a, J: Ground, W: Wait> Sharing<'a, J, W> {
     {
         self.config
     }
+
+    // What a connection of this number will be made of, beside its socket and its seat. `None` where there is no memory.
+    fn outfit(&self, socket: &Socket, number: u64, now: Instant) -> Option<Outfit<'a, W>>
+    where
+        W: Clock,
+        ensures driver { IfSome result (λ outfit. IsNew outfit.driver.value) }
+        ensures moments { IfSome result (λ outfit. outfit.moments.entries ≡ []) }
+    {
+        let driver = new_driver(self.alloc).ok()?;
+        let peer = socket.peer_told(self.log);
+        let observer = MessageLog::new(self.rt, self.alloc, self.log, number, peer, now).ok()?;
+        let moments = Recorder::new()?;
+        Some(Outfit {
+            driver,
+            observer,
+            moments,
+            rt: self.rt,
+        })
+    }
 }
 
 /// A worker serves its connections so.
 impl<'a, J: Ground, W: Wait + Clock> Service for Sharing<'a, J, W> {
+    ghost use Rattle.std.specs.Prelude.{option_map};
+    ghost use Rattle.s3_journal.specs.Roster as rosters;
+
+    ghost came = { λ arrival. arrival.seat.number };
+
+    ghost name = { λ held. held.connection.seat.number };
+
+    ghost answered = { λ one. one.connection.served.seat.number };
+
+    ghost within = { λ place. option_map (λ held. held.connection.seat.number) place.held };
+
+    ghost is_out = { λ door n. rosters.is_out door.roster.numbers n };
+
+    type Door = Door<J>;
+
+    type Arrival = Arrival<J>;
+
     type Held = Held<'a, J, W>;
 
     type Place = Place<'a, J, W>;
 
     type Answered = Answered<'a, J, W>;
-
-    type Roster = Roster<J, Account>;
 
     type Turns = Turns<'a, J, MapRecords>;
 
@@ -112,24 +161,42 @@ impl<'a, J: Ground, W: Wait + Clock> Service for Sharing<'a, J, W> {
         self.alloc
     }
 
+    fn accept(door: &mut Door<J>) -> Result<Arrival<J>, ErrorKind> {
+        door.accept()
+    }
+
+    fn report_waiting(door: &mut Door<J>, registry: &Registry, token: Token) {
+        door.report_again(registry, token);
+    }
+
+    fn has_gone(arrival: &Arrival<J>) -> bool {
+        arrival.socket().has_gone()
+    }
+
+    fn turn_away(&self, arrival: Arrival<J>, door: &mut Door<J>) {
+        door.turn_away(self.alloc, arrival);
+    }
+
     fn open(
         &self,
-        roster: &mut Roster<J, Account>,
-        socket: Socket,
+        arrival: Arrival<J>,
         number: u64,
         now: Instant,
-    ) -> Option<Held<'a, J, W>> {
-        let driver = new_driver(self.alloc).ok()?;
-        let peer = socket.peer_told(self.log);
-        let observer = MessageLog::new(self.rt, self.alloc, self.log, number, peer, now).ok()?;
-        let stream = Recorded::new(socket)?;
-        let moments = Recorder::new()?;
-        let seat = roster.seat().ok()?;
-        let connection = ServedConnection::new(driver, stream, seat, moments, observer, now);
-        Some(Held {
-            connection,
+    ) -> Result<Held<'a, J, W>, Arrival<J>> {
+        let Some(outfit) = self.outfit(arrival.socket(), number, now) else {
+            return Err(arrival);
+        };
+        let Outfit {
+            driver,
+            observer,
+            moments,
+            rt,
+        } = outfit;
+        let (stream, seat) = arrival.into_parts();
+        Ok(Held {
+            connection: ServedConnection::new(driver, stream, seat, moments, observer, now),
             is_new: true,
-            rt: self.rt,
+            rt,
         })
     }
 
@@ -156,6 +223,7 @@ impl<'a, J: Ground, W: Wait + Clock> Service for Sharing<'a, J, W> {
         held: Held<'a, J, W>,
         key: usize,
         turns: &mut Turns<'a, J, MapRecords>,
+        now: Instant,
     ) -> Answered<'a, J, W> {
         let Held {
             connection,
@@ -165,6 +233,7 @@ impl<'a, J: Ground, W: Wait + Clock> Service for Sharing<'a, J, W> {
         Answered {
             connection: connection.submit(turns),
             key,
+            at: now,
             rt,
         }
     }
@@ -177,30 +246,27 @@ impl<'a, J: Ground, W: Wait + Clock> Service for Sharing<'a, J, W> {
         answered.key
     }
 
-    fn hear(&self, answered: Answered<'a, J, W>, now: Instant) -> Held<'a, J, W> {
+    fn hear(&self, one: Answered<'a, J, W>) -> Held<'a, J, W> {
         let Answered {
             connection,
             key: _,
+            at,
             rt,
-        } = answered;
+        } = one;
         Held {
-            connection: connection.hear(self.alloc, now),
+            connection: connection.hear(self.alloc, at),
             is_new: false,
             rt,
         }
     }
 
-    fn leave(held: Held<'a, J, W>, roster: &mut Roster<J, Account>) {
+    fn leave(held: Held<'a, J, W>, door: &mut Door<J>) {
         let Held {
             connection,
             is_new: _,
             rt: _,
         } = held;
-
-        // It is one of this roster: none other comes to a worker.
-        if roster.has(connection.number()) {
-            connection.leave(roster);
-        }
+        door.leave(connection);
     }
 
     fn add_place(&self, places: &mut Vec<Place<'a, J, W>>) -> bool {
@@ -208,7 +274,13 @@ impl<'a, J: Ground, W: Wait + Clock> Service for Sharing<'a, J, W> {
             held: None,
             rt: self.rt,
         };
-        places.push(place).is_ok()
+        match places.push(place) {
+            Ok(()) => true,
+            Err(failed) => {
+                drop(failed);
+                false
+            }
+        }
     }
 
     fn put(place: &mut Place<'a, J, W>, held: Held<'a, J, W>) -> Option<Held<'a, J, W>> {
@@ -227,9 +299,20 @@ impl<'a, J: Ground, W: Wait + Clock> Service for Sharing<'a, J, W> {
         place.held.as_mut()
     }
 
-    fn give_back(places: Vec<Place<'a, J, W>>, answered: Vec<Answered<'a, J, W>>) {
-        drop(places);
-        drop(answered);
+    fn leave_all(
+        &self,
+        places: Vec<Place<'a, J, W>>,
+        answered: Vec<Answered<'a, J, W>>,
+        door: &mut Door<J>,
+    ) {
+        for place in places {
+            if let Some(held) = place.held {
+                Self::leave(held, door);
+            }
+        }
+        for one in answered {
+            Self::leave(self.hear(one), door);
+        }
     }
 
     fn idle_since(held: &Held<'a, J, W>) -> Option<Instant> {

@@ -33,6 +33,14 @@ impl Socket {
         self.stream.peer_addr().ok()
     }
 
+    /// Whether its peer has gone, where nothing was read from it: nothing came, and nothing will.
+    pub(crate) fn has_gone(&self) -> bool {
+        match self.stream.peek(&mut [0]) {
+            Ok(count) => count == 0,
+            Err(error) => !matches!(error.kind(), ErrorKind::WouldBlock | ErrorKind::Interrupted),
+        }
+    }
+
     /// Has the socket reported under a token when bytes may come or go, and answers whether the system can.
     pub fn register(&self, registry: &Registry, token: Token) -> bool {
         let fd = self.stream.as_raw_fd();

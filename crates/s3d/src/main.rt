@@ -7,9 +7,10 @@
 ghost use Rattle.std.specs.Prelude.{◌≡◌};
 ghost use Rattle.std.specs.Process.{exit_status};
 
-use s3_devices::{Recorded, Streams};
-use s3_server::serve_words;
-use s3_settings::Files;
+use s3_devices::{Device, Recorded, Streams};
+use s3_server::{ServerReport, serve_words};
+use s3_settings::{Files, ServeOptions};
+use s3_sockets::Network;
 use s3_tasks::{Ran, run_words};
 use std::alloc::Global;
 use std::fs::OpenOptions;
@@ -53,6 +54,29 @@ fn exit_code(status: u8) -> ExitCode
     ExitCode::from(status)
 }
 
+// Serves over the network of the system, and answers the exit status.
+fn serve<E: Device>(
+    rt: &HostRuntime,
+    files: &SystemFiles<'_>,
+    options: &ServeOptions<'_>,
+    errors: &mut E,
+) -> u8 {
+    let (Some(mut network), Some(mut report)) = (Network::new(rt), ServerReport::new()) else {
+        return 1;
+    };
+    let mut output = rt.stdout();
+    serve_words(
+        rt,
+        rt.alloc(),
+        options,
+        files,
+        &mut network,
+        &mut report,
+        &mut output,
+        errors,
+    )
+}
+
 fn main(rt: HostRuntime) -> ExitCode {
     let (alloc, files) = (rt.alloc(), SystemFiles(&rt));
     let words = arguments(&rt).unwrap_or(Vec::new(alloc));
@@ -78,9 +102,6 @@ fn main(rt: HostRuntime) -> ExitCode {
     );
     exit_code(match ran {
         Ran::Ended(status) => status,
-        Ran::Serve(options) => {
-            let mut output = rt.stdout();
-            serve_words(&rt, alloc, &options, &files, &mut output, &mut errors)
-        }
+        Ran::Serve(options) => serve(&rt, &files, &options, &mut errors),
     })
 }

@@ -7,7 +7,7 @@ use crate::workers::stream::{Manner, MemoryStream, PLAIN};
 use crate::workers::turns::{FIRST, SECOND};
 use s3_config::Config;
 use s3_devices::Recorded;
-use s3_driver::{Account, Ending, Nobody, ServedConnection, State, new_driver};
+use s3_driver::{Account, Ending, Nobody, ServedConnection, State, new_driver, turn_away};
 use s3_history::Recorder;
 use s3_journal::{Desk, Ground, Roster, Start};
 use s3_records::MapRecords;
@@ -157,9 +157,9 @@ fn connect<J: Ground>(
         return None;
     };
     let stream = MemoryStream::new(one.sent.bytes(), Vec::new(alloc), one.manner);
-    let device = Recorded::new(stream)?;
-    let moments = Recorder::new()?;
+    let (recorder, moments) = (Recorder::new()?, Recorder::new()?);
     let seat = roster.seat().ok()?;
+    let device = Recorded::named(stream, recorder, seat.number());
     Some(Traced {
         connection: ServedConnection::new(driver, device, seat, moments, Nobody, now),
         states: Vec::new(alloc),
@@ -228,9 +228,28 @@ fn leaves_as<J: Ground>(traced: Traced<J>, roster: &mut Roster<J, Account>, one:
         && states.as_slice() == one.states;
     drop(states);
     if roster.has(connection.number()) {
-        connection.leave(roster);
+        drop(connection.leave(roster));
     }
     is_right
+}
+
+// Whether nothing is written to one that comes and is turned away, which leaves the roster.
+fn is_turned_away<J: Ground>(alloc: Global, roster: &mut Roster<J, Account>) -> bool {
+    let Some(recorder) = Recorder::new() else {
+        return false;
+    };
+    let Ok(seat) = roster.seat() else {
+        return false;
+    };
+    let number = seat.number();
+    let stream = MemoryStream::new(b"GET", Vec::new(alloc), PLAIN);
+    let device = turn_away(
+        alloc,
+        Recorded::named(stream, recorder, number),
+        seat,
+        roster,
+    );
+    device.stream().output.is_empty() && !roster.has(number)
 }
 
 // Whether both are served as is wanted.
@@ -255,7 +274,7 @@ fn are_served<J: Ground, R: Wait>(
         (first, second) = serve_round(rt, alloc, config, desk, first, second, now);
     }
     let is_first_right = leaves_as(first, roster, &both[0]);
-    leaves_as(second, roster, &both[1]) && is_first_right
+    leaves_as(second, roster, &both[1]) && is_first_right && is_turned_away(alloc, roster)
 }
 
 // How many entries a desk leaves to whose roster both come, where they are served as is wanted.

@@ -3,8 +3,9 @@ use crate::checks::check;
 use crate::server::client::is_answered;
 use crate::server::screen::Screen;
 use s3_devices::{Recorded, Streams};
-use s3_server::serve_words;
+use s3_server::{ServerReport, serve_words};
 use s3_settings::{Files, Options, ServeOptions};
+use s3_sockets::Network;
 use std::alloc::Global;
 use std::net::Net;
 use std::sync::Wait;
@@ -76,16 +77,29 @@ fn server<R: Wait + Threads + Net + Clock + Sync>(
         lines: Vec::new(alloc),
         port,
     };
-    let Some(mut errors) = Recorded::new(Streams {
-        input: io::empty(),
-        output: Vec::new(alloc),
-    }) else {
+    let (Some(mut errors), Some(mut network), Some(mut report)) = (
+        Recorded::new(Streams {
+            input: io::empty(),
+            output: Vec::new(alloc),
+        }),
+        Network::new(rt),
+        ServerReport::new(),
+    ) else {
         return (1, false);
     };
     let files = Keys {
         lines: AtomicU64::new(0),
     };
-    let status = serve_words(rt, alloc, &options(), &files, &mut output, &mut errors);
+    let status = serve_words(
+        rt,
+        alloc,
+        &options(),
+        &files,
+        &mut network,
+        &mut report,
+        &mut output,
+        &mut errors,
+    );
     let is_told = output.lines.ends_with(b"\nentries 4\n")
         && errors.into_stream().output.is_empty();
     (status, is_told && files.lines.load(Ordering::SeqCst) == 4)

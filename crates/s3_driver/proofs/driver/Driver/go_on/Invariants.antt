@@ -1,4 +1,4 @@
-use Rattle.std.proofs.Common.{◌≡◌, ◌≤◌, ◌+◌, ℕ, true, List, None}
+use Rattle.std.proofs.Common.{◌≡◌, ◌≤◌, ◌+◌, true, List, None}
 use Rattle.s3_machine.specs.History.{Entry}
 use Rattle.s3_connection.specs.Connection.{taken_of}
 use Rattle.s3_driver.specs.Served.{GoesOn, HasMet, HaveMore, IsServed, StopsAt, TellsMoves, progress_of}

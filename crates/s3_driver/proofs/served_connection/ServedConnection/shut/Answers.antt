@@ -1,4 +1,4 @@
-use Rattle.std.proofs.Common.{ap, refl, ◌∙◌}
+use Rattle.std.proofs.Common.{ap, ◌∙◌}
 use Rattle.s3_driver.specs.declared.state.Moved.{Moved}
 use Rattle.s3_driver.specs.Served.{ending_of}
 use Rattle.s3_driver.specs.ServedConnection.{Served}

@@ -1,6 +1,4 @@
-use Rattle.std.proofs.Common.{Bool, Option, Result, IfSome, subst, ◌∙◌}
-use Rattle.s3_terms.specs.declared.memory.NoMemory.{NoMemory}
-use Rattle.s3_machine.specs.declared.command.Answer.{Answer}
+use Rattle.std.proofs.Common.{IfSome, subst, ◌∙◌}
 use Rattle.s3_connection.specs.Connection.{Connected}
 use Rattle.s3_driver.specs.ServedConnection.{IsAsked}
 use Rattle.s3_driver.proofs.ServedConnectionLemmas.{hears_so}
@@ -12,8 +10,9 @@ invariant_of-result g c =
     let base = g.J.Ground.base in
     let ask = c.ask-answered in
     let in_memory = g.R.Records.is_in_memory in
-    hears_so base.settings p.driver.value ask.new.driver (g.S.Device.traffic p.stream) p.moments.entries p.seat ask.new.seat p.waits.state in_memory base ask.result
+    hears_so base.settings p.driver.value ask.new.driver (g.S.Device.traffic p.stream) p.moments.entries p.seat ask.new.seat p.waits.state in_memory base
+    c.args.turns.now ask.new.turns ask.result
     c.self.invariant
-    (subst (λ (d : Connected). IfSome ask.result (IsAsked in_memory base d ask.new.driver p.seat ask.new.seat)) c.deref_mut.ensures.value ask.ensures.asked)
+    (subst (λ (d : Connected). IfSome ask.result (IsAsked in_memory base d ask.new.driver p.seat ask.new.seat c.args.turns.now ask.new.turns)) c.deref_mut.ensures.value ask.ensures.asked)
     ask.ensures.waits
     (λ none. let same = ask.ensures.none none in (same.0 ∙ c.deref_mut.ensures.value, same.1))

@@ -20,3 +20,6 @@ returns-clause-closed g c =
     (subst (λ (j : Journal). HasGathered (g.P.Report.fits g.J.Ground.base) j.entries 0 rosters c.gather.new.shares.parts c.gather.new.shares.amount) (sym same) gathered)
     (subst (Continues g.J.Ground.base) (sym same) c.self.invariant.continues) c.store.ensures.history
     (ap (λ (j : Journal). length j.entries) same ∙ count) total
+
+pub returns-clause-back : goal.returns-clause-back
+returns-clause-back g c = (c.gather.ensures.gathered c.if-not-gather.false).all_back
