@@ -17,8 +17,8 @@ ghost use Rattle.s3_connection.specs.Holds.{Holds};
 ghost use Rattle.s3_connection.specs.Output.{Input};
 
 use crate::feeding::{stage_before, take_kept};
-use crate::kept::Kept;
 use crate::stage::{Stage, Wants};
+use crate::unread_input::UnreadInput;
 use s3_calendar::Moment;
 use s3_config::Config;
 use s3_machine::{Answer, Turn};
@@ -37,7 +37,7 @@ use std::snapshot::Snapshot;
 #[derive(Drop)]
 pub struct Connection {
     session: Session,
-    kept: Kept,
+    kept: UnreadInput,
     stage: Stage,
     is_ended: bool,
 }
@@ -65,7 +65,7 @@ impl Connection {
     {
         Connection {
             session: Session::new(alloc),
-            kept: Kept::new(alloc),
+            kept: UnreadInput::new(alloc),
             stage: Stage::Reading,
             is_ended: false,
         }
@@ -93,7 +93,7 @@ impl Connection {
     /// ```text
     /// connection.piece(alloc, &config, now, &buffer[..count])?;
     /// while let Some(turn) = connection.take_turn() {
-    ///     connection.answer(alloc, book.enter(seat, turn));
+    ///     connection.answer(alloc, recorded_store.enter(seat, turn));
     ///     connection.go_on(alloc, &config, now);
     /// }
     /// let written = socket.write(connection.out())?;
@@ -232,7 +232,7 @@ impl Connection {
         match next {
             Next::More => self.stage.become_next(Stage::Answered),
             Next::Close => {
-                self.kept = Kept::new(alloc);
+                self.kept = UnreadInput::new(alloc);
                 self.stage.become_next(Stage::Done);
             }
         }

@@ -11,8 +11,8 @@ ghost use Rattle.s3_connection.specs.Connection.{IsFit, IsNext};
 ghost use Rattle.s3_connection.specs.Holds.{IsBehind, IsTurn, Took};
 ghost use Rattle.s3_connection.specs.Output.{HasWaiting, past_of};
 
-use crate::kept::Kept;
 use crate::stage::Stage;
+use crate::unread_input::UnreadInput;
 use s3_calendar::Moment;
 use s3_config::Config;
 use s3_machine::Turn;
@@ -22,7 +22,7 @@ use std::alloc::Global;
 // What comes next before these bytes, which are kept where a command waits.
 pub(crate) fn stage_before(
     session: &mut Session,
-    kept: &mut Kept,
+    kept: &mut UnreadInput,
     need: Need,
     behind: &[u8],
 ) -> Stage
@@ -46,7 +46,7 @@ pub(crate) fn stage_before(
 }
 
 // Keeps these bytes while a turn waits; where there is no memory for them, memory has run out at the turn.
-fn keep_behind(session: &mut Session, kept: &mut Kept, turn: Turn, behind: &[u8]) -> Stage
+fn keep_behind(session: &mut Session, kept: &mut UnreadInput, turn: Turn, behind: &[u8]) -> Stage
     requires waits { is_waiting (standing_of session.old) ≡ true }
     requires goes_on { session.old.is_ended ≡ false }
     requires none { kept.old ≡ [] }
@@ -74,7 +74,7 @@ pub(crate) fn take_kept(
     alloc: Global,
     config: &Config,
     session: &mut Session,
-    kept: &mut Kept,
+    kept: &mut UnreadInput,
     now: Moment,
 ) -> (Stage, bool)
     requires reads { standing_of session.old ≡ Reading }
@@ -98,7 +98,7 @@ pub(crate) fn take_kept(
 }
 
 // What comes next behind so many bytes of those that are kept, which are dropped; where no command waits, all are.
-fn stage_behind(alloc: Global, kept: &mut Kept, need: Need, len: usize) -> Stage
+fn stage_behind(alloc: Global, kept: &mut UnreadInput, need: Need, len: usize) -> Stage
     requires within { len ≤ length kept.old }
     ensures turn { IsTurn result (turns_of need) }
     ensures left { (need ≡ Need.More → drop len kept.old ≡ []) → IsBehind result false kept.new (drop len kept.old) false }
@@ -108,7 +108,7 @@ fn stage_behind(alloc: Global, kept: &mut Kept, need: Need, len: usize) -> Stage
 {
     match need {
         Need::More => {
-            *kept = Kept::new(alloc);
+            *kept = UnreadInput::new(alloc);
             Stage::Reading
         }
         Need::Turn(turn) => {
@@ -116,7 +116,7 @@ fn stage_behind(alloc: Global, kept: &mut Kept, need: Need, len: usize) -> Stage
             Stage::Waiting(turn)
         }
         Need::Close => {
-            *kept = Kept::new(alloc);
+            *kept = UnreadInput::new(alloc);
             Stage::Done
         }
     }

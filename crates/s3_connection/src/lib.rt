@@ -5,11 +5,11 @@
 
 mod connection;
 mod feeding;
-mod kept;
 mod laws;
 mod stage;
+mod unread_input;
 
 pub use connection::Connection;
-pub use kept::Kept;
 pub use laws::{connections_write, outputs_are_one};
 pub use stage::Wants;
+pub use unread_input::UnreadInput;

@@ -23,7 +23,7 @@ use Rattle.s3_machine.specs.declared.command.Answer.{Answer}
 use Rattle.s3_machine.specs.declared.turn.Turn.{Turn}
 use Rattle.s3_connection.specs.Connection.{entries_with, taken_of}
 use Rattle.s3_devices.specs.Device.{with_shut}
-use Rattle.s3_journal.specs.Desk.{Base, Seated}
+use Rattle.s3_journal.specs.SharedStore.{Base, Seated}
 use Rattle.s3_journal.specs.Recorded.{Recorded}
 
 -- failures where there was none before

@@ -9,7 +9,7 @@ use Rattle.s3_machine.specs.declared.turn.Turn.{Turn}
 use Rattle.s3_connection.specs.Connection.{Connected, entries_with, turn_of}
 use Rattle.s3_devices.specs.Device.{Traffic}
 use Rattle.s3_journal.specs.Calls.{IsAnswered, LacksMemory}
-use Rattle.s3_journal.specs.Desk.{Base, Seated}
+use Rattle.s3_journal.specs.SharedStore.{Base, Seated}
 use Rattle.s3_journal.specs.Recorded.{Recorded, recorded}
 use Rattle.s3_driver.specs.declared.state.Ending.TheVariants as endings
 use Rattle.s3_driver.specs.declared.state.Moved.{Moved}

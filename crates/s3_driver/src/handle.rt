@@ -5,7 +5,7 @@ ghost use Rattle.s3_machine.specs.History.{Entry};
 ghost use Rattle.s3_machine.specs.declared.turn.Turn.{Turn};
 ghost use Rattle.s3_journal.specs.Recorded.{entry_of};
 
-use s3_journal::Book;
+use s3_journal::RecordedStore;
 use s3_machine::{Answer, Turn};
 use s3_records::Records;
 use s3_terms::NoMemory;
@@ -26,24 +26,24 @@ pub trait StoreHandle {
         ensures memory { OnErr result (may_lack self.new turn) };
 }
 
-/// A book of its own: what one thread serves, each turn at once.
+/// A recorded store of its own: what one thread serves, each turn at once.
 #[derive(Drop)]
-pub struct BookHandle<R: Records + Drop> {
-    /// The book.
-    pub book: Book<R>,
+pub struct RecordedStoreHandle<R: Records + Drop> {
+    /// The recorded store.
+    pub recorded_store: RecordedStore<R>,
     /// The seat that its entries have.
     pub seat: u64,
 }
 
-impl<R: Records + Drop> StoreHandle for BookHandle<R> {
+impl<R: Records + Drop> StoreHandle for RecordedStoreHandle<R> {
     ghost use Rattle.s3_journal.specs.Recorded.{entries_of_seat};
-    ghost use Rattle.s3_journal.specs.Book.{MayLack};
+    ghost use Rattle.s3_journal.specs.RecordedStore.{MayLack};
 
-    ghost entries = { λ handle. entries_of_seat handle.seat handle.book.entries };
+    ghost entries = { λ handle. entries_of_seat handle.seat handle.recorded_store.entries };
 
-    ghost may_lack = { λ handle turn. MayLack R.is_in_memory handle.book.rules handle.book.store turn };
+    ghost may_lack = { λ handle turn. MayLack R.is_in_memory handle.recorded_store.rules handle.recorded_store.store turn };
 
     fn call(&mut self, turn: Turn) -> Result<Answer, NoMemory> {
-        self.book.enter(self.seat, turn)
+        self.recorded_store.enter(self.seat, turn)
     }
 }

@@ -18,7 +18,7 @@ mod waits;
 
 pub use account::Account;
 pub use driver::Driver;
-pub use handle::{BookHandle, StoreHandle};
+pub use handle::{RecordedStoreHandle, StoreHandle};
 pub use laws::{connections_are_served, connections_end, connections_have_written};
 pub use observer::{MessageObserver, Nobody};
 pub use served_connection::{AnsweredConnection, ServedConnection, new_driver};

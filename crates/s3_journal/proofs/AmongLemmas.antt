@@ -1,6 +1,6 @@
 -- Lists that have some of the elements of others.
 use Rattle.std.proofs.Common.{◌≡◌, ◌≤◌, List, [], ◌∷◌, ◌++◌, length, refl, ap, sym, ◌∙◌, subst, arith, inl, inr}
-use Rattle.s3_journal.specs.Desk.{IsAmong}
+use Rattle.s3_journal.specs.SharedStore.{IsAmong}
 
 module _ {A : Type 0} where
   pub none_among : (all : List A) → IsAmong [] all

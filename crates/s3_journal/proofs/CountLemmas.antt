@@ -2,9 +2,9 @@
 use Rattle.std.proofs.Common.{◌≡◌, ◌≢◌, ◌≤◌, ◌+◌, ℕ, suc, Bool, true, false, cond, eqb, List, [], ◌∷◌, length, filter, ap, sym, subst, ◌∙◌, arith, refl}
 use Rattle.std.proofs.lemmas.Bool.Decides.{nat_tests}
 use Rattle.s3_machine.specs.History.{Entry}
-use Rattle.s3_journal.specs.Book.{Journal, KeepsHistory}
+use Rattle.s3_journal.specs.RecordedStore.{Journal, KeepsHistory}
 use Rattle.s3_journal.specs.Recorded.{Recorded, entries_of_seat, history_of}
-use Rattle.s3_journal.specs.Desk.{Base, Continues, IsAmong}
+use Rattle.s3_journal.specs.SharedStore.{Base, Continues, IsAmong}
 use Rattle.s3_journal.specs.Gone.{Gone, AreApart, AreWhole, IsApart, IsClosed, count_of}
 use Rattle.s3_journal.specs.Roster.{AreGathered, HasGathered, Rostered, all_gone, first_of}
 use Rattle.s3_journal.proofs.AmongLemmas.{among_length, among_all}
@@ -105,16 +105,16 @@ module _ {P : Type 0} where
         (record { all = of_seat_is g.number entries ∙ all.0; told = are.0.told; seen = are.0.begins }, whole gone are.1 all.1)
 
   -- where all rosters came back, and their shares count as many entries as there are
-  pub is_closed : (fits : P → List Entry → Type 0) (base : Base) (book : Journal) (rosters : List (Rostered P)) (index parts counted all : ℕ)
-      → HasGathered fits book.entries index rosters parts counted → Continues base book → KeepsHistory book → length book.entries ≡ all → counted ≡ all
-      → IsClosed fits base book (all_gone rosters)
-  is_closed fits base book rosters index parts counted all gathered continues keeps same total =
+  pub is_closed : (fits : P → List Entry → Type 0) (base : Base) (recorded_store : Journal) (rosters : List (Rostered P)) (index parts counted all : ℕ)
+      → HasGathered fits recorded_store.entries index rosters parts counted → Continues base recorded_store → KeepsHistory recorded_store → length recorded_store.entries ≡ all → counted ≡ all
+      → IsClosed fits base recorded_store (all_gone rosters)
+  is_closed fits base recorded_store rosters index parts counted all gathered continues keeps same total =
       let given = gathered.given in
       let gone = all_gone rosters in record {
         continues = continues;
         keeps = keeps;
         apart = gathered.apart;
-        each = whole fits book.entries (first_of index) gone gathered.each
-            (given_all book.entries gone gathered.apart (gone_among fits book.entries (first_of index) gone gathered.each) (omega (arith, given, same, total)));
+        each = whole fits recorded_store.entries (first_of index) gone gathered.each
+            (given_all recorded_store.entries gone gathered.apart (gone_among fits recorded_store.entries (first_of index) gone gathered.each) (omega (arith, given, same, total)));
         count = omega (arith, given, same, total);
       }

@@ -10,7 +10,7 @@ use mathlib.Core.List.{IsPrefix}
 use Rattle.s3_history.specs.Log.{Origin}
 use Rattle.s3_machine.specs.History.{Entry}
 use Rattle.s3_journal.specs.Recorded.{Recorded}
-use Rattle.s3_journal.specs.Desk.{Base}
+use Rattle.s3_journal.specs.SharedStore.{Base}
 use Rattle.s3_journal.specs.Gone.{Gone, AreApart, IsApart, count_of}
 use Rattle.s3_journal.specs.Roster.{AreBack, AreGathered, AreGone, AreNew, HasGathered, IsNew, IsRoster, NobodyIsOut, Numbered, Rostered, all_gone, first_of, is_out}
 use Rattle.s3_journal.proofs.GoneLemmas.{begins_later}

@@ -8,7 +8,7 @@ use mathlib.Core.List.{IsPrefix}
 use Rattle.s3_history.specs.Log.{Origin}
 use Rattle.s3_machine.specs.History.{Entry}
 use Rattle.s3_journal.specs.Recorded.{Recorded}
-use Rattle.s3_journal.specs.Desk.{Base, IsSeat, Seated, seats_each}
+use Rattle.s3_journal.specs.SharedStore.{Base, IsSeat, Seated, seats_each}
 use Rattle.s3_journal.specs.Gone.{Gone, AreApart, count_of}
 use Rattle.s3_journal.specs.Roster.{AreGone, IsGone, IsRoster, Numbered, Rostered, first_of, is_out}
 use Rattle.s3_journal.proofs.GoneLemmas.{are_apart_push, count_push, gone_given, gone_learned, gone_push, gone_taken, is_apart}

@@ -6,7 +6,7 @@ use mathlib.Core.List.{IsPrefix}
 use Rattle.s3_history.specs.Log.{Origin}
 use Rattle.s3_machine.specs.History.{Entry}
 use Rattle.s3_journal.specs.Recorded.{Recorded, entries_of_seat, history_of}
-use Rattle.s3_journal.specs.Desk.{Base, IsAmong, IsSeat, Seated}
+use Rattle.s3_journal.specs.SharedStore.{Base, IsAmong, IsSeat, Seated}
 use Rattle.s3_journal.proofs.AmongLemmas.{among_with_more, among_push, none_among}
 
 -- the entries of a seat, with more entries

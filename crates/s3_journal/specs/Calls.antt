@@ -6,11 +6,11 @@ use Rattle.s3_machine.specs.declared.turn.Turn.{Turn}
 use Rattle.s3_machine.specs.History.{after}
 use Rattle.s3_machine.specs.Rules.{rules_of}
 use Rattle.s3_store.specs.Steps.{Standing}
-use Rattle.s3_journal.specs.Book.{Journal, KeepsHistory, MayLack}
+use Rattle.s3_journal.specs.RecordedStore.{Journal, KeepsHistory, MayLack}
 use Rattle.s3_journal.specs.Recorded.{Recorded, entries_of_seat, entry_of, history_of, recorded}
-use Rattle.s3_journal.specs.Desk.{Base, IsAmong, IsLegal, Seated}
+use Rattle.s3_journal.specs.SharedStore.{Base, IsAmong, IsLegal, Seated}
 
--- A book has answered a seat's turn, which is one entry more, and goes on to keep its history.
+-- A recorded store has answered a seat's turn, which is one entry more, and goes on to keep its history.
 pub record HasAnswered (old new : Journal) (seat : ℕ) (turn : Turn) (answer : Answer) : Type 0 where
   pub origin : new.origin ≡ old.origin
   pub rules : new.rules ≡ old.rules

@@ -1,10 +1,10 @@
--- Those who have left a desk, and what it leaves.
+-- Those who have left a shared store, and what it leaves.
 use Rattle.std.specs.Prelude.{◌≡◌, ◌≢◌, ℕ, ◌+◌, List, [], ◌∷◌, length}
 use mathlib.Core.List.{IsPrefix}
 use Rattle.s3_machine.specs.History.{Entry}
-use Rattle.s3_journal.specs.Book.{Journal, KeepsHistory}
+use Rattle.s3_journal.specs.RecordedStore.{Journal, KeepsHistory}
 use Rattle.s3_journal.specs.Recorded.{Recorded, entries_of_seat}
-use Rattle.s3_journal.specs.Desk.{Base, Continues}
+use Rattle.s3_journal.specs.SharedStore.{Base, Continues}
 
 -- one that has left: its number, the entries that it was given, the history as far as it had seen it, and what was told of it
 pub record Gone (P : Type 0) : Type 0 where
@@ -46,11 +46,12 @@ module _ {P : Type 0} where
     AreWhole [] = Unit {0}
     AreWhole (g ∷ gone) = IsWhole g × AreWhole gone
 
-  -- What a desk leaves: its book's history goes on from the base and is legal; no two of those who have left have one number; the
-  -- entries of each number are just those that it was given, and what was told of it fits them; and there are no others.
-  pub record IsClosed (fits : P → List Entry → Type 0) (base : Base) (book : Journal) (gone : List (Gone P)) : Type 0 where
-    pub continues : Continues base book
-    pub keeps : KeepsHistory book
+  -- What a shared store leaves: its recorded store's history goes on from the base and is legal; no two of those who have left
+  -- have one number; the entries of each number are just those that it was given, and what was told of it fits them; and there
+  -- are no others.
+  pub record IsClosed (fits : P → List Entry → Type 0) (base : Base) (recorded_store : Journal) (gone : List (Gone P)) : Type 0 where
+    pub continues : Continues base recorded_store
+    pub keeps : KeepsHistory recorded_store
     pub apart : AreApart gone
-    pub each : AreWhole fits book.entries gone
-    pub count : length book.entries ≡ count_of gone
+    pub each : AreWhole fits recorded_store.entries gone
+    pub count : length recorded_store.entries ≡ count_of gone

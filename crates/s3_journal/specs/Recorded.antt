@@ -1,15 +1,15 @@
--- What an entry of a book is, without the store that it is of.
+-- What an entry of a recorded store is, without the store that it is of.
 use Rattle.std.specs.Prelude.{◌==◌, ℕ, List, map, filter}
 use Rattle.s3_machine.specs.History.{Entry}
 use Rattle.s3_machine.specs.declared.command.Answer.{Answer}
 use Rattle.s3_machine.specs.declared.turn.Turn.{Turn}
 
--- an entry of a book: who asked for it, and the command with its moment and its answer
+-- an entry of a recorded store: who asked for it, and the command with its moment and its answer
 pub record Recorded : Type 0 where
   pub seat : ℕ
   pub entry : Entry
 
--- the entry of a turn that was given this answer, and that of a book, with who asked
+-- the entry of a turn that was given this answer, and that of a recorded store, with who asked
 abbrev pub entry_of : Turn → Answer → Entry
 entry_of turn answer = record { command = turn.command; moment = turn.moment; answer = answer }
 

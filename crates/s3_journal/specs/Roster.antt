@@ -6,7 +6,7 @@ use mathlib.Core.List.{IsPrefix}
 use Rattle.s3_history.specs.Log.{Origin}
 use Rattle.s3_machine.specs.History.{Entry}
 use Rattle.s3_journal.specs.Recorded.{Recorded, entries_of_seat}
-use Rattle.s3_journal.specs.Desk.{Base, IsAmong, seats_each}
+use Rattle.s3_journal.specs.SharedStore.{Base, IsAmong, seats_each}
 use Rattle.s3_journal.specs.Gone.{Gone, AreApart, count_of}
 
 -- the numbers of the seats that are out, and the next one

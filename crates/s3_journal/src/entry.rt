@@ -1,10 +1,10 @@
-//! The entries of a book.
+//! The entries of a recorded store.
 
 use s3_machine::{Answer, Turn};
 use std::marker::Model;
 use std::snapshot::Snapshot;
 
-/// An entry of a book: who asked, the turn, and the answer. It has the bytes of the seat's number alone.
+/// An entry of a recorded store: who asked, the turn, and the answer. It has the bytes of the seat's number alone.
 #[derive(Drop)]
 pub struct Entry {
     pub seat: u64,

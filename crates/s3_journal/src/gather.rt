@@ -1,12 +1,12 @@
 //! Rosters, when they are handed out and when they come back.
 ghost use Rattle.std.specs.Prelude.{◌≡◌, ◌*◌, ◌==◌, ◌&&◌, true, length, IfOk, OnOk};
 ghost use Rattle.std.specs.BTreeSet.{btree_set_len};
-ghost use Rattle.s3_journal.specs.Desk.{seats_each};
+ghost use Rattle.s3_journal.specs.SharedStore.{seats_each};
 ghost use Rattle.s3_journal.specs.Roster.{AreBack, AreNew, HasGathered, WasTaken};
 
-use crate::book::{Book, Prefix};
 use crate::gone::Report;
 use crate::ground::{Ground, SEATS};
+use crate::recorded_store::{Prefix, RecordedStore};
 use crate::roster::Roster;
 use s3_records::Records;
 use s3_terms::NoMemory;
@@ -39,42 +39,42 @@ pub(crate) fn hand_out<J: Ground, P: Report>(
 
 // Takes a roster back, where it is that of this index and nobody is out, and answers whether it is.
 fn take_back<J: Ground, R: Records + Drop, P: Report>(
-    book: &mut Book<R>,
+    recorded_store: &mut RecordedStore<R>,
     shares: &mut Share<J>,
     roster: Roster<J, P>,
     index: usize,
 ) -> bool
-    requires origin { book.old.origin ≡ J.base.origin }
+    requires origin { recorded_store.old.origin ≡ J.base.origin }
     ensures is { result ≡ (roster.index == index && btree_set_len roster.numbers.out == 0) }
-    ensures book { book.new ≡ book.old }
+    ensures recorded_store { recorded_store.new ≡ recorded_store.old }
     ensures taken { result ≡ true
-        → WasTaken (P.fits J.base) J.base book.old.entries roster shares.old.parts shares.old.amount shares.new.parts shares.new.amount }
+        → WasTaken (P.fits J.base) J.base recorded_store.old.entries roster shares.old.parts shares.old.amount shares.new.parts shares.new.amount }
 {
     if !roster.is_back(index) {
         return false;
     }
     let (known, share) = roster.into_parts();
-    book.check(&known);
+    recorded_store.check(&known);
     shares.merge(share);
     true
 }
 
 // Takes all rosters back, and answers whether they are those of the indices from 0 on, in order, with nobody out.
 pub(crate) fn gather<J: Ground, R: Records + Drop, P: Report>(
-    book: &mut Book<R>,
+    recorded_store: &mut RecordedStore<R>,
     shares: &mut Share<J>,
     rosters: Vec<Roster<J, P>>,
 ) -> bool
-    requires origin { book.old.origin ≡ J.base.origin }
+    requires origin { recorded_store.old.origin ≡ J.base.origin }
     requires parts { shares.old.parts ≡ 0 }
     requires amount { shares.old.amount ≡ 0 }
-    ensures book { book.new ≡ book.old }
-    ensures gathered { result ≡ true → HasGathered (P.fits J.base) book.old.entries 0 rosters.items shares.new.parts shares.new.amount }
+    ensures recorded_store { recorded_store.new ≡ recorded_store.old }
+    ensures gathered { result ≡ true → HasGathered (P.fits J.base) recorded_store.old.entries 0 rosters.items shares.new.parts shares.new.amount }
     ensures back { AreBack 0 rosters.items → result ≡ true }
 {
     let mut rosters = rosters;
     while let Some(roster) = rosters.pop() {
-        if !take_back(book, shares, roster, rosters.len()) {
+        if !take_back(recorded_store, shares, roster, rosters.len()) {
             return false;
         }
     }

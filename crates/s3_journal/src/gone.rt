@@ -1,18 +1,19 @@
-//! What is known of those who have left a desk.
+//! What is known of those who have left a shared store.
 
-use crate::book::Prefix;
 use crate::calls::Calls;
+use crate::recorded_store::Prefix;
 use s3_history::Describes;
 use std::marker::{Model, PhantomData};
 use std::snapshot::Snapshot;
 
-/// What is told of who leaves a desk. No value of it is made: a history consists of them, which stands in the proofs alone.
+/// What is told of who leaves a shared store. No value of it is made: a history consists of them, which stands in the proofs
+/// alone.
 pub trait Report {
     ghost use Rattle.std.specs.Prelude.{List};
     ghost use Rattle.s3_machine.specs.History.{Entry};
-    ghost use Rattle.s3_journal.specs.Desk.{Base};
+    ghost use Rattle.s3_journal.specs.SharedStore.{Base};
 
-    // What is told fits these entries, at a desk that stands on this.
+    // What is told fits these entries, at a shared store that stands on this.
     ghost fits: { Base → Self → List Entry → Type 0 };
 }
 

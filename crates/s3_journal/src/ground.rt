@@ -1,9 +1,9 @@
-//! What a desk stands on, and what it is opened with.
+//! What a shared store stands on, and what it is opened with.
 
 ghost use Rattle.std.specs.Prelude.{◌≡◌, ◌*◌, [], IfOk};
-ghost use Rattle.s3_journal.specs.Desk.{Continues, seats_each};
+ghost use Rattle.s3_journal.specs.SharedStore.{Continues, seats_each};
 
-use crate::book::Book;
+use crate::recorded_store::RecordedStore;
 use s3_config::Config;
 use s3_machine::Rules;
 use s3_records::Records;
@@ -17,25 +17,25 @@ use std::sync::ledger::{self, Blank, Ledger, Share};
 /// How many parts of the ledger each roster has, and how many numbers.
 pub(crate) const SEATS: u64 = 1 << 40;
 
-/// The brand of a desk, which tells it from all others: what it stands on, and, as a ledger, how many parts its rosters have.
-/// What uses a desk is generic in the brand, and its caller passes `Brand` of `std::marker` for it.
+/// The brand of a shared store, which tells it from all others: what it stands on, and, as a ledger, how many parts its rosters
+/// have. What uses a shared store is generic in the brand, and its caller passes `Brand` of `std::marker` for it.
 pub trait Ground: Ledger {
-    ghost use Rattle.s3_journal.specs.Desk.{Base};
+    ghost use Rattle.s3_journal.specs.SharedStore.{Base};
 
     ghost base: { Base };
 }
 
 impl Ground for Brand {
-    ghost use Rattle.s3_journal.specs.Desk.{no_base};
+    ghost use Rattle.s3_journal.specs.SharedStore.{no_base};
 
     ghost base = { no_base };
 }
 
-/// What a desk is opened with: a new book, the settings, and a ledger that no desk has yet. One desk uses it up, and it can't be
-/// copied, so no two desks have one ledger.
+/// What a shared store is opened with: a new recorded store, the settings, and a ledger that no shared store has yet. One shared
+/// store uses it up, and it can't be copied, so no two shared stores have one ledger.
 #[derive(Drop)]
 pub struct Start<R: Records + Drop> {
-    book: Book<R>,
+    recorded_store: RecordedStore<R>,
     blank: Blank,
     settings: Snapshot<Config>,
     rosters: u16,
@@ -46,20 +46,20 @@ impl<R: Records + Drop> Model for Start<R> {
     ghost use Rattle.std.specs.Coded.{codes};
     ghost use Rattle.s3_store.specs.Steps.{coded_standing};
     ghost use Rattle.s3_machine.specs.Rules.{rules_of};
-    ghost use Rattle.s3_journal.specs.Desk.{Opening, seats_each};
+    ghost use Rattle.s3_journal.specs.SharedStore.{Opening, seats_each};
 
     ghost Value = { Opening };
 
     ghost coded = { Prim.hlevel (codes, coded_standing) };
 
-    ghost view = { λ s. record { name = s.blank.name; base = record { origin = s.book.origin; settings = s.settings.value; store = s.book.opening }; rosters = s.rosters } };
+    ghost view = { λ s. record { name = s.blank.name; base = record { origin = s.recorded_store.origin; settings = s.settings.value; store = s.recorded_store.opening }; rosters = s.rosters } };
 
-    ghost invariant = { λ s. (s.blank.parts ≡ s.rosters * seats_each) × (s.book.entries ≡ []) × (s.book.rules ≡ rules_of s.settings.value) };
+    ghost invariant = { λ s. (s.blank.parts ≡ s.rosters * seats_each) × (s.recorded_store.entries ≡ []) × (s.recorded_store.rules ≡ rules_of s.settings.value) };
 }
 
 impl<R: Records + Drop> Start<R> {
-    /// What a desk over this store is opened with, with these settings. It will have so many rosters, one for each worker;
-    /// nobody comes to a desk that has none.
+    /// What a shared store over this store is opened with, with these settings. It will have so many rosters, one for each
+    /// worker; nobody comes to a shared store that has none.
     ///
     /// # Errors
     ///
@@ -75,32 +75,32 @@ impl<R: Records + Drop> Start<R> {
         ensures rosters { IfOk result (λ start. start.rosters ≡ rosters) }
     {
         let rules = Rules::of(alloc, config)?;
-        let book = Book::new(alloc, rules, store)?;
+        let recorded_store = RecordedStore::new(alloc, rules, store)?;
         Ok(Start {
-            book,
+            recorded_store,
             blank: Blank::new(u64::from(rosters) * SEATS),
             settings: Snapshot::of(config),
             rosters,
         })
     }
 
-    // The book, the ledger that counts its entries, with all its shares, and how many rosters there will be.
-    pub(crate) fn into_parts<J: Ground>(self) -> (Book<R>, ledger::Book<J>, Share<J>, u16)
+    // The recorded store, the ledger that counts its entries, with all its shares, and how many rosters there will be.
+    pub(crate) fn into_parts<J: Ground>(self) -> (RecordedStore<R>, ledger::Book<J>, Share<J>, u16)
         requires name { J.name ≡ self.name }
         requires base { J.base ≡ self.base }
         requires parts { J.parts ≡ self.rosters * seats_each }
-        ensures book { Continues J.base result.0 × (result.0.entries ≡ []) }
+        ensures recorded_store { Continues J.base result.0 × (result.0.entries ≡ []) }
         ensures total { result.1.total ≡ 0 }
         ensures shares { (result.2.parts ≡ J.parts) × (result.2.amount ≡ 0) }
         ensures rosters { result.3 ≡ self.rosters }
     {
         let Start {
-            book,
+            recorded_store,
             blank,
             settings: _,
             rosters,
         } = self;
         let (calls, shares) = blank.open::<J>();
-        (book, calls, shares, rosters)
+        (recorded_store, calls, shares, rosters)
     }
 }

@@ -1,17 +1,17 @@
-//! What lies under a desk's lock.
+//! What lies under a shared store's lock.
 ghost use Rattle.std.specs.Prelude.{◌≡◌, ◌++◌, ◌∷◌, [], ◌*◌, length, true, IfOk, IfSome, IsSome, OnErr};
 ghost use mathlib.Core.List.{IsPrefix};
-ghost use Rattle.s3_journal.specs.Book.{KeepsHistory, MayLack};
+ghost use Rattle.s3_journal.specs.RecordedStore.{KeepsHistory, MayLack};
 ghost use Rattle.s3_journal.specs.Calls.{HasAnswered, IsAnswered, LacksMemory};
-ghost use Rattle.s3_journal.specs.Desk.{Continues, seats_each};
+ghost use Rattle.s3_journal.specs.SharedStore.{Continues, seats_each};
 ghost use Rattle.s3_journal.specs.Gone.{IsClosed};
 ghost use Rattle.s3_journal.specs.Recorded.{recorded};
 ghost use Rattle.s3_journal.specs.Roster.{AreBack, all_gone};
 
-use crate::book::{Book, Prefix};
 use crate::gather::gather;
 use crate::gone::Report;
 use crate::ground::Ground;
+use crate::recorded_store::{Prefix, RecordedStore};
 use crate::roster::Roster;
 use crate::seat::Seat;
 use s3_machine::{Answer, Turn};
@@ -21,10 +21,10 @@ use std::marker::Model;
 use std::snapshot::Snapshot;
 use std::sync::ledger::{self, Share};
 
-/// What lies under a desk's lock. Contracts see the history.
+/// What lies under a shared store's lock. Contracts see the history.
 #[derive(Drop)]
 pub(crate) struct Room<J: Ground, R: Records + Drop> {
-    book: Book<R>,
+    recorded_store: RecordedStore<R>,
     calls: ledger::Book<J>,
     // What the rosters left of the ledger's shares, which is nothing.
     spare: Share<J>,
@@ -33,59 +33,59 @@ pub(crate) struct Room<J: Ground, R: Records + Drop> {
 
 impl<J: Ground, R: Records + Drop> Model for Room<J, R> {
     ghost use Rattle.std.specs.Prelude.{List};
-    ghost use Rattle.s3_journal.specs.Desk.{IsRoom};
+    ghost use Rattle.s3_journal.specs.SharedStore.{IsRoom};
     ghost use Rattle.s3_journal.specs.Recorded.{Recorded};
 
     ghost Value = { List Recorded };
 
-    ghost view = { λ r. r.book.entries };
+    ghost view = { λ r. r.recorded_store.entries };
 
-    ghost invariant = { λ r. IsRoom J.base J.parts r.rosters r.book r.calls.total r.spare.parts r.spare.amount };
+    ghost invariant = { λ r. IsRoom J.base J.parts r.rosters r.recorded_store r.calls.total r.spare.parts r.spare.amount };
 }
 
-/// What a desk leaves: its book, and its rosters as they were given back, of which contracts alone know.
+/// What a shared store leaves: its recorded store, and its rosters as they were given back, of which contracts alone know.
 #[derive(Drop)]
 pub struct Closed<J: Ground, R: Records + Drop, P: Report> {
-    pub book: Book<R>,
+    pub recorded_store: RecordedStore<R>,
     pub rosters: Snapshot<Vec<Roster<J, P>>>,
 }
 
-// Answers a turn for a seat that knows this much of the book's history.
+// Answers a turn for a seat that knows this much of the recorded store's history.
 fn answer_turn<R: Records + Drop>(
-    book: &mut Book<R>,
+    recorded_store: &mut RecordedStore<R>,
     known: &Prefix,
     seat: u64,
     turn: Turn,
 ) -> Result<Answer, NoMemory>
-    requires { known.now.origin ≡ book.old.origin }
-    ensures answered { IfOk result (λ answer. HasAnswered book.old book.new seat turn answer) }
-    ensures begins { IsPrefix known.now.entries book.old.entries }
-    ensures keeps { KeepsHistory book.old }
-    ensures err { OnErr result (book.new ≡ book.old) }
-    ensures memory { OnErr result (MayLack R.is_in_memory book.old.rules book.old.store turn) }
+    requires { known.now.origin ≡ recorded_store.old.origin }
+    ensures answered { IfOk result (λ answer. HasAnswered recorded_store.old recorded_store.new seat turn answer) }
+    ensures begins { IsPrefix known.now.entries recorded_store.old.entries }
+    ensures keeps { KeepsHistory recorded_store.old }
+    ensures err { OnErr result (recorded_store.new ≡ recorded_store.old) }
+    ensures memory { OnErr result (MayLack R.is_in_memory recorded_store.old.rules recorded_store.old.store turn) }
 {
-    book.check(known);
-    let _ = book.store();
-    let answer = book.enter(seat, turn)?;
-    let _ = book.store();
+    recorded_store.check(known);
+    let _ = recorded_store.store();
+    let answer = recorded_store.enter(seat, turn)?;
+    let _ = recorded_store.store();
     Ok(answer)
 }
 
 impl<J: Ground, R: Records + Drop> Room<J, R> {
     /// A room of so many rosters, to which nobody has come.
     pub(crate) fn new(
-        book: Book<R>,
+        recorded_store: RecordedStore<R>,
         calls: ledger::Book<J>,
         spare: Share<J>,
         rosters: u16,
     ) -> Room<J, R>
         requires parts { J.parts ≡ rosters * seats_each }
-        requires book { Continues J.base book × (book.entries ≡ []) }
+        requires recorded_store { Continues J.base recorded_store × (recorded_store.entries ≡ []) }
         requires calls { calls.total ≡ 0 }
         requires spare { (spare.parts ≡ 0) × (spare.amount ≡ 0) }
     {
         Room {
-            book,
+            recorded_store,
             calls,
             spare,
             rosters,
@@ -102,14 +102,19 @@ impl<J: Ground, R: Records + Drop> Room<J, R> {
         ensures seen { seat.new.seen ≡ self.new }
     {
         let asked = Snapshot::of(&turn);
-        match answer_turn(&mut self.book, seat.known(), seat.number(), turn) {
+        match answer_turn(&mut self.recorded_store, seat.known(), seat.number(), turn) {
             Ok(answer) => {
-                seat.take(asked, &answer, self.book.prefix(), &mut self.calls);
+                seat.take(
+                    asked,
+                    &answer,
+                    self.recorded_store.prefix(),
+                    &mut self.calls,
+                );
                 let _ = seat.known();
                 Ok(answer)
             }
             Err(none) => {
-                seat.see(self.book.prefix());
+                seat.see(self.recorded_store.prefix());
                 Err(none)
             }
         }
@@ -117,7 +122,7 @@ impl<J: Ground, R: Records + Drop> Room<J, R> {
 
     /// What is left when all rosters have come back.
     pub(crate) fn close<P: Report>(self, rosters: Vec<Roster<J, P>>) -> Option<Closed<J, R, P>>
-        ensures closed { IfSome result (λ closed. IsClosed (P.fits J.base) J.base closed.book (all_gone rosters.items)) }
+        ensures closed { IfSome result (λ closed. IsClosed (P.fits J.base) J.base closed.recorded_store (all_gone rosters.items)) }
         ensures rosters { IfSome result (λ closed. closed.rosters.value ≡ rosters) }
         ensures back { IfSome result (λ closed. AreBack 0 rosters.items) }
         ensures some { AreBack 0 rosters.items → length rosters.items * seats_each ≡ J.parts → IsSome result }
@@ -126,28 +131,31 @@ impl<J: Ground, R: Records + Drop> Room<J, R> {
             return None;
         }
         let all = Snapshot::of(&rosters);
-        let book = self.into_book(rosters)?;
-        Some(Closed { book, rosters: all })
+        let recorded_store = self.into_recorded_store(rosters)?;
+        Some(Closed {
+            recorded_store,
+            rosters: all,
+        })
     }
 
-    // Its book, where all rosters that come back are at their places.
-    fn into_book<P: Report>(self, rosters: Vec<Roster<J, P>>) -> Option<Book<R>>
+    // Its recorded store, where all rosters that come back are at their places.
+    fn into_recorded_store<P: Report>(self, rosters: Vec<Roster<J, P>>) -> Option<RecordedStore<R>>
         requires all { length rosters.items * seats_each ≡ J.parts }
-        ensures closed { IfSome result (λ book. IsClosed (P.fits J.base) J.base book (all_gone rosters.items)) }
-        ensures back { IfSome result (λ book. AreBack 0 rosters.items) }
+        ensures closed { IfSome result (λ recorded_store. IsClosed (P.fits J.base) J.base recorded_store (all_gone rosters.items)) }
+        ensures back { IfSome result (λ recorded_store. AreBack 0 rosters.items) }
         ensures some { AreBack 0 rosters.items → IsSome result }
     {
         let Room {
-            mut book,
+            mut recorded_store,
             mut calls,
             mut spare,
             rosters: _,
         } = self;
-        if !gather(&mut book, &mut spare, rosters) {
+        if !gather(&mut recorded_store, &mut spare, rosters) {
             return None;
         }
         calls.audit(&mut spare);
-        let _ = book.store();
-        Some(book)
+        let _ = recorded_store.store();
+        Some(recorded_store)
     }
 }

@@ -2,14 +2,14 @@
 ghost use Rattle.std.specs.Prelude.{◌≡◌, ◌++◌, ◌∷◌, [], ◌==◌, ◌&&◌, ◌||◌, if◌then◌else◌, ℕ, true, false, IfOk, OnOk, OnErr};
 ghost use Rattle.std.specs.BTreeSet.{btree_set_len};
 ghost use mathlib.Core.List.{IsPrefix};
-ghost use Rattle.s3_journal.specs.Desk.{seats_each};
+ghost use Rattle.s3_journal.specs.SharedStore.{seats_each};
 ghost use Rattle.s3_journal.specs.Roster.{IsNew, IsNumberOf, IsRoster, is_out};
 
-use crate::book::Prefix;
 use crate::calls::Calls;
 use crate::gone::{AsGone, Gone, Leaving, Report};
 use crate::ground::{Ground, SEATS};
 use crate::numbers::Numbers;
+use crate::recorded_store::Prefix;
 use crate::seat::Seat;
 use s3_history::{Describes, Recorder};
 use s3_terms::NoMemory;
@@ -20,7 +20,7 @@ use std::sync::ledger::Share;
 
 /// Who comes to one worker, and who has left it. It is one thread's, and needs no lock.
 ///
-/// Contracts see which roster of its desk it is, the numbers that are out and the next one, each that has left with its
+/// Contracts see which roster of its shared store it is, the numbers that are out and the next one, each that has left with its
 /// entries and what was told of it, and the history as far as these had seen it.
 #[derive(Drop)]
 pub struct Roster<J: Ground, P: Report> {

@@ -1,19 +1,19 @@
-//! Who may submit turns to a desk.
+//! Who may submit turns to a shared store.
 ghost use Rattle.std.specs.Prelude.{◌≡◌, ◌++◌, ◌∷◌, [], ◌+◌, ◌⊎◌, List};
 ghost use mathlib.Core.List.{IsPrefix};
 ghost use Rattle.s3_journal.specs.Recorded.{Recorded, entries_of_seat, entry_of, recorded};
-ghost use Rattle.s3_journal.specs.Desk.{IsAmong, IsSeat};
+ghost use Rattle.s3_journal.specs.SharedStore.{IsAmong, IsSeat};
 
-use crate::book::Prefix;
 use crate::calls::Calls;
 use crate::entry::Entry;
 use crate::ground::Ground;
+use crate::recorded_store::Prefix;
 use s3_machine::{Answer, Turn};
 use std::marker::Model;
 use std::snapshot::Snapshot;
 use std::sync::ledger::{Book, Share};
 
-/// Who may submit turns to a desk. It has its number and a word, however much it submits. Contracts see its number, the
+/// Who may submit turns to a shared store. It has its number and a word, however much it submits. Contracts see its number, the
 /// entries that it was given, and the history as far as it has seen it.
 #[derive(Drop)]
 pub struct Seat<J: Ground> {
@@ -24,7 +24,7 @@ pub struct Seat<J: Ground> {
 }
 
 impl<J: Ground> Model for Seat<J> {
-    ghost use Rattle.s3_journal.specs.Desk.{Seated, IsSeat};
+    ghost use Rattle.s3_journal.specs.SharedStore.{Seated, IsSeat};
 
     ghost Value = { Seated };
 
@@ -49,14 +49,14 @@ impl<J: Ground> Seat<J> {
         }
     }
 
-    /// Its number. No two seats of a desk have one.
+    /// Its number. No two seats of a shared store have one.
     pub fn number(&self) -> u64
         ensures { result ≡ self.now.number }
     {
         self.number
     }
 
-    /// Of what two seats of a desk have seen one begins the other. It takes no memory, and waits for nobody.
+    /// Of what two seats of a shared store have seen one begins the other. It takes no memory, and waits for nobody.
     pub fn meet(&self, other: &Seat<J>)
         ensures { IsPrefix self.now.seen other.now.seen ⊎ IsPrefix other.now.seen self.now.seen }
     {

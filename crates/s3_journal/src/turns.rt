@@ -14,9 +14,10 @@ use s3_terms::NoMemory;
 use std::marker::Model;
 use std::sync::MutexGuard;
 
-/// A batch of turns under way at a desk. Nobody else's turn comes between two of them. Contracts see the desk's history.
+/// A batch of turns under way at a shared store. Nobody else's turn comes between two of them. Contracts see the shared store's
+/// history.
 ///
-/// It holds the desk's lock until it is committed or dropped.
+/// It holds the shared store's lock until it is committed or dropped.
 #[derive(Drop)]
 pub struct Turns<'a, J: Ground, R: Records + Drop> {
     room: MutexGuard<'a, Room<J, R>>,

@@ -3,8 +3,8 @@
 use crate::cut::{Cut, recut};
 use crate::server::{Server, SystemFiles, config, server_of};
 use crate::trimmed::leave_same;
+use s3_cli::{Ran, run_words};
 use s3_devices::{Recorded, Streams};
-use s3_tasks::{Ran, run_words};
 use std::alloc::Global;
 use std::sync::Wait;
 use std::{fs, io};

@@ -12,7 +12,7 @@ use crate::request::signed;
 use crate::server::{config, server_of};
 use s3_calendar::Stamp;
 use s3_config::Config;
-use s3_world::replay_one;
+use s3_simulation::replay_one;
 use std::alloc::Global;
 use std::fs;
 use std::mem::drop;

@@ -3,8 +3,8 @@
 use s3_config::Config;
 use s3_events::{Event, Script, read_events};
 use s3_records::MapRecords;
+use s3_simulation::{World, run, trim};
 use s3_store::Store;
-use s3_world::{World, run, trim};
 use std::alloc::Global;
 use std::mem::drop;
 

@@ -1,4 +1,4 @@
--- What a desk leaves is what its server has done; what a server tells, one line after the other.
+-- What a shared store leaves is what its server has done; what a server tells, one line after the other.
 use Rattle.std.proofs.Common.{◌≡◌, ◌+◌, ℕ, List, [], ◌∷◌, ◌++◌, append_assoc, Some, None, Option, Result, Ok, Err, length, take, inl, inr, ap, ◌∙◌, refl, sym, subst, arith, append-nil}
 use Rattle.std.proofs.KnownBytes.{Appends-trans}
 use Rattle.std.proofs.Math.Seq.{take-append-add}
@@ -15,9 +15,9 @@ use Rattle.s3_machine.specs.History.{Legal}
 use Rattle.s3_machine.specs.Rules.{rules_of}
 use Rattle.s3_machine.specs.declared.rules.Rules.{Rules}
 use Rattle.s3_store.specs.Steps.{Standing, opened}
-use Rattle.s3_journal.specs.Book.{Journal}
+use Rattle.s3_journal.specs.RecordedStore.{Journal}
 use Rattle.s3_journal.specs.Recorded.{history_of}
-use Rattle.s3_journal.specs.Desk.{Base}
+use Rattle.s3_journal.specs.SharedStore.{Base}
 use Rattle.s3_journal.specs.Gone.{Gone, AreWhole, IsClosed}
 use Rattle.s3_journal.specs.Roster.{AreBack, AreNew, NobodyIsOut, Rostered, all_gone}
 use Rattle.s3_devices.specs.Device.{Traffic}
@@ -29,20 +29,20 @@ use Rattle.s3_settings.specs.declared.server.ServeMode.{ServeMode}
 use Rattle.s3_settings.specs.Server.{IsServer}
 use Rattle.s3_server.specs.Served.{AllHavePassed, AreFresh, HasLeft, HasListened, HasServed, HasServedAs, HasServedAndTold, HasWorked, HaveClosed, IsToldInPart, IsToldPlace, ServerRun, address_line, entries_line}
 
--- what a desk left
-pub has_left : (settings : Settings) (base : Base) (book : Journal) (gone : List (Gone Account)) (earlier later : List ServerRun) (entries : ℕ)
-    → IsClosed (Fits base.settings) base book gone → base.settings ≡ settings → base.store ≡ opened (opening settings.buckets)
-    → later ≡ earlier ++ record { history = book.entries; gone = gone } ∷ [] → entries ≡ length book.entries → HasLeft settings gone earlier later entries
-has_left settings base book gone earlier later entries closed same store told counted =
-    let rules : book.rules ≡ rules_of settings = closed.continues.rules ∙ ap rules_of same in
-    let from : book.opening ≡ opened (opening settings.buckets) = closed.continues.store ∙ store in
+-- what a shared store left
+pub has_left : (settings : Settings) (base : Base) (recorded_store : Journal) (gone : List (Gone Account)) (earlier later : List ServerRun) (entries : ℕ)
+    → IsClosed (Fits base.settings) base recorded_store gone → base.settings ≡ settings → base.store ≡ opened (opening settings.buckets)
+    → later ≡ earlier ++ record { history = recorded_store.entries; gone = gone } ∷ [] → entries ≡ length recorded_store.entries → HasLeft settings gone earlier later entries
+has_left settings base recorded_store gone earlier later entries closed same store told counted =
+    let rules : recorded_store.rules ≡ rules_of settings = closed.continues.rules ∙ ap rules_of same in
+    let from : recorded_store.opening ≡ opened (opening settings.buckets) = closed.continues.store ∙ store in
     record {
-      history = book.entries;
+      history = recorded_store.entries;
       reported = told;
-      legal = subst (λ (r : Rules). Legal r (opening settings.buckets) 0 (history_of book.entries)) rules
-          (subst (λ (s : Standing). Legal book.rules s.state s.number (history_of book.entries)) from closed.keeps.legal);
+      legal = subst (λ (r : Rules). Legal r (opening settings.buckets) 0 (history_of recorded_store.entries)) rules
+          (subst (λ (s : Standing). Legal recorded_store.rules s.state s.number (history_of recorded_store.entries)) from closed.keeps.legal);
       apart = closed.apart;
-      each = subst (λ (s : Settings). AreWhole (Fits s) book.entries gone) same closed.each;
+      each = subst (λ (s : Settings). AreWhole (Fits s) recorded_store.entries gone) same closed.each;
       count = closed.count;
       counted = sym counted;
     }
@@ -275,7 +275,7 @@ served_still {E = E} entries (Err e) settings address before between after earli
 
 pub ruleset telling = (nothing_told, nothing_begun, begun_still, place_still, place_told, place_begun, place_alone, lines_told, lines_begun, served_as, served_still)
 
--- what holds of what a desk was closed with, by what it hands out
+-- what holds of what a shared store was closed with, by what it hands out
 pub told_by : {X V : Type 0} (F : X → V → Type 0) (handed : X → V) (given : V) (closed : Option X) → IfSome closed (λ c. F c given)
     → IfSome closed (λ c. handed c ≡ given) → IfSome closed (λ c. F c (handed c))
 told_by F handed given (Some c) f is = subst (F c) (sym is) f

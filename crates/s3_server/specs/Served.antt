@@ -108,7 +108,7 @@ pub record HaveClosed (before after : Networked) (rosters : List (Rostered Accou
   pub each : AllHavePassed doors rosters
   pub asked : after.asked ≡ before.asked
 
--- a desk left a history and these connections, which is reported
+-- a shared store left a history and these connections, which is reported
 pub record HasLeft (settings : Settings) (gone : List (Gone Account)) (earlier later : List ServerRun) (entries : ℕ) : Type 0 where
   pub history : List Recorded
   pub reported : later ≡ earlier ++ record { history = history; gone = gone } ∷ []

@@ -1,4 +1,4 @@
-//! How a worker takes the connections that come, and finds places for them.
+//! How a worker takes the connections that come, and finds slots for them.
 
 use crate::worker::{Now, Worker};
 use mio::Token;
@@ -30,7 +30,7 @@ pub(crate) struct Arrivals<S: Service> {
     pub(crate) has_waiting: bool,
     is_reported: bool,
     may_make_room: bool,
-    // One that was taken, and has no place yet; and whether the other workers were asked for one.
+    // One that was taken, and has no slot yet; and whether the other workers were asked for one.
     taken: Option<S::Arrival>,
     has_asked: bool,
     stance: Stance,
@@ -49,7 +49,7 @@ impl<S: Service> Arrivals<S> {
         }
     }
 
-    /// Whether one was taken that has no place yet.
+    /// Whether one was taken that has no slot yet.
     pub(crate) fn has_one(&self) -> bool {
         self.taken.is_some()
     }
@@ -94,9 +94,9 @@ impl<S: Service> Arrivals<S> {
 }
 
 impl<S: Service> Worker<'_, S> {
-    /// Takes a connection that waits, if it may, and gives one up where another worker wants its place.
+    /// Takes a connection that waits, if it may, and gives one up where another worker wants its slot.
     pub(crate) fn take_and_give_up(&mut self, now: &Now) {
-        if self.arrivals.has_waiting && !self.places.is_full() && self.take_stance(now) {
+        if self.arrivals.has_waiting && !self.slots.is_full() && self.take_stance(now) {
             self.take_one(now);
         }
         self.let_in(now);
@@ -107,7 +107,7 @@ impl<S: Service> Worker<'_, S> {
     // leaves them to the others for a while: each would wait here for those that it holds. Where the others don't come
     // to it, it takes them all the same.
     fn take_stance(&mut self, now: &Now) -> bool {
-        let is_within = self.places.is_within_share(self.held.len() as u64);
+        let is_within = self.slots.is_within_share(self.held.len() as u64);
         self.arrivals.stance = match self.arrivals.stance {
             Stance::Takes => Stance::Takes,
             _ if is_within => Stance::Shares,
@@ -118,7 +118,7 @@ impl<S: Service> Worker<'_, S> {
         !self.arrivals.are_left()
     }
 
-    // Takes a connection that waits, if none has no place yet, and leaves the others: a worker that took all that wait
+    // Takes a connection that waits, if none has no slot yet, and leaves the others: a worker that took all that wait
     // would serve them alone.
     fn take_one(&mut self, now: &Now) {
         if self.arrivals.has_one() {
@@ -137,7 +137,7 @@ impl<S: Service> Worker<'_, S> {
         self.arrivals.is_reported = false;
     }
 
-    // Keeps one that was taken until there is a place for it. None is kept already.
+    // Keeps one that was taken until there is a slot for it. None is kept already.
     fn keep(&mut self, arrival: S::Arrival) {
         match self.arrivals.taken.replace(arrival) {
             Some(before) => self.turn_away(before),
@@ -145,7 +145,7 @@ impl<S: Service> Worker<'_, S> {
         }
     }
 
-    // Has one leave that was taken, and for which there is no place.
+    // Has one leave that was taken, and for which there is no slot.
     fn turn_away(&mut self, arrival: S::Arrival) {
         self.service.turn_away(arrival, &mut self.held.door);
     }
@@ -186,7 +186,7 @@ impl<S: Service> Worker<'_, S> {
         self.arrivals.may_make_room = false;
         match self.spare_key(now) {
             Some(key) => {
-                self.held.let_go(self.places, key);
+                self.held.let_go(self.slots, key);
                 true
             }
             None => false,
@@ -198,34 +198,34 @@ impl<S: Service> Worker<'_, S> {
         S::report_waiting(&mut self.held.door, self.poll.registry(), LISTENER);
     }
 
-    // Lets the connection in that was taken, if there is a place for it; where the server takes no more, it ends.
+    // Lets the connection in that was taken, if there is a slot for it; where the server takes no more, it ends.
     fn let_in(&mut self, now: &Now) {
-        if self.places.is_full() {
+        if self.slots.is_full() {
             self.turn_away_kept();
         }
         if !self.arrivals.has_one() {
             self.ask_no_more();
             return;
         }
-        if self.take_place(now) {
+        if self.take_slot(now) {
             self.take_in(now);
         }
     }
 
-    // Holds the connection that was taken, for which a place is taken.
+    // Holds the connection that was taken, for which a slot is taken.
     fn take_in(&mut self, now: &Now) {
         let is_held = match self.arrivals.taken.take() {
             Some(arrival) => self.hold(arrival, now),
             None => false,
         };
         if !is_held {
-            self.places.give_place();
+            self.slots.give_slot();
         }
     }
 
     // Holds this connection, which is counted, and answers whether it does.
     fn hold(&mut self, arrival: S::Arrival, now: &Now) -> bool {
-        let Some(number) = self.places.count_one() else {
+        let Some(number) = self.slots.count_one() else {
             self.turn_away(arrival);
             return false;
         };
@@ -238,50 +238,50 @@ impl<S: Service> Worker<'_, S> {
         )
     }
 
-    // Takes a place for the connection that was taken, and answers whether it did: a free one, or that of the
+    // Takes a slot for the connection that was taken, and answers whether it did: a free one, or that of the
     // connection which has waited longest for its next message, or whose head is longest on its way. Where it holds neither,
     // the other workers are asked.
-    // It asks no more before it takes one, so that they offer none behind that; and no place is given up for a
+    // It asks no more before it takes one, so that they offer none behind that; and no slot is given up for a
     // connection that has gone, which counts as one that came.
-    fn take_place(&mut self, now: &Now) -> bool {
+    fn take_slot(&mut self, now: &Now) -> bool {
         self.ask_no_more();
-        if self.places.take_place() {
+        if self.slots.take_slot() {
             return true;
         }
         if self.arrivals.is_nobody_there() {
             self.turn_away_kept();
-            let _ = self.places.count_one();
+            let _ = self.slots.count_one();
             return false;
         }
         if let Some(key) = self.spare_key(now) {
-            self.held.let_go(self.places, key);
+            self.held.let_go(self.slots, key);
         }
-        if self.places.take_place() {
+        if self.slots.take_slot() {
             return true;
         }
-        self.places.want_place();
+        self.slots.want_slot();
         self.arrivals.has_asked = true;
         false
     }
 
-    /// Takes back that it asked the other workers for a place, if it did.
+    /// Takes back that it asked the other workers for a slot, if it did.
     pub(crate) fn ask_no_more(&mut self) {
         if self.arrivals.has_asked {
-            self.places.want_no_place();
+            self.slots.want_no_slot();
             self.arrivals.has_asked = false;
         }
     }
 
-    // Lets the connection go that has waited longest, as above, where another worker wants a place, none is
+    // Lets the connection go that has waited longest, as above, where another worker wants a slot, none is
     // free, and no third one lets one go for it.
     fn give_up_one(&mut self, now: &Now) {
-        if self.arrivals.has_one() || self.places.is_full() || !self.places.lacks_places() {
+        if self.arrivals.has_one() || self.slots.is_full() || !self.slots.lacks_slots() {
             return;
         }
         if let Some(key) = self.spare_key(now) {
-            if self.places.offer_place() {
-                self.held.let_go(self.places, key);
-                self.places.offer_no_place();
+            if self.slots.offer_slot() {
+                self.held.let_go(self.slots, key);
+                self.slots.offer_no_slot();
             }
         }
     }

@@ -1,6 +1,6 @@
 //! The connections that a worker holds, each under a key.
 
-use crate::places::Places;
+use crate::slots::Slots;
 use crate::worker::Now;
 use mio::{Registry, Token};
 use s3_driver::{Moved, State};
@@ -42,7 +42,7 @@ impl<S: Service> ConnectionTable<S> {
         }
     }
 
-    /// Has all leave that are still there, and the one that was taken and has no place. Hands out the door.
+    /// Has all leave that are still there, and the one that was taken and has no slot. Hands out the door.
     pub(crate) fn end(self, service: &S, taken: Option<S::Arrival>) -> S::Door {
         let ConnectionTable {
             places,
@@ -195,10 +195,10 @@ impl<S: Service> ConnectionTable<S> {
         }
     }
 
-    /// Has the one under a key leave, if there is one, and gives its place back.
-    pub(crate) fn let_go(&mut self, places: &Places, key: usize) {
+    /// Has the one under a key leave, if there is one, and gives its slot back.
+    pub(crate) fn let_go(&mut self, slots: &Slots, key: usize) {
         if self.remove(key) {
-            places.give_place();
+            slots.give_slot();
         }
     }
 
@@ -207,7 +207,7 @@ impl<S: Service> ConnectionTable<S> {
     pub(crate) fn serve(
         &mut self,
         service: &S,
-        places: &Places,
+        slots: &Slots,
         buffer: &mut [u8],
         registry: &Registry,
         key: usize,
@@ -221,7 +221,7 @@ impl<S: Service> ConnectionTable<S> {
         };
         let moved = service.go_on(held, buffer, now.moment, now.instant);
         if !self.stays(registry, key, moved) {
-            self.let_go(places, key);
+            self.let_go(slots, key);
         }
     }
 
@@ -249,7 +249,7 @@ impl<S: Service> ConnectionTable<S> {
     pub(crate) fn take_turns(
         &mut self,
         service: &S,
-        places: &Places,
+        slots: &Slots,
         buffer: &mut [u8],
         registry: &Registry,
         now: &Now,
@@ -262,7 +262,7 @@ impl<S: Service> ConnectionTable<S> {
         for _ in 0..self.answered.len() {
             if let Some(answered) = self.answered.pop() {
                 let key = self.hear(service, answered);
-                self.serve(service, places, buffer, registry, key, now);
+                self.serve(service, slots, buffer, registry, key, now);
             }
         }
     }

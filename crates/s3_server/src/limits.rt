@@ -59,7 +59,7 @@ impl<S: Service> Worker<'_, S> {
     fn try_again(&mut self, key: usize, now: &Now) {
         self.serve_key(key, now);
         if self.held.is_over(key, now.instant) {
-            self.held.let_go(self.places, key);
+            self.held.let_go(self.slots, key);
         }
     }
 

@@ -21,13 +21,13 @@ impl Model for EndedServer {
     ghost view = { λ server. nothing_done };
 }
 
-// What its desk leaves tells that.
+// What its shared store leaves tells that.
 struct AsLeft;
 
 impl<J: Ground> Describes<Closed<J, MapRecords, Account>, EndedServer> for AsLeft {
     ghost use Rattle.s3_journal.specs.Roster.{all_gone};
 
-    ghost entry = { λ closed. record { history = closed.book.entries; gone = all_gone closed.rosters.value.items } };
+    ghost entry = { λ closed. record { history = closed.recorded_store.entries; gone = all_gone closed.rosters.value.items } };
 }
 
 /// What is told of servers that have ended: of each the history of its store, and the connections that left it, with the accounts of
@@ -56,9 +56,9 @@ impl ServerReport {
         })
     }
 
-    // Tells what a server has done whose desk left this.
+    // Tells what a server has done whose shared store left this.
     pub(crate) fn tell<J: Ground>(&mut self, closed: &Closed<J, MapRecords, Account>)
-        ensures { self.new ≡ self.old ++ record { history = closed.now.book.entries; gone = all_gone closed.now.rosters.value.items } ∷ [] }
+        ensures { self.new ≡ self.old ++ record { history = closed.now.recorded_store.entries; gone = all_gone closed.now.rosters.value.items } ∷ [] }
     {
         self.ended
             .record::<Closed<J, MapRecords, Account>, AsLeft>(closed);

@@ -1,7 +1,7 @@
 //! The threads of a server, from the opening of its store to its close.
 
 ghost use Rattle.std.specs.Prelude.{◌≡◌, ◌*◌, [], length, IfOk, IfSome, OnOk};
-ghost use Rattle.s3_journal.specs.Desk.{seats_each};
+ghost use Rattle.s3_journal.specs.SharedStore.{seats_each};
 ghost use Rattle.s3_journal.specs.Gone.{IsClosed};
 ghost use Rattle.s3_journal.specs.Roster.{AreBack, AreNew, NobodyIsOut, all_gone};
 ghost use Rattle.s3_records.specs.Catalogue.{opening};
@@ -12,12 +12,12 @@ ghost use Rattle.s3_server.specs.Served.{HasLeft, HasWorked, HaveClosed};
 
 use crate::jobs::{Jobs, Opened};
 use crate::logging::Logging;
-use crate::places::Places;
 use crate::report::ServerReport;
+use crate::slots::Slots;
 use crate::worker::{Means, Worker};
 use s3_config::Config;
 use s3_driver::Account;
-use s3_journal::{Closed, Desk, Ground, Roster, Start};
+use s3_journal::{Closed, Ground, Roster, SharedStore, Start};
 use s3_log::{Log, LogWriter};
 use s3_records::MapRecords;
 use s3_settings::Files;
@@ -29,8 +29,8 @@ use std::sync::Wait;
 use std::thread::{self, Threads};
 use std::time::Clock;
 
-/// Has all of this done at the desk of a brand, a thread each, and answers how many commands the store answered. `NoMemory`
-/// comes too where a worker's door isn't back, or a connection hasn't left by it, though none is kept.
+/// Has all of this done at the shared store of a brand, a thread each, and answers how many commands the store answered.
+/// `NoMemory` comes too where a worker's door isn't back, or a connection hasn't left by it, though none is kept.
 pub(crate) fn run<
     J: Ground + Send + Sync,
     R: Wait + Threads + Clock + Sync,
@@ -40,7 +40,7 @@ pub(crate) fn run<
     rt: &R,
     alloc: Global,
     config: &Config,
-    places: &Places,
+    slots: &Slots,
     logging: Option<&Logging<'_, F>>,
     start: Start<MapRecords>,
     jobs: Jobs,
@@ -54,26 +54,26 @@ pub(crate) fn run<
     requires store { J.base.store ≡ opened (opening config.now.buckets) }
     ensures worked { IfOk result (HasWorked config.now network.old network.new report.old report.new) }
 {
-    let (desk, rosters) = Desk::<J, MapRecords>::open::<Account>(alloc, start)?;
+    let (shared, rosters) = SharedStore::<J, MapRecords>::open::<Account>(alloc, start)?;
     let back = all_back(
-        rt, alloc, config, places, &desk, logging, jobs, rosters, network,
+        rt, alloc, config, slots, &shared, logging, jobs, rosters, network,
     );
     match back {
-        Ok(rosters) => end(config, report, desk, rosters),
+        Ok(rosters) => end(config, report, shared, rosters),
         Err(none) => {
-            drop(desk);
+            drop(shared);
             Err(none)
         }
     }
 }
 
-// Has all of this done at a desk with these rosters, and hands the rosters out once all doors are closed.
+// Has all of this done at a shared store with these rosters, and hands the rosters out once all doors are closed.
 fn all_back<J: Ground + Send + Sync, R: Wait + Threads + Clock + Sync, N: Net, F: Files + Sync>(
     rt: &R,
     alloc: Global,
     config: &Config,
-    places: &Places,
-    desk: &Desk<J, MapRecords>,
+    slots: &Slots,
+    shared: &SharedStore<J, MapRecords>,
     logging: Option<&Logging<'_, F>>,
     jobs: Jobs,
     rosters: Vec<Roster<J, Account>>,
@@ -85,7 +85,7 @@ fn all_back<J: Ground + Send + Sync, R: Wait + Threads + Clock + Sync, N: Net, F
     ensures all { OnOk result (AllAreClosed network.new) }
 {
     let tasks = tasks(alloc, jobs, rosters)?;
-    let doors = work_all(rt, alloc, config, places, desk, logging, tasks)?;
+    let doors = work_all(rt, alloc, config, slots, shared, logging, tasks)?;
     let rosters = close_doors(alloc, network, doors)?;
     if network.is_closed() {
         Ok(rosters)
@@ -95,11 +95,11 @@ fn all_back<J: Ground + Send + Sync, R: Wait + Threads + Clock + Sync, N: Net, F
     }
 }
 
-// Ends a desk whose rosters have come back, reports what it left, and answers how many entries that has.
+// Ends a shared store whose rosters have come back, reports what it left, and answers how many entries that has.
 fn end<J: Ground>(
     config: &Config,
     report: &mut ServerReport,
-    desk: Desk<J, MapRecords>,
+    shared: SharedStore<J, MapRecords>,
     rosters: Vec<Roster<J, Account>>,
 ) -> Result<u64, NoMemory>
     requires settings { J.base.settings ≡ config.now }
@@ -107,27 +107,27 @@ fn end<J: Ground>(
     ensures left { IfOk result (HasLeft config.now (all_gone rosters.items) report.old report.new) }
     ensures back { OnOk result (AreBack 0 rosters.items) }
 {
-    match desk.close::<Account>(rosters) {
+    match shared.close::<Account>(rosters) {
         Some(closed) => Ok(tell_left(config, report, closed)),
         None => Err(NoMemory),
     }
 }
 
-// Reports what a desk left, and answers how many entries that has.
+// Reports what a shared store left, and answers how many entries that has.
 #[tactic(auto, using(crate::proofs::ServedLemmas::has_left))]
 fn tell_left<J: Ground>(
     config: &Config,
     report: &mut ServerReport,
     closed: Closed<J, MapRecords, Account>,
 ) -> u64
-    requires closed { IsClosed (Fits J.base.settings) J.base closed.book (all_gone closed.rosters.value.items) }
+    requires closed { IsClosed (Fits J.base.settings) J.base closed.recorded_store (all_gone closed.rosters.value.items) }
     requires settings { J.base.settings ≡ config.now }
     requires store { J.base.store ≡ opened (opening config.now.buckets) }
     ensures left { HasLeft config.now (all_gone closed.rosters.value.items) report.old report.new result }
 {
     let _ = config;
     report.tell(&closed);
-    closed.book.entries()
+    closed.recorded_store.entries()
 }
 
 // What one thread does.
@@ -189,8 +189,8 @@ fn work_all<J: Ground + Send + Sync, R: Wait + Threads + Clock + Sync, F: Files 
     rt: &R,
     alloc: Global,
     config: &Config,
-    places: &Places,
-    desk: &Desk<J, MapRecords>,
+    slots: &Slots,
+    shared: &SharedStore<J, MapRecords>,
     logging: Option<&Logging<'_, F>>,
     tasks: Vec<Task<J>>,
 ) -> Result<Vec<Door<J>>, NoMemory>
@@ -200,7 +200,7 @@ fn work_all<J: Ground + Send + Sync, R: Wait + Threads + Clock + Sync, F: Files 
     let worked = thread::map_vec(
         rt,
         tasks,
-        &|task: Task<J>| { does(rt, alloc, config, places, desk, logging, task) },
+        &|task: Task<J>| { does(rt, alloc, config, slots, shared, logging, task) },
     )?;
     for door in worked {
         if let Some(door) = door {
@@ -234,8 +234,8 @@ fn does<J: Ground, R: Wait + Clock, F: Files>(
     rt: &R,
     alloc: Global,
     config: &Config,
-    places: &Places,
-    desk: &Desk<J, MapRecords>,
+    slots: &Slots,
+    shared: &SharedStore<J, MapRecords>,
     logging: Option<&Logging<'_, F>>,
     task: Task<J>,
 ) -> Option<Door<J>>
@@ -244,7 +244,7 @@ fn does<J: Ground, R: Wait + Clock, F: Files>(
     match task {
         Task::Work(number, means, door) => {
             let log = log_of(logging, number);
-            Some(works(rt, alloc, config, places, desk, log, means, door))
+            Some(works(rt, alloc, config, slots, shared, log, means, door))
         }
         Task::Write(writer) => {
             if let Some(logging) = logging {
@@ -268,16 +268,16 @@ fn works<J: Ground, R: Wait + Clock>(
     rt: &R,
     alloc: Global,
     config: &Config,
-    places: &Places,
-    desk: &Desk<J, MapRecords>,
+    slots: &Slots,
+    shared: &SharedStore<J, MapRecords>,
     log: Option<&Log>,
     means: Means,
     door: Door<J>,
 ) -> Door<J>
     requires settings { J.base.settings ≡ config.now }
 {
-    let sharing = Sharing::new(rt, alloc, config, desk, log);
-    let door = works_with(&sharing, places, means, door);
+    let sharing = Sharing::new(rt, alloc, config, shared, log);
+    let door = works_with(&sharing, slots, means, door);
     if let Some(log) = log {
         log.leave(rt);
     }
@@ -285,9 +285,9 @@ fn works<J: Ground, R: Wait + Clock>(
 }
 
 // The same with what serves its connections. There is no worker without a clock.
-fn works_with<S: Service>(service: &S, places: &Places, means: Means, door: S::Door) -> S::Door {
+fn works_with<S: Service>(service: &S, slots: &Slots, means: Means, door: S::Door) -> S::Door {
     match WorkerClock::new() {
-        Some(clock) => Worker::new(service, places, means, clock, door).work(),
+        Some(clock) => Worker::new(service, slots, means, clock, door).work(),
         None => door,
     }
 }

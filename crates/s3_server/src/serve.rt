@@ -2,7 +2,7 @@
 
 ghost use Rattle.std.specs.Prelude.{◌≡◌, ◌⊎◌, ◌*◌, length, Ok, IfOk, IfErr, IfSome, OnErr, OnOk};
 ghost use Rattle.std.specs.Io.KnownBytes.{Appends};
-ghost use Rattle.s3_journal.specs.Desk.{seats_each};
+ghost use Rattle.s3_journal.specs.SharedStore.{seats_each};
 ghost use Rattle.s3_records.specs.Catalogue.{opening};
 ghost use Rattle.s3_store.specs.Steps.{opened};
 ghost use Rattle.s3_settings.specs.Devices.{AppendsBeginning, IsTold};
@@ -13,9 +13,9 @@ ghost use Rattle.s3_server.specs.Served.{HasListened, HasServed, HasServedAs, Ha
 
 use crate::jobs::{Jobs, one_opened};
 use crate::logging::Logging;
-use crate::places::Places;
 use crate::report::ServerReport;
 use crate::running::run;
+use crate::slots::Slots;
 use s3_config::Config;
 use s3_devices::Device;
 use s3_journal::Start;
@@ -154,7 +154,7 @@ fn serve_logged<'a, R: Wait + Threads + Clock + Sync, N: Net, F: Files + Sync, W
     tell_entries(alloc, entries, output)
 }
 
-// What a desk over a store with the opening buckets is opened with, for so many workers.
+// What a shared store over a store with the opening buckets is opened with, for so many workers.
 fn start(alloc: Global, config: &Config, workers: u64) -> Result<Start<MapRecords>, NoMemory>
     ensures settings { IfOk result (λ start. start.base.settings ≡ config.now) }
     ensures store { IfOk result (λ start. start.base.store ≡ opened (opening config.now.buckets)) }
@@ -190,9 +190,9 @@ fn serve_start<'a, R: Wait + Threads + Clock + Sync, N: Net, F: Files + Sync, W:
 {
     match listening(alloc, mode, network, output) {
         Ok(jobs) => {
-            let places = Places::new(mode.connections, mode.most_held);
+            let slots = Slots::new(mode.connections, mode.most_held);
             entries_of(run_all(
-                rt, alloc, config, &places, logging, start, jobs, network, report,
+                rt, alloc, config, &slots, logging, start, jobs, network, report,
             ))
         }
         Err(fault) => {
@@ -290,7 +290,7 @@ fn run_all<R: Wait + Threads + Clock + Sync, N: Net, F: Files + Sync>(
     rt: &R,
     alloc: Global,
     config: &Config,
-    places: &Places,
+    slots: &Slots,
     logging: Option<&Logging<'_, F>>,
     start: Start<MapRecords>,
     jobs: Jobs,
@@ -302,7 +302,7 @@ fn run_all<R: Wait + Threads + Clock + Sync, N: Net, F: Files + Sync>(
     ensures worked { IfOk result (HasWorked config.now network.old network.new report.old report.new) }
 {
     run::<Brand, R, N, F>(
-        rt, alloc, config, places, logging, start, jobs, network, report,
+        rt, alloc, config, slots, logging, start, jobs, network, report,
     )
 }
 

@@ -3,7 +3,7 @@
 use crate::arrivals::{Arrivals, LISTENER};
 use crate::connection_table::ConnectionTable;
 use crate::limits::Looks;
-use crate::places::Places;
+use crate::slots::Slots;
 use mio::{Events, Poll};
 use s3_calendar::Moment;
 use s3_sockets::{Service, WorkerClock};
@@ -66,7 +66,7 @@ pub(crate) struct Now {
 /// A worker, with the connections that it holds. It isn't dropped but by its work.
 pub(crate) struct Worker<'a, S: Service> {
     pub(crate) service: &'a S,
-    pub(crate) places: &'a Places,
+    pub(crate) slots: &'a Slots,
     pub(crate) poll: Poll,
     events: Events,
     buffer: Vec<u8>,
@@ -80,7 +80,7 @@ impl<'a, S: Service> Worker<'a, S> {
     /// A worker that holds nothing yet, for those that come by this door.
     pub(crate) fn new(
         service: &'a S,
-        places: &'a Places,
+        slots: &'a Slots,
         means: Means,
         clock: WorkerClock,
         door: S::Door,
@@ -89,7 +89,7 @@ impl<'a, S: Service> Worker<'a, S> {
         let Memory { events, buffer } = memory;
         Worker {
             service,
-            places,
+            slots,
             poll,
             events,
             buffer,
@@ -104,13 +104,13 @@ impl<'a, S: Service> Worker<'a, S> {
     /// and hands out the door.
     pub(crate) fn work(mut self) -> S::Door {
         let rt = self.service.runtime();
-        self.places.begin_work();
+        self.slots.begin_work();
         for _ in rt.forever() {
             if self.is_done() || self.turn(rt).is_err() {
                 break;
             }
         }
-        self.places.end_work();
+        self.slots.end_work();
         self.let_all_go();
         self.end()
     }
@@ -119,7 +119,7 @@ impl<'a, S: Service> Worker<'a, S> {
     fn end(self) -> S::Door {
         let Worker {
             service,
-            places: _,
+            slots: _,
             poll: _,
             events: _,
             buffer: _,
@@ -133,7 +133,7 @@ impl<'a, S: Service> Worker<'a, S> {
 
     // Whether no more connections are taken, and the last one has ended.
     fn is_done(&self) -> bool {
-        self.places.is_full() && self.held.is_empty() && !self.arrivals.has_one()
+        self.slots.is_full() && self.held.is_empty() && !self.arrivals.has_one()
     }
 
     // Waits once, and serves what is ready.
@@ -156,11 +156,11 @@ impl<'a, S: Service> Worker<'a, S> {
         let is_short = self.arrivals.has_one() || self.arrivals.are_left();
         Duration::from_millis(if self.held.has_turns() {
             0
-        } else if is_short || self.places.lacks_places() {
+        } else if is_short || self.slots.lacks_slots() {
             SHORT_PATIENCE
-        } else if self.arrivals.has_waiting && !self.places.is_full() {
+        } else if self.arrivals.has_waiting && !self.slots.is_full() {
             0
-        } else if self.places.has_end() {
+        } else if self.slots.has_end() {
             SHORT_PATIENCE
         } else {
             PATIENCE
@@ -177,7 +177,7 @@ impl<'a, S: Service> Worker<'a, S> {
             }
             let (buffer, registry) = (self.buffer.as_mut_slice(), self.poll.registry());
             self.held
-                .serve(self.service, self.places, buffer, registry, token.0, now);
+                .serve(self.service, self.slots, buffer, registry, token.0, now);
         }
     }
 
@@ -185,21 +185,21 @@ impl<'a, S: Service> Worker<'a, S> {
     fn take_turns(&mut self, now: &Now) {
         let (buffer, registry) = (self.buffer.as_mut_slice(), self.poll.registry());
         self.held
-            .take_turns(self.service, self.places, buffer, registry, now);
+            .take_turns(self.service, self.slots, buffer, registry, now);
     }
 
     /// Has the connection under a key go on, if there is one.
     pub(crate) fn serve_key(&mut self, key: usize, now: &Now) {
         let (buffer, registry) = (self.buffer.as_mut_slice(), self.poll.registry());
         self.held
-            .serve(self.service, self.places, buffer, registry, key, now);
+            .serve(self.service, self.slots, buffer, registry, key, now);
     }
 
     // Lets all go, and asks for nothing more.
     fn let_all_go(&mut self) {
         self.ask_no_more();
         for key in 0..self.held.capacity() {
-            self.held.let_go(self.places, key);
+            self.held.let_go(self.slots, key);
         }
     }
 }

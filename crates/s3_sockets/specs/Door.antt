@@ -2,7 +2,7 @@
 use Rattle.std.specs.Prelude.{◌≡◌, ◌==◌, ◌+◌, if◌then◌else◌, ℕ, Bool, true, false, List, [], ◌∷◌, Option, None, Some, map}
 use Rattle.s3_devices.specs.Device.{Traffic}
 use Rattle.s3_devices.specs.Recorded.{untouched}
-use Rattle.s3_journal.specs.Desk.{Seated}
+use Rattle.s3_journal.specs.SharedStore.{Seated}
 use Rattle.s3_journal.specs.Gone.{Gone}
 use Rattle.s3_journal.specs.Roster.{Numbered, Rostered, is_out}
 use Rattle.s3_driver.specs.Account.{Account}

@@ -182,7 +182,7 @@ impl<J: Ground> Door<J> {
         let _ = registry.reregister(&mut self.listener, token, Interest::READABLE);
     }
 
-    /// Has a connection leave for which there is no place or no memory: its socket is closed.
+    /// Has a connection leave for which there is no slot or no memory: its socket is closed.
     pub(crate) fn turn_away(&mut self, alloc: Global, arrival: Arrival<J>)
         ensures out { (n : ℕ) → is_out self.new.roster.numbers n
             ≡ (if n == arrival.seat.number then false else is_out self.old.roster.numbers n) }

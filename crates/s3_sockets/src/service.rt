@@ -65,7 +65,7 @@ pub trait Service: Sized {
     /// Whether the peer of one that has come has gone: nothing came, and nothing will.
     fn has_gone(arrival: &Self::Arrival) -> bool;
 
-    /// Has one leave for which there is no place.
+    /// Has one leave for which there is no slot.
     fn turn_away(&self, arrival: Self::Arrival, door: &mut Self::Door)
         ensures out { (n : ℕ) → is_out door.new n ≡ (if n == came arrival then false else is_out door.old n) };
 

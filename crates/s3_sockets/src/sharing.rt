@@ -13,7 +13,7 @@ use s3_config::Config;
 use s3_devices::Recorded;
 use s3_driver::{AnsweredConnection, Driver, Moved, ServedConnection, new_driver};
 use s3_history::Recorder;
-use s3_journal::{Desk, Ground, Turns};
+use s3_journal::{Ground, SharedStore, Turns};
 use s3_log::{Log, MessageLog};
 use s3_records::MapRecords;
 use std::alloc::Global;
@@ -63,7 +63,7 @@ pub struct Sharing<'a, J: Ground, W: Wait> {
     rt: &'a W,
     alloc: Global,
     config: &'a Config,
-    desk: &'a Desk<J, MapRecords>,
+    store: &'a SharedStore<J, MapRecords>,
     log: Option<&'a Log>,
 }
 
@@ -83,7 +83,7 @@ impl<'a, J: Ground, W: Wait> Sharing<'a, J, W> {
         rt: &'a W,
         alloc: Global,
         config: &'a Config,
-        desk: &'a Desk<J, MapRecords>,
+        store: &'a SharedStore<J, MapRecords>,
         log: Option<&'a Log>,
     ) -> Sharing<'a, J, W>
         requires { config.now ≡ J.base.settings }
@@ -92,7 +92,7 @@ impl<'a, J: Ground, W: Wait> Sharing<'a, J, W> {
             rt,
             alloc,
             config,
-            desk,
+            store,
             log,
         }
     }
@@ -216,7 +216,7 @@ impl<'a, J: Ground, W: Wait + Clock> Service for Sharing<'a, J, W> {
     }
 
     fn begin(&self) -> Turns<'a, J, MapRecords> {
-        self.desk.turns(self.rt)
+        self.store.turns(self.rt)
     }
 
     fn submit(

@@ -1,17 +1,17 @@
 //! The program `s3d`, which answers and signs requests of the Amazon S3 REST API. `s3d replay` answers
 //! one connection that stands whole on the standard input, or many whose events do, `s3d sign` writes one
 //! signed request, and `s3d serve` listens on a socket.
-//! `s3_tasks::run_words` does the work over any device, and `s3_server::serve_words` over sockets.
+//! `s3_cli::run_words` does the work over any device, and `s3_server::serve_words` over sockets.
 #![tactic(auto)]
 
 ghost use Rattle.std.specs.Prelude.{◌≡◌};
 ghost use Rattle.std.specs.Process.{exit_status};
 
+use s3_cli::{Ran, run_words};
 use s3_devices::{Device, Recorded, Streams};
 use s3_server::{ServerReport, serve_words};
 use s3_settings::{Files, ServeOptions};
 use s3_sockets::Network;
-use s3_tasks::{Ran, run_words};
 use std::alloc::Global;
 use std::fs::OpenOptions;
 use std::io::Write;

@@ -3,9 +3,9 @@ use s3_calendar::Moment;
 use s3_config::Config;
 use s3_machine::{Answer, Rules, Turn};
 use s3_records::MapRecords;
+use s3_simulation::replay_one;
 use s3_store::Store;
 use s3_terms::NoMemory;
-use s3_world::replay_one;
 use std::alloc::Global;
 
 /// 2013-05-24T00:00:00Z.

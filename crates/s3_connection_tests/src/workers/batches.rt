@@ -1,6 +1,6 @@
-//! Two connections at one desk, whose turns are answered there in batches: what a worker does with those that it serves.
+//! Two connections at one shared store, whose turns are answered there in batches: what a worker does with those that it serves.
 ghost use Rattle.std.specs.Prelude.{◌≡◌, ◌*◌};
-ghost use Rattle.s3_journal.specs.Desk.{seats_each};
+ghost use Rattle.s3_journal.specs.SharedStore.{seats_each};
 
 use crate::workers::served::{Sent, moment, store};
 use crate::workers::stream::{Manner, MemoryStream, PLAIN};
@@ -9,7 +9,7 @@ use s3_config::Config;
 use s3_devices::Recorded;
 use s3_driver::{Account, Ending, Nobody, ServedConnection, State, new_driver, turn_away};
 use s3_history::Recorder;
-use s3_journal::{Desk, Ground, Roster, Start};
+use s3_journal::{Ground, Roster, SharedStore, Start};
 use s3_records::MapRecords;
 use std::alloc::Global;
 use std::marker::Brand;
@@ -176,16 +176,16 @@ fn go_on<J: Ground>(alloc: Global, config: &Config, traced: &mut Traced<J>, now:
     drop(traced.states.push(letter_of(moved.state)));
 }
 
-// Takes the turns of both to the desk in one batch, and gives them their answers.
+// Takes the turns of both to the shared store in one batch, and gives them their answers.
 fn take_turns<J: Ground, R: Wait>(
     rt: &R,
     alloc: Global,
-    desk: &Desk<J, MapRecords>,
+    shared: &SharedStore<J, MapRecords>,
     first: Connection<J>,
     second: Connection<J>,
     now: Instant,
 ) -> (Connection<J>, Connection<J>) {
-    let mut turns = desk.turns(rt);
+    let mut turns = shared.turns(rt);
     let first = first.submit(&mut turns);
     let second = second.submit(&mut turns);
     turns.commit();
@@ -197,7 +197,7 @@ fn serve_round<J: Ground, R: Wait>(
     rt: &R,
     alloc: Global,
     config: &Config,
-    desk: &Desk<J, MapRecords>,
+    shared: &SharedStore<J, MapRecords>,
     mut first: Traced<J>,
     mut second: Traced<J>,
     now: Instant,
@@ -206,7 +206,7 @@ fn serve_round<J: Ground, R: Wait>(
 {
     go_on(alloc, config, &mut first, now);
     go_on(alloc, config, &mut second, now);
-    let (one, other) = take_turns(rt, alloc, desk, first.connection, second.connection, now);
+    let (one, other) = take_turns(rt, alloc, shared, first.connection, second.connection, now);
     (
         Traced {
             connection: one,
@@ -257,7 +257,7 @@ fn are_served<J: Ground, R: Wait>(
     rt: &R,
     alloc: Global,
     config: &Config,
-    desk: &Desk<J, MapRecords>,
+    shared: &SharedStore<J, MapRecords>,
     roster: &mut Roster<J, Account>,
     both: &[One; 2],
     now: Instant,
@@ -271,18 +271,18 @@ fn are_served<J: Ground, R: Wait>(
         return false;
     };
     for _ in 0..ROUNDS {
-        (first, second) = serve_round(rt, alloc, config, desk, first, second, now);
+        (first, second) = serve_round(rt, alloc, config, shared, first, second, now);
     }
     let is_first_right = leaves_as(first, roster, &both[0]);
     leaves_as(second, roster, &both[1]) && is_first_right && is_turned_away(alloc, roster)
 }
 
-// How many entries a desk leaves to whose roster both come, where they are served as is wanted.
+// How many entries a shared store leaves to whose roster both come, where they are served as is wanted.
 fn entries_of<J: Ground, R: Wait>(
     rt: &R,
     alloc: Global,
     config: &Config,
-    desk: Desk<J, MapRecords>,
+    shared: SharedStore<J, MapRecords>,
     mut rosters: Vec<Roster<J, Account>>,
     both: &[One; 2],
     now: Instant,
@@ -290,16 +290,16 @@ fn entries_of<J: Ground, R: Wait>(
     requires settings { J.base.settings ≡ config.now }
 {
     let are_served = match rosters.first_mut() {
-        Some(roster) => are_served(rt, alloc, config, &desk, roster, both, now),
+        Some(roster) => are_served(rt, alloc, config, &shared, roster, both, now),
         None => false,
     };
-    match desk.close::<Account>(rosters) {
-        Some(closed) if are_served => Some(closed.book.entries()),
+    match shared.close::<Account>(rosters) {
+        Some(closed) if are_served => Some(closed.recorded_store.entries()),
         _ => None,
     }
 }
 
-// The same at a desk that is to be opened.
+// The same at a shared store that is to be opened.
 fn entries_left<J: Ground, R: Wait>(
     rt: &R,
     alloc: Global,
@@ -313,13 +313,13 @@ fn entries_left<J: Ground, R: Wait>(
     requires parts { J.parts ≡ start.rosters * seats_each }
     requires settings { J.base.settings ≡ config.now }
 {
-    match Desk::<J, MapRecords>::open::<Account>(alloc, start) {
-        Ok((desk, rosters)) => entries_of(rt, alloc, config, desk, rosters, both, now),
+    match SharedStore::<J, MapRecords>::open::<Account>(alloc, start) {
+        Ok((shared, rosters)) => entries_of(rt, alloc, config, shared, rosters, both, now),
         Err(_) => None,
     }
 }
 
-// The same at a desk over a new store.
+// The same at a shared store over a new store.
 fn entries_of_new<R: Wait>(
     rt: &R,
     alloc: Global,

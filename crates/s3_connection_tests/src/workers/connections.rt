@@ -3,7 +3,7 @@ use crate::workers::served::{Sent, end_over, moment};
 use crate::workers::stream::{Manner, PLAIN};
 use s3_config::Config;
 use s3_driver::Ending;
-use s3_world::replay_one;
+use s3_simulation::replay_one;
 use std::alloc::Global;
 use std::mem::drop;
 use std::sync::Wait;

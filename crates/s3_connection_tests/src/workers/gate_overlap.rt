@@ -1,11 +1,11 @@
-//! Two connections at one desk, each in a thread of its own: while one is inside a body, the other is answered.
-use crate::workers::desk_handle::DeskHandle;
+//! Two connections at one shared store, each in a thread of its own: while one is inside a body, the other is answered.
 use crate::workers::served::{HEAD, Sent, ending_over};
+use crate::workers::shared_store_handle::SharedStoreHandle;
 use crate::workers::stream::{Manner, MemoryStream, PLAIN};
 use s3_config::Config;
 use s3_devices::{Recorded, WriteParts};
 use s3_driver::Ending;
-use s3_journal::{Desk, Ground, Roster};
+use s3_journal::{Ground, Roster, SharedStore};
 use s3_records::MapRecords;
 use std::alloc::Global;
 use std::io::{Read, Write};
@@ -173,7 +173,7 @@ impl<R: Clock> WriteParts for Meeting<'_, R> {}
 pub(crate) fn is_answered<J: Ground, R: Wait + Clock>(
     rt: &R,
     alloc: Global,
-    desk: &Desk<J, MapRecords>,
+    shared: &SharedStore<J, MapRecords>,
     roster: &mut Roster<J, ()>,
     config: &Config,
     meeting: Meeting<'_, R>,
@@ -185,7 +185,7 @@ pub(crate) fn is_answered<J: Ground, R: Wait + Clock>(
     let Ok(seat) = roster.seat() else {
         return false;
     };
-    let mut handle = DeskHandle::new(rt, desk, seat);
+    let mut handle = SharedStoreHandle::new(rt, shared, seat);
     let ending = ending_over(rt, alloc, config, &mut handle, &mut device);
     handle.leave(roster);
     ending == Some(Ending::Closed) && device.stream().stream.output.as_slice() == wanted
@@ -210,7 +210,7 @@ fn wanted_of(connection: u64) -> (&'static [u8], Manner) {
 pub(crate) fn overlaps<J: Ground, R: Wait + Clock>(
     rt: &R,
     alloc: Global,
-    desk: &Desk<J, MapRecords>,
+    shared: &SharedStore<J, MapRecords>,
     roster: &mut Roster<J, ()>,
     config: &Config,
     marks: &Marks,
@@ -221,5 +221,5 @@ pub(crate) fn overlaps<J: Ground, R: Wait + Clock>(
     let stream = MemoryStream::new(put, Vec::new(alloc), manner);
     let mut meeting = Meeting::new(rt, marks, connection, stream);
     meeting.held_read = WITHIN_BODY;
-    is_answered(rt, alloc, desk, roster, config, meeting, answer)
+    is_answered(rt, alloc, shared, roster, config, meeting, answer)
 }

@@ -1,8 +1,8 @@
-//! A book with a bucket, and four turns of two seats.
+//! A recorded store with a bucket, and four turns of two seats.
 use crate::workers::asked::{is_body, turn};
-use crate::workers::served::book;
+use crate::workers::served::recorded_store;
 use s3_config::Config;
-use s3_journal::Book;
+use s3_journal::RecordedStore;
 use s3_machine::Outcome;
 use s3_records::MapRecords;
 use std::alloc::Global;
@@ -45,9 +45,9 @@ static TURNS: [Row; 4] = [
 ];
 
 // Whether a turn has its number, and what has to come of it does.
-fn is_answered(alloc: Global, book: &mut Book<MapRecords>, row: &Row) -> bool {
+fn is_answered(alloc: Global, recorded_store: &mut RecordedStore<MapRecords>, row: &Row) -> bool {
     match turn(alloc, row.1, row.2, true) {
-        Some(turn) => match book.enter(row.0, turn) {
+        Some(turn) => match recorded_store.enter(row.0, turn) {
             Ok(answer) => {
                 let came = (answer.number, word_of(alloc, &answer.outcome));
                 drop(answer);
@@ -60,21 +60,25 @@ fn is_answered(alloc: Global, book: &mut Book<MapRecords>, row: &Row) -> bool {
 }
 
 // Whether all are answered so, and there are these entries at the end, which the number of the store's next entry counts too.
-fn are_answered(alloc: Global, book: &mut Book<MapRecords>, entries: u64) -> bool {
+fn are_answered(
+    alloc: Global,
+    recorded_store: &mut RecordedStore<MapRecords>,
+    entries: u64,
+) -> bool {
     for row in &TURNS {
-        if !is_answered(alloc, book, row) {
+        if !is_answered(alloc, recorded_store, row) {
             return false;
         }
     }
-    book.entries() == entries && book.store().number() == entries
+    recorded_store.entries() == entries && recorded_store.store().number() == entries
 }
 
-/// Whether two seats of a new book are answered as they have to be, with four entries.
+/// Whether two seats of a new recorded store are answered as they have to be, with four entries.
 pub(crate) fn two_seats_are_answered(alloc: Global, config: &Config) -> bool {
-    match book(alloc, config) {
-        Some(mut book) => {
-            let are_answered = are_answered(alloc, &mut book, 4);
-            drop(book);
+    match recorded_store(alloc, config) {
+        Some(mut recorded_store) => {
+            let are_answered = are_answered(alloc, &mut recorded_store, 4);
+            drop(recorded_store);
             are_answered
         }
         None => false,

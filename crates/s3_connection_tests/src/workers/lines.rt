@@ -3,7 +3,7 @@ use crate::workers::served::{HEAD, Sent, go_on, handle};
 use crate::workers::stream::{MemoryStream, PLAIN};
 use s3_config::Config;
 use s3_devices::Recorded;
-use s3_driver::{BookHandle, Driver, Ending, State};
+use s3_driver::{Driver, Ending, RecordedStoreHandle, State};
 use s3_history::Recorder;
 use s3_log::{Log, LogWriter, MessageLog};
 use s3_records::MapRecords;
@@ -162,7 +162,7 @@ fn is_served<R: Wait + Clock>(
     rt: &R,
     alloc: Global,
     config: &Config,
-    handle: &mut BookHandle<MapRecords>,
+    handle: &mut RecordedStoreHandle<MapRecords>,
     log: &Log,
     bytes: &'static [u8],
 ) -> bool {

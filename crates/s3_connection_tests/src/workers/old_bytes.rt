@@ -1,9 +1,9 @@
-//! Two connections at one desk: while the reply to a get is on its way, the object is replaced.
+//! Two connections at one shared store: while the reply to a get is on its way, the object is replaced.
 use crate::workers::answers::got;
 use crate::workers::gate_overlap::{HELD, Marks, Meeting, is_answered};
 use crate::workers::stream::{MemoryStream, PLAIN};
 use s3_config::Config;
-use s3_journal::{Desk, Ground, Roster};
+use s3_journal::{Ground, Roster, SharedStore};
 use s3_records::MapRecords;
 use s3_terms::NoMemory;
 use std::alloc::Global;
@@ -77,7 +77,7 @@ fn wanted_by(alloc: Global, connection: u64) -> Result<Vec<u8>, NoMemory> {
 fn is_right<J: Ground, R: Wait + Clock>(
     rt: &R,
     alloc: Global,
-    desk: &Desk<J, MapRecords>,
+    store: &SharedStore<J, MapRecords>,
     roster: &mut Roster<J, ()>,
     config: &Config,
     marks: &Marks,
@@ -88,7 +88,7 @@ fn is_right<J: Ground, R: Wait + Clock>(
     let stream = MemoryStream::new(&sent, Vec::new(alloc), PLAIN);
     let mut meeting = Meeting::new(rt, marks, connection, stream);
     meeting.held_write = HELD_WRITE;
-    Ok(is_answered(rt, alloc, desk, roster, config, meeting, &wanted))
+    Ok(is_answered(rt, alloc, store, roster, config, meeting, &wanted))
 }
 
 /// Whether the connection of this number is answered as it has to be: the one is held behind the head of a reply, until the other has
@@ -96,11 +96,11 @@ fn is_right<J: Ground, R: Wait + Clock>(
 pub(crate) fn replaces<J: Ground, R: Wait + Clock>(
     rt: &R,
     alloc: Global,
-    desk: &Desk<J, MapRecords>,
+    store: &SharedStore<J, MapRecords>,
     roster: &mut Roster<J, ()>,
     config: &Config,
     marks: &Marks,
     connection: u64,
 ) -> bool {
-    is_right(rt, alloc, desk, roster, config, marks, connection).unwrap_or(false)
+    is_right(rt, alloc, store, roster, config, marks, connection).unwrap_or(false)
 }

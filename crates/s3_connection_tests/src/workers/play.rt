@@ -1,6 +1,6 @@
-//! Players who put and get, each with a seat at a desk.
+//! Players who put and get, each with a seat at a shared store.
 use crate::workers::asked::{is_body, turn};
-use s3_journal::{Desk, Ground, Seat};
+use s3_journal::{Ground, Seat, SharedStore};
 use s3_machine::Outcome;
 use s3_records::MapRecords;
 use std::alloc::Global;
@@ -36,14 +36,14 @@ fn is_outcome(alloc: Global, outcome: &Outcome, put: Option<&[u8]>, bytes: &[u8]
 fn has<J: Ground>(
     rt: &impl Wait,
     alloc: Global,
-    desk: &Desk<J, MapRecords>,
+    store: &SharedStore<J, MapRecords>,
     seat: &mut Seat<J>,
     whose: u64,
     put: Option<&[u8]>,
     bytes: &[u8],
 ) -> bool {
     match turn(alloc, &key_of(whose), put, false) {
-        Some(turn) => match desk.submit(rt, seat, turn) {
+        Some(turn) => match store.submit(rt, seat, turn) {
             Ok(answer) => {
                 let is_wanted = is_outcome(alloc, &answer.outcome, put, bytes);
                 drop(answer);
@@ -59,14 +59,14 @@ fn has<J: Ground>(
 pub(crate) fn plays<J: Ground>(
     rt: &impl Wait,
     alloc: Global,
-    desk: &Desk<J, MapRecords>,
+    store: &SharedStore<J, MapRecords>,
     seat: &mut Seat<J>,
     own: u64,
 ) -> bool {
     for round in 0..ROUNDS {
         let bytes = bytes_of(own, round);
-        if !has(rt, alloc, desk, seat, own, Some(&bytes), &bytes)
-            || !has(rt, alloc, desk, seat, own, None, &bytes)
+        if !has(rt, alloc, store, seat, own, Some(&bytes), &bytes)
+            || !has(rt, alloc, store, seat, own, None, &bytes)
         {
             return false;
         }
@@ -78,12 +78,12 @@ pub(crate) fn plays<J: Ground>(
 pub(crate) fn finds_others<J: Ground>(
     rt: &impl Wait,
     alloc: Global,
-    desk: &Desk<J, MapRecords>,
+    store: &SharedStore<J, MapRecords>,
     seat: &mut Seat<J>,
 ) -> bool {
     for other in 1..u64::from(PLAYERS) {
         let bytes = bytes_of(other, ROUNDS - 1);
-        if !has(rt, alloc, desk, seat, other, None, &bytes) {
+        if !has(rt, alloc, store, seat, other, None, &bytes) {
             return false;
         }
     }

@@ -1,14 +1,14 @@
-//! Those who share a desk, each in a thread of its own.
+//! Those who share a store, each in a thread of its own.
 ghost use Rattle.std.specs.Prelude.{◌≡◌, ◌*◌};
-ghost use Rattle.s3_journal.specs.Desk.{seats_each};
+ghost use Rattle.s3_journal.specs.SharedStore.{seats_each};
 
-use crate::workers::desk_handle::leave;
 use crate::workers::gate_overlap::{Marks, overlaps};
 use crate::workers::old_bytes::replaces;
 use crate::workers::play::{PLAYERS, finds_others, plays};
 use crate::workers::served::store;
+use crate::workers::shared_store_handle::leave;
 use s3_config::Config;
-use s3_journal::{Desk, Ground, Roster, Start};
+use s3_journal::{Ground, Roster, SharedStore, Start};
 use s3_records::MapRecords;
 use std::alloc::Global;
 use std::marker::Brand;
@@ -18,7 +18,7 @@ use std::thread;
 use std::thread::Threads;
 use std::time::Clock;
 
-// What those do who share a desk.
+// What those do who share a store.
 #[derive(Clone, Copy)]
 enum Work<'a> {
     // Each puts and gets under its own key.
@@ -29,7 +29,7 @@ enum Work<'a> {
     Replace(&'a Config, &'a Marks),
 }
 
-// One of those who share a desk: their number, the roster that they come to, and whether all went well.
+// One of those who share a store: their number, the roster that they come to, and whether all went well.
 #[derive(Drop)]
 struct Sharer<J: Ground> {
     number: u64,
@@ -41,14 +41,14 @@ struct Sharer<J: Ground> {
 fn plays_once<J: Ground>(
     rt: &impl Wait,
     alloc: Global,
-    desk: &Desk<J, MapRecords>,
+    shared: &SharedStore<J, MapRecords>,
     roster: &mut Roster<J, ()>,
     number: u64,
 ) -> bool {
     let Ok(mut seat) = roster.seat() else {
         return false;
     };
-    let went_well = plays(rt, alloc, desk, &mut seat, number);
+    let went_well = plays(rt, alloc, shared, &mut seat, number);
     leave(seat, roster);
     went_well
 }
@@ -57,13 +57,13 @@ fn plays_once<J: Ground>(
 fn reads_back<J: Ground>(
     rt: &impl Wait,
     alloc: Global,
-    desk: &Desk<J, MapRecords>,
+    shared: &SharedStore<J, MapRecords>,
     roster: &mut Roster<J, ()>,
 ) -> bool {
     let (Ok(mut first), Ok(second)) = (roster.seat(), roster.seat()) else {
         return false;
     };
-    let finds = finds_others(rt, alloc, desk, &mut first);
+    let finds = finds_others(rt, alloc, shared, &mut first);
     first.meet(&second);
     leave(first, roster);
     leave(second, roster);
@@ -74,15 +74,15 @@ fn reads_back<J: Ground>(
 fn goes_well<J: Ground, R: Wait + Clock>(
     rt: &R,
     alloc: Global,
-    desk: &Desk<J, MapRecords>,
+    shared: &SharedStore<J, MapRecords>,
     roster: &mut Roster<J, ()>,
     work: &Work<'_>,
     number: u64,
 ) -> bool {
     match work {
-        Work::Play => plays_once(rt, alloc, desk, roster, number),
-        Work::Overlap(config, marks) => overlaps(rt, alloc, desk, roster, config, marks, number),
-        Work::Replace(config, marks) => replaces(rt, alloc, desk, roster, config, marks, number),
+        Work::Play => plays_once(rt, alloc, shared, roster, number),
+        Work::Overlap(config, marks) => overlaps(rt, alloc, shared, roster, config, marks, number),
+        Work::Replace(config, marks) => replaces(rt, alloc, shared, roster, config, marks, number),
     }
 }
 
@@ -90,7 +90,7 @@ fn goes_well<J: Ground, R: Wait + Clock>(
 fn works<J: Ground, R: Wait + Clock>(
     rt: &R,
     alloc: Global,
-    desk: &Desk<J, MapRecords>,
+    shared: &SharedStore<J, MapRecords>,
     work: &Work<'_>,
     sharer: Sharer<J>,
 ) -> Sharer<J> {
@@ -99,7 +99,7 @@ fn works<J: Ground, R: Wait + Clock>(
         mut roster,
         ..
     } = sharer;
-    let went_well = goes_well(rt, alloc, desk, &mut roster, work, number);
+    let went_well = goes_well(rt, alloc, shared, &mut roster, work, number);
     Sharer {
         number,
         roster,
@@ -125,7 +125,7 @@ fn sharers<J: Ground>(alloc: Global, rosters: Vec<Roster<J, ()>>) -> Vec<Sharer<
 fn all_work<J: Ground + Send + Sync, R: Threads + Wait + Clock + Sync>(
     rt: &R,
     alloc: Global,
-    desk: &Desk<J, MapRecords>,
+    shared: &SharedStore<J, MapRecords>,
     work: &Work<'_>,
     rosters: Vec<Roster<J, ()>>,
 ) -> Vec<Roster<J, ()>> {
@@ -134,7 +134,7 @@ fn all_work<J: Ground + Send + Sync, R: Threads + Wait + Clock + Sync>(
     let worked = thread::map_vec(
         rt,
         sharers,
-        &|sharer: Sharer<J>| { works(rt, alloc, desk, work, sharer) },
+        &|sharer: Sharer<J>| { works(rt, alloc, shared, work, sharer) },
     );
     if let Ok(worked) = worked {
         for sharer in worked {
@@ -151,27 +151,27 @@ fn all_work<J: Ground + Send + Sync, R: Threads + Wait + Clock + Sync>(
     left
 }
 
-// How many entries a desk leaves, where all went well: one that lacks a roster can't be closed.
+// How many entries a shared store leaves, where all went well: one that lacks a roster can't be closed.
 fn entries_of<J: Ground + Send + Sync, R: Threads + Wait + Clock + Sync>(
     rt: &R,
     alloc: Global,
-    desk: Desk<J, MapRecords>,
+    shared: SharedStore<J, MapRecords>,
     rosters: Vec<Roster<J, ()>>,
     work: &Work<'_>,
 ) -> Option<u64> {
-    let mut rosters = all_work(rt, alloc, &desk, work, rosters);
+    let mut rosters = all_work(rt, alloc, &shared, work, rosters);
     let is_found = match (work, rosters.last_mut()) {
-        (Work::Play, Some(roster)) => reads_back(rt, alloc, &desk, roster),
+        (Work::Play, Some(roster)) => reads_back(rt, alloc, &shared, roster),
         (Work::Play, None) => false,
         (_, _) => true,
     };
-    match desk.close::<()>(rosters) {
-        Some(closed) if is_found => Some(closed.book.entries()),
+    match shared.close::<()>(rosters) {
+        Some(closed) if is_found => Some(closed.recorded_store.entries()),
         _ => None,
     }
 }
 
-// The same at a desk that is to be opened.
+// The same at a shared store that is to be opened.
 fn entries_left<J: Ground + Send + Sync, R: Threads + Wait + Clock + Sync>(
     rt: &R,
     alloc: Global,
@@ -182,13 +182,13 @@ fn entries_left<J: Ground + Send + Sync, R: Threads + Wait + Clock + Sync>(
     requires base { J.base ≡ start.base }
     requires parts { J.parts ≡ start.rosters * seats_each }
 {
-    match Desk::<J, MapRecords>::open::<()>(alloc, start) {
-        Ok((desk, rosters)) => entries_of(rt, alloc, desk, rosters, work),
+    match SharedStore::<J, MapRecords>::open::<()>(alloc, start) {
+        Ok((shared, rosters)) => entries_of(rt, alloc, shared, rosters, work),
         Err(_) => None,
     }
 }
 
-// The same at a desk over a new store, of so many rosters.
+// The same at a shared store over a new store, of so many rosters.
 fn entries_of_new<R: Threads + Wait + Clock + Sync>(
     rt: &R,
     alloc: Global,

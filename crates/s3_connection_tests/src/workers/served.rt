@@ -7,9 +7,9 @@ use crate::workers::stream::{Manner, MemoryStream};
 use s3_calendar::Moment;
 use s3_config::Config;
 use s3_devices::{Device, Recorded};
-use s3_driver::{BookHandle, Driver, Ending, MessageObserver, State, StoreHandle, serve};
+use s3_driver::{Driver, Ending, MessageObserver, RecordedStoreHandle, State, StoreHandle, serve};
 use s3_history::Recorder;
-use s3_journal::Book;
+use s3_journal::RecordedStore;
 use s3_machine::Rules;
 use s3_records::MapRecords;
 use s3_store::Store;
@@ -103,21 +103,24 @@ pub(crate) fn store(alloc: Global, config: &Config) -> Option<Store<MapRecords>>
     Store::open(alloc, config.buckets()).ok()
 }
 
-/// A book over such a store.
-pub(crate) fn book(alloc: Global, config: &Config) -> Option<Book<MapRecords>>
-    ensures { IfSome result (λ book. book.entries ≡ []) }
+/// A recorded store over such a store.
+pub(crate) fn recorded_store(alloc: Global, config: &Config) -> Option<RecordedStore<MapRecords>>
+    ensures { IfSome result (λ recorded_store. recorded_store.entries ≡ []) }
 {
     let store = store(alloc, config)?;
     let rules = Rules::of(alloc, config).ok()?;
-    Book::new(alloc, rules, store).ok()
+    RecordedStore::new(alloc, rules, store).ok()
 }
 
 /// The same for one connection.
-pub(crate) fn handle(alloc: Global, config: &Config) -> Option<BookHandle<MapRecords>>
-    ensures { IfSome result (λ handle. entries_of_seat handle.seat handle.book.entries ≡ []) }
+pub(crate) fn handle(alloc: Global, config: &Config) -> Option<RecordedStoreHandle<MapRecords>>
+    ensures { IfSome result (λ handle. entries_of_seat handle.seat handle.recorded_store.entries ≡ []) }
 {
-    let book = book(alloc, config)?;
-    Some(BookHandle { book, seat: 0 })
+    let recorded_store = recorded_store(alloc, config)?;
+    Some(RecordedStoreHandle {
+        recorded_store,
+        seat: 0,
+    })
 }
 
 /// How a connection over a stream ends, and how many bytes it has written, where they are a beginning of those that are wanted.

@@ -28,10 +28,10 @@ fn first_other<R: Threads + Wait + Clock + Sync>(
     config: &Config,
 ) -> Option<&'static str> {
     if !two_seats_are_answered(alloc, config) {
-        return Some("two seats of a book");
+        return Some("two seats of a recorded store");
     }
     if !seats_work(rt, alloc, config) {
-        return Some("seats of a desk in threads");
+        return Some("seats of a shared store in threads");
     }
     if !old_bytes_are_sent(rt, alloc, config) {
         return Some("old bytes of an object that is replaced");

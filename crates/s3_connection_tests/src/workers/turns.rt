@@ -1,11 +1,11 @@
-//! Two connections that share a book in one thread, whose messages come in turns byte by byte.
+//! Two connections that share a recorded store in one thread, whose messages come in turns byte by byte.
 use crate::workers::answers::got;
 use crate::workers::served::{Sent, go_on, handle};
 use crate::workers::stream::{Manner, MemoryStream, PLAIN};
 use s3_calendar::Moment;
 use s3_config::Config;
 use s3_devices::Recorded;
-use s3_driver::{BookHandle, Driver, Nobody};
+use s3_driver::{Driver, Nobody, RecordedStoreHandle};
 use s3_history::Recorder;
 use s3_records::MapRecords;
 use std::alloc::Global;
@@ -76,7 +76,7 @@ fn connect(alloc: Global, all: &mut Vec<Served>, number: u64, sent: Sent, wanted
 fn serve_all(
     alloc: Global,
     config: &Config,
-    handle: &mut BookHandle<MapRecords>,
+    handle: &mut RecordedStoreHandle<MapRecords>,
     all: &mut [Served],
 ) {
     for _ in 0..MOVES {
@@ -107,8 +107,12 @@ fn have_written(all: &[Served]) -> bool {
     all.len() == 2
 }
 
-// Whether the two are answered so by this book.
-fn serves_both(alloc: Global, config: &Config, handle: &mut BookHandle<MapRecords>) -> bool {
+// Whether the two are answered so by this recorded store.
+fn serves_both(
+    alloc: Global,
+    config: &Config,
+    handle: &mut RecordedStoreHandle<MapRecords>,
+) -> bool {
     let mut all = Vec::new(alloc);
     connect(alloc, &mut all, 1, Sent::PutAndGet, FIRST.as_bytes());
     connect(alloc, &mut all, 2, Sent::ChunksAndGet, SECOND.as_bytes());
@@ -118,7 +122,7 @@ fn serves_both(alloc: Global, config: &Config, handle: &mut BookHandle<MapRecord
     have_written
 }
 
-/// Whether two connections are answered so by a new book.
+/// Whether two connections are answered so by a new recorded store.
 pub(crate) fn two_take_turns(alloc: Global, config: &Config) -> bool {
     match handle(alloc, config) {
         Some(mut handle) => {

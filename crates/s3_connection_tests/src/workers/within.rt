@@ -3,7 +3,7 @@ use crate::workers::served::{HEAD, Sent, go_on, handle};
 use crate::workers::stream::{Manner, MemoryStream, PLAIN};
 use s3_config::Config;
 use s3_devices::Recorded;
-use s3_driver::{BookHandle, Driver, Nobody, State};
+use s3_driver::{Driver, Nobody, RecordedStoreHandle, State};
 use s3_history::Recorder;
 use s3_records::MapRecords;
 use std::alloc::Global;
@@ -40,7 +40,7 @@ const MOVES: u32 = 100;
 fn waits(
     alloc: Global,
     config: &Config,
-    handle: &mut BookHandle<MapRecords>,
+    handle: &mut RecordedStoreHandle<MapRecords>,
     bytes: &[u8],
     first: usize,
 ) -> Option<(State, bool)> {
@@ -65,7 +65,7 @@ fn waits(
 }
 
 // Whether each row is as it says.
-fn are_right(alloc: Global, config: &Config, handle: &mut BookHandle<MapRecords>) -> bool {
+fn are_right(alloc: Global, config: &Config, handle: &mut RecordedStoreHandle<MapRecords>) -> bool {
     let both = Sent::PutAndGet.bytes();
     for (first, wanted) in &ROWS {
         if waits(alloc, config, handle, both, *first) != Some((*wanted, false)) {
@@ -76,7 +76,11 @@ fn are_right(alloc: Global, config: &Config, handle: &mut BookHandle<MapRecords>
 }
 
 // Whether each beginning is as it says.
-fn are_told_apart(alloc: Global, config: &Config, handle: &mut BookHandle<MapRecords>) -> bool {
+fn are_told_apart(
+    alloc: Global,
+    config: &Config,
+    handle: &mut RecordedStoreHandle<MapRecords>,
+) -> bool {
     for (bytes, wanted) in &BEGINNINGS {
         match waits(alloc, config, handle, bytes, bytes.len()) {
             Some((_, begins_no_head)) if begins_no_head == *wanted => {}

@@ -6,9 +6,9 @@ use s3_config::Config;
 use s3_events::{Event, read_events};
 use s3_records::MapRecords;
 use s3_session::Fault;
+use s3_simulation::{World, run};
 use s3_store::Store;
 use s3_terms::Code;
-use s3_world::{World, run};
 use std::alloc::Global;
 use std::mem::drop;
 

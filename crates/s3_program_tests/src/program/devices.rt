@@ -1,7 +1,7 @@
 //! The files and streams that the tests run the program over, and the runs.
+use s3_cli::{Ran, run_words};
 use s3_devices::{Recorded, Streams};
 use s3_settings::Files;
-use s3_tasks::{Ran, run_words};
 use std::alloc::Global;
 use std::io::{self, ErrorKind, Read, Write};
 use std::sync::Wait;

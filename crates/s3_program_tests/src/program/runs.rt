@@ -1,6 +1,6 @@
 //! Runs of the program: what they are given, and what comes of them.
 use crate::program::devices::{Manner, Stream, files, run};
-use s3_tasks::Ran;
+use s3_cli::Ran;
 use std::alloc::Global;
 use std::str;
 use std::sync::Wait;

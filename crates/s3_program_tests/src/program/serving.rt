@@ -2,8 +2,8 @@
 use crate::checks::check;
 use crate::program::devices::{Manner, Stream, files, run};
 use crate::program::runs::words_of;
+use s3_cli::Ran;
 use s3_settings::{Fault, ServeMode, server_settings};
-use s3_tasks::Ran;
 use std::alloc::Global;
 use std::sync::Wait;
 

@@ -1,6 +1,6 @@
 use Rattle.std.proofs.Common.{◌≡◌, ◌∷◌, ℕ, length, subst, sym, ◌∙◌, arith}
 use Rattle.std.specs.BTreeSet.{btree_set_len}
-use Rattle.s3_journal.specs.Book.{Journal}
+use Rattle.s3_journal.specs.RecordedStore.{Journal}
 use Rattle.s3_journal.specs.Roster.{AreBack, HasGathered}
 use Rattle.s3_journal.proofs.GatherLemmas.{back_at, both_hold, gathered_one, holds_none, holds_place, none_out, one_longer, split_at}
 use Rattle.s3_journal.proofs.gather.gather.Goals as goal
@@ -22,12 +22,12 @@ loop-roster-preserved g c =
     let before = c.loop-roster.invariant in
     let roster = c.in-Some.roster in
     let rest = c.pop.new.self.items in
-    let old = c.loop-roster.book in
-    let book = c.take_back.new.book in
+    let old = c.loop-roster.recorded_store in
+    let recorded_store = c.take_back.new.recorded_store in
     let shares = c.loop-roster.shares in
     let items = c.in-Some.ensures.items in
     let taken = c.take_back.ensures.taken c.if-not-take_back.false in
-    let same : book ≡ old = c.take_back.ensures.book in
+    let same : recorded_store ≡ old = c.take_back.ensures.recorded_store in
     let len = c.len.ensures in
     let index = holds_place roster.index c.len.result (btree_set_len roster.numbers.out) c.take_back.result c.take_back.ensures.is c.if-not-take_back.false in
     let place : roster.index ≡ length rest = omega (arith, index, len) in

@@ -5,9 +5,9 @@ use Rattle.s3_journal.proofs.gather.gather.Given as goal
 -- those that are left and those that came back are all
 abbrev pub invariant-loop-roster : goal.invariant-loop-roster
 invariant-loop-roster g l =
-    (l.book ≡ l.initial.book)
+    (l.recorded_store ≡ l.initial.recorded_store)
     × ((back : List (Rostered g.row.P.Denot)) × (l.initial.rosters.items ≡ l.rosters.items ++ back)
-    × HasGathered (g.P.Report.fits g.J.Ground.base) l.book.entries (length l.rosters.items) back l.shares.parts l.shares.amount)
+    × HasGathered (g.P.Report.fits g.J.Ground.base) l.recorded_store.entries (length l.rosters.items) back l.shares.parts l.shares.amount)
 
 abbrev pub decreases-loop-roster : goal.decreases-loop-roster
 decreases-loop-roster g l = vec_len l.rosters

@@ -1,5 +1,5 @@
 use Rattle.std.proofs.Common.{◌≡◌, ◌+◌, ◌*◌, length}
-use Rattle.s3_journal.specs.Desk.{seats_each}
+use Rattle.s3_journal.specs.SharedStore.{seats_each}
 use Rattle.s3_journal.specs.Roster.{AreNew}
 use Rattle.s3_journal.proofs.gather.hand_out.Given as goal
 

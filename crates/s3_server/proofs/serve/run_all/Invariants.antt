@@ -1,5 +1,5 @@
 use Rattle.std.proofs.Common.{◌*◌}
-use Rattle.s3_journal.specs.Desk.{seats_each}
+use Rattle.s3_journal.specs.SharedStore.{seats_each}
 use Rattle.s3_server.proofs.serve.run_all.Given as goal
 
 abbrev pub ghosts-run-J-Ground : goal.ghosts-run-J-Ground

@@ -1,5 +1,5 @@
 use Rattle.std.proofs.Common.{◌*◌}
-use Rattle.s3_journal.specs.Desk.{seats_each}
+use Rattle.s3_journal.specs.SharedStore.{seats_each}
 use Rattle.s3_connection_tests.proofs.workers.batches.entries_of_new.Given as goal
 
 abbrev pub ghosts-entries_left-J-Ground : goal.ghosts-entries_left-J-Ground

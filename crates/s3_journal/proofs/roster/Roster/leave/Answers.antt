@@ -2,7 +2,7 @@ use Rattle.std.proofs.Common.{◌≡◌, ◌<◌, ℕ, true, false, cond, eqb, a
 use mathlib.Core.List.{IsPrefix}
 use Rattle.s3_history.specs.Log.{Trace}
 use Rattle.s3_journal.specs.Recorded.{Recorded}
-use Rattle.s3_journal.specs.Desk.{IsSeat}
+use Rattle.s3_journal.specs.SharedStore.{IsSeat}
 use Rattle.s3_journal.specs.Roster.{Rostered, is_out}
 use Rattle.s3_journal.proofs.GoneLemmas.{added_is}
 use Rattle.s3_journal.proofs.RosterLemmas.{roster_left}

@@ -1,7 +1,7 @@
 use Rattle.std.proofs.Common.{◌≡◌, ℕ, false, cond, eqb, subst}
 use Rattle.s3_history.specs.Log.{Trace}
 use Rattle.s3_journal.specs.Recorded.{Recorded}
-use Rattle.s3_journal.specs.Desk.{IsSeat}
+use Rattle.s3_journal.specs.SharedStore.{IsSeat}
 use Rattle.s3_journal.specs.Roster.{Rostered, is_out}
 use Rattle.s3_journal.proofs.RosterLemmas.{roster_withdrawn}
 use Rattle.s3_journal.proofs.roster.Roster.take_unused.Goals as goal

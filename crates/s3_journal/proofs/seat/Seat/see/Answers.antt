@@ -1,6 +1,6 @@
 use Rattle.std.proofs.Common.{subst, sym}
 use mathlib.Core.List.{IsPrefix}
-use Rattle.s3_journal.specs.Desk.{Seated}
+use Rattle.s3_journal.specs.SharedStore.{Seated}
 use Rattle.s3_journal.proofs.SeatLemmas.{seat_sees}
 use Rattle.s3_journal.proofs.seat.Seat.see.Goals as goal
 

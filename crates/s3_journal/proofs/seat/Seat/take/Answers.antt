@@ -2,7 +2,7 @@ use Rattle.std.proofs.Common.{◌≡◌, ◌++◌, ◌∷◌, [], refl, sym, ap,
 use mathlib.Core.List.{IsPrefix}
 use Rattle.s3_machine.specs.declared.command.Answer.{Answer}
 use Rattle.s3_journal.specs.Recorded.{entry_of, recorded}
-use Rattle.s3_journal.specs.Desk.{Seated}
+use Rattle.s3_journal.specs.SharedStore.{Seated}
 use Rattle.s3_journal.proofs.SeatLemmas.{seat_takes}
 use Rattle.s3_journal.proofs.seat.Seat.take.Goals as goal
 

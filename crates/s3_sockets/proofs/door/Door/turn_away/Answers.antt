@@ -1,7 +1,7 @@
 use Rattle.std.proofs.Common.{◌≡◌, ◌++◌, ◌∷◌, [], ℕ, true, ap, refl, sym, ◌∙◌}
 use Rattle.s3_devices.specs.Device.{Traffic}
 use Rattle.s3_devices.specs.Recorded.{untouched}
-use Rattle.s3_journal.specs.Desk.{Seated}
+use Rattle.s3_journal.specs.SharedStore.{Seated}
 use Rattle.s3_journal.specs.Gone.{Gone}
 use Rattle.s3_journal.specs.Roster.{is_out}
 use Rattle.s3_driver.specs.Account.{Account, turned_away}

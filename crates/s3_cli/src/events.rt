@@ -1,0 +1,198 @@
+//! The events of several connections, which the input spells line by line, are run, and what the connections wrote is
+//! printed, and their first faults where these are wanted.
+
+ghost use Rattle.std.specs.Prelude.{◌≡◌, ◌<◌, ◌+◌, ◌++◌, ℕ, List, length, take, IfOk, OnOk, IfErr};
+ghost use Rattle.s3_text.specs.Lines.{lines_of};
+ghost use Rattle.s3_events.specs.Printing.{outputs_text};
+ghost use Rattle.s3_events.specs.Script.{IsScriptOf};
+ghost use Rattle.s3_events.specs.declared.event.Event.{Event as Happening};
+ghost use Rattle.s3_settings.specs.Devices.{GivesAll};
+ghost use Rattle.s3_settings.specs.declared.mode.ReplayMode.TheVariants.{Events as InEvents};
+ghost use Rattle.s3_simulation.specs.Run.{Runs, each_moments};
+ghost use Rattle.s3_simulation.specs.Shown.{written_by_all};
+ghost use Rattle.s3_simulation.specs.StandsAfter.{StandsAfter};
+ghost use Rattle.s3_cli.specs.Run.{IsEventsAnswered, IsScriptAnsweredAs};
+ghost use Rattle.s3_cli.specs.Reading.{IsAnswerFault, IsLinesFault, IsReadingFault, TellsFirst};
+
+use crate::run::PIECE;
+use s3_config::Config;
+use s3_devices::Device;
+use s3_events::{EventsError, Script, print_fault, print_output, read_events};
+use s3_records::MapRecords;
+use s3_settings::{Fault, read_piece};
+use s3_simulation::{World, run, worlds_run};
+use s3_store::Store;
+use s3_terms::NoMemory;
+use std::alloc::Global;
+use std::sync::Wait;
+
+/// What the connections are answered whose events all the input spells, under some settings: a line each, in the order of
+/// their numbers; and behind these, where `faults` says so, a line for each first fault, in the same order. All lines are read
+/// before the first event happens. It may wait for the device, and then never return.
+///
+/// # Errors
+///
+/// `InputFailed` where a read failed, `BadEventLine` with the number of its first bad line, and
+/// `OutOfMemory`.
+pub fn events_answered<'a, R: Wait, D: Device>(
+    rt: &R,
+    alloc: Global,
+    config: &Config,
+    faults: bool,
+    device: &mut D,
+) -> Result<Vec<u8>, Fault<'a>>
+    ensures value { IfOk result (λ text. GivesAll (λ bytes. IsEventsAnswered faults config.now bytes text.items) (D.traffic device.old) (D.traffic device.new)) }
+    ensures refused { IfErr result (IsAnswerFault (InEvents faults) (D.traffic device.old) (D.traffic device.new)) }
+{
+    let mut text = Vec::new(alloc);
+    read_all(rt, &mut text, device)?;
+    lines_answered(alloc, config, faults, text.as_slice())
+}
+
+// Adds all that the device gives to a text, in pieces as they are read.
+fn read_all<'a, R: Wait, D: Device>(
+    rt: &R,
+    text: &mut Vec<u8>,
+    device: &mut D,
+) -> Result<(), Fault<'a>>
+    ensures all { OnOk result (GivesAll (λ given. text.new.items ≡ text.old.items ++ given) (D.traffic device.old) (D.traffic device.new)) }
+    ensures refused { IfErr result (IsReadingFault (D.traffic device.old) (D.traffic device.new)) }
+{
+    let mut buffer = [0; PIECE];
+    for _ in rt.forever() {
+        match read_piece(device, &mut buffer)? {
+            Some(count) => text.extend_from_slice(&buffer[..count])?,
+            None => return Ok(()),
+        }
+    }
+    // `forever` has no last turn.
+    unreachable!()
+}
+
+// What event lines are answered, with the first faults where these are wanted.
+fn lines_answered<'a>(
+    alloc: Global,
+    config: &Config,
+    faults: bool,
+    text: &[u8],
+) -> Result<Vec<u8>, Fault<'a>>
+    ensures value { IfOk result (λ out. IsEventsAnswered faults config.now text.now out.items) }
+    ensures refused { IfErr result (IsLinesFault text.now) }
+{
+    let script = script_of(alloc, text)?;
+    let out = script_answered(alloc, config, faults, &script)?;
+    Ok(out)
+}
+
+// The script that event lines make.
+fn script_of<'a>(alloc: Global, text: &[u8]) -> Result<Script, Fault<'a>>
+    ensures value { IfOk result (IsScriptOf (lines_of text.now)) }
+    ensures refused { IfErr result (IsLinesFault text.now) }
+{
+    match read_events(alloc, text) {
+        Ok(script) => Ok(script),
+        Err(EventsError::BadLine(number)) => Err(Fault::BadEventLine(number)),
+        Err(EventsError::OutOfMemory) => Err(Fault::OutOfMemory),
+    }
+}
+
+// What a script is answered, with the first faults where these are wanted.
+fn script_answered(
+    alloc: Global,
+    config: &Config,
+    faults: bool,
+    script: &Script,
+) -> Result<Vec<u8>, NoMemory>
+    ensures { IfOk result (λ out. IsScriptAnsweredAs faults config.now script.now out.items) }
+{
+    worlds_run();
+    let world = world_of(alloc, config, script)?;
+    let text = printed(alloc, &world)?;
+    if faults {
+        with_faults(text, &world)
+    } else {
+        Ok(text)
+    }
+}
+
+// The world after the events of a script, over a store of its own.
+fn world_of<'a>(
+    alloc: Global,
+    config: &'a Config,
+    script: &'a Script,
+) -> Result<World<'a, MapRecords>, NoMemory>
+    ensures runs { IfOk result (λ world. Runs config.now (each_moments script.now.moments.items) script.now.events.items
+        (written_by_all world.connections) world.recorded_store.entries) }
+    ensures stands { IfOk result (λ world. StandsAfter world (each_moments script.now.moments.items) script.now.events.items) }
+    ensures settings { IfOk result (λ world. world.settings ≡ config.now) }
+{
+    let store = Store::open(alloc, config.buckets())?;
+    let (moments, events) = (script.moments.as_slice(), script.events.as_slice());
+    run(alloc, config, store, moments, events)
+}
+
+// The lines of what the connections wrote.
+fn printed(alloc: Global, world: &World<'_, MapRecords>) -> Result<Vec<u8>, NoMemory>
+    ensures { IfOk result (λ text. text.items ≡ outputs_text (written_by_all world.now.connections)) }
+{
+    let count = count_of(world)?;
+    let mut text = Vec::new(alloc);
+    for connection in 0..count {
+        print_one(&mut text, world, connection)?;
+    }
+    Ok(text)
+}
+
+// How many connections there are.
+fn count_of(world: &World<'_, MapRecords>) -> Result<u32, NoMemory>
+    ensures { IfOk result (λ count. count ≡ length world.now.connections) }
+{
+    match u32::try_from(world.connections()) {
+        Ok(count) => Ok(count),
+        Err(_) => Err(NoMemory),
+    }
+}
+
+// Adds the line of what a connection wrote behind those of the connections before it.
+fn print_one(
+    text: &mut Vec<u8>,
+    world: &World<'_, MapRecords>,
+    connection: u32,
+) -> Result<(), NoMemory>
+    requires { connection < length world.now.connections }
+    ensures { text.old.items ≡ outputs_text (take connection (written_by_all world.now.connections))
+        → OnOk result (text.new.items ≡ outputs_text (take (connection + 1) (written_by_all world.now.connections))) }
+{
+    let output = world.out(connection)?;
+    print_output(text, connection, output.as_slice())
+}
+
+// The text with the lines of the first faults of the connections behind it.
+fn with_faults(text: Vec<u8>, world: &World<'_, MapRecords>) -> Result<Vec<u8>, NoMemory>
+    ensures { (moments : List (List ℕ)) (happened : List Happening) → StandsAfter world.now moments happened
+        → IfOk result (λ with. TellsFirst world.now moments happened (length world.now.connections) text.items with.items) }
+{
+    let count = count_of(world)?;
+    let mut text = text;
+    for connection in 0..count {
+        tell_one(&mut text, world, connection)?;
+    }
+    Ok(text)
+}
+
+// Adds the line of the first fault of a connection, if it has one, behind those of the connections before it.
+fn tell_one(
+    text: &mut Vec<u8>,
+    world: &World<'_, MapRecords>,
+    connection: u32,
+) -> Result<(), NoMemory>
+    requires { connection < length world.now.connections }
+    ensures { (moments : List (List ℕ)) (happened : List Happening) (before : List ℕ) → StandsAfter world.now moments happened
+        → TellsFirst world.now moments happened connection before text.old.items
+        → OnOk result (TellsFirst world.now moments happened (connection + 1) before text.new.items) }
+{
+    match world.fault(connection) {
+        Some(fault) => print_fault(text, connection, fault.message, fault.code),
+        None => Ok(()),
+    }
+}

@@ -1,0 +1,143 @@
+//! The recorded store.
+ghost use Rattle.std.specs.Prelude.{◌≡◌, ◌++◌, ◌∷◌, [], length, IfOk, OnErr};
+ghost use mathlib.Core.List.{IsPrefix};
+ghost use Rattle.s3_journal.specs.RecordedStore.{KeepsHistory, MayLack};
+ghost use Rattle.s3_journal.specs.Recorded.{recorded};
+ghost use Rattle.s3_store.specs.Steps.{after_step, outcome_of};
+
+use crate::entry::Entry;
+use s3_history::{AsItself, Recorder};
+use s3_machine::{Answer, Rules, Turn, one_more_entry};
+use s3_records::Records;
+use s3_store::Store;
+use s3_terms::NoMemory;
+use std::alloc::Global;
+use std::marker::Model;
+use std::snapshot::Snapshot;
+
+/// What is known of a recorded store's history: a beginning of it. It has no bytes.
+pub type Prefix = s3_history::Prefix<Entry>;
+
+/// A store, and the history of the commands that it answered, which no memory holds.
+///
+/// Contracts see which history it is, and the rules of its server. They see the store as it was when the recorded store was
+/// opened, the entries since then, and the store as it is. Its type keeps that the entries are a legal history, which
+/// leads from the one to the other.
+#[derive(Drop)]
+pub struct RecordedStore<R: Records + Drop> {
+    store: Store<R>,
+    rules: Rules,
+    alloc: Global,
+    recorder: Recorder<Entry>,
+    // The store at the opening, as the one entry of a history of its own.
+    opening: s3_history::Prefix<Store<R>>,
+    first: u64,
+}
+
+impl<R: Records + Drop> Model for RecordedStore<R> {
+    ghost use Rattle.std.specs.Prelude.{◌≡◌, [], ◌∷◌};
+    ghost use Rattle.std.specs.Coded.{codes};
+    ghost use Rattle.s3_store.specs.Steps.{coded_standing};
+    ghost use Rattle.s3_journal.specs.RecordedStore.{Journal, KeepsHistory, told_or};
+
+    ghost Value = { Journal };
+
+    ghost coded = { Prim.hlevel (codes, coded_standing) };
+
+    ghost view = { λ b. record { origin = b.recorder.origin; rules = b.rules; opening = told_or b.opening.entries b.store; entries = b.recorder.entries; store = b.store } };
+
+    ghost invariant = { λ b. (b.opening.entries ≡ told_or b.opening.entries b.store ∷ [])
+        × KeepsHistory (record { origin = b.recorder.origin; rules = b.rules; opening = told_or b.opening.entries b.store; entries = b.recorder.entries; store = b.store })
+        × (b.first ≡ (told_or b.opening.entries b.store).number) };
+}
+
+impl<R: Records + Drop> RecordedStore<R> {
+    /// A recorded store that opens with this store, with no entry. All commands go by these rules. The error never comes, though
+    /// no contract can say so.
+    pub fn new(alloc: Global, rules: Rules, store: Store<R>) -> Result<RecordedStore<R>, NoMemory>
+        ensures { IfOk result (λ recorded_store.
+            recorded_store ≡ record { origin = recorded_store.origin; rules = rules; opening = store; entries = []; store = store }) }
+    {
+        let Some(recorder) = Recorder::new() else {
+            return Err(NoMemory);
+        };
+        let Some(mut opening) = Recorder::new() else {
+            return Err(NoMemory);
+        };
+        opening.record::<Store<R>, AsItself>(&store);
+        Ok(RecordedStore {
+            first: store.number(),
+            opening: opening.prefix(),
+            store,
+            rules,
+            alloc,
+            recorder,
+        })
+    }
+
+    /// Answers a turn at the store, as one entry more of the history. The entry has this seat's number.
+    ///
+    /// The command is applied at the moment of its turn, by `Store::apply`, whose costs it has. Nothing is stored for
+    /// the entry.
+    ///
+    /// # Errors
+    ///
+    /// `NoMemory` leaves the recorded store as it was; the turn is dropped. It comes where memory runs out, and where the numbers
+    /// are used up. If the rows are in memory and numbers are left, it comes only for a command that isn't refused and
+    /// takes room.
+    pub fn enter(&mut self, seat: u64, turn: Turn) -> Result<Answer, NoMemory>
+        ensures entry { IfOk result (λ answer. self.new.entries ≡ self.old.entries ++ recorded seat turn answer ∷ []) }
+        ensures answer { IfOk result (λ answer. answer
+            ≡ record { number = self.old.store.number; outcome = outcome_of self.old.rules self.old.store turn.moment turn.command }) }
+        ensures store { IfOk result (λ answer. self.new.store ≡ after_step self.old.rules self.old.store turn.moment turn.command) }
+        ensures rules { self.new.rules ≡ self.old.rules }
+        ensures opening { self.new.opening ≡ self.old.opening }
+        ensures origin { self.new.origin ≡ self.old.origin }
+        ensures err { OnErr result (self.new ≡ self.old) }
+        ensures memory { OnErr result (MayLack R.is_in_memory self.old.rules self.old.store turn) }
+    {
+        one_more_entry();
+        let asked = Snapshot::of(&turn);
+        let Turn { command, moment } = turn;
+        let answer = self.store.apply(self.alloc, &self.rules, command, moment)?;
+        let entry = Entry {
+            seat,
+            turn: asked,
+            answer: Snapshot::of(&answer),
+        };
+        self.recorder.record::<Entry, AsItself>(&entry);
+        Ok(answer)
+    }
+
+    /// The store as it is, to which the history leads. The history is legal, so that every law of `s3_machine` about legal
+    /// histories holds of it.
+    pub fn store(&self) -> &Store<R>
+        ensures value { result.now ≡ self.now.store }
+        ensures history { KeepsHistory self.now }
+    {
+        &self.store
+    }
+
+    /// How many entries there are.
+    pub fn entries(&self) -> u64
+        ensures { result ≡ length self.now.entries }
+    {
+        self.store.number() - self.first
+    }
+
+    /// What is known of the history now: all of it.
+    pub fn prefix(&self) -> Prefix
+        ensures { result ≡ record { origin = self.now.origin; entries = self.now.entries } }
+    {
+        self.recorder.prefix()
+    }
+
+    /// What is known of the history begins it.
+    pub fn check(&mut self, known: &Prefix)
+        requires { known.now.origin ≡ self.old.origin }
+        ensures same { self.new ≡ self.old }
+        ensures begins { IsPrefix known.now.entries self.old.entries }
+    {
+        self.recorder.check(known);
+    }
+}

@@ -1,0 +1,127 @@
+//! The slots for connections.
+
+use std::sync::atomic::{AtomicU64, Ordering};
+
+/// How many connections came and are held, what the most is of both, how many workers hold them, how many of these want
+/// a slot that another one may give, and how many offer one. All workers count in one, so that no clause can tell what
+/// a call finds; tests tell it of one worker.
+#[derive(Drop)]
+pub struct Slots {
+    came: AtomicU64,
+    most: Option<u64>,
+    held: AtomicU64,
+    most_held: u64,
+    workers: AtomicU64,
+    wants: AtomicU64,
+    offers: AtomicU64,
+}
+
+impl Slots {
+    /// None came yet. After `most` the server ends, without such a number it goes on for ever; and it holds no more
+    /// than `most_held` at a time.
+    pub fn new(most: Option<u64>, most_held: u64) -> Slots {
+        Slots {
+            came: AtomicU64::new(0),
+            most,
+            held: AtomicU64::new(0),
+            most_held,
+            workers: AtomicU64::new(0),
+            wants: AtomicU64::new(0),
+            offers: AtomicU64::new(0),
+        }
+    }
+
+    /// Counts a connection, and answers its number, from 1; `None` where it is one too many.
+    pub fn count_one(&self) -> Option<u64> {
+        let before = self.came.fetch_add(1, Ordering::SeqCst);
+        match self.most {
+            Some(most) if before >= most => None,
+            _ => before.checked_add(1),
+        }
+    }
+
+    /// Whether no more connections are taken.
+    pub fn is_full(&self) -> bool {
+        match self.most {
+            Some(most) => self.came.load(Ordering::SeqCst) >= most,
+            None => false,
+        }
+    }
+
+    /// Whether the server ends some time.
+    pub fn has_end(&self) -> bool {
+        self.most.is_some()
+    }
+
+    /// Takes the slot of one that is held, and answers whether there was one.
+    pub fn take_slot(&self) -> bool {
+        if self.held.load(Ordering::SeqCst) >= self.most_held {
+            return false;
+        }
+        if self.held.fetch_add(1, Ordering::SeqCst) < self.most_held {
+            return true;
+        }
+        self.give_slot();
+        false
+    }
+
+    /// Counts a worker that takes connections.
+    pub fn begin_work(&self) {
+        self.workers.fetch_add(1, Ordering::SeqCst);
+    }
+
+    /// Counts such a worker no more.
+    pub fn end_work(&self) {
+        self.workers.fetch_sub(1, Ordering::SeqCst);
+    }
+
+    /// Whether a worker that holds this many connections has no more than its share of all that are held. While nothing
+    /// comes or goes, that is so of one that works at least.
+    pub fn is_within_share(&self, mine: u64) -> bool {
+        let workers = self.workers.load(Ordering::SeqCst);
+        mine.saturating_mul(workers) <= self.held.load(Ordering::SeqCst)
+    }
+
+    /// Gives a slot back.
+    pub fn give_slot(&self) {
+        self.held.fetch_sub(1, Ordering::SeqCst);
+    }
+
+    /// Counts a worker that wants a slot which another one may give, until it takes that back.
+    pub fn want_slot(&self) {
+        self.wants.fetch_add(1, Ordering::SeqCst);
+    }
+
+    /// Counts such a worker no more.
+    pub fn want_no_slot(&self) {
+        self.wants.fetch_sub(1, Ordering::SeqCst);
+    }
+
+    /// Whether more workers want a slot than there are free and offered ones.
+    pub fn lacks_slots(&self) -> bool {
+        self.lacks_beside(self.offers.load(Ordering::SeqCst))
+    }
+
+    /// Counts a worker that offers the slot of a connection, until it takes that back, if more workers want a slot
+    /// than there are free and offered ones; answers whether it did.
+    pub fn offer_slot(&self) -> bool {
+        let offers = self.offers.fetch_add(1, Ordering::SeqCst);
+        let lacks = self.lacks_beside(offers);
+        if !lacks {
+            self.offer_no_slot();
+        }
+        lacks
+    }
+
+    /// Counts such a worker no more.
+    pub fn offer_no_slot(&self) {
+        self.offers.fetch_sub(1, Ordering::SeqCst);
+    }
+
+    // Whether more workers want a slot than there are free ones and these that are offered.
+    fn lacks_beside(&self, offers: u64) -> bool {
+        let held = self.held.load(Ordering::SeqCst);
+        let free = self.most_held.saturating_sub(held);
+        self.wants.load(Ordering::SeqCst) > free.saturating_add(offers)
+    }
+}

@@ -1,0 +1,5 @@
+use Rattle.std.proofs.Common.{[]}
+use Rattle.s3_simulation.proofs.whole.written_after.Goals as goal
+
+pub returns : goal.returns
+returns c settings moment h = c.written.ensures.output settings moment c.args.bytes.now (c.in_ok-feed.ensures.taken settings moment [] h)

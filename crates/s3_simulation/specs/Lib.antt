@@ -1,0 +1,17 @@
+pub mod Alike
+pub mod Events
+pub mod Faults
+pub mod Laws
+pub mod Moments
+pub mod Played
+pub mod Replaying
+pub mod Run
+pub mod Shown
+pub mod StandsAfter
+pub mod Timed
+pub mod Trimmed
+pub mod Trying
+pub mod World
+pub use Rattle.s3_session.specs.Replay
+pub use Rattle.s3_connection.specs.Output
+pub use Rattle.s3_journal.specs.RecordedStore

@@ -1,5 +1,0 @@
-use Rattle.s3_world.proofs.AlikeLemmas.{cuts_are_alike, moves_are_alike}
-use Rattle.s3_world.proofs.alike.cuts_and_moves_are_alike.Goals as goal
-
-pub returns : goal.returns
-returns c = record { cuts = cuts_are_alike; moves = moves_are_alike }

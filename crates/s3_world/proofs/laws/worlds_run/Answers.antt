@@ -1,5 +1,0 @@
-use Rattle.s3_world.proofs.RunLemmas.{worlds_run}
-use Rattle.s3_world.proofs.laws.worlds_run.Goals as goal
-
-pub returns : goal.returns
-returns c = worlds_run c.connections_write.ensures

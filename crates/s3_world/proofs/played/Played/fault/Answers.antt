@@ -1,8 +1,0 @@
-use Rattle.std.proofs.Common.{subst}
-use Rattle.s3_world.specs.Faults.{Tells}
-use Rattle.s3_world.specs.Played.{Playing}
-use Rattle.s3_world.proofs.FaultLemmas.{tells}
-use Rattle.s3_world.proofs.played.Played.fault.Goals as goal
-
-pub returns : goal.returns
-returns c = subst (λ (p : Playing). Tells p c.fault.result) c.self.view_is (tells _ c.fault.result c.fault.ensures.some c.fault.ensures.over c.fault.ensures.none)

@@ -1,7 +1,0 @@
-use Rattle.std.proofs.Common.{ℕ, List}
-use Rattle.s3_config.specs.Settings.{Settings}
-use Rattle.s3_world.specs.Replaying.{HasCome}
-use Rattle.s3_world.proofs.replay.Replay.take.Given as goal
-
-abbrev pub invariant-loop : goal.invariant-loop
-invariant-loop l = (settings : Settings) (moment : ℕ) (bytes : List ℕ) → HasCome l.initial.self settings moment bytes → HasCome l.self settings moment bytes

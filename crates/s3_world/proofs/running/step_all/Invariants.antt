@@ -1,9 +1,0 @@
-use Rattle.std.proofs.Common.{◌≡◌, [], List, ℕ, take}
-use Rattle.s3_world.specs.StandsAfter.{StandsAfter}
-use Rattle.s3_world.proofs.running.step_all.Given as goal
-
-abbrev pub invariant-loop-number : goal.invariant-loop-number
-invariant-loop-number g l = record {
-  stands : (moments : List (List ℕ)) → StandsAfter l.fn.world moments [] → StandsAfter l.world moments (take l.number l.events);
-  settings : l.world.settings ≡ l.fn.world.settings;
-}

@@ -1,6 +1,0 @@
-use Rattle.s3_world.specs.Run.{each_moments}
-use Rattle.s3_world.specs.Trying.{AreFirstShares}
-use Rattle.s3_world.proofs.trimming.shares.Given as goal
-
-abbrev pub invariant-loop-number : goal.invariant-loop-number
-invariant-loop-number l = AreFirstShares l.config (each_moments l.moments) l.events l.shares.items l.number
