@@ -1,5 +1,6 @@
 -- What a device gave and took: the connection's other end.
-use Rattle.std.specs.Prelude.{◌≡◌, ℕ, suc, ◌<◌, ◌≤◌, Bool, true, List, ◌++◌, length, take}
+use Rattle.std.specs.Prelude.{◌≡◌, ℕ, suc, ◌<◌, ◌≤◌, Bool, true, List, [], ◌++◌, length, take, Option}
+use Rattle.std.specs.Io.KnownBytes.{Appends, Consumes, IsAtEnd, Keeps}
 use Rattle.s3_devices.specs.declared.device.Reading.{Reading}
 use Rattle.s3_devices.specs.declared.device.Reading.TheVariants as reads
 use Rattle.s3_devices.specs.declared.device.Writing.{Writing}
@@ -43,3 +44,17 @@ abbrev pub Writes : Writing → Traffic → Traffic → List ℕ → Type 0
 Writes (writes.Took count) old new bytes = (0 < count) × (count ≤ length bytes) × (new ≡ with_sent old (take count bytes))
 Writes writes.Later old new bytes = new ≡ record old { late_writes = suc old.late_writes }
 Writes writes.Failed old new bytes = new ≡ record old { failed_writes = suc old.failed_writes }
+
+-- what a stream has left to give after a read, where it tells that: it loses the bytes that were read, has none at the end, and stays
+-- as it is otherwise
+abbrev pub HasGiven : Reading → Option (List ℕ) → Option (List ℕ) → List ℕ → Type 0
+HasGiven (reads.Bytes count) old new buffer = Consumes old new (take count buffer)
+HasGiven reads.End old new buffer = IsAtEnd new
+HasGiven reads.Later old new buffer = Keeps old new
+HasGiven reads.Failed old new buffer = Keeps old new
+
+-- what it holds after a write, where it tells that: it gains the bytes that were taken, and none otherwise
+abbrev pub HasTaken : Writing → Option (List ℕ) → Option (List ℕ) → List ℕ → Type 0
+HasTaken (writes.Took count) old new bytes = Appends old new (take count bytes)
+HasTaken writes.Later old new bytes = Keeps old new
+HasTaken writes.Failed old new bytes = Appends old new []

@@ -1,13 +1,13 @@
 -- What a device did, and the traffic that it makes.
-use Rattle.std.specs.Prelude.{ℕ, suc, true, false, List, [], ◌∷◌, take, Option}
-use Rattle.std.specs.Io.KnownBytes.{Appends, Consumes, IsAtEnd, Keeps}
-use Rattle.s3_devices.specs.declared.device.Reading.{Reading}
-use Rattle.s3_devices.specs.declared.device.Reading.TheVariants as reads
-use Rattle.s3_devices.specs.declared.device.Writing.{Writing}
-use Rattle.s3_devices.specs.declared.device.Writing.TheVariants as writes
+use Rattle.std.specs.Prelude.{ℕ, suc, true, false, List, [], ◌∷◌}
 use Rattle.s3_devices.specs.Device.{Traffic, with_received, with_sent, with_shut}
 use Rattle.s3_devices.specs.declared.events.DeviceEvent.{DeviceEvent}
 use Rattle.s3_devices.specs.declared.events.DeviceEvent.TheVariants as events
+
+-- a stream, and what it gave and took
+pub record RecordedStream (S : Type 0) : Type 0 where
+  pub traffic : Traffic
+  pub stream : S
 
 -- nothing came or went by the device of this name; and by one that needs none, which is 0
 abbrev pub untouched : ℕ → Traffic
@@ -34,17 +34,3 @@ after_events t (e ∷ es) = after_events (with_event t e) es
 
 abbrev pub traffic_of : ℕ → List DeviceEvent → Traffic
 traffic_of name events = after_events (untouched name) events
-
--- what a stream has left to give after a read, where it tells that: it loses the bytes that were read, has none at the end, and stays
--- as it is otherwise
-abbrev pub HasGiven : Reading → Option (List ℕ) → Option (List ℕ) → List ℕ → Type 0
-HasGiven (reads.Bytes count) old new buffer = Consumes old new (take count buffer)
-HasGiven reads.End old new buffer = IsAtEnd new
-HasGiven reads.Later old new buffer = Keeps old new
-HasGiven reads.Failed old new buffer = Keeps old new
-
--- what it holds after a write, where it tells that: it gains the bytes that were taken, and none otherwise
-abbrev pub HasTaken : Writing → Option (List ℕ) → Option (List ℕ) → List ℕ → Type 0
-HasTaken (writes.Took count) old new bytes = Appends old new (take count bytes)
-HasTaken writes.Later old new bytes = Keeps old new
-HasTaken writes.Failed old new bytes = Appends old new []

@@ -2,8 +2,8 @@
 
 ghost use Rattle.std.specs.Prelude.{◌≡◌, ◌≢◌, ◌<◌, ℕ, [], length, IfSome};
 ghost use Rattle.std.specs.Io.Slices.{io_slices_bytes};
-ghost use Rattle.s3_devices.specs.Device.{Reads, Writes, with_shut};
-ghost use Rattle.s3_devices.specs.Recorded.{HasGiven, HasTaken, no_traffic, traffic_of, untouched};
+ghost use Rattle.s3_devices.specs.Device.{HasGiven, HasTaken, Reads, Writes, with_shut};
+ghost use Rattle.s3_devices.specs.Recorded.{no_traffic, traffic_of, untouched};
 
 use crate::device::{Device, Reading, Stream, Writing};
 use crate::events::{
@@ -29,12 +29,11 @@ pub struct Recorded<S> {
 }
 
 impl<S> Model for Recorded<S> {
-    ghost use Rattle.s3_devices.specs.Device.{Traffic};
-    ghost use Rattle.s3_devices.specs.Recorded.{traffic_of};
+    ghost use Rattle.s3_devices.specs.Recorded as rules;
 
-    ghost Value = { Traffic };
+    ghost Value = { rules.RecordedStream S };
 
-    ghost view = { λ r. traffic_of r.name.value r.recorder.entries };
+    ghost view = { λ r. record { traffic = rules.traffic_of r.name.value r.recorder.entries; stream = r.stream } };
 }
 
 impl<S> Recorded<S> {
@@ -42,7 +41,7 @@ impl<S> Recorded<S> {
     pub fn new(stream: S) -> Option<Recorded<S>>
     where
         S: Drop,
-        ensures { IfSome result (λ device. device ≡ no_traffic) }
+        ensures { IfSome result (λ device. device.traffic ≡ no_traffic) }
     {
         let recorder = Recorder::new()?;
         Some(Recorded::named(stream, recorder, 0))
@@ -51,7 +50,7 @@ impl<S> Recorded<S> {
     /// The same with a name of its own, by which contracts tell it from others. The recorder may have no entry. It can't fail.
     pub fn named(stream: S, recorder: Recorder<DeviceEvent>, name: u64) -> Recorded<S>
         requires none { recorder.entries ≡ [] }
-        ensures { result ≡ untouched name }
+        ensures traffic { result.traffic ≡ untouched name }
     {
         Recorded {
             stream,
@@ -61,12 +60,16 @@ impl<S> Recorded<S> {
     }
 
     /// The stream.
-    pub fn stream(&self) -> &S {
+    pub fn stream(&self) -> &S
+        ensures { result.now ≡ self.now.stream }
+    {
         &self.stream
     }
 
     /// The stream, whose history is told no further.
-    pub fn into_stream(self) -> S {
+    pub fn into_stream(self) -> S
+        ensures { result ≡ self.stream }
+    {
         let Recorded {
             stream,
             recorder: _,
@@ -77,7 +80,11 @@ impl<S> Recorded<S> {
 }
 
 impl<S: Read + WriteParts> Device for Recorded<S> {
-    ghost traffic = { λ device. device };
+    ghost traffic = { λ device. device.traffic };
+
+    ghost remaining = { λ device. S.remaining device.stream };
+
+    ghost contents = { λ device. S.contents device.stream };
 
     fn read(&mut self, buffer: &mut [u8]) -> Reading {
         read_some(&mut self.stream, &mut self.recorder, buffer)

@@ -22,9 +22,9 @@ impl<J: Ground> Model for Arrival<J> {
 
     ghost Value = { Arrived };
 
-    ghost view = { λ a. record { traffic = a.stream; seat = a.seat } };
+    ghost view = { λ a. record { traffic = a.stream.traffic; seat = a.seat } };
 
-    ghost invariant = { λ a. IsArrival (record { traffic = a.stream; seat = a.seat }) };
+    ghost invariant = { λ a. IsArrival (record { traffic = a.stream.traffic; seat = a.seat }) };
 }
 
 impl<J: Ground> Arrival<J> {
@@ -52,7 +52,7 @@ impl<J: Ground> Arrival<J> {
 
     // What it is made of.
     pub(crate) fn into_parts(self) -> (Recorded<Socket>, Seat<J>)
-        ensures stream { result.0 ≡ untouched self.seat.number }
+        ensures stream { result.0.traffic ≡ untouched self.seat.number }
         ensures seat { result.1 ≡ self.seat }
         ensures nothing { self.seat.mine ≡ [] }
     {

@@ -11,18 +11,37 @@ use mio::net::TcpListener;
 use mio::{Interest, Registry, Token};
 use s3_devices::Recorded;
 use s3_driver::{Account, MessageObserver, ServedConnection, turn_away};
-use s3_history::{AsItself, Recorder};
+use s3_history::{AsItself, Describes, Recorder};
 use s3_journal::{Ground, Roster};
 use std::alloc::Global;
 use std::io::ErrorKind;
 use std::marker::Model;
+
+/// The traffic of a socket that was taken back. No value of it is made: a history consists of them.
+pub struct TakenBack;
+
+impl Model for TakenBack {
+    ghost use Rattle.s3_devices.specs.Device.{Traffic};
+    ghost use Rattle.s3_devices.specs.Recorded.{no_traffic};
+
+    ghost Value = { Traffic };
+
+    ghost view = { λ back. no_traffic };
+}
+
+// What is told of a socket.
+struct AsTakenBack;
+
+impl Describes<Recorded<Socket>, TakenBack> for AsTakenBack {
+    ghost entry = { λ socket. socket.traffic };
+}
 
 /// The entrance of a door: what connections are taken from, before it is known to whom they come.
 #[derive(Drop)]
 pub struct Entrance {
     listener: TcpListener,
     handed: Recorder<u64>,
-    back: Recorder<Recorded<Socket>>,
+    back: Recorder<TakenBack>,
 }
 
 impl Model for Entrance {
@@ -60,7 +79,7 @@ pub struct Door<J: Ground> {
     listener: TcpListener,
     roster: Roster<J, Account>,
     handed: Recorder<u64>,
-    back: Recorder<Recorded<Socket>>,
+    back: Recorder<TakenBack>,
     vacancy: Option<Vacancy<J>>,
 }
 
@@ -75,10 +94,10 @@ impl<J: Ground> Model for Door<J> {
 }
 
 // Takes a socket back, which is closed.
-fn take_back(back: &mut Recorder<Recorded<Socket>>, socket: Recorded<Socket>)
-    ensures { back.new.entries ≡ back.old.entries ++ socket ∷ [] }
+fn take_back(back: &mut Recorder<TakenBack>, socket: Recorded<Socket>)
+    ensures { back.new.entries ≡ back.old.entries ++ socket.traffic ∷ [] }
 {
-    back.record::<Recorded<Socket>, AsItself>(&socket);
+    back.record::<Recorded<Socket>, AsTakenBack>(&socket);
     drop(socket);
 }
 

@@ -13,7 +13,7 @@ mod socket;
 
 pub use arrival::Arrival;
 pub use clock::WorkerClock;
-pub use door::{Door, Entrance};
+pub use door::{Door, Entrance, TakenBack};
 pub use network::{ClosedDoor, Listener, Network};
 pub use service::Service;
 pub use sharing::{Answered, Held, Sharing};

@@ -18,7 +18,7 @@ invariant_of-self g c =
     let number : c.number.result ≡ seat.number = c.number.ensures ∙ ap (λ (s : Seated). s.number) (sym parts.ensures.seat) in
     let was : is_out old.roster.numbers seat.number ≡ true =
     ap (λ (n : ℕ). is_out old.roster.numbers n) (sym number) ∙ sym c.has.ensures ∙ c.if-has.true in
-    let fresh : left.result ≡ untouched seat.number =
+    let fresh : left.result.traffic ≡ untouched seat.number =
     left.ensures.stream ∙ parts.ensures.stream ∙ ap (λ (s : Seated). untouched s.number) (sym parts.ensures.seat) in
     door_left old.handed.entries old.back.entries c.take_back.new.back.entries old.roster left.new.roster old.vacancy gone c.self.invariant was
     left.ensures.out left.ensures.gone (c.take_back.ensures ∙ ap (λ (t : Traffic). old.back.entries ++ t ∷ []) fresh) refl
