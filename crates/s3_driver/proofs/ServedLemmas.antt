@@ -21,6 +21,7 @@ use Rattle.s3_machine.specs.History.{Entry}
 use Rattle.s3_session.specs.Session.{moment_if}
 use Rattle.s3_connection.specs.Connection.{Connected, entries_with, is_answered_at, taken_of, wants_at}
 use Rattle.s3_connection.specs.Holds.{Holds}
+use Rattle.s3_connection.specs.Output.{Input}
 use Rattle.s3_devices.specs.Device.{Traffic}
 use Rattle.s3_driver.specs.Ended.{Fails, input_of}
 use Rattle.s3_driver.specs.Served.{FailsSo, GoesOn, HasAsked, HasCalled, HasMet, HasRead, HasSent, HasTaken, HaveMore, IsAsking, IsLater, IsServed, TellsMoves, ending_of, moved_then, stage_weight}
@@ -62,6 +63,29 @@ goes_on_after a b d p q = record {
   sent = begins_on a.sent b.sent d.sent p.sent q.sent;
   shut = q.shut ∙ p.shut;
 }
+
+-- where nothing went out
+sends_nothing : (c : Connected) (before after : Traffic)
+    → after ≡ record before { sent = before.sent ++ []; failed_writes = after.failed_writes; late_writes = after.late_writes } → HasSent c c before after
+sends_nothing c before after same = record {
+  bytes = [];
+  traffic = same;
+  holds = λ (settings : Settings) (input : Input) (moments : List ℕ) (entries : List Entry) (sent : List ℕ) (h : Holds c settings input moments entries sent).
+      subst (λ (b : List ℕ). Holds c settings input moments entries b) (sym (append-nil sent)) h;
+  stage = refl;
+}
+
+pub late_sends_nothing : (c : Connected) (before after : Traffic) → after ≡ record before { late_writes = suc before.late_writes } → HasSent c c before after
+late_sends_nothing c before after late =
+    sends_nothing c before after
+    (subst (λ (t : Traffic). t ≡ record before { sent = before.sent ++ []; failed_writes = t.failed_writes; late_writes = t.late_writes }) (sym late)
+    (ap (λ (b : List ℕ). record before { sent = b; late_writes = suc before.late_writes }) (sym (append-nil before.sent))))
+
+pub failed_sends_nothing : (c : Connected) (before after : Traffic) → after ≡ record before { failed_writes = suc before.failed_writes } → HasSent c c before after
+failed_sends_nothing c before after failed =
+    sends_nothing c before after
+    (subst (λ (t : Traffic). t ≡ record before { sent = before.sent ++ []; failed_writes = t.failed_writes; late_writes = t.late_writes }) (sym failed)
+    (ap (λ (b : List ℕ). record before { sent = b; failed_writes = suc before.failed_writes }) (sym (append-nil before.sent))))
 
 pub sent_goes_on : (c d : Connected) (before after : Traffic) → HasSent c d before after → GoesOn before after
 sent_goes_on c d before after h = record {

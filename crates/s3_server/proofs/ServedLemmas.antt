@@ -22,12 +22,12 @@ use Rattle.s3_journal.specs.Gone.{Gone, AreWhole, IsClosed}
 use Rattle.s3_journal.specs.Roster.{AreBack, AreNew, NobodyIsOut, Rostered, all_gone}
 use Rattle.s3_devices.specs.Device.{Traffic}
 use Rattle.s3_driver.specs.Account.{Account, Fits}
-use Rattle.s3_sockets.specs.Door.{AreNamed, HasPassed, Passed, numbers_of, once_if, times, traffic_told}
-use Rattle.s3_sockets.specs.Network.{AllAreClosed, Networked, all_back, all_handed}
+use Rattle.s3_sockets.specs.Door.{AreNamed, HasPassed, Passed, numbers_of, one_if, times, traffic_told}
+use Rattle.s3_sockets.specs.Network.{AllAreClosed, NetworkState, all_back, all_handed}
 use Rattle.s3_settings.specs.declared.options.ServeOptions.{ServeOptions}
 use Rattle.s3_settings.specs.declared.server.ServeMode.{ServeMode}
 use Rattle.s3_settings.specs.Server.{IsServer}
-use Rattle.s3_server.specs.Served.{AllHavePassed, AreFresh, HasLeft, HasListened, HasServed, HasServedAs, HasServedAndTold, HasWorked, HaveClosed, IsToldInPart, IsToldPlace, ServerRun, address_line, entries_line}
+use Rattle.s3_server.specs.Served.{AllHavePassed, AreFresh, HasLeft, WasAskedToListen, HasServed, HasServedAs, HasServedAndTold, HasWorked, HaveClosed, IsToldInPart, IsToldPlace, ServerRun, address_line, entries_line}
 
 -- what a shared store left
 pub has_left : (settings : Settings) (base : Base) (recorded_store : Journal) (gone : List (Gone Account)) (earlier later : List ServerRun) (entries : ℕ)
@@ -73,7 +73,7 @@ all_counted index [] (roster ∷ rosters) passed back n = absurd passed
 all_counted index (door ∷ doors) [] passed back n = absurd passed
 all_counted index (door ∷ doors) (roster ∷ rosters) passed back n =
     let here = passed.0.each n in
-    let none = ap once_if (back.1 n) in
+    let none = ap one_if (back.1 n) in
     let rest = all_counted (index + 1) doors rosters passed.1 back.2 n in
     let handed = times_join n door.handed (all_handed doors) in
     let gone = ap (times n) (numbers_join roster.gone (all_gone rosters)) ∙ times_join n (numbers_of roster.gone) (numbers_of (all_gone rosters)) in
@@ -93,13 +93,21 @@ all_named [] (roster ∷ rosters) passed = absurd passed
 all_named (door ∷ doors) [] passed = absurd passed
 all_named (door ∷ doors) (roster ∷ rosters) passed = named_join roster.gone (all_gone rosters) passed.0.named (all_named doors rosters passed.1)
 
-has_worked : (settings : Settings) (before after : Networked) (earlier later : List ServerRun) (rosters : List (Rostered Account)) (entries : ℕ)
-    → HasLeft settings (all_gone rosters) earlier later entries → HaveClosed before after rosters → AreBack 0 rosters → AllAreClosed after
-    → HasWorked settings before after earlier later entries
-has_worked settings before after earlier later rosters entries left have back closed = record {
+-- as many doors as rosters
+same_length : (doors : List Passed) (rosters : List (Rostered Account)) → AllHavePassed doors rosters → length doors ≡ length rosters
+same_length [] [] passed = refl
+same_length [] (roster ∷ rosters) passed = absurd passed
+same_length (door ∷ doors) [] passed = absurd passed
+same_length (door ∷ doors) (roster ∷ rosters) passed = let rest = same_length doors rosters passed.1 in omega (arith, rest)
+
+has_worked : (settings : Settings) (workers : ℕ) (before after : NetworkState) (earlier later : List ServerRun) (rosters : List (Rostered Account)) (entries : ℕ)
+    → length rosters ≡ workers → HasLeft settings (all_gone rosters) earlier later entries → HaveClosed before after rosters → AreBack 0 rosters → AllAreClosed after
+    → HasWorked settings workers before after earlier later entries
+has_worked settings workers before after earlier later rosters entries len left have back closed = record {
   gone = all_gone rosters;
   left = left;
   doors = have.doors;
+  each_worker = same_length have.doors rosters have.each ∙ len;
   passed = have.passed;
   closed = closed;
   handed = all_counted 0 have.doors rosters have.each back;
@@ -109,21 +117,23 @@ has_worked settings before after earlier later rosters entries left have back cl
 }
 
 -- where it answers how many entries there are
-pub worked_so : {E : Type 0} (r : Result ℕ E) (settings : Settings) (before after : Networked) (earlier later : List ServerRun) (rosters : List (Rostered Account))
-    → IfOk r (HasLeft settings (all_gone rosters) earlier later) → OnOk r (AreBack 0 rosters) → HaveClosed before after rosters → AllAreClosed after
-    → IfOk r (HasWorked settings before after earlier later)
-worked_so (Ok entries) settings before after earlier later rosters left back have closed =
-    has_worked settings before after earlier later rosters entries left have back closed
-worked_so (Err e) settings before after earlier later rosters left back have closed = tt
+pub worked_so : {E : Type 0} (r : Result ℕ E) (settings : Settings) (workers : ℕ) (before after : NetworkState) (earlier later : List ServerRun)
+    (rosters : List (Rostered Account)) → length rosters ≡ workers → IfOk r (HasLeft settings (all_gone rosters) earlier later) → OnOk r (AreBack 0 rosters) → HaveClosed before after rosters → AllAreClosed after
+    → IfOk r (HasWorked settings workers before after earlier later)
+worked_so (Ok entries) settings workers before after earlier later rosters len left back have closed =
+    has_worked settings workers before after earlier later rosters entries len left have back closed
+worked_so (Err e) settings workers before after earlier later rosters len left back have closed = tt
 
 -- it listened before
-pub has_served : (settings : Settings) (address : List ℕ) (before between after : Networked) (earlier later : List ServerRun) (entries : ℕ)
-    → HasListened address before between → HasWorked settings between after earlier later entries → HasServed settings address before after earlier later entries
-has_served settings address before between after earlier later entries listened worked = record {
+pub has_served : (settings : Settings) (address : List ℕ) (workers : ℕ) (before between after : NetworkState) (earlier later : List ServerRun) (entries : ℕ)
+    → WasAskedToListen address before between → HasWorked settings workers between after earlier later entries
+    → HasServed settings address workers before after earlier later entries
+has_served settings address workers before between after earlier later entries listened worked = record {
   run = record { history = worked.left.history; gone = worked.gone };
   reported = worked.left.reported;
   asked = worked.asked ∙ listened.asked;
   doors = worked.doors;
+  each_worker = worked.each_worker;
   passed = worked.passed ∙ ap (λ (ps : List Passed). ps ++ worked.doors) listened.closed;
   closed = worked.closed;
   handed = worked.handed;
@@ -144,7 +154,7 @@ passed_push [] (first ∷ rosters) door roster have is = absurd have
 passed_push (first ∷ doors) [] door roster have is = absurd have
 passed_push (first ∷ doors) (other ∷ rosters) door roster have is = (have.0, passed_push doors rosters door roster have.1 is)
 
-pub closed_none : (network : Networked) (rosters : List (Rostered Account)) → rosters ≡ [] → HaveClosed network network rosters
+pub closed_none : (network : NetworkState) (rosters : List (Rostered Account)) → rosters ≡ [] → HaveClosed network network rosters
 closed_none network rosters none = record {
   doors = [];
   passed = sym (append-nil network.closed);
@@ -152,7 +162,7 @@ closed_none network rosters none = record {
   asked = refl;
 }
 
-pub closed_more : (before between after : Networked) (some more : List (Rostered Account)) (door : Passed) (roster : Rostered Account) → HaveClosed before between some
+pub closed_more : (before between after : NetworkState) (some more : List (Rostered Account)) (door : Passed) (roster : Rostered Account) → HaveClosed before between some
     → after.closed ≡ between.closed ++ door ∷ [] → after.asked ≡ between.asked → HasPassed door roster → more ≡ some ++ roster ∷ [] → HaveClosed before after more
 closed_more before between after some more door roster have noted asked is added = record {
   doors = have.doors ++ door ∷ [];
@@ -234,12 +244,12 @@ place_alone (Err e) before after told =
     )
 
 -- the second line after the first, or a beginning of it
-pub lines_told : {T E : Type 0} (r : Result T E) (settings : Settings) (address : List ℕ) (old new : Networked) (earlier later : List ServerRun) (entries : ℕ)
-    (before between after : Option (List ℕ)) → HasServed settings address old new earlier later entries
-    → IsToldPlace before between → OnOk r (Appends between after (entries_line entries)) → OnOk r (HasServedAndTold settings address old new earlier later before after)
-lines_told (Ok x) settings address old new earlier later entries before between after served place told =
+pub lines_told : {T E : Type 0} (r : Result T E) (settings : Settings) (address : List ℕ) (workers : ℕ) (old new : NetworkState) (earlier later : List ServerRun)
+    (entries : ℕ) (before between after : Option (List ℕ)) → HasServed settings address workers old new earlier later entries → IsToldPlace before between
+    → OnOk r (Appends between after (entries_line entries)) → OnOk r (HasServedAndTold settings address workers old new earlier later before after)
+lines_told (Ok x) settings address workers old new earlier later entries before between after served place told =
     (entries, served, (place.0, Appends-trans before between after (address_line place.0) (entries_line entries) place.1 told))
-lines_told (Err e) settings address old new earlier later entries before between after served place told = tt
+lines_told (Err e) settings address workers old new earlier later entries before between after served place told = tt
 
 pub lines_begun : {T E : Type 0} (r : Result T E) (entries : ℕ) (before between after : Option (List ℕ)) → IsToldPlace before between
     → OnErr r (AppendsBeginning between after (entries_line entries)) → OnErr r (IsToldInPart before after)
@@ -257,21 +267,23 @@ lines_begun (Err e) entries before between after place part =
 
 -- the same with the options
 pub served_as : {T E : Type 0} (r : Result T E) (known : List ℕ → Option (List ℕ)) (o : ServeOptions) (mode : ServeMode) (settings : Settings)
-    (old new : Networked) (earlier later : List ServerRun) (before after : Option (List ℕ))
-    → IsServer known o mode settings → OnOk r (HasServedAndTold settings mode.address.now old new earlier later before after)
+    (old new : NetworkState) (earlier later : List ServerRun) (before after : Option (List ℕ))
+    → IsServer known o mode settings → OnOk r (HasServedAndTold settings mode.address.now mode.workers old new earlier later before after)
     → OnOk r (HasServedAs known o old new earlier later before after)
 served_as (Ok x) known o mode settings old new earlier later before after asked (entries, served, lines) =
     record { mode = mode; settings = settings; entries = entries; place = lines.0; asked = asked; served = served; told = lines.1 }
 served_as (Err e) known o mode settings old new earlier later before after asked all = tt
 
 -- the number of the entries, with another reason why there is none
-pub served_still : {E F : Type 0} (entries : Result ℕ E) (r : Result ℕ F) (settings : Settings) (address : List ℕ) (before between after : Networked) (earlier later : List ServerRun)
-    → HasListened address before between → IfOk entries (HasWorked settings between after earlier later) → IfOk r (λ count. entries ≡ Ok count)
-    → IfOk r (HasServed settings address before after earlier later)
-served_still {E = E} entries (Ok count) settings address before between after earlier later listened worked same =
-    has_served settings address before between after earlier later count listened
-    (subst (λ (e : Result ℕ E). IfOk e (HasWorked settings between after earlier later)) same worked)
-served_still {E = E} entries (Err e) settings address before between after earlier later listened worked same = tt
+pub served_still : {E F : Type 0} (entries : Result ℕ E) (r : Result ℕ F) (settings : Settings) (address : List ℕ) (workers count : ℕ)
+    (before between after : NetworkState) (earlier later : List ServerRun) → WasAskedToListen address before between → count ≡ workers
+    → IfOk entries (HasWorked settings count between after earlier later) → IfOk r (λ count. entries ≡ Ok count)
+    → IfOk r (HasServed settings address workers before after earlier later)
+served_still {E = E} entries (Ok k) settings address workers count before between after earlier later listened many worked same =
+    has_served settings address workers before between after earlier later k listened
+    (subst (λ (w : ℕ). HasWorked settings w between after earlier later k) many
+    (subst (λ (e : Result ℕ E). IfOk e (HasWorked settings count between after earlier later)) same worked))
+served_still {E = E} entries (Err e) settings address workers count before between after earlier later listened many worked same = tt
 
 pub ruleset telling = (nothing_told, nothing_begun, begun_still, place_still, place_told, place_begun, place_alone, lines_told, lines_begun, served_as, served_still)
 

@@ -18,7 +18,7 @@ use Rattle.s3_settings.specs.declared.server.ServeMode.{ServeMode}
 use Rattle.s3_settings.specs.Server.{IsServer}
 use Rattle.s3_driver.specs.Account.{Account, Fits}
 use Rattle.s3_sockets.specs.Door.{AreNamed, HasPassed, Passed, numbers_of, times, traffic_told}
-use Rattle.s3_sockets.specs.Network.{AllAreClosed, Networked, all_back, all_handed}
+use Rattle.s3_sockets.specs.Network.{AllAreClosed, NetworkState, all_back, all_handed}
 
 -- what a server has done that has ended: the history of its store, and the connections that have left it
 pub record ServerRun : Type 0 where
@@ -28,21 +28,22 @@ pub record ServerRun : Type 0 where
 abbrev pub nothing_done : ServerRun
 nothing_done = record { history = []; gone = [] }
 
--- A server has served, by what the network was asked and what its doors did, and by what was reported of it, over what there was before
--- and after. It was asked to listen on this address, and all its doors are closed.
+-- A server has served: by the network before and after, and by what was reported before and after. The network was asked to listen on
+-- this address, and one door was opened for each of so many workers. Since then all doors are closed.
 --
 -- The sockets that they handed out are those of the accounts, each once. Each was taken back, and its account has just the traffic that
 -- it had then, under its own name.
 --
 -- The history is legal, from the store with the first buckets on, and has so many entries. Each connection has a number of its own; the
 -- entries of this number are just those that its commands made, in their order; its account fits them: what it wrote is, message by
--- message, the printed answer of an entry or a refusal, for the bytes that it was given, whole where it was closed, and else a beginning
--- of that. And there are no other entries.
-pub record HasServed (settings : Settings) (address : List ℕ) (before after : Networked) (earlier later : List ServerRun) (entries : ℕ) : Type 0 where
+-- message, the printed answer of an entry or a refusal, for the bytes that it was given, whole where it was closed (or memory ran out,
+-- which the output tells), and else a beginning of that. And there are no other entries.
+pub record HasServed (settings : Settings) (address : List ℕ) (workers : ℕ) (before after : NetworkState) (earlier later : List ServerRun) (entries : ℕ) : Type 0 where
   pub run : ServerRun
   pub reported : later ≡ earlier ++ run ∷ []
   pub asked : after.asked ≡ before.asked ++ address ∷ []
   pub doors : List Passed
+  pub each_worker : length doors ≡ workers
   pub passed : after.closed ≡ before.closed ++ doors
   pub closed : AllAreClosed after
   pub handed : (n : ℕ) → times n (all_handed doors) ≡ times n (numbers_of run.gone)
@@ -64,14 +65,14 @@ entries_line entries = codes "entries " ++ decimal entries ++ line_feed ∷ []
 
 -- so with the settings and on the address that the options ask for; and the output, over what it holds before and after, gained two
 -- lines: an address, and the number of the entries
-pub record HasServedAs (known : List ℕ → Option (List ℕ)) (o : ServeOptions) (before after : Networked) (earlier later : List ServerRun)
+pub record HasServedAs (known : List ℕ → Option (List ℕ)) (o : ServeOptions) (before after : NetworkState) (earlier later : List ServerRun)
     (held holds : Option (List ℕ)) : Type 0 where
   pub mode : ServeMode
   pub settings : Settings
   pub entries : ℕ
   pub place : SocketAddr
   pub asked : IsServer known o mode settings
-  pub served : HasServed settings mode.address.now before after earlier later entries
+  pub served : HasServed settings mode.address.now mode.workers before after earlier later entries
   pub told : Appends held holds (address_line place ++ entries_line entries)
 
 -- the output gained a beginning of two such lines: nothing, or with the address of some place
@@ -91,9 +92,9 @@ abbrev pub IsToldLines : ℕ → Option (List ℕ) → Option (List ℕ) → Typ
 IsToldLines entries before after = (place : SocketAddr) × Appends before after (address_line place ++ entries_line entries)
 
 -- the server has served, and told both lines
-abbrev pub HasServedAndTold : Settings → List ℕ → Networked → Networked → List ServerRun → List ServerRun → Option (List ℕ) → Option (List ℕ) → Type 0
-HasServedAndTold settings address before after earlier later held holds =
-    (entries : ℕ) × HasServed settings address before after earlier later entries × IsToldLines entries held holds
+abbrev pub HasServedAndTold : Settings → List ℕ → ℕ → NetworkState → NetworkState → List ServerRun → List ServerRun → Option (List ℕ) → Option (List ℕ) → Type 0
+HasServedAndTold settings address workers before after earlier later held holds =
+    (entries : ℕ) × HasServed settings address workers before after earlier later entries × IsToldLines entries held holds
 
 -- doors were closed whose rosters are these, each with what its door did
 abbrev pub AllHavePassed : List Passed → List (Rostered Account) → Type 0
@@ -102,7 +103,7 @@ AllHavePassed [] (roster ∷ rosters) = ⊥
 AllHavePassed (passed ∷ doors) [] = ⊥
 AllHavePassed (passed ∷ doors) (roster ∷ rosters) = HasPassed passed roster × AllHavePassed doors rosters
 
-pub record HaveClosed (before after : Networked) (rosters : List (Rostered Account)) : Type 0 where
+pub record HaveClosed (before after : NetworkState) (rosters : List (Rostered Account)) : Type 0 where
   pub doors : List Passed
   pub passed : after.closed ≡ before.closed ++ doors
   pub each : AllHavePassed doors rosters
@@ -119,10 +120,11 @@ pub record HasLeft (settings : Settings) (gone : List (Gone Account)) (earlier l
   pub counted : length history ≡ entries
 
 -- a server has served on an address on which it was asked to listen before
-pub record HasWorked (settings : Settings) (before after : Networked) (earlier later : List ServerRun) (entries : ℕ) : Type 0 where
+pub record HasWorked (settings : Settings) (workers : ℕ) (before after : NetworkState) (earlier later : List ServerRun) (entries : ℕ) : Type 0 where
   pub gone : List (Gone Account)
   pub left : HasLeft settings gone earlier later entries
   pub doors : List Passed
+  pub each_worker : length doors ≡ workers
   pub passed : after.closed ≡ before.closed ++ doors
   pub closed : AllAreClosed after
   pub handed : (n : ℕ) → times n (all_handed doors) ≡ times n (numbers_of gone)
@@ -131,7 +133,7 @@ pub record HasWorked (settings : Settings) (before after : Networked) (earlier l
   pub asked : after.asked ≡ before.asked
 
 -- it was asked to listen on an address, and no door was closed
-pub record HasListened (address : List ℕ) (before after : Networked) : Type 0 where
+pub record WasAskedToListen (address : List ℕ) (before after : NetworkState) : Type 0 where
   pub asked : after.asked ≡ before.asked ++ address ∷ []
   pub closed : after.closed ≡ before.closed
 

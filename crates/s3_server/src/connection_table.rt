@@ -257,7 +257,7 @@ impl<S: Service> ConnectionTable<S> {
         if !self.has_turns() {
             return;
         }
-        self.submit_all(service, now);
+        self.submit_all(service, registry, now);
         self.answered.reverse();
         for _ in 0..self.answered.len() {
             if let Some(answered) = self.answered.pop() {
@@ -268,11 +268,11 @@ impl<S: Service> ConnectionTable<S> {
     }
 
     // Takes the turns that wait to the store.
-    fn submit_all(&mut self, service: &S, now: &Now) {
+    fn submit_all(&mut self, service: &S, registry: &Registry, now: &Now) {
         let mut turns = service.begin();
         for place in 0..self.asking.len() {
             if let Some(&key) = self.asking.get(place) {
-                self.submit(service, key, &mut turns, now);
+                self.submit(service, registry, key, &mut turns, now);
             }
         }
         S::commit(turns);
@@ -280,8 +280,15 @@ impl<S: Service> ConnectionTable<S> {
     }
 
     // Takes the turn of the one under a key to the store, if there is one. Where there is no room for its answer, it hears
-    // it at once.
-    fn submit(&mut self, service: &S, key: usize, turns: &mut S::Turns, now: &Now) {
+    // it at once, and is reported once more.
+    fn submit(
+        &mut self,
+        service: &S,
+        registry: &Registry,
+        key: usize,
+        turns: &mut S::Turns,
+        now: &Now,
+    ) {
         let Some(held) = self.take(key) else {
             return;
         };
@@ -289,6 +296,7 @@ impl<S: Service> ConnectionTable<S> {
             Ok(()) => {}
             Err(failed) => {
                 self.hear(service, failed.value);
+                let _ = self.report_again(registry, key);
             }
         }
     }

@@ -52,7 +52,7 @@ pub(crate) fn run<
     requires parts { J.parts ≡ start.rosters * seats_each }
     requires settings { J.base.settings ≡ config.now }
     requires store { J.base.store ≡ opened (opening config.now.buckets) }
-    ensures worked { IfOk result (HasWorked config.now network.old network.new report.old report.new) }
+    ensures worked { IfOk result (HasWorked config.now (length jobs.opened.items) network.old network.new report.old report.new) }
 {
     let (shared, rosters) = SharedStore::<J, MapRecords>::open::<Account>(alloc, start)?;
     let back = all_back(
@@ -83,11 +83,13 @@ fn all_back<J: Ground + Send + Sync, R: Wait + Threads + Clock + Sync, N: Net, F
     requires settings { J.base.settings ≡ config.now }
     ensures closed { IfOk result (λ rosters. HaveClosed network.old network.new rosters.items) }
     ensures all { OnOk result (AllAreClosed network.new) }
+    ensures each { IfOk result (λ rosters. length rosters.items ≡ length jobs.opened.items) }
 {
+    let workers = jobs.opened.len();
     let tasks = tasks(alloc, jobs, rosters)?;
     let doors = work_all(rt, alloc, config, slots, shared, logging, tasks)?;
     let rosters = close_doors(alloc, network, doors)?;
-    if network.is_closed() {
+    if network.is_closed() && rosters.len() == workers {
         Ok(rosters)
     } else {
         drop(rosters);

@@ -9,7 +9,7 @@ ghost use Rattle.s3_settings.specs.Devices.{AppendsBeginning, IsTold};
 ghost use Rattle.s3_settings.specs.Fault.{line_of};
 ghost use Rattle.s3_settings.specs.declared.fault.Fault.{Fault};
 ghost use Rattle.s3_server.specs.Serve.{IsServeFault, IsModeFault, IsToldFault, IsListenFault};
-ghost use Rattle.s3_server.specs.Served.{HasListened, HasServed, HasServedAs, HasServedAndTold, HasWorked, IsToldInPart, IsToldPlace, address_line, entries_line};
+ghost use Rattle.s3_server.specs.Served.{WasAskedToListen, HasServed, HasServedAs, HasServedAndTold, HasWorked, IsToldInPart, IsToldPlace, address_line, entries_line};
 
 use crate::jobs::{Jobs, one_opened};
 use crate::logging::Logging;
@@ -46,13 +46,14 @@ const FAILED: u8 = 1;
 /// The status is one of these:
 ///
 /// - 0: the last connection that was asked for has ended, and `errors` takes nothing. A worker whose waiting fails ends with
-///   its connections; the others go on. The status is 0 too after the last such worker.
+///   its connections; the others go on. The status is 0 too after the last such worker. (No clause knows how many came.)
 /// - 1: the server failed. `errors` takes the line of the fault ([`Fault::tell`]), and `output` has a beginning of its lines.
 ///
-/// For status 0, `served` says what the server has done, of the network that it was handed and of the report that it made: it was asked to
-/// listen on the address of the options; each socket that a door handed out has its account, and no account is of anything else;
-/// the history of the store is legal, its entries are those of these connections, and each wrote what it has to; and K is the number
-/// of the entries. That the system's sockets do what is noted of them is read in `s3_sockets` and `s3_devices`.
+/// For status 0, `served` says what the server has done, of the network that it was handed and of the report that it made: it listened
+/// on the address of the options, with a door for each worker; each socket that a door handed out has its account, and no account is
+/// of anything else; the history of the store is legal, its entries are those of these connections, and each wrote what it has to;
+/// and K is the number of the entries. To be read is that `Network` binds the address that it was asked for, that `Door::accept`
+/// notes each socket that the system hands out, and that `Recorded` notes what the system's socket did.
 pub fn serve_words<R: Wait + Threads + Clock + Sync, N: Net, F: Files + Sync, W: Write, E: Device>(
     rt: &R,
     alloc: Global,
@@ -112,7 +113,7 @@ fn serve_mode<'a, R: Wait + Threads + Clock + Sync, N: Net, F: Files + Sync, W: 
     report: &mut ServerReport,
     output: &mut W,
 ) -> Result<(), Fault<'a>>
-    ensures served { OnOk result (HasServedAndTold config.now mode.now.address.now network.old network.new report.old report.new
+    ensures served { OnOk result (HasServedAndTold config.now mode.now.address.now mode.now.workers network.old network.new report.old report.new
         (W.contents output.old) (W.contents output.new)) }
     ensures refused { IfErr result (IsModeFault mode.now) }
     ensures begun { OnErr result (IsToldInPart (W.contents output.old) (W.contents output.new)) }
@@ -142,7 +143,7 @@ fn serve_logged<'a, R: Wait + Threads + Clock + Sync, N: Net, F: Files + Sync, W
     report: &mut ServerReport,
     output: &mut W,
 ) -> Result<(), Fault<'a>>
-    ensures served { OnOk result (HasServedAndTold config.now mode.now.address.now network.old network.new report.old report.new
+    ensures served { OnOk result (HasServedAndTold config.now mode.now.address.now mode.now.workers network.old network.new report.old report.new
         (W.contents output.old) (W.contents output.new)) }
     ensures refused { IfErr result (IsToldFault mode.now.address) }
     ensures begun { OnErr result (IsToldInPart (W.contents output.old) (W.contents output.new)) }
@@ -183,7 +184,7 @@ fn serve_start<'a, R: Wait + Threads + Clock + Sync, N: Net, F: Files + Sync, W:
 ) -> Result<u64, Fault<'a>>
     requires settings { start.base.settings ≡ config.now }
     requires store { start.base.store ≡ opened (opening config.now.buckets) }
-    ensures served { IfOk result (HasServed config.now mode.now.address.now network.old network.new report.old report.new) }
+    ensures served { IfOk result (HasServed config.now mode.now.address.now mode.now.workers network.old network.new report.old report.new) }
     ensures told { OnOk result (IsToldPlace (W.contents output.old) (W.contents output.new)) }
     ensures refused { IfErr result (IsToldFault mode.now.address) }
     ensures begun { OnErr result (IsToldInPart (W.contents output.old) (W.contents output.new)) }
@@ -218,7 +219,8 @@ fn listening<'a, N: Net, W: Write>(
     network: &mut Network<'_, N>,
     output: &mut W,
 ) -> Result<Jobs, Fault<'a>>
-    ensures listened { OnOk result (HasListened mode.now.address.now network.old network.new) }
+    ensures listened { OnOk result (WasAskedToListen mode.now.address.now network.old network.new) }
+    ensures workers { IfOk result (λ jobs. length jobs.opened.items ≡ mode.now.workers) }
     ensures told { OnOk result (IsToldPlace (W.contents output.old) (W.contents output.new)) }
     ensures refused { IfErr result (IsToldFault mode.now.address) }
     ensures begun { OnErr result (IsToldInPart (W.contents output.old) (W.contents output.new)) }
@@ -236,6 +238,7 @@ fn jobs_told<'a, N: Net, W: Write>(
     network: &mut Network<'_, N>,
     output: &mut W,
 ) -> Result<Jobs, Fault<'a>>
+    ensures workers { IfOk result (λ jobs. length jobs.opened.items ≡ mode.now.workers) }
     ensures asked { network.new.asked ≡ network.old.asked }
     ensures closed { network.new.closed ≡ network.old.closed }
     ensures told { OnOk result (IsToldPlace (W.contents output.old) (W.contents output.new)) }
@@ -254,7 +257,7 @@ fn jobs_told<'a, N: Net, W: Write>(
 
 // Listens on this address.
 fn listen<'a, N: Net>(address: &'a str, network: &mut Network<'_, N>) -> Result<Listener, Fault<'a>>
-    ensures listened { HasListened address.now network.old network.new }
+    ensures listened { WasAskedToListen address.now network.old network.new }
     ensures refused { IfErr result (λ fault. fault ≡ Fault.CannotListen address.entry) }
 {
     match network.listen(address) {
@@ -270,6 +273,7 @@ fn all_jobs<'a, N: Net>(
     listener: &Listener,
     network: &mut Network<'_, N>,
 ) -> Result<Jobs, Fault<'a>>
+    ensures workers { IfOk result (λ jobs. length jobs.opened.items ≡ mode.now.workers) }
     ensures refused { IfErr result (IsListenFault mode.now.address) }
     ensures asked { network.new.asked ≡ network.old.asked }
     ensures closed { network.new.closed ≡ network.old.closed }
@@ -299,7 +303,7 @@ fn run_all<R: Wait + Threads + Clock + Sync, N: Net, F: Files + Sync>(
 ) -> Result<u64, NoMemory>
     requires settings { start.base.settings ≡ config.now }
     requires store { start.base.store ≡ opened (opening config.now.buckets) }
-    ensures worked { IfOk result (HasWorked config.now network.old network.new report.old report.new) }
+    ensures worked { IfOk result (HasWorked config.now (length jobs.opened.items) network.old network.new report.old report.new) }
 {
     run::<Brand, R, N, F>(
         rt, alloc, config, slots, logging, start, jobs, network, report,

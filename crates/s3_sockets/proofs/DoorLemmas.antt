@@ -4,9 +4,9 @@ use Rattle.s3_devices.specs.Device.{Traffic}
 use Rattle.s3_journal.specs.Gone.{Gone}
 use Rattle.s3_journal.specs.Roster.{NobodyIsOut, Numbered, Rostered, is_out}
 use Rattle.s3_driver.specs.Account.{Account}
-use Rattle.s3_sockets.specs.Door.{AreNamed, HasPassed, IsDoor, IsGivenUp, IsSetAside, Passed, is_aside, numbers_of, once_if, times, traffic_told}
+use Rattle.s3_sockets.specs.Door.{AreNamed, HasPassed, IsDoor, IsGivenUp, IsSetAside, Passed, is_aside, numbers_of, one_if, times, traffic_told}
 
-times_push : (n m : ℕ) (ms : List ℕ) → times n (ms ++ m ∷ []) ≡ times n ms + once_if (eqb n m)
+times_push : (n m : ℕ) (ms : List ℕ) → times n (ms ++ m ∷ []) ≡ times n ms + one_if (eqb n m)
 times_push n m [] = omega arith
 times_push n m (k ∷ ms) = let rest = times_push n m ms in omega (arith, rest)
 
@@ -23,26 +23,26 @@ named_push [] g are is = (is, tt)
 named_push (first ∷ gone) g are is = (are.0, named_push gone g are.1 is)
 
 -- a number that is given, and one that is taken back
-once_given : (is was : Bool) → (is ≡ true → was ≡ false) → once_if (is || was) ≡ once_if was + once_if is
-once_given true was not = let none = ap once_if (not refl) in omega (arith, none)
+once_given : (is was : Bool) → (is ≡ true → was ≡ false) → one_if (is || was) ≡ one_if was + one_if is
+once_given true was not = let none = ap one_if (not refl) in omega (arith, none)
 once_given false was not = omega arith
 
-once_taken : (is was : Bool) → (is ≡ true → was ≡ true) → once_if (cond is false was) + once_if is ≡ once_if was
-once_taken true was out = let one = ap once_if (out refl) in omega (arith, one)
+once_taken : (is was : Bool) → (is ≡ true → was ≡ true) → one_if (cond is false was) + one_if is ≡ one_if was
+once_taken true was out = let one = ap one_if (out refl) in omega (arith, one)
 once_taken false was out = omega arith
 
 given_at : (old new : Rostered Account) (number : ℕ) → is_out old.numbers number ≡ false
     → ((n : ℕ) → is_out new.numbers n ≡ (eqb n number || is_out old.numbers n)) → (n : ℕ)
-    → once_if (is_out new.numbers n) ≡ once_if (is_out old.numbers n) + once_if (eqb n number)
+    → one_if (is_out new.numbers n) ≡ one_if (is_out old.numbers n) + one_if (eqb n number)
 given_at old new number fresh out n =
-    ap once_if (out n) ∙ once_given (eqb n number) (is_out old.numbers n)
+    ap one_if (out n) ∙ once_given (eqb n number) (is_out old.numbers n)
     (λ same. ap (λ (m : ℕ). is_out old.numbers m) (eqb-true n number same) ∙ fresh)
 
 taken_at : (old new : Rostered Account) (number : ℕ) → is_out old.numbers number ≡ true
     → ((n : ℕ) → is_out new.numbers n ≡ cond (eqb n number) false (is_out old.numbers n)) → (n : ℕ)
-    → once_if (is_out new.numbers n) + once_if (eqb n number) ≡ once_if (is_out old.numbers n)
+    → one_if (is_out new.numbers n) + one_if (eqb n number) ≡ one_if (is_out old.numbers n)
 taken_at old new number was out n =
-    ap (λ (b : Bool). once_if b + once_if (eqb n number)) (out n) ∙ once_taken (eqb n number) (is_out old.numbers n)
+    ap (λ (b : Bool). one_if b + one_if (eqb n number)) (out n) ∙ once_taken (eqb n number) (is_out old.numbers n)
     (λ same. ap (λ (m : ℕ). is_out old.numbers m) (eqb-true n number same) ∙ was)
 
 -- what was set aside before is set aside
@@ -61,7 +61,7 @@ door_new handed back roster no_handed no_back nobody nobody_left = record {
   each = λ (n : ℕ).
       let one = ap (times n) no_handed in
       let two = ap (λ (g : List (Gone Account)). times n (numbers_of g)) nobody_left in
-      let three = ap once_if (nobody n) in
+      let three = ap one_if (nobody n) in
       omega (arith, one, two, three);
   back = no_back ∙ sym (ap traffic_told nobody_left);
   named = subst AreNamed (sym nobody_left) tt;
@@ -126,7 +126,7 @@ ends_so passed old new is out same = record {
   each = λ (n : ℕ).
       let before = is.each n in
       let kept = ap (λ (g : List (Gone Account)). times n (numbers_of g)) same in
-      let still = ap (λ (k : Numbered). once_if (is_out k n)) out in
+      let still = ap (λ (k : Numbered). one_if (is_out k n)) out in
       omega (arith, before, kept, still);
   back = is.back ∙ sym (ap traffic_told same);
   named = subst AreNamed (sym same) is.named;

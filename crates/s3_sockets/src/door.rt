@@ -3,7 +3,7 @@
 ghost use Rattle.std.specs.Prelude.{◌≡◌, ◌≢◌, ◌++◌, ◌∷◌, ◌||◌, ◌==◌, if◌then◌else◌, ℕ, [], true, false, None, IfOk, IfSome, OnErr};
 ghost use Rattle.s3_devices.specs.Recorded.{untouched};
 ghost use Rattle.s3_journal.specs.Roster.{NobodyIsOut, is_out};
-ghost use Rattle.s3_sockets.specs.Door.{HasPassed, IsGivenUp, IsSetAside};
+ghost use Rattle.s3_sockets.specs.Door.{HasPassed, IsGivenUp, IsSetAside, gone_of, nothing_passed, turned_away_of};
 
 use crate::arrival::{Arrival, Vacancy};
 use crate::socket::Socket;
@@ -72,8 +72,8 @@ impl Entrance {
 /// roster, as an `Arrival`, and takes each back, with an account in the roster.
 ///
 /// Contracts see which sockets it handed out, the traffic of those that it took back, and the roster. Its type keeps that these
-/// belong together. That it notes each socket which the system hands out is read in `accept`, and that it notes each which it drops
-/// in `take_back`: nothing else has its listener, or makes an `Arrival`.
+/// belong together. To be read is that `accept` notes each socket which the system hands out: nothing else takes one from the
+/// listener.
 #[derive(Drop)]
 pub struct Door<J: Ground> {
     listener: TcpListener,
@@ -84,9 +84,9 @@ pub struct Door<J: Ground> {
 }
 
 impl<J: Ground> Model for Door<J> {
-    ghost use Rattle.s3_sockets.specs.Door.{Doored, IsDoor};
+    ghost use Rattle.s3_sockets.specs.Door.{DoorState, IsDoor};
 
-    ghost Value = { Doored };
+    ghost Value = { DoorState };
 
     ghost view = { λ d. record { passed = record { handed = d.handed.entries; back = d.back.entries }; roster = d.roster } };
 
@@ -152,6 +152,7 @@ impl<J: Ground> Door<J> {
     pub fn new(entrance: Entrance, roster: Roster<J, Account>) -> Door<J>
         requires nobody { NobodyIsOut roster }
         requires nobody_left { roster.gone ≡ [] }
+        ensures { result ≡ record { passed = nothing_passed; roster = roster } }
     {
         let Entrance {
             listener,
@@ -176,6 +177,7 @@ impl<J: Ground> Door<J> {
     /// come then.
     pub fn accept(&mut self) -> Result<Arrival<J>, ErrorKind>
         ensures handed { IfOk result (λ arrival. self.new.passed.handed ≡ self.old.passed.handed ++ arrival.seat.number ∷ []) }
+        ensures out { IfOk result (λ arrival. is_out self.new.roster.numbers arrival.seat.number ≡ true) }
         ensures back { self.new.passed.back ≡ self.old.passed.back }
         ensures gone { self.new.roster.gone ≡ self.old.roster.gone }
         ensures err { OnErr result (self.new.passed.handed ≡ self.old.passed.handed) }
@@ -184,6 +186,12 @@ impl<J: Ground> Door<J> {
         let Some(vacancy) = set_aside(&mut self.roster, aside) else {
             return Err(ErrorKind::OutOfMemory);
         };
+
+        // The roster knows of what was set aside.
+        if !self.roster.has(vacancy.number()) {
+            self.vacancy = Some(vacancy);
+            return Err(ErrorKind::Other);
+        }
         match self.listener.accept() {
             Ok((stream, _)) => {
                 self.handed.record::<u64, AsItself>(&vacancy.number());
@@ -197,7 +205,9 @@ impl<J: Ground> Door<J> {
     }
 
     /// Has it report who waits already, under a token. If the system can't, nothing is reported.
-    pub fn report_again(&mut self, registry: &Registry, token: Token) {
+    pub fn report_again(&mut self, registry: &Registry, token: Token)
+        ensures { self.new ≡ self.old }
+    {
         let _ = registry.reregister(&mut self.listener, token, Interest::READABLE);
     }
 
@@ -207,6 +217,8 @@ impl<J: Ground> Door<J> {
             ≡ (if n == arrival.seat.number then false else is_out self.old.roster.numbers n) }
         ensures back { is_out self.old.roster.numbers arrival.seat.number ≡ true
             → self.new.passed.back ≡ self.old.passed.back ++ arrival.traffic ∷ [] }
+        ensures gone { is_out self.old.roster.numbers arrival.seat.number ≡ true
+            → self.new.roster.gone ≡ self.old.roster.gone ++ turned_away_of arrival.seat ∷ [] }
         ensures handed { self.new.passed.handed ≡ self.old.passed.handed }
     {
         // No other door's arrivals come here.
@@ -228,6 +240,8 @@ impl<J: Ground> Door<J> {
             ≡ (if n == connection.seat.number then false else is_out self.old.roster.numbers n) }
         ensures back { is_out self.old.roster.numbers connection.seat.number ≡ true
             → self.new.passed.back ≡ self.old.passed.back ++ connection.traffic ∷ [] }
+        ensures gone { is_out self.old.roster.numbers connection.seat.number ≡ true
+            → self.new.roster.gone ≡ self.old.roster.gone ++ gone_of connection ∷ [] }
         ensures handed { self.new.passed.handed ≡ self.old.passed.handed }
     {
         // No other door's connections come here.

@@ -73,9 +73,9 @@ pub struct Network<'n, N: Net> {
 
 impl<'n, N: Net> Model for Network<'n, N> {
     ghost use Rattle.std.specs.Prelude.{◌+◌, length};
-    ghost use Rattle.s3_sockets.specs.Network.{Networked};
+    ghost use Rattle.s3_sockets.specs.Network.{NetworkState};
 
-    ghost Value = { Networked };
+    ghost Value = { NetworkState };
 
     ghost view = { λ w. record { asked = w.asked.entries; opened = w.doors + length w.closed.entries; closed = w.closed.entries } };
 }
@@ -115,7 +115,7 @@ impl<'n, N: Net> Network<'n, N> {
     ///
     /// # Errors
     ///
-    /// Those of the system, as where it has no more descriptors. No door is open then.
+    /// Those of the system, as where it has no more descriptors. No further door is open then.
     pub fn open_door(&mut self, listener: &Listener, token: Token) -> io::Result<(Poll, Entrance)>
         ensures opened { OnOk result (self.new.opened ≡ self.old.opened + 1) }
         ensures err { OnErr result (self.new ≡ self.old) }
@@ -130,23 +130,34 @@ impl<'n, N: Net> Network<'n, N> {
         Ok(opened)
     }
 
-    /// Closes a door, and hands out its roster. `None` comes only where the roster doesn't know what the door set aside.
+    /// Closes a door, and hands out its roster. `None` comes only where no door is open, or the roster doesn't know what the door set
+    /// aside.
     pub fn close_door<J: Ground>(&mut self, door: Door<J>) -> Option<Roster<J, Account>>
         ensures passed { IfSome result (λ roster. HasPassed door.passed roster) }
         ensures closed { IfSome result (λ roster. self.new.closed ≡ self.old.closed ++ door.passed ∷ []) }
+        ensures opened { IfSome result (λ roster. self.new.opened ≡ self.old.opened) }
         ensures asked { self.new.asked ≡ self.old.asked }
     {
-        self.note_closed(&door);
-        door.end()
+        if self.note_closed(&door) {
+            door.end()
+        } else {
+            drop(door);
+            None
+        }
     }
 
-    // Notes that a door is closed.
-    fn note_closed<J: Ground>(&mut self, door: &Door<J>)
-        ensures closed { self.new.closed ≡ self.old.closed ++ door.now.passed ∷ [] }
+    // Notes that a door is closed, if one is open, and answers whether one was.
+    fn note_closed<J: Ground>(&mut self, door: &Door<J>) -> bool
+        ensures closed { result ≡ true → self.new.closed ≡ self.old.closed ++ door.now.passed ∷ [] }
+        ensures opened { result ≡ true → self.new.opened ≡ self.old.opened }
         ensures asked { self.new.asked ≡ self.old.asked }
     {
-        self.doors = self.doors.saturating_sub(1);
+        if self.doors == 0 {
+            return false;
+        }
+        self.doors -= 1;
         self.closed.record::<Door<J>, AsPassed>(door);
+        true
     }
 
     /// Whether no door is open.

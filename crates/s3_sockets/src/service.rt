@@ -1,6 +1,6 @@
 //! What a worker asks of those that serve its connections.
 
-ghost use Rattle.std.specs.Prelude.{◌≡◌, ◌==◌, if◌then◌else◌, ℕ, Bool, false, Option, Some, None, option_map, IfOk, IfErr};
+ghost use Rattle.std.specs.Prelude.{◌≡◌, ◌==◌, ◌++◌, ◌∷◌, [], if◌then◌else◌, ℕ, Bool, true, false, List, map, Option, Some, None, option_map, IfOk, IfErr, OnErr};
 
 use crate::socket::Socket;
 use mio::{Registry, Token};
@@ -14,20 +14,23 @@ use std::time::{Clock, Instant};
 /// What serves the connections of a worker, which knows nothing else of them: so what it does with them is proved
 /// without what they are made of, and without their drops.
 ///
-/// Nothing says of a connection, before and after it is opened, that it may be dropped: a worker has each leave by its door. Contracts
-/// see by which number it is known, which doesn't change, whose place it is, and which numbers are out of a door: none is lost here.
+/// A connection, before and after it is opened, can't be dropped by a worker, since its types have no bound that says so: it leaves by
+/// the door. Contracts see by which number it is known, which doesn't change, whose place is whose, which numbers a door handed out
+/// and which of them are out.
 pub trait Service: Sized {
     // The number of one that has come, of a connection, of one that was answered, and of the one in a place; and whether the one of
     // a number came by a door and hasn't left.
-    ghost came: { Self.Arrival → ℕ };
+    ghost arrival_number: { Self.Arrival → ℕ };
 
-    ghost name: { Self.Held → ℕ };
+    ghost held_number: { Self.Held → ℕ };
 
-    ghost answered: { Self.Answered → ℕ };
+    ghost answered_number: { Self.Answered → ℕ };
 
-    ghost within: { Self.Place → Option ℕ };
+    ghost occupant: { Self.Place → Option ℕ };
 
     ghost is_out: { Self.Door → ℕ → Bool };
+
+    ghost handed: { Self.Door → List ℕ };
 
     /// By what connections come to a worker, and leave it.
     type Door;
@@ -57,17 +60,21 @@ pub trait Service: Sized {
     fn memory(&self) -> Global;
 
     /// The next that has come. The error says why there is none: `WouldBlock` where nobody waits.
-    fn accept(door: &mut Self::Door) -> Result<Self::Arrival, ErrorKind>;
+    fn accept(door: &mut Self::Door) -> Result<Self::Arrival, ErrorKind>
+        ensures handed { IfOk result (λ arrival. handed door.new ≡ handed door.old ++ arrival_number arrival ∷ []) }
+        ensures out { IfOk result (λ arrival. is_out door.new (arrival_number arrival) ≡ true) }
+        ensures none { OnErr result (handed door.new ≡ handed door.old) };
 
     /// Has the door report who waits already, under a token.
-    fn report_waiting(door: &mut Self::Door, registry: &Registry, token: Token);
+    fn report_waiting(door: &mut Self::Door, registry: &Registry, token: Token)
+        ensures { door.new ≡ door.old };
 
     /// Whether the peer of one that has come has gone: nothing came, and nothing will.
     fn has_gone(arrival: &Self::Arrival) -> bool;
 
     /// Has one leave for which there is no slot.
     fn turn_away(&self, arrival: Self::Arrival, door: &mut Self::Door)
-        ensures out { (n : ℕ) → is_out door.new n ≡ (if n == came arrival then false else is_out door.old n) };
+        ensures out { (n : ℕ) → is_out door.new n ≡ (if n == arrival_number arrival then false else is_out door.old n) };
 
     /// Opens the connection of this number, which came at a time, or gives back what came where there is no memory for it.
     fn open(
@@ -76,22 +83,22 @@ pub trait Service: Sized {
         number: u64,
         now: Instant,
     ) -> Result<Self::Held, Self::Arrival>
-        ensures opened { IfOk result (λ held. name held ≡ came arrival) }
-        ensures back { IfErr result (λ back. came back ≡ came arrival) };
+        ensures opened { IfOk result (λ held. held_number held ≡ arrival_number arrival) }
+        ensures back { IfErr result (λ back. arrival_number back ≡ arrival_number arrival) };
 
     /// Its socket.
     fn socket<'h>(held: &'h Self::Held) -> &'h Socket;
 
     /// Has it go on as far as it can without waiting, and says how it moved.
     fn go_on(&self, held: &mut Self::Held, buffer: &mut [u8], moment: Moment, now: Instant) -> Moved
-        ensures name { name held.new ≡ name held.old };
+        ensures number { held_number held.new ≡ held_number held.old };
 
     /// Begins to take turns to the store. It waits for the store, and others wait until they are committed.
     fn begin(&self) -> Self::Turns;
 
     /// Takes the turn of a connection to the store at a time, if it has one. Its place has this key.
     fn submit(held: Self::Held, key: usize, turns: &mut Self::Turns, now: Instant) -> Self::Answered
-        ensures name { answered result ≡ name held };
+        ensures number { answered_number result ≡ held_number held };
 
     /// Commits the turns, before their answers are told.
     fn commit(turns: Self::Turns);
@@ -101,24 +108,25 @@ pub trait Service: Sized {
 
     /// Gives a connection its answer. Its times count from the one at which its turn was taken.
     fn hear(&self, one: Self::Answered) -> Self::Held
-        ensures name { name result ≡ answered one };
+        ensures number { held_number result ≡ answered_number one };
 
     /// Has it leave.
     fn leave(held: Self::Held, door: &mut Self::Door)
-        ensures out { (n : ℕ) → is_out door.new n ≡ (if n == name held then false else is_out door.old n) };
+        ensures out { (n : ℕ) → is_out door.new n ≡ (if n == held_number held then false else is_out door.old n) };
 
     /// Adds an empty place, and answers whether there was memory for it.
-    fn add_place(&self, places: &mut Vec<Self::Place>) -> bool;
+    fn add_place(&self, places: &mut Vec<Self::Place>) -> bool
+        ensures places { map occupant places.new.items ≡ map occupant places.old.items ++ (if result then None ∷ [] else []) };
 
     /// Puts a connection into a place, and hands out the one that was there, if one was.
     fn put(place: &mut Self::Place, held: Self::Held) -> Option<Self::Held>
-        ensures within { within place.new ≡ Some (name held) }
-        ensures before { option_map name result ≡ within place.old };
+        ensures occupant { occupant place.new ≡ Some (held_number held) }
+        ensures before { option_map held_number result ≡ occupant place.old };
 
     /// Takes the connection of a place, if there is one.
     fn take(place: &mut Self::Place) -> Option<Self::Held>
-        ensures within { within place.new ≡ None }
-        ensures taken { option_map name result ≡ within place.old };
+        ensures occupant { occupant place.new ≡ None }
+        ensures taken { option_map held_number result ≡ occupant place.old };
 
     /// The connection of a place, if there is one.
     fn held<'p>(place: &'p Self::Place) -> Option<&'p Self::Held>;

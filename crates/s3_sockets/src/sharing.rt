@@ -129,15 +129,17 @@ impl<'a, J: Ground, W: Wait + Clock> Service for Sharing<'a, J, W> {
     ghost use Rattle.std.specs.Prelude.{option_map};
     ghost use Rattle.s3_journal.specs.Roster as rosters;
 
-    ghost came = { λ arrival. arrival.seat.number };
+    ghost arrival_number = { λ arrival. arrival.seat.number };
 
-    ghost name = { λ held. held.connection.seat.number };
+    ghost held_number = { λ held. held.connection.seat.number };
 
-    ghost answered = { λ one. one.connection.served.seat.number };
+    ghost answered_number = { λ one. one.connection.served.seat.number };
 
-    ghost within = { λ place. option_map (λ held. held.connection.seat.number) place.held };
+    ghost occupant = { λ place. option_map (λ held. held.connection.seat.number) place.held };
 
     ghost is_out = { λ door n. rosters.is_out door.roster.numbers n };
+
+    ghost handed = { λ door. door.passed.handed };
 
     type Door = Door<J>;
 
