@@ -11,6 +11,6 @@ invariant_of-self-in-Ok g c =
     let passed : Passed = record { handed = old.handed.entries; back = old.back.entries } in
     let is : IsDoor passed old.roster c.take-aside.result = subst (IsDoor passed old.roster) (sym c.take-aside.ensures.value) c.self.invariant in
     let set = door_aside passed old.roster roster c.take-aside.result number is c.in-Some.ensures.aside in
-    let later = c.record.ensures.entry ∙ ap (λ (n : ℕ). old.handed.entries ++ n ∷ []) c.number.ensures in
+    let later = c.record.ensures.entry ∙ ap (λ (n : ℕ). old.handed.entries ++ n ∷ []) c.number-in-Ok.ensures in
     subst (λ (o : Option ℕ). IsDoor (record { handed = c.record.new.self.entries; back = old.back.entries }) roster o) (sym c.take-aside.ensures.after)
     (door_handed old.handed.entries c.record.new.self.entries old.back.entries roster number set later)
