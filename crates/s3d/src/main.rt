@@ -15,7 +15,11 @@ use s3_sockets::Network;
 use std::alloc::Global;
 use std::fs::OpenOptions;
 use std::io::Write;
+use std::net::Net;
 use std::process::ExitCode;
+use std::sync::Wait;
+use std::thread::Threads;
+use std::time::Clock;
 use std::{env, fs, io};
 
 // The files of the system.
@@ -55,24 +59,25 @@ fn exit_code(status: u8) -> ExitCode
 }
 
 // Serves over the network of the system, and answers the exit status.
-fn serve<E: Device>(
-    rt: &HostRuntime,
-    files: &SystemFiles<'_>,
+fn serve<R: Wait + Threads + Net + Clock + Sync, F: Files + Sync, W: Write, E: Device>(
+    rt: &R,
+    alloc: Global,
     options: &ServeOptions<'_>,
+    files: &F,
+    output: &mut W,
     errors: &mut E,
 ) -> u8 {
     let (Some(mut network), Some(mut report)) = (Network::new(rt), ServerReport::new()) else {
         return 1;
     };
-    let mut output = rt.stdout();
     serve_words(
         rt,
-        rt.alloc(),
+        alloc,
         options,
         files,
         &mut network,
         &mut report,
-        &mut output,
+        output,
         errors,
     )
 }
@@ -102,6 +107,9 @@ fn main(rt: HostRuntime) -> ExitCode {
     );
     exit_code(match ran {
         Ran::Ended(status) => status,
-        Ran::Serve(options) => serve(&rt, &files, &options, &mut errors),
+        Ran::Serve(options) => {
+            let mut output = rt.stdout();
+            serve(&rt, alloc, &options, &files, &mut output, &mut errors)
+        }
     })
 }
