@@ -1,0 +1,10 @@
+pub mod BucketLemmas
+pub mod DeleteLemmas
+pub mod EntryLemmas
+pub mod KeyRowLemmas
+pub mod OrderlyLemmas
+pub mod PlaceLemmas
+pub mod VersionLemmas
+pub mod VersionOrderLemmas
+pub mod VersionPlaceLemmas
+pub mod VersionRowLemmas
