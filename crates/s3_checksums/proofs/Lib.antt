@@ -1,0 +1,5 @@
+pub mod CrcLemmas
+pub mod DivisionLemmas
+pub mod PieceLemmas
+pub mod TableLemmas
+mod StandardFacts

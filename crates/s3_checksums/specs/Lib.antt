@@ -1,0 +1,4 @@
+pub mod Crc
+pub mod Division
+pub mod Hashers
+pub mod Tables
