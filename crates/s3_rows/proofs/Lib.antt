@@ -1,0 +1,16 @@
+pub mod BucketLemmas
+pub mod CollectedLemmas
+pub mod EditLemmas
+pub mod GroupedLemmas
+pub mod KeyListLemmas
+pub mod ListLawLemmas
+pub mod MeaningLemmas
+pub mod PartPutLemmas
+pub mod ReadingLemmas
+pub mod SortedLemmas
+pub mod UploadBegunLemmas
+pub mod UploadLawLemmas
+pub mod UploadLemmas
+pub mod VersionLawLemmas
+pub mod VersionLemmas
+pub mod VersionListLemmas

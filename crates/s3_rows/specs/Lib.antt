@@ -1,0 +1,13 @@
+pub mod BucketLaws
+pub mod Columns
+pub mod Encoding
+pub mod Finding
+pub mod KeyListLaws
+pub mod ListLaws
+pub mod Meaning
+pub mod ReadingLaws
+pub mod Soundness
+pub mod TableChanges
+pub mod UploadLaws
+pub mod VersionLaws
+pub mod VersionListLaws

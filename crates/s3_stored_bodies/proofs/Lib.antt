@@ -1,0 +1,4 @@
+pub mod HeldLemmas
+pub mod JoinLemmas
+pub mod NumberLemmas
+pub mod TreeLemmas

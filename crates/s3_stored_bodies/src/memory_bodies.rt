@@ -1,0 +1,139 @@
+//! Bodies in memory.
+ghost use Rattle.std.specs.Prelude.{◌≡◌, ◌<◌, ◌^◌, Some, None, true, IfOk, OnErr};
+ghost use Rattle.std.specs.FinMap as map;
+ghost use Rattle.s3_stored_bodies.specs.Held.{contents_of, uses_of, named_where_held};
+ghost use Rattle.s3_stored_bodies.specs.declared.held.HeldBody.{HeldBody};
+
+use crate::held::HeldBody;
+use crate::stored_bodies::StoredBodies;
+use s3_bodies::Body;
+use s3_terms::NoMemory;
+use std::alloc::Global;
+use std::collections::BTreeMap;
+use std::marker::Model;
+
+/// No number reaches this one: integers of SQLite end here.
+const END_OF_NUMBERS: u64 = 1 << 63;
+
+/// Bodies in memory, which are gone when the server ends. Their numbers rise from 0, and none is given twice. To find a
+/// body costs the logarithm of how many there are.
+#[derive(Drop)]
+pub struct MemoryBodies {
+    by_number: BTreeMap<u64, HeldBody>,
+    next: u64,
+}
+
+impl Model for MemoryBodies {
+    ghost use Rattle.std.specs.Prelude.{◌≤◌, ◌^◌};
+    ghost use Rattle.std.specs.FinMap as map;
+    ghost use Rattle.s3_stored_bodies.specs.Held.{Held, coded_held, AreBelow};
+
+    ghost Value = { Held };
+
+    ghost coded = { coded_held };
+
+    ghost view = { λ bodies. map.from_entries bodies.by_number.entries };
+
+    ghost invariant = { λ bodies. AreBelow bodies.next (map.from_entries bodies.by_number.entries) × (bodies.next ≤ 2 ^ 63) };
+}
+
+impl MemoryBodies {
+    /// No bodies, which takes no memory yet.
+    pub fn new(alloc: Global) -> MemoryBodies
+        ensures contents { contents_of result ≡ map.empty }
+        ensures uses { uses_of result ≡ (λ _. 0) }
+    {
+        MemoryBodies {
+            by_number: BTreeMap::new(alloc),
+            next: 0,
+        }
+    }
+
+    // Puts a body under the next number, for one row. `NoMemory` leaves all as it was.
+    fn add(&mut self, body: Body) -> Result<u64, NoMemory>
+        ensures ok { IfOk result (λ number. self.new ≡ map.insert self.old number (record { body = body; more = 0 })) }
+        ensures new { IfOk result (λ number. map.get self.old number ≡ None) }
+        ensures below { IfOk result (λ number. number < 2 ^ 63) }
+        ensures err { OnErr result (self.new ≡ self.old) }
+    {
+        let number = self.next;
+        if number >= END_OF_NUMBERS {
+            return Err(NoMemory);
+        }
+        let former = self.by_number.insert(number, HeldBody { body, more: 0 })?;
+        drop(former);
+        self.next = number + 1;
+        Ok(number)
+    }
+
+    // The body under a number that is named.
+    fn found(&self, number: u64) -> &HeldBody
+        requires { 0 < uses_of self.now number }
+        ensures { map.get self.now number ≡ Some result.now }
+    {
+        match self.by_number.get(&number) {
+            // The caller knows that the number is named.
+            None => unreachable!(),
+            Some(held) => held,
+        }
+    }
+
+    // Counts anew how many rows name a number beside the first.
+    fn set_more(&mut self, number: u64, more: u64)
+        requires { 0 < uses_of self.old number }
+        ensures { (held : HeldBody) → map.get self.old number ≡ Some held
+            → self.new ≡ map.insert self.old number (record { body = held.body; more = more }) }
+    {
+        match self.by_number.get_mut(&number) {
+            // The caller knows that the number is named.
+            None => unreachable!(),
+            Some(held) => held.more = more,
+        }
+    }
+
+    // Drops the body under a number.
+    fn drop_body(&mut self, number: u64)
+        ensures { self.new ≡ map.remove self.old number }
+    {
+        drop(self.by_number.remove(&number));
+    }
+}
+
+impl StoredBodies for MemoryBodies {
+    ghost contents = { contents_of };
+
+    ghost uses = { uses_of };
+
+    ghost is_in_memory = { true };
+
+    ghost named_where_there = { named_where_held };
+
+    fn keep(&mut self, _alloc: Global, body: Body) -> Result<u64, NoMemory> {
+        self.add(body)
+    }
+
+    fn share(&mut self, number: u64) -> Result<(), NoMemory> {
+        let Some(more) = self.found(number).more.checked_add(1) else {
+            return Err(NoMemory);
+        };
+        self.set_more(number, more);
+        Ok(())
+    }
+
+    fn give_up(&mut self, number: u64) {
+        let more = self.found(number).more;
+        if more == 0 {
+            self.drop_body(number);
+        } else {
+            self.set_more(number, more - 1);
+        }
+    }
+
+    fn body(&mut self, _alloc: Global, number: u64) -> Result<Body, NoMemory> {
+        self.found(number).body.copy()
+    }
+
+    fn size(&self, number: u64) -> u64 {
+        self.found(number).body.size()
+    }
+}

@@ -1,0 +1,68 @@
+//! What every keeper of bodies promises.
+ghost use Rattle.std.specs.Prelude.{◌≡◌, ◌↔◌, ℕ, ◌<◌, ◌≤◌, ◌^◌, List, [], ◌∷◌, Bool, true, Some, None, length, IfOk, OnErr};
+ghost use Rattle.std.specs.FinMap as map;
+ghost use Rattle.s3_stored_bodies.specs.Numbers.{Contents, bytes_under, named_more, named_less, KeepsNamed};
+
+use s3_bodies::Body;
+use s3_terms::NoMemory;
+use std::alloc::Global;
+
+/// A keeper of bodies under numbers, which counts the rows that name each number. The bytes under a number don't change,
+/// and they go with the last row that names it.
+///
+/// Each call has `NoMemory` as its only error, and leaves all as it was then. A keeper may hold all in memory
+/// (`is_in_memory`). A call tells where such a keeper can have the error; where it tells nothing, that can come at any
+/// time.
+pub trait StoredBodies {
+    // The bytes under each number.
+    ghost contents: { Self → Contents };
+
+    // How many rows name each number.
+    ghost uses: { Self → ℕ → ℕ };
+
+    // Whether the keeper holds all in memory, so that what needs no more room never lacks it.
+    ghost is_in_memory: { Bool };
+
+    /// Keeps a body for one row, and answers the number under which it stands, which is below 2^63. Nothing stood under
+    /// that number, or these bytes did.
+    fn keep(&mut self, alloc: Global, body: Body) -> Result<u64, NoMemory>
+        ensures contents { IfOk result (λ number. contents self.new ≡ map.insert (contents self.old) number body) }
+        ensures uses { IfOk result (λ number. uses self.new ≡ named_more (number ∷ []) (uses self.old)) }
+        ensures new_or_same { IfOk result (λ number. (bytes : List ℕ) → map.get (contents self.old) number ≡ Some bytes → bytes ≡ body) }
+        ensures below { IfOk result (λ number. number < 2 ^ 63) }
+        ensures err { OnErr result (contents self.new ≡ contents self.old) }
+        ensures err_uses { OnErr result (uses self.new ≡ uses self.old) };
+
+    /// Lets one more row name a number that is named already. A keeper in memory has an error only where 2^63 rows name
+    /// it.
+    fn share(&mut self, number: u64) -> Result<(), NoMemory>
+        requires { 0 < uses self.old number }
+        ensures contents { contents self.new ≡ contents self.old }
+        ensures uses { IfOk result (λ _. uses self.new ≡ named_more (number ∷ []) (uses self.old)) }
+        ensures err_uses { OnErr result (uses self.new ≡ uses self.old) }
+        ensures memory { OnErr result (is_in_memory ≡ true → 2 ^ 63 ≤ uses self.old number) };
+
+    /// Takes back that one row names a number. With the last one the body goes; its memory goes with the last copy of it
+    /// that somebody has. It takes no memory.
+    fn give_up(&mut self, number: u64)
+        requires { 0 < uses self.old number }
+        ensures uses { uses self.new ≡ named_less (number ∷ []) (uses self.old) }
+        ensures contents { KeepsNamed (uses self.new) (contents self.old) (contents self.new) };
+
+    /// The body under a number that is named. Its bytes are shared and not copied, where the keeper has them in memory. A
+    /// keeper in memory has an error only where there are any bytes.
+    fn body(&mut self, alloc: Global, number: u64) -> Result<Body, NoMemory>
+        requires { 0 < uses self.old number }
+        ensures value { IfOk result (λ body. body ≡ bytes_under (contents self.old) number) }
+        ensures contents { contents self.new ≡ contents self.old }
+        ensures uses { uses self.new ≡ uses self.old }
+        ensures memory { OnErr result (is_in_memory ≡ true → 0 < length (bytes_under (contents self.old) number)) };
+
+    /// How many bytes the body under a number has that is named.
+    fn size(&self, number: u64) -> u64
+        requires { 0 < uses self.now number }
+        ensures { result ≡ length (bytes_under (contents self.now) number) };
+
+    // A number is named exactly where bytes stand under it.
+    ghost named_where_there: { (bodies : Self) (number : ℕ) → (uses bodies number ≡ 0) ↔ (map.get (contents bodies) number ≡ None) };
+}

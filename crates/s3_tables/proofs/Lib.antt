@@ -1,0 +1,13 @@
+pub mod Texts
+pub mod StoredLemmas
+pub mod StepLemmas
+pub mod RowLemmas
+pub mod TableLemmas
+pub mod TransactionLemmas
+pub mod StatementLemmas
+pub mod ApplyLemmas
+pub mod MakingLemmas
+pub mod ReadTexts
+pub mod SortLemmas
+pub mod AnswerLemmas
+pub mod ReadLemmas

@@ -1,0 +1,12 @@
+use Rattle.std.proofs.Common.{◌∙◌}
+use Rattle.sqlite.specs.Held.{state}
+use Rattle.s3_tables.proofs.ReadTexts.{any_upload_is}
+use Rattle.s3_tables.proofs.ReadLemmas.{any_upload_found}
+use Rattle.s3_tables.proofs.table_file.TableFile.has_uploads.Goals as goal
+
+pub query-requires : goal.query-requires
+query-requires g c = any_upload_is.1
+
+pub returns-clause-value : goal.returns-clause-value
+returns-clause-value g c clean =
+    (rw c.as_slice.ensures.value at c.has_row.ensures) ∙ any_upload_found (state g.S.Store c.args.self.now) (state g.S.Store c.query.new.self) c.in_ok-rows.rows.items c.args.bucket.now (rw c.params-to_sql.ensures at (c.in_ok-rows.ensures.shown clean))

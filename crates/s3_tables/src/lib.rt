@@ -1,0 +1,18 @@
+//! The tables of a store in SQL: their schema, the statements over them, and a file that keeps them over any disk. A list
+//! of changes is made in one transaction, all or none, also over a crash.
+#![tactic(auto)]
+
+mod applying;
+mod changing;
+mod decoding;
+mod making;
+mod querying;
+mod reading_buckets;
+mod reading_uploads;
+mod reading_versions;
+mod rows;
+mod table_file;
+
+pub use changing::Change;
+pub use rows::{StoreNumbers, StoredBucket, StoredPart, StoredUpload, StoredVersion, TableName};
+pub use table_file::TableFile;

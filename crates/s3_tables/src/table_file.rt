@@ -1,0 +1,124 @@
+//! The file of the tables.
+
+ghost use Rattle.std.specs.Prelude.{◌≡◌, ◌≤◌, IsTrue, IfOk};
+ghost use Rattle.sqlite.specs.State.{HasCleanDisk, Shown};
+ghost use Rattle.sqlite.specs.Given.{IsPlain};
+ghost use Rattle.sqlite.specs.Listing.{understood};
+ghost use Rattle.sqlite.specs.Values.{bound};
+ghost use Rattle.sqlite.specs.Held.{state};
+ghost use Rattle.sqlite.specs.View.{doubt};
+ghost use Rattle.s3_tables.specs.Changes.{after_all, store_columns};
+ghost use Rattle.s3_tables.specs.Schema.{schema};
+ghost use Rattle.s3_tables.specs.Keeping.{Keeps, Serves, Steps, Reads, IsMade};
+ghost use Rattle.s3_tables.specs.Making.{first_tables};
+
+use crate::applying::apply_in;
+use crate::changing::Change;
+use crate::making::{is_new, make_in};
+use crate::querying::query_in;
+use crate::rows::StoreNumbers;
+use sqlite::{Alter, Connection, Error, ErrorCode, Row};
+use sqlite_value::value::ValueRef;
+use std::marker::Model;
+
+/// The tables of a store over any disk. Contracts see its connection: `tables` of that is what it holds. After an error it
+/// asks whether the connection still answers, and one that doesn't is used no more: each call then answers `Closed`.
+pub struct TableFile<S: Alter> {
+    conn: Connection<S>,
+    is_live: bool,
+}
+
+impl<S: Alter> Model for TableFile<S> {
+    ghost use Rattle.sqlite.specs.Held.{Held, held_code, state};
+    ghost use Rattle.s3_tables.specs.Keeping.{IsKeeper};
+
+    ghost Value = { Held S };
+
+    ghost coded = { held_code S.code };
+
+    ghost view = { λ t. t.conn };
+
+    ghost invariant = { λ t. IsKeeper t.is_live (state S.Store t.conn) };
+}
+
+impl<S: Alter + Drop> Drop for TableFile<S> {
+    fn drop(self) {
+        let TableFile {
+            conn: _,
+            is_live: _,
+        } = self;
+    }
+}
+
+/// Whether the connection still answers.
+fn answers<S: Alter>(conn: &mut Connection<S>) -> bool
+    requires { HasCleanDisk (state S.Store conn.old) → Keeps (state S.Store conn.old) }
+    ensures reads { Reads (state S.Store conn.old) (state S.Store conn.new) }
+    ensures stays { IsTrue result → HasCleanDisk (state S.Store conn.new) → IsTrue (state S.Store conn.new).is_open }
+{
+    conn.prepare("SELECT 1").is_ok()
+}
+
+impl<S: Alter> TableFile<S> {
+    /// Makes all changes, one after another, or none: where it answers an error, also where memory runs out, and at a crash
+    /// at any time. A change that the tables refuse, as a row that is there, is an error. Where it answers Ok, no crash
+    /// undoes them. It costs a sync of the disk.
+    pub fn apply(&mut self, changes: &[Change]) -> Result<(), Error>
+        ensures { Steps (after_all changes.now) (state S.Store self.old) (state S.Store self.new) result }
+    {
+        if !self.is_live {
+            return Err(Error::SqliteFailure(ErrorCode::Closed));
+        }
+        match apply_in(&mut self.conn, changes) {
+            Ok(()) => Ok(()),
+            Err(error) => {
+                self.is_live = answers(&mut self.conn);
+                Err(error)
+            }
+        }
+    }
+
+    /// All rows that a query shows.
+    pub(crate) fn query(&mut self, sql: &str, params: &[ValueRef<'_>]) -> Result<Vec<Row>, Error>
+        requires { IsPlain (understood schema sql.now) }
+        ensures shown { HasCleanDisk (state S.Store self.new) → IfOk result (λ rows. Serves (state S.Store self.old) × Shown sql.now (bound params.now) (state S.Store self.old) (state S.Store self.new) rows.items) }
+        ensures reads { Reads (state S.Store self.old) (state S.Store self.new) }
+    {
+        if !self.is_live {
+            return Err(Error::SqliteFailure(ErrorCode::Closed));
+        }
+        match query_in(&mut self.conn, sql, params) {
+            Ok(rows) => Ok(rows),
+            Err(error) => {
+                self.is_live = answers(&mut self.conn);
+                Err(error)
+            }
+        }
+    }
+
+    /// Whether the connection still answered when it was last asked.
+    pub fn is_live(&self) -> bool
+        ensures keeps { HasCleanDisk (state S.Store self.now) → Keeps (state S.Store self.now) }
+        ensures live { IsTrue result → HasCleanDisk (state S.Store self.now) → IsTrue (state S.Store self.now).is_open }
+    {
+        self.is_live
+    }
+}
+
+impl<S: Alter + Drop> TableFile<S> {
+    /// Makes the tables in a database that has nothing in it, with this row in `store`, in one transaction. Another database,
+    /// or one in a transaction, answers `NotADatabase`.
+    pub fn make(mut conn: Connection<S>, store: &StoreNumbers) -> Result<TableFile<S>, Error>
+        ensures made { IfOk result (λ t. HasCleanDisk (state S.Store t) → IsMade (first_tables (store_columns store.now)) (state S.Store t)) }
+        ensures falls { IfOk result (λ t. doubt (state S.Store conn).is_clean ≤ doubt (state S.Store t).is_clean) }
+    {
+        if !conn.is_autocommit() || !is_new(conn.schema()) {
+            return Err(Error::SqliteFailure(ErrorCode::NotADatabase));
+        }
+        make_in(&mut conn, store)?;
+        Ok(TableFile {
+            conn,
+            is_live: true,
+        })
+    }
+}
