@@ -1,0 +1,5 @@
+pub mod Examples
+pub mod Preconditions
+pub mod Ranges
+pub mod Sorting
+pub mod TagLists
