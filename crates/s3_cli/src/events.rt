@@ -18,7 +18,7 @@ use crate::run::PIECE;
 use s3_config::Config;
 use s3_devices::Device;
 use s3_events::{EventsError, Script, print_fault, print_output, read_events};
-use s3_records::MapRecords;
+use s3_records::{MapRecords, Records};
 use s3_settings::{Fault, read_piece};
 use s3_simulation::{World, run, worlds_run};
 use s3_store::Store;
@@ -115,7 +115,7 @@ fn script_answered(
     }
 }
 
-// The world after the events of a script, over a store of its own.
+// The world after the events of a script, over a store of its own, whose records are kept in maps.
 fn world_of<'a>(
     alloc: Global,
     config: &'a Config,
@@ -132,7 +132,7 @@ fn world_of<'a>(
 }
 
 // The lines of what the connections wrote.
-fn printed(alloc: Global, world: &World<'_, MapRecords>) -> Result<Vec<u8>, NoMemory>
+fn printed<K: Records + Drop>(alloc: Global, world: &World<'_, K>) -> Result<Vec<u8>, NoMemory>
     ensures { IfOk result (λ text. text.items ≡ outputs_text (written_by_all world.now.connections)) }
 {
     let count = count_of(world)?;
@@ -144,7 +144,7 @@ fn printed(alloc: Global, world: &World<'_, MapRecords>) -> Result<Vec<u8>, NoMe
 }
 
 // How many connections there are.
-fn count_of(world: &World<'_, MapRecords>) -> Result<u32, NoMemory>
+fn count_of<K: Records + Drop>(world: &World<'_, K>) -> Result<u32, NoMemory>
     ensures { IfOk result (λ count. count ≡ length world.now.connections) }
 {
     match u32::try_from(world.connections()) {
@@ -154,9 +154,9 @@ fn count_of(world: &World<'_, MapRecords>) -> Result<u32, NoMemory>
 }
 
 // Adds the line of what a connection wrote behind those of the connections before it.
-fn print_one(
+fn print_one<K: Records + Drop>(
     text: &mut Vec<u8>,
-    world: &World<'_, MapRecords>,
+    world: &World<'_, K>,
     connection: u32,
 ) -> Result<(), NoMemory>
     requires { connection < length world.now.connections }
@@ -168,7 +168,7 @@ fn print_one(
 }
 
 // The text with the lines of the first faults of the connections behind it.
-fn with_faults(text: Vec<u8>, world: &World<'_, MapRecords>) -> Result<Vec<u8>, NoMemory>
+fn with_faults<K: Records + Drop>(text: Vec<u8>, world: &World<'_, K>) -> Result<Vec<u8>, NoMemory>
     ensures { (moments : List (List ℕ)) (happened : List Happening) → StandsAfter world.now moments happened
         → IfOk result (λ with. TellsFirst world.now moments happened (length world.now.connections) text.items with.items) }
 {
@@ -181,9 +181,9 @@ fn with_faults(text: Vec<u8>, world: &World<'_, MapRecords>) -> Result<Vec<u8>, 
 }
 
 // Adds the line of the first fault of a connection, if it has one, behind those of the connections before it.
-fn tell_one(
+fn tell_one<K: Records + Drop>(
     text: &mut Vec<u8>,
-    world: &World<'_, MapRecords>,
+    world: &World<'_, K>,
     connection: u32,
 ) -> Result<(), NoMemory>
     requires { connection < length world.now.connections }

@@ -19,11 +19,13 @@ use s3_calendar::Moment;
 use s3_command_line::{Asked, Task, WordsError, read_words};
 use s3_config::Config;
 use s3_devices::Device;
+use s3_records::Records;
 use s3_settings::{
     Fault, Files, ReplayMode, ReplayOptions, ServeOptions, Setup, configure, read_piece,
     write_output,
 };
 use s3_simulation::Replay;
+use s3_store::Store;
 use std::alloc::Global;
 use std::convert::AsStr;
 use std::mem::drop;
@@ -193,7 +195,7 @@ fn replay<'a, R: Wait, F: Files, D: Device>(
     answered(rt, alloc, &config, mode, device)
 }
 
-// What all the input is answered, read in a mode and under some settings.
+// What all the input is answered, read in a mode and under some settings. The records are kept in maps.
 #[tactic(auto, using(crate::proofs::ReadingLemmas::readings))]
 fn answered<'a, R: Wait, D: Device>(
     rt: &R,
@@ -222,16 +224,17 @@ fn answers<'a, R: Wait, D: Device>(
     ensures value { IfOk result (λ text. GivesAll (λ bytes. Replays config.now moment bytes text.items) (D.traffic device.old) (D.traffic device.new)) }
     ensures refused { IfErr result (IsReadingFault (D.traffic device.old) (D.traffic device.new)) }
 {
-    let mut replay = Replay::new(alloc, config, &moment)?;
+    let store = Store::open(alloc, config.buckets())?;
+    let mut replay = Replay::new(alloc, config, store, &moment)?;
     let written = written_after(rt, &mut replay, device);
     drop(replay);
     written
 }
 
 // What a replay writes that takes all that the device gives and then ends.
-fn written_after<'a, R: Wait, D: Device>(
+fn written_after<'a, K: Records + Drop, R: Wait, D: Device>(
     rt: &R,
-    replay: &mut Replay<'_>,
+    replay: &mut Replay<'_, K>,
     device: &mut D,
 ) -> Result<Vec<u8>, Fault<'a>>
     ensures value { (settings : Settings) (moment : ℕ) → HasTaken replay.old settings moment []
@@ -243,7 +246,7 @@ fn written_after<'a, R: Wait, D: Device>(
 }
 
 // What a replay writes that ends here.
-fn written<'a>(replay: &mut Replay<'_>) -> Result<Vec<u8>, Fault<'a>>
+fn written<'a, K: Records + Drop>(replay: &mut Replay<'_, K>) -> Result<Vec<u8>, Fault<'a>>
     ensures value { (settings : Settings) (moment : ℕ) (bytes : List ℕ) → HasTaken replay.old settings moment bytes
         → IfOk result (λ text. Replays settings moment bytes text.items) }
     ensures refused { IfErr result (λ fault. fault ≡ Fault.OutOfMemory) }
@@ -253,9 +256,9 @@ fn written<'a>(replay: &mut Replay<'_>) -> Result<Vec<u8>, Fault<'a>>
 }
 
 // Feeds a replay with all that the device gives, in pieces as they are read.
-fn feed_input<'a, R: Wait, D: Device>(
+fn feed_input<'a, K: Records + Drop, R: Wait, D: Device>(
     rt: &R,
-    replay: &mut Replay<'_>,
+    replay: &mut Replay<'_, K>,
     device: &mut D,
 ) -> Result<(), Fault<'a>>
     ensures fed { OnOk result (GivesAll (IsFed replay.old replay.new) (D.traffic device.old) (D.traffic device.new)) }

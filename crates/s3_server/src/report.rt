@@ -6,7 +6,7 @@ ghost use Rattle.s3_journal.specs.Roster.{all_gone};
 use s3_driver::Account;
 use s3_history::{Describes, Recorder};
 use s3_journal::{Closed, Ground};
-use s3_records::MapRecords;
+use s3_records::Records;
 use std::marker::Model;
 
 /// What a server has done that has ended. No value of it is made: a history consists of them, which stands in the proofs alone.
@@ -24,7 +24,7 @@ impl Model for EndedServer {
 // What its shared store leaves tells that.
 struct AsLeft;
 
-impl<J: Ground> Describes<Closed<J, MapRecords, Account>, EndedServer> for AsLeft {
+impl<J: Ground, K: Records + Drop> Describes<Closed<J, K, Account>, EndedServer> for AsLeft {
     ghost use Rattle.s3_journal.specs.Roster.{all_gone};
 
     ghost entry = { λ closed. record { history = closed.recorded_store.entries; gone = all_gone closed.rosters.value.items } };
@@ -57,10 +57,9 @@ impl ServerReport {
     }
 
     // Tells what a server has done whose shared store left this.
-    pub(crate) fn tell<J: Ground>(&mut self, closed: &Closed<J, MapRecords, Account>)
+    pub(crate) fn tell<J: Ground, K: Records + Drop>(&mut self, closed: &Closed<J, K, Account>)
         ensures { self.new ≡ self.old ++ record { history = closed.now.recorded_store.entries; gone = all_gone closed.now.rosters.value.items } ∷ [] }
     {
-        self.ended
-            .record::<Closed<J, MapRecords, Account>, AsLeft>(closed);
+        self.ended.record::<Closed<J, K, Account>, AsLeft>(closed);
     }
 }

@@ -19,7 +19,7 @@ use s3_config::Config;
 use s3_driver::Account;
 use s3_journal::{Closed, Ground, Roster, SharedStore, Start};
 use s3_log::{Log, LogWriter};
-use s3_records::MapRecords;
+use s3_records::Records;
 use s3_settings::Files;
 use s3_sockets::{Door, Network, Service, Sharing, WorkerClock};
 use s3_terms::NoMemory;
@@ -33,6 +33,7 @@ use std::time::Clock;
 /// `NoMemory` comes too where a worker's door isn't back, or a connection hasn't left by it, though none is kept.
 pub(crate) fn run<
     J: Ground + Send + Sync,
+    K: Records + Drop + Send,
     R: Wait + Threads + Clock + Sync,
     N: Net,
     F: Files + Sync,
@@ -42,7 +43,7 @@ pub(crate) fn run<
     config: &Config,
     slots: &Slots,
     logging: Option<&Logging<'_, F>>,
-    start: Start<MapRecords>,
+    start: Start<K>,
     jobs: Jobs,
     network: &mut Network<'_, N>,
     report: &mut ServerReport,
@@ -54,7 +55,7 @@ pub(crate) fn run<
     requires store { J.base.store ≡ opened (opening config.now.buckets) }
     ensures worked { IfOk result (HasWorked config.now (length jobs.opened.items) network.old network.new report.old report.new) }
 {
-    let (shared, rosters) = SharedStore::<J, MapRecords>::open::<Account>(alloc, start)?;
+    let (shared, rosters) = SharedStore::<J, K>::open::<Account>(alloc, start)?;
     let back = all_back(
         rt, alloc, config, slots, &shared, logging, jobs, rosters, network,
     );
@@ -68,12 +69,18 @@ pub(crate) fn run<
 }
 
 // Has all of this done at a shared store with these rosters, and hands the rosters out once all doors are closed.
-fn all_back<J: Ground + Send + Sync, R: Wait + Threads + Clock + Sync, N: Net, F: Files + Sync>(
+fn all_back<
+    J: Ground + Send + Sync,
+    K: Records + Drop + Send,
+    R: Wait + Threads + Clock + Sync,
+    N: Net,
+    F: Files + Sync,
+>(
     rt: &R,
     alloc: Global,
     config: &Config,
     slots: &Slots,
-    shared: &SharedStore<J, MapRecords>,
+    shared: &SharedStore<J, K>,
     logging: Option<&Logging<'_, F>>,
     jobs: Jobs,
     rosters: Vec<Roster<J, Account>>,
@@ -98,10 +105,10 @@ fn all_back<J: Ground + Send + Sync, R: Wait + Threads + Clock + Sync, N: Net, F
 }
 
 // Ends a shared store whose rosters have come back, reports what it left, and answers how many entries that has.
-fn end<J: Ground>(
+fn end<J: Ground, K: Records + Drop>(
     config: &Config,
     report: &mut ServerReport,
-    shared: SharedStore<J, MapRecords>,
+    shared: SharedStore<J, K>,
     rosters: Vec<Roster<J, Account>>,
 ) -> Result<u64, NoMemory>
     requires settings { J.base.settings ≡ config.now }
@@ -117,10 +124,10 @@ fn end<J: Ground>(
 
 // Reports what a shared store left, and answers how many entries that has.
 #[tactic(auto, using(crate::proofs::ServedLemmas::has_left))]
-fn tell_left<J: Ground>(
+fn tell_left<J: Ground, K: Records + Drop>(
     config: &Config,
     report: &mut ServerReport,
-    closed: Closed<J, MapRecords, Account>,
+    closed: Closed<J, K, Account>,
 ) -> u64
     requires closed { IsClosed (Fits J.base.settings) J.base closed.recorded_store (all_gone closed.rosters.value.items) }
     requires settings { J.base.settings ≡ config.now }
@@ -187,12 +194,17 @@ fn work_task<J: Ground>(number: usize, opened: Opened, roster: Roster<J, Account
 }
 
 // Has all of these done, and hands out the doors.
-fn work_all<J: Ground + Send + Sync, R: Wait + Threads + Clock + Sync, F: Files + Sync>(
+fn work_all<
+    J: Ground + Send + Sync,
+    K: Records + Drop + Send,
+    R: Wait + Threads + Clock + Sync,
+    F: Files + Sync,
+>(
     rt: &R,
     alloc: Global,
     config: &Config,
     slots: &Slots,
-    shared: &SharedStore<J, MapRecords>,
+    shared: &SharedStore<J, K>,
     logging: Option<&Logging<'_, F>>,
     tasks: Vec<Task<J>>,
 ) -> Result<Vec<Door<J>>, NoMemory>
@@ -232,12 +244,12 @@ fn close_doors<J: Ground, N: Net>(
 }
 
 // Does one of these to its end, and hands out its door, if it is a worker's.
-fn does<J: Ground, R: Wait + Clock, F: Files>(
+fn does<J: Ground, K: Records + Drop, R: Wait + Clock, F: Files>(
     rt: &R,
     alloc: Global,
     config: &Config,
     slots: &Slots,
-    shared: &SharedStore<J, MapRecords>,
+    shared: &SharedStore<J, K>,
     logging: Option<&Logging<'_, F>>,
     task: Task<J>,
 ) -> Option<Door<J>>
@@ -266,12 +278,12 @@ fn log_of<'l, F: Files>(logging: Option<&'l Logging<'_, F>>, number: usize) -> O
 }
 
 // Has a worker with these means work to its end. It tells no more then.
-fn works<J: Ground, R: Wait + Clock>(
+fn works<J: Ground, K: Records + Drop, R: Wait + Clock>(
     rt: &R,
     alloc: Global,
     config: &Config,
     slots: &Slots,
-    shared: &SharedStore<J, MapRecords>,
+    shared: &SharedStore<J, K>,
     log: Option<&Log>,
     means: Means,
     door: Door<J>,

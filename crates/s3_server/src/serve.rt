@@ -20,7 +20,7 @@ use s3_config::Config;
 use s3_devices::Device;
 use s3_journal::Start;
 use s3_log::LogWriter;
-use s3_records::MapRecords;
+use s3_records::Records;
 use s3_settings::{Fault, Files, ServeMode, ServeOptions, server_settings, write_flushed};
 use s3_sockets::{Listener, Network};
 use s3_store::Store;
@@ -131,7 +131,7 @@ fn serve_mode<'a, R: Wait + Threads + Clock + Sync, N: Net, F: Files + Sync, W: 
     )
 }
 
-// Serves with this log, if there is one.
+// Serves with this log, if there is one. The records are kept in maps.
 #[tactic(auto, using(crate::proofs::ServedLemmas::telling))]
 fn serve_logged<'a, R: Wait + Threads + Clock + Sync, N: Net, F: Files + Sync, W: Write>(
     rt: &R,
@@ -148,19 +148,25 @@ fn serve_logged<'a, R: Wait + Threads + Clock + Sync, N: Net, F: Files + Sync, W
     ensures refused { IfErr result (IsToldFault mode.now.address) }
     ensures begun { OnErr result (IsToldInPart (W.contents output.old) (W.contents output.new)) }
 {
-    let start = start(alloc, config, mode.workers)?;
+    let store = Store::open(alloc, config.buckets())?;
+    let start = start(alloc, config, store, mode.workers)?;
     let entries = serve_start(
         rt, alloc, mode, config, logging, start, network, report, output,
     )?;
     tell_entries(alloc, entries, output)
 }
 
-// What a shared store over a store with the opening buckets is opened with, for so many workers.
-fn start(alloc: Global, config: &Config, workers: u64) -> Result<Start<MapRecords>, NoMemory>
+// What a shared store over this store, which has the opening buckets, is opened with, for so many workers.
+fn start<K: Records + Drop>(
+    alloc: Global,
+    config: &Config,
+    store: Store<K>,
+    workers: u64,
+) -> Result<Start<K>, NoMemory>
+    requires opening { store ≡ opened (opening config.now.buckets) }
     ensures settings { IfOk result (λ start. start.base.settings ≡ config.now) }
     ensures store { IfOk result (λ start. start.base.store ≡ opened (opening config.now.buckets)) }
 {
-    let store = Store::open(alloc, config.buckets())?;
     Start::new(
         alloc,
         config,
@@ -171,13 +177,20 @@ fn start(alloc: Global, config: &Config, workers: u64) -> Result<Start<MapRecord
 
 // Serves from there, and answers how many commands were answered.
 #[tactic(auto, using(crate::proofs::ServedLemmas::telling))]
-fn serve_start<'a, R: Wait + Threads + Clock + Sync, N: Net, F: Files + Sync, W: Write>(
+fn serve_start<
+    'a,
+    K: Records + Drop + Send,
+    R: Wait + Threads + Clock + Sync,
+    N: Net,
+    F: Files + Sync,
+    W: Write,
+>(
     rt: &R,
     alloc: Global,
     mode: &ServeMode<'a>,
     config: &Config,
     logging: Option<&Logging<'a, F>>,
-    start: Start<MapRecords>,
+    start: Start<K>,
     network: &mut Network<'_, N>,
     report: &mut ServerReport,
     output: &mut W,
@@ -290,13 +303,13 @@ fn all_jobs<'a, N: Net>(
 }
 
 // Has each of these done in a thread of its own, and answers how many commands the store answered.
-fn run_all<R: Wait + Threads + Clock + Sync, N: Net, F: Files + Sync>(
+fn run_all<K: Records + Drop + Send, R: Wait + Threads + Clock + Sync, N: Net, F: Files + Sync>(
     rt: &R,
     alloc: Global,
     config: &Config,
     slots: &Slots,
     logging: Option<&Logging<'_, F>>,
-    start: Start<MapRecords>,
+    start: Start<K>,
     jobs: Jobs,
     network: &mut Network<'_, N>,
     report: &mut ServerReport,
@@ -305,7 +318,7 @@ fn run_all<R: Wait + Threads + Clock + Sync, N: Net, F: Files + Sync>(
     requires store { start.base.store ≡ opened (opening config.now.buckets) }
     ensures worked { IfOk result (HasWorked config.now (length jobs.opened.items) network.old network.new report.old report.new) }
 {
-    run::<Brand, R, N, F>(
+    run::<Brand, K, R, N, F>(
         rt, alloc, config, slots, logging, start, jobs, network, report,
     )
 }

@@ -2,7 +2,9 @@
 
 ghost use Rattle.std.specs.Prelude.{◌≡◌, ◌≢◌, ◌<◌, ◌++◌, ℕ, false, List, [], length, IfOk, OnOk, OnErr, None};
 ghost use Rattle.s3_config.specs.Settings.{Settings};
+ghost use Rattle.s3_records.specs.Catalogue.{opening};
 ghost use Rattle.s3_session.specs.Replay.{Replays};
+ghost use Rattle.s3_store.specs.Steps.{opened};
 ghost use Rattle.s3_simulation.specs.Played.{turn_of};
 ghost use Rattle.s3_simulation.specs.Replaying.{HasCome, HasTaken};
 
@@ -12,7 +14,7 @@ use s3_config::Config;
 use s3_connection::connections_write;
 use s3_journal::RecordedStore;
 use s3_machine::Rules;
-use s3_records::MapRecords;
+use s3_records::Records;
 use s3_store::Store;
 use s3_terms::NoMemory;
 use std::alloc::Global;
@@ -25,21 +27,21 @@ const PIECE: usize = 65_536;
 // The number that the entries of the only connection have.
 const SEAT: u64 = 0;
 
-/// One connection over a store of its own, which begins with the opening buckets. All its messages have one moment, and
-/// each of its commands has its turn at once.
+/// One connection over a store of its own, which begins with the opening buckets and has any keeper of records. All its
+/// messages have one moment, and each of its commands has its turn at once.
 ///
 /// It takes its bytes in pieces of any size (`feed`), and hands out at the end what the connection wrote (`written`).
 /// Of the bytes it keeps what the connection keeps. No more is read after a reply that closes, after a refusal, and
 /// where memory ran out. It takes what follows then, and drops it.
 #[derive(Drop)]
-pub struct Replay<'a> {
+pub struct Replay<'a, R: Records + Drop> {
     alloc: Global,
     config: &'a Config,
     played: Played<'a>,
-    recorded_store: RecordedStore<MapRecords>,
+    recorded_store: RecordedStore<R>,
 }
 
-impl<'a> Model for Replay<'a> {
+impl<'a, R: Records + Drop> Model for Replay<'a, R> {
     ghost use Rattle.std.specs.Coded.{codes};
     ghost use Rattle.s3_store.specs.Steps.{coded_standing};
     ghost use Rattle.s3_simulation.specs.Replaying.{Replaying};
@@ -51,20 +53,22 @@ impl<'a> Model for Replay<'a> {
     ghost view = { λ r. record { settings = r.config.now; played = r.played; recorded_store = r.recorded_store } };
 }
 
-impl<'a> Replay<'a> {
-    /// A connection of which nothing has come. All its messages will have this moment.
+impl<'a, R: Records + Drop> Replay<'a, R> {
+    /// A connection of which nothing has come, over a store that holds the opening buckets of the settings and nothing else.
+    /// All its messages will have this moment.
     ///
     /// # Errors
     ///
-    /// `NoMemory` where there is no memory for a bucket to be opened, or for a copy of the region's name.
+    /// `NoMemory` where there is no memory for a copy of the region's name.
     pub fn new(
         alloc: Global,
         config: &'a Config,
+        store: Store<R>,
         moment: &'a Moment,
-    ) -> Result<Replay<'a>, NoMemory>
+    ) -> Result<Replay<'a, R>, NoMemory>
+        requires opening { store ≡ opened (opening config.now.buckets) }
         ensures { IfOk result (λ replay. HasTaken replay config.now moment.now []) }
     {
-        let store = Store::open(alloc, config.buckets())?;
         let rules = Rules::of(alloc, config)?;
         let recorded_store = RecordedStore::new(alloc, rules, store)?;
         Ok(Replay {

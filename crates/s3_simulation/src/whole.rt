@@ -11,7 +11,9 @@ use crate::replay::Replay;
 use s3_calendar::Moment;
 use s3_config::Config;
 use s3_http_heads::{Found, find_head};
+use s3_records::Records;
 use s3_session::heads_decide;
+use s3_store::Store;
 use s3_terms::NoMemory;
 use std::alloc::Global;
 use std::mem::drop;
@@ -65,14 +67,18 @@ fn replayed(
 ) -> Result<Vec<u8>, NoMemory>
     ensures { IfOk result (λ out. Replays config.now moment bytes.now out.items) }
 {
-    let mut replay = Replay::new(alloc, config, &moment)?;
+    let store = Store::open(alloc, config.buckets())?;
+    let mut replay = Replay::new(alloc, config, store, &moment)?;
     let written = written_after(&mut replay, bytes);
     drop(replay);
     written
 }
 
 // What a replay writes that takes these bytes and then ends.
-fn written_after(replay: &mut Replay<'_>, bytes: &[u8]) -> Result<Vec<u8>, NoMemory>
+fn written_after<R: Records + Drop>(
+    replay: &mut Replay<'_, R>,
+    bytes: &[u8],
+) -> Result<Vec<u8>, NoMemory>
     ensures { (settings : Settings) (moment : ℕ) → HasTaken replay.old settings moment []
         → IfOk result (λ out. Replays settings moment bytes.now out.items) }
 {

@@ -15,7 +15,7 @@ use s3_driver::{AnsweredConnection, Driver, Moved, ServedConnection, new_driver}
 use s3_history::Recorder;
 use s3_journal::{Ground, SharedStore, Turns};
 use s3_log::{Log, MessageLog};
-use s3_records::MapRecords;
+use s3_records::Records;
 use std::alloc::Global;
 use std::io::ErrorKind;
 use std::marker::Model;
@@ -56,18 +56,18 @@ struct Outfit<'a, W: Wait + Clock> {
     rt: &'a W,
 }
 
-/// What all connections of a worker share: the settings, which are those that the store stands on, the store, and the
-/// log, if there is one.
+/// What all connections of a worker share: the settings, which are those that the store stands on, the store, with whatever
+/// keeps its records, and the log, if there is one.
 #[derive(Drop)]
-pub struct Sharing<'a, J: Ground, W: Wait> {
+pub struct Sharing<'a, J: Ground, K: Records + Drop, W: Wait> {
     rt: &'a W,
     alloc: Global,
     config: &'a Config,
-    store: &'a SharedStore<J, MapRecords>,
+    store: &'a SharedStore<J, K>,
     log: Option<&'a Log>,
 }
 
-impl<'a, J: Ground, W: Wait> Model for Sharing<'a, J, W> {
+impl<'a, J: Ground, K: Records + Drop, W: Wait> Model for Sharing<'a, J, K, W> {
     ghost use Rattle.std.specs.Prelude.{◌≡◌};
 
     ghost Value = { Unit {0} };
@@ -77,15 +77,15 @@ impl<'a, J: Ground, W: Wait> Model for Sharing<'a, J, W> {
     ghost invariant = { λ s. s.config.now ≡ J.base.settings };
 }
 
-impl<'a, J: Ground, W: Wait> Sharing<'a, J, W> {
+impl<'a, J: Ground, K: Records + Drop, W: Wait> Sharing<'a, J, K, W> {
     /// The same of its parts.
     pub fn new(
         rt: &'a W,
         alloc: Global,
         config: &'a Config,
-        store: &'a SharedStore<J, MapRecords>,
+        store: &'a SharedStore<J, K>,
         log: Option<&'a Log>,
-    ) -> Sharing<'a, J, W>
+    ) -> Sharing<'a, J, K, W>
         requires { config.now ≡ J.base.settings }
     {
         Sharing {
@@ -125,7 +125,7 @@ impl<'a, J: Ground, W: Wait> Sharing<'a, J, W> {
 }
 
 /// A worker serves its connections so.
-impl<'a, J: Ground, W: Wait + Clock> Service for Sharing<'a, J, W> {
+impl<'a, J: Ground, K: Records + Drop, W: Wait + Clock> Service for Sharing<'a, J, K, W> {
     ghost use Rattle.std.specs.Prelude.{option_map};
     ghost use Rattle.s3_journal.specs.Roster as rosters;
 
@@ -151,7 +151,7 @@ impl<'a, J: Ground, W: Wait + Clock> Service for Sharing<'a, J, W> {
 
     type Answered = Answered<'a, J, W>;
 
-    type Turns = Turns<'a, J, MapRecords>;
+    type Turns = Turns<'a, J, K>;
 
     type Runtime = W;
 
@@ -217,14 +217,14 @@ impl<'a, J: Ground, W: Wait + Clock> Service for Sharing<'a, J, W> {
             .go_on(self.alloc, self.config(), buffer, moment, now)
     }
 
-    fn begin(&self) -> Turns<'a, J, MapRecords> {
+    fn begin(&self) -> Turns<'a, J, K> {
         self.store.turns(self.rt)
     }
 
     fn submit(
         held: Held<'a, J, W>,
         key: usize,
-        turns: &mut Turns<'a, J, MapRecords>,
+        turns: &mut Turns<'a, J, K>,
         now: Instant,
     ) -> Answered<'a, J, W> {
         let Held {
@@ -240,7 +240,7 @@ impl<'a, J: Ground, W: Wait + Clock> Service for Sharing<'a, J, W> {
         }
     }
 
-    fn commit(turns: Turns<'a, J, MapRecords>) {
+    fn commit(turns: Turns<'a, J, K>) {
         turns.commit();
     }
 

@@ -1,6 +1,7 @@
 //! The store.
 ghost use Rattle.std.specs.Prelude.{◌≡◌, ◌≢◌, [], true, false, IfOk, OnOk, OnErr, IsTrue};
 ghost use Rattle.s3_records.specs.Catalogue.{opening};
+ghost use Rattle.s3_records.specs.Places.{AreBelow};
 ghost use Rattle.s3_store.specs.Steps.{opened, after_step, outcome_of};
 ghost use Rattle.s3_machine.specs.Effects.{is_refused, takes_room};
 
@@ -35,6 +36,17 @@ impl<R: Records> Model for Store<R> {
     ghost invariant = { λ store. AreBelow store.number (R.catalogue store.records) };
 }
 
+impl<R: Records> Store<R> {
+    /// The store that a keeper's records are, whose next entry has this number. It has to be above those of the entries that made
+    /// the versions there. It takes no memory.
+    pub fn over(records: R, number: u64) -> Store<R>
+        requires below { AreBelow number (R.catalogue records) }
+        ensures { result ≡ record { state = R.catalogue records; number = number } }
+    {
+        Store { records, number }
+    }
+}
+
 impl Store<MapRecords> {
     /// The store with these buckets, which are unversioned and empty, and were made at moment 0. A name that stands
     /// twice is one bucket. The names are copied. The next entry has the number 0.
@@ -48,7 +60,7 @@ impl Store<MapRecords> {
     {
         numbers_stay_below::<Body>();
         let records = MapRecords::of_buckets(alloc, buckets)?;
-        Ok(Store { records, number: 0 })
+        Ok(Store::over(records, 0))
     }
 }
 

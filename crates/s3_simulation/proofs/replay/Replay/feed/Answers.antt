@@ -4,10 +4,10 @@ use Rattle.s3_simulation.specs.Replaying.{HasTaken}
 use Rattle.s3_simulation.proofs.replay.Replay.feed.Goals as goal
 
 pub loop-rest-init : goal.loop-rest-init
-loop-rest-init c = ([], refl, λ settings moment before h. subst (HasTaken c.args.self.now settings moment) (sym (append-nil before)) h)
+loop-rest-init g c = ([], refl, λ settings moment before h. subst (HasTaken c.args.self.now settings moment) (sym (append-nil before)) h)
 
 pub loop-rest-preserved : goal.loop-rest-preserved
-loop-rest-preserved c =
+loop-rest-preserved g c =
     let (done, split, taken) = c.loop-rest.invariant in
     let rest = c.loop-rest.rest.now in
     let (piece, behind) = c.split_at.result in
@@ -22,7 +22,7 @@ loop-rest-preserved c =
     )
 
 pub returns-clause-taken : goal.returns-clause-taken
-returns-clause-taken c settings moment before h =
+returns-clause-taken g c settings moment before h =
     let (done, split, taken) = c.loop-rest.invariant in
     let count : length c.loop-rest.rest.now ≡ 0 = grind (arith, c.is_empty.ensures, c.loop-rest-test.false) in
     let none : c.loop-rest.rest.now ≡ [] = nil_from_length c.loop-rest.rest.now count in

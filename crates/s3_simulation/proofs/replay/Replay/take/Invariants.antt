@@ -4,4 +4,4 @@ use Rattle.s3_simulation.specs.Replaying.{HasCome}
 use Rattle.s3_simulation.proofs.replay.Replay.take.Given as goal
 
 abbrev pub invariant-loop : goal.invariant-loop
-invariant-loop l = (settings : Settings) (moment : ℕ) (bytes : List ℕ) → HasCome l.initial.self settings moment bytes → HasCome l.self settings moment bytes
+invariant-loop g l = (settings : Settings) (moment : ℕ) (bytes : List ℕ) → HasCome l.initial.self settings moment bytes → HasCome l.self settings moment bytes

@@ -7,7 +7,7 @@ use Rattle.s3_simulation.proofs.ReplayLemmas.{goes_on}
 use Rattle.s3_simulation.proofs.replay.Replay.turn.Goals as goal
 
 pub returns-clause-stays : goal.returns-clause-stays
-returns-clause-stays c settings moment bytes h =
+returns-clause-stays g c settings moment bytes h =
     let held = subst (λ (r : Replaying). HasCome r settings moment bytes) (sym c.self.view_is) h in
     let recorded_store = c.self.inside.recorded_store in
     let on = c.take_turn.ensures.goes_on in

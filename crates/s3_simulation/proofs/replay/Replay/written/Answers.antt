@@ -4,14 +4,14 @@ use Rattle.s3_simulation.proofs.ReplayLemmas.{copied, uncopied, written_replays}
 use Rattle.s3_simulation.proofs.replay.Replay.written.Goals as goal
 
 pub returns-clause-output : goal.returns-clause-output
-returns-clause-output c settings moment bytes h =
+returns-clause-output g c settings moment bytes h =
     let taken = subst (λ (r : Replaying). HasTaken r settings moment bytes) (sym c.self.view_is) h in
     copied settings moment bytes _
     (written_replays c.connections_write.ensures _ settings moment bytes taken c.end.new.self c.end.ensures.plays c.end.ensures.turn c.store-store.ensures.history)
     _ c.all.result c.all.ensures.all
 
 pub returns-clause-memory : goal.returns-clause-memory
-returns-clause-memory c settings moment bytes h =
+returns-clause-memory g c settings moment bytes h =
     let taken = subst (λ (r : Replaying). HasTaken r settings moment bytes) (sym c.self.view_is) h in
     uncopied settings moment bytes _
     (written_replays c.connections_write.ensures _ settings moment bytes taken c.end.new.self c.end.ensures.plays c.end.ensures.turn c.store-store.ensures.history)
