@@ -1,5 +1,5 @@
 //! The recorded store.
-ghost use Rattle.std.specs.Prelude.{◌≡◌, ◌++◌, ◌∷◌, [], length, IfOk, OnErr};
+ghost use Rattle.std.specs.Prelude.{◌≡◌, ◌++◌, ◌∷◌, [], length, IfOk, OnOk, OnErr};
 ghost use mathlib.Core.List.{IsPrefix};
 ghost use Rattle.s3_journal.specs.RecordedStore.{KeepsHistory, MayLack};
 ghost use Rattle.s3_journal.specs.Recorded.{recorded};
@@ -61,18 +61,45 @@ impl<R: Records + Drop> RecordedStore<R> {
         let Some(recorder) = Recorder::new() else {
             return Err(NoMemory);
         };
-        let Some(mut opening) = Recorder::new() else {
-            return Err(NoMemory);
-        };
-        opening.record::<Store<R>, AsItself>(&store);
+        let opening = told(&store)?;
         Ok(RecordedStore {
             first: store.number(),
-            opening: opening.prefix(),
+            opening,
             store,
             rules,
             alloc,
             recorder,
         })
+    }
+
+    /// Folds the history: it begins anew and empty, at the store as it is, whose next entry has the number that it would have had.
+    /// So the two histories, one after another, are the history without a fold (`histories_are_cut_anywhere` of `s3_machine`), and
+    /// every later answer is as it would have been. It copies nothing, and takes the same time whatever the store holds.
+    ///
+    /// # Errors
+    ///
+    /// `NoMemory` leaves all as it was. It never comes, though no contract can say so.
+    pub fn fold(&mut self) -> Result<(), NoMemory>
+        ensures ok { OnOk result (self.new
+            ≡ record { origin = self.new.origin; rules = self.old.rules; opening = self.old.store; entries = []; store = self.old.store }) }
+        ensures err { OnErr result (self.new ≡ self.old) }
+    {
+        let Some(recorder) = Recorder::new() else {
+            return Err(NoMemory);
+        };
+        let opening = told(&self.store)?;
+        self.first = self.store.number();
+        self.opening = opening;
+        self.recorder = recorder;
+        Ok(())
+    }
+
+    /// The number of the first entry, whether it is there yet or not: how many commands were answered before the history began. It
+    /// takes no memory.
+    pub fn first(&self) -> u64
+        ensures { result ≡ self.now.opening.number }
+    {
+        self.first
     }
 
     /// Answers a turn at the store, as one entry more of the history. The entry has this seat's number.
@@ -118,7 +145,7 @@ impl<R: Records + Drop> RecordedStore<R> {
         &self.store
     }
 
-    /// How many entries there are.
+    /// How many entries the history has.
     pub fn entries(&self) -> u64
         ensures { result ≡ length self.now.entries }
     {
@@ -140,4 +167,15 @@ impl<R: Records + Drop> RecordedStore<R> {
     {
         self.recorder.check(known);
     }
+}
+
+// A history whose one entry is this store.
+fn told<R: Records + Drop>(store: &Store<R>) -> Result<s3_history::Prefix<Store<R>>, NoMemory>
+    ensures { IfOk result (λ told. told.entries ≡ store.now ∷ []) }
+{
+    let Some(mut recorder) = Recorder::new() else {
+        return Err(NoMemory);
+    };
+    recorder.record::<Store<R>, AsItself>(store);
+    Ok(recorder.prefix())
 }

@@ -21,6 +21,15 @@ module _ (rules : Rules) where
       let same : n + suc (length es) ≡ suc n + length es = omega arith in
       (legal.0, Legal-push (after_entry rules s x) (suc n) es e legal.1 (subst (λ m. IsAnswer rules (after rules (after_entry rules s x) es) m e) same answer))
 
+  -- two legal histories are one, where the second goes on from where the first leads
+  pub Legal-joined : (s : State) (n : ℕ) (es fs : List Entry) → Legal rules s n es → Legal rules (after rules s es) (n + length es) fs → Legal rules s n (es ++ fs)
+  Legal-joined s n [] fs first second =
+      let same : n + 0 ≡ n = omega arith in
+      subst (λ m. Legal rules s m fs) same second
+  Legal-joined s n (x ∷ es) fs first second =
+      let same : n + suc (length es) ≡ suc n + length es = omega arith in
+      (first.0, Legal-joined (after_entry rules s x) (suc n) es fs first.1 (subst (λ m. Legal rules (after rules (after_entry rules s x) es) m fs) same second))
+
   -- of a legal history in two parts both are legal, the second from where the first leads
   pub Legal-append : (s : State) (n : ℕ) (es fs : List Entry) → Legal rules s n (es ++ fs) → Legal rules s n es × Legal rules (after rules s es) (n + length es) fs
   Legal-append s n [] fs legal =

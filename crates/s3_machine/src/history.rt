@@ -28,6 +28,19 @@ pub fn one_more_entry()
         → after rules s (es ++ e ∷ []) ≡ after_entry rules (after rules s es) e }
 {}
 
+/// A law, with nothing to run: a legal history may be cut anywhere. Its beginning is legal, and what follows is legal from the
+/// state that the beginning leaves, with the numbers that go on; and histories that follow each other so are one.
+pub fn histories_are_cut_anywhere()
+    ensures cut { (rules : Rules) (s : State) (n : ℕ) (es fs : List Entry)
+        → Legal rules s n (es ++ fs)
+        → Legal rules s n es × Legal rules (after rules s es) (n + length es) fs }
+    ensures joined { (rules : Rules) (s : State) (n : ℕ) (es fs : List Entry)
+        → Legal rules s n es → Legal rules (after rules s es) (n + length es) fs
+        → Legal rules s n (es ++ fs) }
+    ensures leaves { (rules : Rules) (s : State) (es fs : List Entry)
+        → after rules s (es ++ fs) ≡ after rules (after rules s es) fs }
+{}
+
 /// A law, with nothing to run: in a legal history what an entry stores comes back, with its moment. It does at each read of
 /// its key before the next entry that changes the key's versions, and at each read of its version by its id before an entry
 /// that makes a version of that id again or deletes it. The entry's answer tells that id, and the tag of what is stored.

@@ -18,10 +18,11 @@ pub use command::{
 pub use configuration::Configuration;
 pub use history::{
     absent_puts_succeed_once, completions_are_kept, completions_join_what_was_sent,
-    copies_are_kept, delete_markers_hide, entries_change_nothing, lists_tell_what_is_there,
-    named_objects_are_gone, one_more_entry, only_stored_is_given, only_writes_change_versions,
-    parts_are_kept, parts_have_a_source, puts_are_kept, stored_has_a_source, stored_is_kept,
-    stored_is_listed, uploads_are_open_until_ended, uploads_are_told,
+    copies_are_kept, delete_markers_hide, entries_change_nothing, histories_are_cut_anywhere,
+    lists_tell_what_is_there, named_objects_are_gone, one_more_entry, only_stored_is_given,
+    only_writes_change_versions, parts_are_kept, parts_have_a_source, puts_are_kept,
+    stored_has_a_source, stored_is_kept, stored_is_listed, uploads_are_open_until_ended,
+    uploads_are_told,
 };
 pub use laws::{
     conditions_judge_reads, lists_are_told, lists_show_what_reads_give, steps_keep,

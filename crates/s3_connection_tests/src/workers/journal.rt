@@ -59,25 +59,37 @@ fn is_answered(alloc: Global, recorded_store: &mut RecordedStore<MapRecords>, ro
     }
 }
 
-// Whether all are answered so, and there are these entries at the end, which the number of the store's next entry counts too.
+// Whether all are answered so, with a fold before each where `folds` says so. At the end the history has these entries after so many
+// others, all of which the number of the store's next entry counts.
 fn are_answered(
     alloc: Global,
     recorded_store: &mut RecordedStore<MapRecords>,
-    entries: u64,
+    folds: bool,
+    counts: (u64, u64),
 ) -> bool {
     for row in &TURNS {
+        if folds && recorded_store.fold().is_err() {
+            return false;
+        }
         if !is_answered(alloc, recorded_store, row) {
             return false;
         }
     }
-    recorded_store.entries() == entries && recorded_store.store().number() == entries
+    (recorded_store.first(), recorded_store.entries()) == counts
+        && recorded_store.store().number() == 4
 }
 
-/// Whether two seats of a new recorded store are answered as they have to be, with four entries.
+/// Whether two seats of a new recorded store are answered as they have to be, without a fold and with a fold before each turn.
 pub(crate) fn two_seats_are_answered(alloc: Global, config: &Config) -> bool {
+    are_answered_anew(alloc, config, false, (0, 4))
+        && are_answered_anew(alloc, config, true, (3, 1))
+}
+
+// Whether they are so at a recorded store of their own.
+fn are_answered_anew(alloc: Global, config: &Config, folds: bool, counts: (u64, u64)) -> bool {
     match recorded_store(alloc, config) {
         Some(mut recorded_store) => {
-            let are_answered = are_answered(alloc, &mut recorded_store, 4);
+            let are_answered = are_answered(alloc, &mut recorded_store, folds, counts);
             drop(recorded_store);
             are_answered
         }
