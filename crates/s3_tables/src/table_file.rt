@@ -1,6 +1,6 @@
 //! The file of the tables.
 
-ghost use Rattle.std.specs.Prelude.{◌≡◌, ◌≤◌, IsTrue, IfOk};
+ghost use Rattle.std.specs.Prelude.{◌≡◌, ◌≤◌, false, IsTrue, IfOk};
 ghost use Rattle.sqlite.specs.State.{HasCleanDisk, Shown};
 ghost use Rattle.sqlite.specs.Given.{IsPlain};
 ghost use Rattle.sqlite.specs.Listing.{understood};
@@ -8,7 +8,7 @@ ghost use Rattle.sqlite.specs.Values.{bound};
 ghost use Rattle.sqlite.specs.Held.{state};
 ghost use Rattle.sqlite.specs.View.{doubt};
 ghost use Rattle.s3_tables.specs.Changes.{after_all, store_columns};
-ghost use Rattle.s3_tables.specs.Schema.{schema};
+ghost use Rattle.s3_tables.specs.Schema.{no_schema, schema};
 ghost use Rattle.s3_tables.specs.Keeping.{Keeps, Serves, Steps, Reads, IsMade};
 ghost use Rattle.s3_tables.specs.Making.{first_tables};
 
@@ -110,6 +110,8 @@ impl<S: Alter + Drop> TableFile<S> {
     /// or one in a transaction, answers `NotADatabase`.
     pub fn make(mut conn: Connection<S>, store: &StoreNumbers) -> Result<TableFile<S>, Error>
         ensures made { IfOk result (λ t. HasCleanDisk (state S.Store t) → IsMade (first_tables (store_columns store.now)) (state S.Store t)) }
+        ensures was_empty { IfOk result (λ _. (state S.Store conn).now.schema ≡ no_schema) }
+        ensures was_between { IfOk result (λ _. (state S.Store conn).in_transaction ≡ false) }
         ensures falls { IfOk result (λ t. doubt (state S.Store conn).is_clean ≤ doubt (state S.Store t).is_clean) }
     {
         if !conn.is_autocommit() || !is_new(conn.schema()) {
