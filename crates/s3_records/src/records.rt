@@ -313,7 +313,7 @@ pub trait Records {
         ensures memory { OnErr result (is_in_memory ≡ true
             → IsOk (completed_at least listed.now (upload_at (catalogue self.old) bucket.now key.now id))) };
 
-    /// Begins an upload of this id to a key of a bucket, which has to be there.
+    /// Begins an upload of this id to a key of a bucket, which has to be there. No part was sent to it yet.
     fn add_upload(
         &mut self,
         alloc: Global,
@@ -322,7 +322,8 @@ pub trait Records {
         id: UploadId,
         upload: Upload<Body>,
     ) -> Result<(), NoMemory>
-        requires { IsTrue (has_bucket (catalogue self.old) bucket.now) }
+        requires there { IsTrue (has_bucket (catalogue self.old) bucket.now) }
+        requires begins { upload.parts ≡ [] }
         ensures ok { OnOk result (catalogue self.new ≡ changed (catalogue self.old) bucket.now (UploadAdded key id upload)) }
         ensures err { OnErr result (catalogue self.new ≡ catalogue self.old) };
 

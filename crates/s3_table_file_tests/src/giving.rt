@@ -1,9 +1,9 @@
 //! Changes as data, and how they are given to tables.
 
-use s3_tables::{
-    Change, StoreNumbers, StoredBucket, StoredPart, StoredUpload, StoredVersion, TableFile,
-    TableName,
+use s3_stored_rows::{
+    Change, StoreNumbers, StoredBucket, StoredPart, StoredUpload, StoredVersion, TableName,
 };
+use s3_tables::TableFile;
 use sqlite::Alter;
 use std::alloc::Global;
 use std::mem::drop;

@@ -5,7 +5,8 @@ use crate::checks::check_none;
 use crate::giving::{Given, are_made};
 use crate::scenario::{ADDED, AFTER, BEFORE, DROPPED, REFUSED};
 use s3_memory_database::open_in_memory;
-use s3_tables::{StoreNumbers, TableFile};
+use s3_stored_rows::StoreNumbers;
+use s3_tables::TableFile;
 use sqlite::{Alter, Connection};
 use std::alloc::Global;
 

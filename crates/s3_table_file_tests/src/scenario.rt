@@ -3,7 +3,7 @@
 
 use crate::asking::{Asked, Question};
 use crate::giving::Given;
-use s3_tables::TableName;
+use s3_stored_rows::TableName;
 
 /// Rows of each table.
 pub(crate) static ADDED: [Given; 18] = [

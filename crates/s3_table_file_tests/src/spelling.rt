@@ -1,7 +1,7 @@
 //! Rows as a text: the columns with `|` between them, and `;` at the end.
 
 use itoa::Buffer;
-use s3_tables::{StoreNumbers, StoredBucket, StoredPart, StoredUpload, StoredVersion};
+use s3_stored_rows::{StoreNumbers, StoredBucket, StoredPart, StoredUpload, StoredVersion};
 use sqlite::Error;
 use std::mem::drop;
 

@@ -1,7 +1,7 @@
 -- What a query over one table answers.
-use Rattle.std.proofs.Common.{◌≡◌, ℕ, ℤ, pos, Bool, List, [], ◌∷◌, map, filter, slice_get, option_map, find, is_some, length, arith, subst, IsPermutation, refl, sym, ap, ◌∙◌, Ordering, Result, Ok, Err}
-use Rattle.std.specs.Prelude.{IfOk, take}
-use Rattle.std.specs.List.{list_all}
+use Rattle.std.proofs.Common.{◌≡◌, ℕ, ℤ, pos, Bool, true, false, cond, ◌||◌, Option, Some, List, [], ◌∷◌, map, filter, slice_get, option_map, find, is_some, length, arith, subst, IsPermutation, refl, sym, ap, ◌∙◌, Ordering, Result, Ok, Err}
+use Rattle.std.specs.Prelude.{IfOk, OnOk, take}
+use Rattle.std.specs.List.{list_all, list_any}
 use Rattle.std.proofs.lemmas.Option.{slice_get-map}
 use Rattle.std.proofs.lemmas.List.{length-map}
 use Rattle.std.proofs.lemmas.List.Sorted.{length_permutation}
@@ -27,6 +27,14 @@ some_if f [] [] e = refl
 some_if f [] (y ∷ ys) e = absurd (omega arith)
 some_if f (x ∷ xs) [] e = absurd (omega arith)
 some_if f (x ∷ xs) (y ∷ ys) e = refl
+
+some_or : {X : Type 0} (b : Bool) (x : X) (found : Option X) (rest : Bool) → is_some found ≡ rest → is_some (cond b (Some x) found) ≡ (b || rest)
+some_or true x found rest h = refl
+some_or false x found rest h = h
+
+some_found : {X : Type 0} (p : X → Bool) (xs : List X) → is_some (find p xs) ≡ list_any p xs
+some_found p [] = refl
+some_found p (x ∷ xs) = some_or (p x) x (find p xs) (list_any p xs) (some_found p xs)
 
 module _ {X : Type 0} (row : X → ℤ) (cells : X → Row) (tree : ℕ) (bare : IsBare tree) (back : Row → X) (db : Trees) (xs : List X) (holds_rows : HoldsRows row cells (db tree) xs) where
   abbrev source : Source (overlay db []) (inner tree end) X
@@ -54,7 +62,7 @@ module _ {X : Type 0} (row : X → ℤ) (cells : X → Row) (tree : ℕ) (bare :
 
   -- under LIMIT 1 there is a row where some row passes, whichever it is
   module _ (tests : List Term) (project : List Term) (params : Row) (rows : List Row) (p : X → Bool) (passes : (x : X) → list_all (holds (params ∷ stored row cells x ∷ [])) tests ≡ p x) where
-    pub any_found : IsAnswer (select_from tree tests project [] (lit (Int (pos 1)))) (overlay db []) params rows → is_some (slice_get rows 0) ≡ is_some (find p xs)
+    pub any_found : IsAnswer (select_from tree tests project [] (lit (Int (pos 1)))) (overlay db []) params rows → is_some (slice_get rows 0) ≡ list_any p xs
     any_found a =
         let q = select_from tree tests project [] (lit (Int (pos 1))) in
         let passing = filter p xs in
@@ -64,7 +72,7 @@ module _ {X : Type 0} (row : X → ℤ) (cells : X → Row) (tree : ℕ) (bare :
         let same : IsPermutation outs a.ordered = subst (λ l. IsPermutation l a.ordered) kept a.same in
         let size : length a.ordered ≡ length passing = length_permutation outs a.ordered same ∙ length-map passing _ in
         let shown : rows ≡ take 1 (map (λ (o : Output). o.1) a.ordered) = a.shown in
-        ap (λ l. is_some (slice_get l 0)) shown ∙ some_if (λ (o : Output). o.1) a.ordered passing size ∙ ap is_some (slice_get-filter p xs)
+        ap (λ l. is_some (slice_get l 0)) shown ∙ some_if (λ (o : Output). o.1) a.ordered passing size ∙ ap is_some (slice_get-filter p xs) ∙ some_found p xs
 
 -- ---- the first row of an answer
 
@@ -78,3 +86,8 @@ first_one back xs rows h = sym (slice_get-map back rows 0) ∙ first_of xs h
 pub as_asked : {R E X : Type 0} (f : R → X) {a b : X} (r : Result R E) → IfOk r (λ found. f found ≡ a) → a ≡ b → IfOk r (λ found. f found ≡ b)
 as_asked f (Ok found) h e = h ∙ e
 as_asked f (Err error) h e = tt
+
+-- where it holds whatever was read
+pub on_ok : {R E A : Type 0} (r : Result R E) → A → OnOk r A
+on_ok (Ok found) a = a
+on_ok (Err error) a = tt

@@ -6,8 +6,8 @@ use Rattle.sqlite.specs.declared.error.Error.{Error}
 use Rattle.sqlite.specs.State.{State, HasCleanDisk}
 use Rattle.sqlite.proofs.StateLemmas.{survives_then}
 use Rattle.s3_rows.specs.Columns.{Tables}
-use Rattle.s3_tables.specs.declared.changing.Change.{Change}
-use Rattle.s3_tables.specs.Changes.{changed_by, after_all}
+use Rattle.s3_stored_rows.specs.declared.change.Change.{Change}
+use Rattle.s3_stored_rows.specs.Changes.{changed_by, after_all}
 use Rattle.s3_tables.specs.Keeping.{Advances}
 use Rattle.s3_tables.proofs.StepLemmas.{survives_itself}
 use Rattle.s3_tables.proofs.TransactionLemmas.{advances_then, chained}

@@ -19,13 +19,13 @@ use Rattle.sqlite.proofs.Callers.{IsPlain, runs_as, survives_begin}
 use Rattle.sqlite.proofs.StateLemmas.{survives_then}
 use Rattle.sqlite_catalog.specs.Change.{KeepsRows}
 use Rattle.s3_rows.specs.Columns.{StoreColumns, Tables, no_rows}
-use Rattle.s3_tables.specs.declared.rows.TableName.{TableName}
-use Rattle.s3_tables.specs.declared.rows.TableName.TheVariants.{Buckets, Versions, Uploads, Parts, Store}
+use Rattle.s3_stored_rows.specs.declared.rows.TableName.{TableName}
+use Rattle.s3_stored_rows.specs.declared.rows.TableName.TheVariants.{Buckets, Versions, Uploads, Parts, Store}
 use Rattle.s3_tables.specs.Schema as spec
 use Rattle.s3_tables.specs.Schema.{no_schema, schema}
 use Rattle.s3_tables.specs.Statements.{create_text}
 use Rattle.s3_tables.specs.Stored.{Stores, tables_in}
-use Rattle.s3_tables.specs.Changes.{with_store}
+use Rattle.s3_stored_rows.specs.Changes.{with_store}
 use Rattle.s3_tables.specs.Keeping.{tables, Inside, Advances, IsMade}
 use Rattle.s3_tables.specs.Making.{schema_before, schema_after, first_tables, SeesEmpty, HasBuilt, Builds, Fills}
 use Rattle.s3_tables.proofs.Texts as text

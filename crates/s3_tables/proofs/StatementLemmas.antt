@@ -12,11 +12,12 @@ use Rattle.sqlite_keyed.proofs.KeyedLemmas.{IsKeyedBy-insert_by, IsKeyedBy-delet
 use Rattle.std.specs.Ordering.{int_eq}
 use Rattle.s3_rows.specs.Columns.{BucketColumns, VersionColumns, UploadColumns, PartColumns, StoreColumns}
 use Rattle.s3_tables.specs.Schema.{bucket_list, version_list, upload_list, part_list, store_list, bucket_keys, version_keys, upload_keys, part_keys, store_keys, bucket_orders, version_orders, upload_orders, part_orders, store_orders}
-use Rattle.s3_tables.specs.Stored.{bucket_row, bucket_cells, version_row, version_cells, upload_row, upload_cells, part_row, part_cells, store_row, store_cells}
-use Rattle.s3_tables.specs.Changes.{with_bucket, with_version, with_upload, with_part, with_store, without_row}
+use Rattle.s3_rows.specs.Soundness.{bucket_row, version_row, upload_row, part_row}
+use Rattle.s3_tables.specs.Stored.{bucket_cells, version_cells, upload_cells, part_cells, store_cells}
+use Rattle.s3_stored_rows.specs.Changes.{store_row, with_bucket, with_version, with_upload, with_part, with_store, without_row}
 use Rattle.s3_tables.specs.Statements.{drop_text}
-use Rattle.s3_tables.specs.declared.rows.TableName.{TableName}
-use Rattle.s3_tables.specs.declared.rows.TableName.TheVariants.{Buckets, Versions, Uploads, Parts, Store}
+use Rattle.s3_stored_rows.specs.declared.rows.TableName.{TableName}
+use Rattle.s3_stored_rows.specs.declared.rows.TableName.TheVariants.{Buckets, Versions, Uploads, Parts, Store}
 use Rattle.s3_tables.specs.Keeping.{Advances}
 use Rattle.s3_tables.proofs.Texts as text
 use Rattle.s3_tables.proofs.RowLemmas.{inserts, drops, number_kept}

@@ -1,6 +1,6 @@
 -- What a call does to what a connection keeps.
 use Rattle.std.proofs.Common.{◌≡◌, ◌⊎◌, inl, inr, ℕ, List, [], false, Some, None, Ok, Err, Option, Result, refl, sym, ap, subst, ◌∙◌, arith}
-use Rattle.std.specs.Prelude.{IsTrue, OnOk, IfOk, IfErr, Vec}
+use Rattle.std.specs.Prelude.{IsTrue, OnOk, OnErr, IfOk, IfErr, Vec}
 use Rattle.std.specs.declared.alloc.Global.{Global}
 use Rattle.sqlite_value.specs.declared.value.Value.{Value}
 use Rattle.sqlite_schema.specs.declared.command.Returning.{Returning}
@@ -9,14 +9,14 @@ use Rattle.sqlite_value.specs.Order.{Row}
 use Rattle.sqlite_trees.specs.Tree.{Trees}
 use Rattle.sqlite.specs.declared.error.Error.{Error}
 use Rattle.sqlite.specs.Effect.{Database}
-use Rattle.sqlite.specs.Listing.{understood}
+use Rattle.sqlite.specs.Listing.{understood, reads_listing, IsSourceOf}
 use Rattle.sqlite.specs.State.{State, CommitsShowing, FailsToQuery, FailsToShow, Shown, ShowsRows, HasCleanDisk, IsUnchanged, IsRolledBack, Survives, IsNotRun}
-use Rattle.sqlite.proofs.Callers.{IsPlain, never_commits}
+use Rattle.sqlite.proofs.Callers.{IsPlain, never_commits, unchanged_then}
 use Rattle.sqlite.proofs.StateLemmas.{survives_weaker, survives_then}
 use Rattle.s3_rows.specs.Columns.{Tables}
 use Rattle.s3_tables.specs.Schema.{schema}
 use Rattle.s3_tables.specs.Stored.{Stores, tables_in}
-use Rattle.s3_tables.specs.Keeping.{tables, Serves, Keeps, LeavesAlone, Steps}
+use Rattle.s3_tables.specs.Keeping.{tables, Serves, Keeps, LeavesAlone, Makes, Steps}
 use Rattle.s3_tables.specs.Keeping as spec
 
 -- what an open store may leave at a crash is its last commit
@@ -135,9 +135,6 @@ pub survives_itself : (s : State) (P : Trees → Type 0) → Survives s s P
 survives_itself s P = record { clean = omega arith; shield = λ h. h; counts = omega arith; limit = refl; closes = λ _ up. inl up; crash = λ _ db left. inl left }
 
 -- nothing is called
-pub idle_steps : {X : Type 0} (change : Tables → Tables) (s : State) → (HasCleanDisk s → Keeps s) → (e : Error) → Steps {X = X} change s s (Err e)
-idle_steps change s keeps e = record { keeps = keeps; made = λ _. tt; kept = λ _ _. refl; survives = survives_itself s _ }
-
 pub idle_reads : (s : State) → (HasCleanDisk s → Keeps s) → spec.Reads s s
 idle_reads s keeps = record { keeps = keeps; kept = λ _ _. refl; was_open = λ _ up. up; survives = survives_itself s _ }
 
@@ -149,8 +146,34 @@ then_asked change a b c e f one two =
       keeps = two.keeps;
       made = λ _. tt;
       kept = λ clean up. two.kept clean up ∙ one.kept (early clean) (two.was_open clean up);
+      was_open = λ clean up. one.was_open (early clean) (two.was_open clean up);
       survives = survives_then a b c _ _ (λ db. Stores db (change (tables a))) (λ _ db made. made) (λ _ db none. absurd none) one.survives two.survives;
     }
+
+-- a connection that still answers is asked before a change
+pub asked_then : {X : Type 0} (change : Tables → Tables) (a b c : State) → spec.Reads a b → (HasCleanDisk b → IsTrue b.is_open) → (r : Result X Error) → Steps change b c r → Steps change a c r
+asked_then {X = X} change a b c one up r two =
+    let early = λ (clean : HasCleanDisk c). let it : HasCleanDisk b = omega (arith, two.survives.clean) in it in
+    let same = λ (clean : HasCleanDisk c). one.kept (early clean) (up (early clean)) in
+    record {
+      keeps = two.keeps;
+      made = λ clean. made (same clean) r (two.made clean);
+      kept = λ clean. kept (same clean) r (two.kept clean);
+      was_open = λ clean opened. one.was_open (early clean) (two.was_open clean opened);
+      survives = survives_then a b c _ _ (λ db. Stores db (change (tables a))) (λ _ db none. absurd none) (λ clean db stored. subst (λ t. Stores db (change t)) (same clean) stored) one.survives two.survives;
+    }
+  where
+    made : tables b ≡ tables a → (r : Result X Error) → OnOk r (Makes change b c) → OnOk r (Makes change a c)
+    made same (Ok x) h = record { is_open = h.is_open; made = h.made ∙ ap change same; settled = h.settled }
+    made same (Err e) h = tt
+
+    kept : tables b ≡ tables a → (r : Result X Error) → OnErr r (LeavesAlone b c) → OnErr r (LeavesAlone a c)
+    kept same (Ok x) h = tt
+    kept same (Err e) h = λ opened. h opened ∙ same
+
+-- and one that doesn't is left
+pub asked_in_vain : {X : Type 0} (change : Tables → Tables) (a b : State) (e : Error) → spec.Reads a b → Steps {X = X} change a b (Err e)
+asked_in_vain change a b e one = record { keeps = one.keeps; made = λ _. tt; kept = one.kept; was_open = one.was_open; survives = survives_weaker a b _ _ (λ clean db none. absurd none) one.survives }
 
 pub asked_again : (a b c : State) → spec.Reads a b → spec.Reads b c → spec.Reads a c
 asked_again a b c one two =
@@ -161,6 +184,25 @@ asked_again a b c one two =
       was_open = λ clean up. one.was_open (early clean) (two.was_open clean up);
       survives = survives_then a b c _ _ (λ _. ⊥) (λ _ db none. none) (λ _ db none. none) one.survives two.survives;
     }
+
+-- what it shows, it shows of the connection as it was before it was asked
+pub shown_since : (a b c : State) (sql : List ℕ) (params : Row) (rows : List Row) → IsUnchanged a b → IsPlain (understood b.now.schema sql) → Shown sql params b c rows → Shown sql params a c rows
+unfolding Shown
+shown_since a b c sql params rows since plain h =
+    let none = (subst IsPlain h.1.is plain).0 in
+    let full = timed params h.0.formats h.1.now in
+    let it = subst (ShowsRows b c sql h.0 full rows) none h.2 in
+    let same = since.0.now_is in (
+      h.0,
+      record { is = subst (λ (d : Database). understood d.schema sql ≡ Ok h.0) same h.1.is; whole = h.1.whole; given = h.1.given; now = h.1.now },
+      subst (ShowsRows a c sql h.0 full rows) (sym none)
+          (it.0, subst (λ (d : Database). IsSourceOf (reads_listing d.schema sql) d it.0) same it.1, it.2, unchanged_then a b c since it.3),
+    )
+
+pub served_since : (a b c : State) (sql : List ℕ) (params : Row) (r : Result (Vec (List Value) Global) Error) → Serves a → IsUnchanged a b → IsPlain (understood schema sql) → IfOk r (λ rows. Serves b × Shown sql params b c rows.items)
+    → IfOk r (λ rows. Serves a × Shown sql params a c rows.items)
+served_since a b c sql params (Ok rows) was since plain h = (was, shown_since a b c sql params rows.items since (subst (λ k. IsPlain (understood k sql)) (sym h.0.schema_is) plain) h.1)
+served_since a b c sql params (Err e) was since plain h = tt
 
 pub shown_serving : (sql : List ℕ) (params : Row) (old new : State) (r : Result (Vec (List Value) Global) Error) → Serves old → IfOk r (λ rows. Shown sql params old new rows.items)
     → IfOk r (λ rows. Serves old × Shown sql params old new rows.items)

@@ -3,7 +3,9 @@ use Rattle.std.proofs.Common.{◌≡◌, ℤ, List, [], ◌∷◌, map, refl, sy
 use Rattle.sqlite_value.specs.Order.{Row}
 use Rattle.sqlite_trees.specs.Tree.{Trees}
 use Rattle.s3_rows.specs.Columns.{Tables}
-use Rattle.s3_tables.specs.Stored.{stored, HoldsRows, Stores, tables_in, bucket_row, bucket_cells, bucket_of, version_row, version_cells, version_of, upload_row, upload_cells, upload_of, part_row, part_cells, part_of, store_row, store_cells, store_of}
+use Rattle.s3_rows.specs.Soundness.{bucket_row, version_row, upload_row, part_row}
+use Rattle.s3_stored_rows.specs.Changes.{store_row}
+use Rattle.s3_tables.specs.Stored.{stored, HoldsRows, Stores, tables_in, bucket_cells, bucket_of, version_cells, version_of, upload_cells, upload_of, part_cells, part_of, store_cells, store_of}
 
 read_back : {X : Type 0} (row : X → ℤ) (cells : X → Row) (back : Row → X) → ((x : X) → back (stored row cells x) ≡ x) → (list : List X) → map back (map (stored row cells) list) ≡ list
 read_back row cells back is [] = refl

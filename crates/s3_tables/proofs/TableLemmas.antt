@@ -6,7 +6,9 @@ use Rattle.sqlite.specs.Effect.{Database}
 use Rattle.sqlite_keyed.specs.Keyed.{IsKeyedBy}
 use Rattle.s3_rows.specs.Columns.{BucketColumns, VersionColumns, UploadColumns, PartColumns, StoreColumns, Tables}
 use Rattle.s3_tables.specs.Schema.{schema}
-use Rattle.s3_tables.specs.Stored.{stored, HoldsRows, Stores, bucket_row, bucket_cells, version_row, version_cells, upload_row, upload_cells, part_row, part_cells, store_row, store_cells}
+use Rattle.s3_rows.specs.Soundness.{bucket_row, version_row, upload_row, part_row}
+use Rattle.s3_stored_rows.specs.Changes.{store_row}
+use Rattle.s3_tables.specs.Stored.{stored, HoldsRows, Stores, bucket_cells, version_cells, upload_cells, part_cells, store_cells}
 use Rattle.s3_tables.proofs.RowLemmas.{Edits}
 
 moved : {X : Type 0} (row : X → ℤ) (cells : X → Row) {a b : List Row} {list : List X} → b ≡ a → HoldsRows row cells a list → HoldsRows row cells b list

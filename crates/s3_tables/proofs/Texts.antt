@@ -16,7 +16,7 @@ use Rattle.sqlite.specs.declared.types.Value.TheVariants.{Null, Int}
 use Rattle.sqlite_sql.specs.declared.ops.BinaryOp.TheVariants.{Compare}
 use Rattle.sqlite_sql.specs.declared.ops.CompareOp.TheVariants.{Eq}
 use Rattle.sqlite.specs.Collation.TheVariants.{Binary}
-use Rattle.s3_tables.specs.declared.rows.TableName.TheVariants.{Buckets, Versions, Uploads, Parts, Store}
+use Rattle.s3_stored_rows.specs.declared.rows.TableName.TheVariants.{Buckets, Versions, Uploads, Parts, Store}
 use Rattle.s3_tables.specs.Statements.{create_text, drop_text}
 use Rattle.s3_tables.specs.Schema as spec
 use Rattle.s3_tables.specs.Schema.{schema}

@@ -127,6 +127,7 @@ module _ (old mid new : State) (law : IsSettled new) (keeps : HasCleanDisk old �
         keeps = λ clean. keeps_same old new law (was clean) (same clean) (found_before old new law (was clean) (survives.crash clean));
         made = λ clean. tt;
         kept = λ clean. left_alone old new law (was clean) (same clean);
+        was_open = λ clean. (same clean).was_open;
         survives = survives_weaker old new _ _ (λ clean db none. absurd none) survives;
       }
 
@@ -164,6 +165,7 @@ module _ (old mid new : State) (law : IsSettled new) (keeps : HasCleanDisk old �
           };
           made = λ clean. record { is_open = (shown clean).is_open; made = tables_are new.now.trees _ (stored clean); settled = settled clean };
           kept = λ clean. tt;
+          was_open = λ clean up. (kept (mid_clean clean)).was_open (in_mid clean).is_open;
           survives = whole;
         }
     commit_steps (Err e) ok err =
@@ -175,6 +177,7 @@ module _ (old mid new : State) (law : IsSettled new) (keeps : HasCleanDisk old �
           keeps = λ clean. keeps_same old new law (was_kept clean) (same clean) (found clean);
           made = λ clean. tt;
           kept = λ clean. left_alone old new law (was_kept clean) (same clean);
+          was_open = λ clean. (same clean).was_open;
           survives = whole;
         }
 

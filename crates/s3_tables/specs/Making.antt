@@ -7,10 +7,10 @@ use Rattle.sqlite.specs.declared.error.Error.{Error}
 use Rattle.sqlite.specs.Effect.{Database}
 use Rattle.sqlite.specs.State.{State, HasCleanDisk, Survives}
 use Rattle.s3_rows.specs.Columns.{StoreColumns, Tables, no_rows}
-use Rattle.s3_tables.specs.declared.rows.TableName.{TableName}
-use Rattle.s3_tables.specs.declared.rows.TableName.TheVariants.{Buckets, Versions, Uploads, Parts, Store}
+use Rattle.s3_stored_rows.specs.declared.rows.TableName.{TableName}
+use Rattle.s3_stored_rows.specs.declared.rows.TableName.TheVariants.{Buckets, Versions, Uploads, Parts, Store}
 use Rattle.s3_tables.specs.Schema.{no_schema, with_buckets, with_versions, with_uploads, with_parts, schema}
-use Rattle.s3_tables.specs.Changes.{with_store}
+use Rattle.s3_stored_rows.specs.Changes.{with_store}
 use Rattle.s3_tables.specs.Keeping.{Inside}
 
 -- the schema before a table is made, and after

@@ -1,7 +1,7 @@
 -- The statements that depend on the table alone.
 use Rattle.std.specs.Prelude.{ℕ, List, codes}
-use Rattle.s3_tables.specs.declared.rows.TableName.{TableName}
-use Rattle.s3_tables.specs.declared.rows.TableName.TheVariants.{Buckets, Versions, Uploads, Parts, Store}
+use Rattle.s3_stored_rows.specs.declared.rows.TableName.{TableName}
+use Rattle.s3_stored_rows.specs.declared.rows.TableName.TheVariants.{Buckets, Versions, Uploads, Parts, Store}
 
 -- makes a table
 abbrev pub create_text : TableName → List ℕ

@@ -7,6 +7,8 @@ use Rattle.sqlite_value.specs.Order.{Row, column, bytes}
 use Rattle.sqlite_trees.specs.Tree.{Trees, rowid}
 use Rattle.sqlite_keyed.specs.Keyed.{IsKeyedBy}
 use Rattle.s3_rows.specs.Columns.{BucketColumns, VersionColumns, UploadColumns, PartColumns, StoreColumns, Tables}
+use Rattle.s3_rows.specs.Soundness.{bucket_row, version_row, upload_row, part_row}
+use Rattle.s3_stored_rows.specs.Changes.{store_row}
 use Rattle.s3_tables.specs.Schema.{schema}
 
 -- ---- the cells of a row, after those of the rowid
@@ -25,23 +27,6 @@ part_cells p = Int p.upload ∷ Int p.part ∷ Blob p.digest ∷ Int p.moment �
 
 abbrev pub store_cells : StoreColumns → Row
 store_cells s = Int s.form ∷ Int s.number ∷ []
-
--- ---- the rowids
-
-abbrev pub bucket_row : BucketColumns → ℤ
-bucket_row b = b.row
-
-abbrev pub version_row : VersionColumns → ℤ
-version_row v = v.row
-
-abbrev pub upload_row : UploadColumns → ℤ
-upload_row u = u.row
-
-abbrev pub part_row : PartColumns → ℤ
-part_row p = p.row
-
-abbrev pub store_row : StoreColumns → ℤ
-store_row s = s.row
 
 -- the row as it is stored: the rowid, NULL in the column of the rowid, and the other cells
 abbrev pub stored : {X : Type 0} → (X → ℤ) → (X → Row) → X → Row

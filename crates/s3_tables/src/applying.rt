@@ -4,9 +4,10 @@ ghost use Rattle.std.specs.Prelude.{IsTrue};
 ghost use Rattle.sqlite.specs.State.{HasCleanDisk};
 ghost use Rattle.sqlite.specs.Held.{state};
 ghost use Rattle.s3_tables.specs.Keeping.{Keeps, Steps};
-ghost use Rattle.s3_tables.specs.Changes.{after_all};
+ghost use Rattle.s3_stored_rows.specs.Changes.{after_all};
 
-use crate::changing::{Change, change_all};
+use crate::changing::change_all;
+use s3_stored_rows::Change;
 use sqlite::{Alter, Connection, Error, ErrorCode};
 
 /// Makes all changes in one transaction, or none.

@@ -4,23 +4,12 @@ ghost use Rattle.std.specs.Prelude.{◌≡◌};
 ghost use Rattle.sqlite.specs.Held.{state};
 ghost use Rattle.s3_tables.specs.Keeping.{Advances};
 ghost use Rattle.s3_tables.specs.Statements as spec;
-ghost use Rattle.s3_tables.specs.Changes.{with_bucket, with_version, with_upload, with_part, with_store, bucket_columns, version_columns, upload_columns, part_columns, store_columns, without_row, changed_by, after_all};
+ghost use Rattle.s3_stored_rows.specs.Changes.{with_bucket, with_version, with_upload, with_part, with_store, bucket_columns, version_columns, upload_columns, part_columns, store_columns, without_row, changed_by, after_all};
 
-use crate::rows::{StoreNumbers, StoredBucket, StoredPart, StoredUpload, StoredVersion, TableName};
+use s3_stored_rows::{
+    Change, StoreNumbers, StoredBucket, StoredPart, StoredUpload, StoredVersion, TableName,
+};
 use sqlite::{Alter, Error, Transaction, params};
-
-/// One change of a table. A row that is added takes the place of none: where its rowid is there, or what is unique in its
-/// table, it is refused.
-#[derive(Drop)]
-pub enum Change {
-    AddBucket(StoredBucket),
-    AddVersion(StoredVersion),
-    AddUpload(StoredUpload),
-    AddPart(StoredPart),
-    AddStore(StoreNumbers),
-    /// The row with this rowid is gone, where there is one.
-    DropRow(TableName, i64),
-}
 
 fn add_bucket<S: Alter>(tx: &mut Transaction<'_, S>, bucket: &StoredBucket) -> Result<usize, Error>
     ensures same_reference { tx.new.conn.ghost_name ≡ tx.old.conn.ghost_name }

@@ -2,10 +2,10 @@
 
 ghost use Rattle.std.specs.Prelude.{◌≡◌, IfOk, is_some, option_map, map, slice_get};
 ghost use Rattle.s3_tables.specs.Stored.{int_at};
-ghost use Rattle.s3_tables.specs.Changes.{bucket_columns, version_columns, upload_columns, part_columns, store_columns};
+ghost use Rattle.s3_stored_rows.specs.Changes.{bucket_columns, version_columns, upload_columns, part_columns, store_columns};
 ghost use Rattle.s3_tables.specs.Reading.{bucket_shown, version_shown, upload_shown, part_shown, store_shown};
 
-use crate::rows::{StoreNumbers, StoredBucket, StoredPart, StoredUpload, StoredVersion};
+use s3_stored_rows::{StoreNumbers, StoredBucket, StoredPart, StoredUpload, StoredVersion};
 use sqlite::{Error, Row};
 use std::alloc::Global;
 

@@ -10,9 +10,6 @@ mod querying;
 mod reading_buckets;
 mod reading_uploads;
 mod reading_versions;
-mod rows;
 mod table_file;
 
-pub use changing::Change;
-pub use rows::{StoreNumbers, StoredBucket, StoredPart, StoredUpload, StoredVersion, TableName};
 pub use table_file::TableFile;

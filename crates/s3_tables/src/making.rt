@@ -6,12 +6,12 @@ ghost use Rattle.sqlite.specs.Held.{state};
 ghost use Rattle.s3_tables.specs.Statements as spec;
 ghost use Rattle.s3_tables.specs.Schema.{no_schema, schema as whole_schema};
 ghost use Rattle.s3_tables.specs.Stored.{Stores};
-ghost use Rattle.s3_tables.specs.Changes.{store_columns};
+ghost use Rattle.s3_stored_rows.specs.Changes.{store_columns};
 ghost use Rattle.s3_tables.specs.Keeping.{IsMade};
 ghost use Rattle.s3_tables.specs.Making.{schema_before, schema_after, first_tables, Builds, Fills};
 
 use crate::changing::add_store;
-use crate::rows::{StoreNumbers, TableName};
+use s3_stored_rows::{StoreNumbers, TableName};
 use sqlite::{Alter, Connection, Error, Transaction};
 use sqlite_schema::schema::Schema;
 

@@ -1,16 +1,16 @@
 //! What is asked of the uploads and their parts. A call that reads changes nothing, whatever it answers. It fails where the disk
 //! does, and where memory runs out. An index has each order that is asked for, so that a call visits the rows that it shows.
 
-ghost use Rattle.std.specs.Prelude.{IfOk, map, option_map, take, ◌≡◌};
+ghost use Rattle.std.specs.Prelude.{IsTrue, IfOk, OnOk, map, option_map, take, ◌≡◌};
 ghost use Rattle.sqlite.specs.State.{HasCleanDisk};
 ghost use Rattle.sqlite.specs.Held.{state};
-ghost use Rattle.s3_tables.specs.Changes.{part_columns, upload_columns};
+ghost use Rattle.s3_stored_rows.specs.Changes.{part_columns, upload_columns};
 ghost use Rattle.s3_tables.specs.Keeping.{tables, Reads};
-ghost use Rattle.s3_tables.specs.Reading as spec;
+ghost use Rattle.s3_stored_rows.specs.Queries as spec;
 
 use crate::decoding::{all_parts, all_uploads, first_part, first_upload, has_row};
-use crate::rows::{StoredPart, StoredUpload};
 use crate::table_file::TableFile;
+use s3_stored_rows::{StoredPart, StoredUpload};
 use sqlite::{Alter, Error, params};
 use std::alloc::Global;
 
@@ -23,6 +23,7 @@ impl<S: Alter> TableFile<S> {
         id: i64,
     ) -> Result<Option<StoredUpload>, Error>
         ensures value { HasCleanDisk (state S.Store self.new) → IfOk result (λ found. option_map upload_columns found ≡ spec.upload_of_id bucket.now key.now id (tables (state S.Store self.old))) }
+        ensures stays { HasCleanDisk (state S.Store self.new) → OnOk result (IsTrue (state S.Store self.new).is_open) }
         ensures reads { Reads (state S.Store self.old) (state S.Store self.new) }
     {
         let rows = self.query(
@@ -41,6 +42,7 @@ impl<S: Alter> TableFile<S> {
         most: u32,
     ) -> Result<Vec<StoredUpload>, Error>
         ensures value { HasCleanDisk (state S.Store self.new) → IfOk result (λ all. map upload_columns all.items ≡ take most (spec.uploads_from bucket.now key.now (tables (state S.Store self.old)))) }
+        ensures stays { HasCleanDisk (state S.Store self.new) → OnOk result (IsTrue (state S.Store self.new).is_open) }
         ensures reads { Reads (state S.Store self.old) (state S.Store self.new) }
     {
         let rows = self.query(
@@ -59,6 +61,7 @@ impl<S: Alter> TableFile<S> {
         most: u32,
     ) -> Result<Vec<StoredUpload>, Error>
         ensures value { HasCleanDisk (state S.Store self.new) → IfOk result (λ all. map upload_columns all.items ≡ take most (spec.uploads_behind bucket.now key.now (tables (state S.Store self.old)))) }
+        ensures stays { HasCleanDisk (state S.Store self.new) → OnOk result (IsTrue (state S.Store self.new).is_open) }
         ensures reads { Reads (state S.Store self.old) (state S.Store self.new) }
     {
         let rows = self.query(
@@ -78,6 +81,7 @@ impl<S: Alter> TableFile<S> {
         most: u32,
     ) -> Result<Vec<StoredUpload>, Error>
         ensures value { HasCleanDisk (state S.Store self.new) → IfOk result (λ all. map upload_columns all.items ≡ take most (spec.uploads_above bucket.now key.now id (tables (state S.Store self.old)))) }
+        ensures stays { HasCleanDisk (state S.Store self.new) → OnOk result (IsTrue (state S.Store self.new).is_open) }
         ensures reads { Reads (state S.Store self.old) (state S.Store self.new) }
     {
         let rows = self.query(
@@ -90,6 +94,7 @@ impl<S: Alter> TableFile<S> {
     /// The part of a number of the upload in a row.
     pub fn part(&mut self, upload: i64, part: i64) -> Result<Option<StoredPart>, Error>
         ensures value { HasCleanDisk (state S.Store self.new) → IfOk result (λ found. option_map part_columns found ≡ spec.part_of_number upload part (tables (state S.Store self.old))) }
+        ensures stays { HasCleanDisk (state S.Store self.new) → OnOk result (IsTrue (state S.Store self.new).is_open) }
         ensures reads { Reads (state S.Store self.old) (state S.Store self.new) }
     {
         let rows = self.query(
@@ -108,6 +113,7 @@ impl<S: Alter> TableFile<S> {
         most: u32,
     ) -> Result<Vec<StoredPart>, Error>
         ensures value { HasCleanDisk (state S.Store self.new) → IfOk result (λ all. map part_columns all.items ≡ take most (spec.parts_above upload part (tables (state S.Store self.old)))) }
+        ensures stays { HasCleanDisk (state S.Store self.new) → OnOk result (IsTrue (state S.Store self.new).is_open) }
         ensures reads { Reads (state S.Store self.old) (state S.Store self.new) }
     {
         let rows = self.query(
@@ -120,6 +126,7 @@ impl<S: Alter> TableFile<S> {
     /// Whether there is an upload in a bucket.
     pub fn has_uploads(&mut self, bucket: &[u8]) -> Result<bool, Error>
         ensures value { HasCleanDisk (state S.Store self.new) → IfOk result (λ found. found ≡ spec.has_uploads bucket.now (tables (state S.Store self.old))) }
+        ensures stays { HasCleanDisk (state S.Store self.new) → OnOk result (IsTrue (state S.Store self.new).is_open) }
         ensures reads { Reads (state S.Store self.old) (state S.Store self.new) }
     {
         let rows = self.query(

@@ -1,16 +1,16 @@
 //! What is asked of the versions. A call that reads changes nothing, whatever it answers. It fails where the disk does, and
 //! where memory runs out. An index has each order that is asked for, so that a call visits the rows that it shows.
 
-ghost use Rattle.std.specs.Prelude.{IfOk, map, option_map, take, ◌≡◌};
+ghost use Rattle.std.specs.Prelude.{IsTrue, IfOk, OnOk, map, option_map, take, ◌≡◌};
 ghost use Rattle.sqlite.specs.State.{HasCleanDisk};
 ghost use Rattle.sqlite.specs.Held.{state};
-ghost use Rattle.s3_tables.specs.Changes.{version_columns};
+ghost use Rattle.s3_stored_rows.specs.Changes.{version_columns};
 ghost use Rattle.s3_tables.specs.Keeping.{tables, Reads};
-ghost use Rattle.s3_tables.specs.Reading as spec;
+ghost use Rattle.s3_stored_rows.specs.Queries as spec;
 
 use crate::decoding::{all_versions, first_version, has_row};
-use crate::rows::StoredVersion;
 use crate::table_file::TableFile;
+use s3_stored_rows::StoredVersion;
 use sqlite::{Alter, Error, params};
 use std::alloc::Global;
 
@@ -18,6 +18,7 @@ impl<S: Alter> TableFile<S> {
     /// The newest version under a key.
     pub fn newest(&mut self, bucket: &[u8], key: &[u8]) -> Result<Option<StoredVersion>, Error>
         ensures value { HasCleanDisk (state S.Store self.new) → IfOk result (λ found. option_map version_columns found ≡ spec.newest_version bucket.now key.now (tables (state S.Store self.old))) }
+        ensures stays { HasCleanDisk (state S.Store self.new) → OnOk result (IsTrue (state S.Store self.new).is_open) }
         ensures reads { Reads (state S.Store self.old) (state S.Store self.new) }
     {
         let rows = self.query(
@@ -35,6 +36,7 @@ impl<S: Alter> TableFile<S> {
         id: i64,
     ) -> Result<Option<StoredVersion>, Error>
         ensures value { HasCleanDisk (state S.Store self.new) → IfOk result (λ found. option_map version_columns found ≡ spec.version_of_id bucket.now key.now id (tables (state S.Store self.old))) }
+        ensures stays { HasCleanDisk (state S.Store self.new) → OnOk result (IsTrue (state S.Store self.new).is_open) }
         ensures reads { Reads (state S.Store self.old) (state S.Store self.new) }
     {
         let rows = self.query(
@@ -54,6 +56,7 @@ impl<S: Alter> TableFile<S> {
         most: u32,
     ) -> Result<Vec<StoredVersion>, Error>
         ensures value { HasCleanDisk (state S.Store self.new) → IfOk result (λ all. map version_columns all.items ≡ take most (spec.versions_below bucket.now key.now number (tables (state S.Store self.old)))) }
+        ensures stays { HasCleanDisk (state S.Store self.new) → OnOk result (IsTrue (state S.Store self.new).is_open) }
         ensures reads { Reads (state S.Store self.old) (state S.Store self.new) }
     {
         let rows = self.query(
@@ -72,6 +75,7 @@ impl<S: Alter> TableFile<S> {
         most: u32,
     ) -> Result<Vec<StoredVersion>, Error>
         ensures value { HasCleanDisk (state S.Store self.new) → IfOk result (λ all. map version_columns all.items ≡ take most (spec.versions_from bucket.now key.now (tables (state S.Store self.old)))) }
+        ensures stays { HasCleanDisk (state S.Store self.new) → OnOk result (IsTrue (state S.Store self.new).is_open) }
         ensures reads { Reads (state S.Store self.old) (state S.Store self.new) }
     {
         let rows = self.query(
@@ -90,6 +94,7 @@ impl<S: Alter> TableFile<S> {
         most: u32,
     ) -> Result<Vec<StoredVersion>, Error>
         ensures value { HasCleanDisk (state S.Store self.new) → IfOk result (λ all. map version_columns all.items ≡ take most (spec.versions_behind bucket.now key.now (tables (state S.Store self.old)))) }
+        ensures stays { HasCleanDisk (state S.Store self.new) → OnOk result (IsTrue (state S.Store self.new).is_open) }
         ensures reads { Reads (state S.Store self.old) (state S.Store self.new) }
     {
         let rows = self.query(
@@ -102,6 +107,7 @@ impl<S: Alter> TableFile<S> {
     /// Whether there is a version in a bucket.
     pub fn has_versions(&mut self, bucket: &[u8]) -> Result<bool, Error>
         ensures value { HasCleanDisk (state S.Store self.new) → IfOk result (λ found. found ≡ spec.has_versions bucket.now (tables (state S.Store self.old))) }
+        ensures stays { HasCleanDisk (state S.Store self.new) → OnOk result (IsTrue (state S.Store self.new).is_open) }
         ensures reads { Reads (state S.Store self.old) (state S.Store self.new) }
     {
         let rows = self.query(

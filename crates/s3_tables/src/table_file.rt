@@ -1,28 +1,28 @@
 //! The file of the tables.
 
-ghost use Rattle.std.specs.Prelude.{◌≡◌, ◌≤◌, false, IsTrue, IfOk};
-ghost use Rattle.sqlite.specs.State.{HasCleanDisk, Shown};
+ghost use Rattle.std.specs.Prelude.{◌≡◌, ◌≤◌, false, IsTrue, IfOk, OnOk};
+ghost use Rattle.sqlite.specs.State.{HasCleanDisk, IsUnchanged, Shown};
 ghost use Rattle.sqlite.specs.Given.{IsPlain};
 ghost use Rattle.sqlite.specs.Listing.{understood};
 ghost use Rattle.sqlite.specs.Values.{bound};
 ghost use Rattle.sqlite.specs.Held.{state};
 ghost use Rattle.sqlite.specs.View.{doubt};
-ghost use Rattle.s3_tables.specs.Changes.{after_all, store_columns};
+ghost use Rattle.s3_stored_rows.specs.Changes.{after_all, store_columns};
 ghost use Rattle.s3_tables.specs.Schema.{no_schema, schema};
 ghost use Rattle.s3_tables.specs.Keeping.{Keeps, Serves, Steps, Reads, IsMade};
 ghost use Rattle.s3_tables.specs.Making.{first_tables};
 
 use crate::applying::apply_in;
-use crate::changing::Change;
 use crate::making::{is_new, make_in};
 use crate::querying::query_in;
-use crate::rows::StoreNumbers;
+use s3_stored_rows::{Change, StoreNumbers};
 use sqlite::{Alter, Connection, Error, ErrorCode, Row};
 use sqlite_value::value::ValueRef;
 use std::marker::Model;
 
 /// The tables of a store over any disk. Contracts see its connection: `tables` of that is what it holds. After an error it
-/// asks whether the connection still answers, and one that doesn't is used no more: each call then answers `Closed`.
+/// asks whether the connection still answers. Where it doesn't, each later call asks again, and answers `Closed` as long as it
+/// doesn't. So want of memory alone ends no file: it may leave the connection without an answer, and a later call has one.
 pub struct TableFile<S: Alter> {
     conn: Connection<S>,
     is_live: bool,
@@ -54,7 +54,7 @@ impl<S: Alter + Drop> Drop for TableFile<S> {
 fn answers<S: Alter>(conn: &mut Connection<S>) -> bool
     requires { HasCleanDisk (state S.Store conn.old) → Keeps (state S.Store conn.old) }
     ensures reads { Reads (state S.Store conn.old) (state S.Store conn.new) }
-    ensures stays { IsTrue result → HasCleanDisk (state S.Store conn.new) → IsTrue (state S.Store conn.new).is_open }
+    ensures same { IsTrue result → HasCleanDisk (state S.Store conn.new) → IsUnchanged (state S.Store conn.old) (state S.Store conn.new) }
 {
     conn.prepare("SELECT 1").is_ok()
 }
@@ -66,9 +66,42 @@ impl<S: Alter> TableFile<S> {
     pub fn apply(&mut self, changes: &[Change]) -> Result<(), Error>
         ensures { Steps (after_all changes.now) (state S.Store self.old) (state S.Store self.new) result }
     {
-        if !self.is_live {
+        if !self.ask() {
             return Err(Error::SqliteFailure(ErrorCode::Closed));
         }
+        self.apply_once(changes)
+    }
+
+    /// All rows that a query shows.
+    pub(crate) fn query(&mut self, sql: &str, params: &[ValueRef<'_>]) -> Result<Vec<Row>, Error>
+        requires { IsPlain (understood schema sql.now) }
+        ensures shown { HasCleanDisk (state S.Store self.new) → IfOk result (λ rows. Serves (state S.Store self.old) × Shown sql.now (bound params.now) (state S.Store self.old) (state S.Store self.new) rows.items) }
+        ensures stays { HasCleanDisk (state S.Store self.new) → OnOk result (IsTrue (state S.Store self.new).is_open) }
+        ensures reads { Reads (state S.Store self.old) (state S.Store self.new) }
+    {
+        if !self.ask() {
+            return Err(Error::SqliteFailure(ErrorCode::Closed));
+        }
+        self.query_once(sql, params)
+    }
+
+    // Whether the connection answers: it did when it was last asked, or does now.
+    fn ask(&mut self) -> bool
+        ensures kept { HasCleanDisk (state S.Store self.old) → Keeps (state S.Store self.old) }
+        ensures reads { Reads (state S.Store self.old) (state S.Store self.new) }
+        ensures same { IsTrue result → HasCleanDisk (state S.Store self.new) → IsUnchanged (state S.Store self.old) (state S.Store self.new) }
+    {
+        if !self.is_live {
+            self.is_live = answers(&mut self.conn);
+        }
+        self.is_live
+    }
+
+    // Makes all changes or none, and asks after an error whether the connection still answers.
+    fn apply_once(&mut self, changes: &[Change]) -> Result<(), Error>
+        requires { HasCleanDisk (state S.Store self.old) → IsTrue (state S.Store self.old).is_open }
+        ensures { Steps (after_all changes.now) (state S.Store self.old) (state S.Store self.new) result }
+    {
         match apply_in(&mut self.conn, changes) {
             Ok(()) => Ok(()),
             Err(error) => {
@@ -78,15 +111,14 @@ impl<S: Alter> TableFile<S> {
         }
     }
 
-    /// All rows that a query shows.
-    pub(crate) fn query(&mut self, sql: &str, params: &[ValueRef<'_>]) -> Result<Vec<Row>, Error>
-        requires { IsPlain (understood schema sql.now) }
+    // The same for a query.
+    fn query_once(&mut self, sql: &str, params: &[ValueRef<'_>]) -> Result<Vec<Row>, Error>
+        requires plain { IsPlain (understood schema sql.now) }
+        requires open { HasCleanDisk (state S.Store self.old) → IsTrue (state S.Store self.old).is_open }
         ensures shown { HasCleanDisk (state S.Store self.new) → IfOk result (λ rows. Serves (state S.Store self.old) × Shown sql.now (bound params.now) (state S.Store self.old) (state S.Store self.new) rows.items) }
+        ensures stays { HasCleanDisk (state S.Store self.new) → OnOk result (IsTrue (state S.Store self.new).is_open) }
         ensures reads { Reads (state S.Store self.old) (state S.Store self.new) }
     {
-        if !self.is_live {
-            return Err(Error::SqliteFailure(ErrorCode::Closed));
-        }
         match query_in(&mut self.conn, sql, params) {
             Ok(rows) => Ok(rows),
             Err(error) => {

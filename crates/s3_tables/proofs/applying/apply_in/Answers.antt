@@ -1,6 +1,6 @@
 use Rattle.std.proofs.Common.{◌≡◌, true, Ok, subst, rules}
 use Rattle.sqlite.specs.Held.{state}
-use Rattle.s3_tables.specs.Changes.{after_all}
+use Rattle.s3_stored_rows.specs.Changes.{after_all}
 use Rattle.s3_tables.specs.Keeping.{Advances, Steps}
 use Rattle.s3_tables.proofs.TransactionLemmas.{refused, committed}
 use Rattle.s3_tables.proofs.applying.apply_in.Goals as goal

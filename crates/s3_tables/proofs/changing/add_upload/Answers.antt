@@ -1,5 +1,5 @@
 use Rattle.std.proofs.Common.{SFits, w64, to_z-of_z, rules}
-use Rattle.s3_tables.specs.Changes.{upload_columns}
+use Rattle.s3_stored_rows.specs.Changes.{upload_columns}
 use Rattle.s3_tables.proofs.StatementLemmas.{upload_added}
 use Rattle.s3_tables.proofs.changing.add_upload.Goals as goal
 

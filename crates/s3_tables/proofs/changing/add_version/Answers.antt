@@ -1,5 +1,5 @@
 use Rattle.std.proofs.Common.{SFits, w64, to_z-of_z, rules}
-use Rattle.s3_tables.specs.Changes.{version_columns}
+use Rattle.s3_stored_rows.specs.Changes.{version_columns}
 use Rattle.s3_tables.proofs.StatementLemmas.{version_added}
 use Rattle.s3_tables.proofs.changing.add_version.Goals as goal
 

@@ -1,7 +1,7 @@
 use Rattle.std.proofs.Common.{Ok, List, take, take_all, refl, subst, ◌∙◌}
 use Rattle.sqlite.specs.Held.{state}
-use Rattle.s3_tables.specs.declared.changing.Change.{Change}
-use Rattle.s3_tables.specs.Changes.{changed_by, after_all}
+use Rattle.s3_stored_rows.specs.declared.change.Change.{Change}
+use Rattle.s3_stored_rows.specs.Changes.{changed_by, after_all}
 use Rattle.s3_tables.specs.Keeping.{Advances}
 use Rattle.s3_tables.proofs.ApplyLemmas.{no_advance, one_more, stopped_short}
 use Rattle.s3_tables.proofs.changing.change_all.Goals as goal

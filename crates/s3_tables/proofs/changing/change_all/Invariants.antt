@@ -1,6 +1,6 @@
 use Rattle.std.proofs.Common.{◌≡◌, Ok, take}
 use Rattle.sqlite.specs.Held.{state}
-use Rattle.s3_tables.specs.Changes.{after_all}
+use Rattle.s3_stored_rows.specs.Changes.{after_all}
 use Rattle.s3_tables.specs.Keeping.{Advances}
 use Rattle.s3_tables.proofs.changing.change_all.Given as goal
 

@@ -1,5 +1,5 @@
 use Rattle.std.proofs.Common.{◌≡◌, map, take}
-use Rattle.s3_tables.specs.Changes.{part_columns}
+use Rattle.s3_stored_rows.specs.Changes.{part_columns}
 use Rattle.s3_tables.specs.Reading.{part_shown}
 use Rattle.s3_tables.proofs.decoding.all_parts.Given as goal
 

@@ -1,5 +1,5 @@
 use Rattle.std.proofs.Common.{◌≡◌, map, take}
-use Rattle.s3_tables.specs.Changes.{version_columns}
+use Rattle.s3_stored_rows.specs.Changes.{version_columns}
 use Rattle.s3_tables.specs.Reading.{version_shown}
 use Rattle.s3_tables.proofs.decoding.all_versions.Given as goal
 

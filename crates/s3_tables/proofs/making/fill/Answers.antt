@@ -1,6 +1,6 @@
 use Rattle.sqlite.specs.Held.{state}
 use Rattle.s3_tables.specs.Schema.{no_schema, schema}
-use Rattle.s3_tables.specs.Changes.{store_columns}
+use Rattle.s3_stored_rows.specs.Changes.{store_columns}
 use Rattle.s3_tables.specs.Making.{first_tables}
 use Rattle.s3_tables.proofs.MakingLemmas.{filled, fills_short}
 use Rattle.s3_tables.proofs.making.fill.Goals as goal

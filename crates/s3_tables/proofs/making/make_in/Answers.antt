@@ -3,7 +3,7 @@ use Rattle.std.specs.Prelude.{OnOk}
 use Rattle.sqlite.specs.Held.{state}
 use Rattle.sqlite.specs.State.{HasCleanDisk, Survives}
 use Rattle.s3_tables.specs.Stored.{Stores}
-use Rattle.s3_tables.specs.Changes.{store_columns}
+use Rattle.s3_stored_rows.specs.Changes.{store_columns}
 use Rattle.s3_tables.specs.Keeping.{IsMade}
 use Rattle.s3_tables.specs.Making.{first_tables, Fills}
 use Rattle.s3_tables.proofs.MakingLemmas.{unmade, make_survives, make_made}

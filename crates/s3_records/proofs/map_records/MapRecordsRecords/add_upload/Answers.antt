@@ -6,7 +6,7 @@ use Rattle.s3_records.proofs.map_records.MapRecordsRecords.add_upload.Goals as g
 
 -- the bucket is there
 pub unreachable-requires : goal.unreachable-requires
-unreachable-requires c = not_absent c.self.inside.by_name c.args.self.now c.args.bucket.now c.self.view_is c.in-None.ensures.value c.requires
+unreachable-requires c = not_absent c.self.inside.by_name c.args.self.now c.args.bucket.now c.self.view_is c.in-None.ensures.value c.requires.there
 
 pub returns-clause-ok : goal.returns-clause-ok
 returns-clause-ok c =

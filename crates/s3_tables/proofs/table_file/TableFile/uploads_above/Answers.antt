@@ -1,12 +1,12 @@
 use Rattle.std.proofs.Common.{to_z-of_z}
 use Rattle.std.specs.Prelude.{Vec, map}
 use Rattle.std.specs.declared.alloc.Global.{Global}
-use Rattle.s3_tables.specs.declared.rows.StoredUpload.{StoredUpload}
+use Rattle.s3_stored_rows.specs.declared.rows.StoredUpload.{StoredUpload}
 use Rattle.sqlite.specs.Held.{state}
-use Rattle.s3_tables.specs.Changes.{upload_columns}
+use Rattle.s3_stored_rows.specs.Changes.{upload_columns}
 use Rattle.s3_tables.proofs.ReadTexts.{later_uploads_is}
 use Rattle.s3_tables.proofs.ReadLemmas.{later_uploads_found}
-use Rattle.s3_tables.proofs.AnswerLemmas.{as_asked}
+use Rattle.s3_tables.proofs.AnswerLemmas.{as_asked, on_ok}
 use Rattle.s3_tables.proofs.table_file.TableFile.uploads_above.Goals as goal
 
 pub query-requires : goal.query-requires
@@ -16,3 +16,6 @@ pub returns-clause-value : goal.returns-clause-value
 returns-clause-value g c clean =
     as_asked (λ (all : Vec StoredUpload Global). map upload_columns all.items) c.all_uploads.result (rw c.as_slice.ensures.value at c.all_uploads.ensures)
     (later_uploads_found (state g.S.Store c.args.self.now) (state g.S.Store c.query.new.self) c.in_ok-rows.rows.items c.args.bucket.now c.args.key.now c.args.id c.args.most (rw (c.params-to_sql.ensures, c.params-to_sql-2.ensures, c.params-to_sql-3.ensures, c.params-to_sql-4.ensures, to_z-of_z c.ranges.id) at (c.in_ok-rows.ensures.shown clean)))
+
+pub returns-clause-stays : goal.returns-clause-stays
+returns-clause-stays g c clean = on_ok c.all_uploads.result (c.in_ok-rows.ensures.stays clean)

@@ -3,16 +3,20 @@ use Rattle.std.specs.Prelude.{ℤ, List, fold}
 use Rattle.sqlite_keyed.specs.Keyed.{insert_by}
 use Rattle.sqlite_keyed.specs.Lists.{without_key}
 use Rattle.s3_rows.specs.Columns.{BucketColumns, VersionColumns, UploadColumns, PartColumns, StoreColumns, Tables}
-use Rattle.s3_tables.specs.declared.rows.StoredBucket.{StoredBucket}
-use Rattle.s3_tables.specs.declared.rows.StoredVersion.{StoredVersion}
-use Rattle.s3_tables.specs.declared.rows.StoredUpload.{StoredUpload}
-use Rattle.s3_tables.specs.declared.rows.StoredPart.{StoredPart}
-use Rattle.s3_tables.specs.declared.rows.StoreNumbers.{StoreNumbers}
-use Rattle.s3_tables.specs.declared.rows.TableName.{TableName}
-use Rattle.s3_tables.specs.declared.rows.TableName.TheVariants.{Buckets, Versions, Uploads, Parts, Store}
-use Rattle.s3_tables.specs.declared.changing.Change.{Change}
-use Rattle.s3_tables.specs.declared.changing.Change.TheVariants.{AddBucket, AddVersion, AddUpload, AddPart, AddStore, DropRow}
-use Rattle.s3_tables.specs.Stored.{bucket_row, version_row, upload_row, part_row, store_row}
+use Rattle.s3_stored_rows.specs.declared.rows.StoredBucket.{StoredBucket}
+use Rattle.s3_stored_rows.specs.declared.rows.StoredVersion.{StoredVersion}
+use Rattle.s3_stored_rows.specs.declared.rows.StoredUpload.{StoredUpload}
+use Rattle.s3_stored_rows.specs.declared.rows.StoredPart.{StoredPart}
+use Rattle.s3_stored_rows.specs.declared.rows.StoreNumbers.{StoreNumbers}
+use Rattle.s3_stored_rows.specs.declared.rows.TableName.{TableName}
+use Rattle.s3_stored_rows.specs.declared.rows.TableName.TheVariants.{Buckets, Versions, Uploads, Parts, Store}
+use Rattle.s3_stored_rows.specs.declared.change.Change.{Change}
+use Rattle.s3_stored_rows.specs.declared.change.Change.TheVariants.{AddBucket, AddVersion, AddUpload, AddPart, AddStore, DropRow}
+use Rattle.s3_rows.specs.Soundness.{bucket_row, version_row, upload_row, part_row}
+
+-- the rowid of the row of the store
+abbrev pub store_row : StoreColumns → ℤ
+store_row s = s.row
 
 -- ---- a row's columns
 

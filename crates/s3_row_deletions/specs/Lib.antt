@@ -1,0 +1,3 @@
+pub mod Deletions
+pub mod Standing
+pub mod Steps

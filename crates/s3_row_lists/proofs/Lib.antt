@@ -1,0 +1,9 @@
+pub mod CutLemmas
+pub mod KeyLemmas
+pub mod KeyStepLemmas
+pub mod PartLemmas
+pub mod SplitLemmas
+pub mod StartLemmas
+pub mod UploadLemmas
+pub mod VersionLemmas
+pub mod VersionListLemmas

@@ -1,0 +1,14 @@
+use Rattle.std.proofs.Common.{◌∙◌, pos}
+use Rattle.std.proofs.lemmas.Result.{IfOk-weaker}
+use Rattle.s3_rows.specs.ListLaws.{upload_listed}
+use Rattle.s3_stored_rows.specs.Changes.{upload_columns}
+use Rattle.s3_stored_rows.specs.Queries.{uploads_above}
+use Rattle.s3_row_lists.proofs.CutLemmas.{found_told}
+use Rattle.s3_row_lists.proofs.uploads.above_told.Goals as goal
+
+pub returns-clause-value : goal.returns-clause-value
+returns-clause-value g c =
+    IfOk-weaker c.uploads_told.result _ _
+    (λ told is. is ∙ found_told upload_listed upload_columns c.in_ok-limit.limit c.args.most c.in_ok-found.found.items c.deref.result.now (uploads_above c.args.bucket.now c.args.key.now (pos c.args.id) (g.R.StoredRows.tables c.args.rows.now))
+    c.in_ok-limit.ensures c.deref.ensures.value c.in_ok-found.ensures.value)
+    c.uploads_told.ensures

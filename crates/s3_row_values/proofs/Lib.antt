@@ -1,0 +1,3 @@
+pub mod MakingLemmas
+pub mod PartLemmas
+pub mod ReadingLemmas

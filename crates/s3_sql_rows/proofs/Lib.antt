@@ -1,0 +1,4 @@
+pub mod CleanLemmas
+pub mod KnownLemmas
+pub mod SendLemmas
+pub mod SnapshotLemmas

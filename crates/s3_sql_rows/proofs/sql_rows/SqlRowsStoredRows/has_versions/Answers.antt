@@ -1,0 +1,15 @@
+use Rattle.std.proofs.Common.{refl, ◌∙◌}
+use Rattle.sqlite.specs.Files.{file_state}
+use Rattle.s3_stored_rows.specs.Queries as spec
+use Rattle.s3_sql_rows.proofs.CleanLemmas.{stays_clean}
+use Rattle.s3_sql_rows.proofs.KnownLemmas.{still_known, known_found}
+use Rattle.s3_sql_rows.proofs.sql_rows.SqlRowsStoredRows.has_versions.Goals as goal
+
+pub invariant_of-self : goal.invariant_of-self
+invariant_of-self c = still_known (file_state c.self.inside.file) (file_state c.has_versions.new.self) _ (stays_clean (λ _. refl) c.has_versions.new.self) c.has_versions.ensures.reads c.self.invariant
+
+pub returns-clause-value : goal.returns-clause-value
+returns-clause-value c =
+    let clean = stays_clean (λ _. refl) c.has_versions.new.self in
+    known_found (file_state c.self.inside.file) (file_state c.has_versions.new.self) c.args.self.now clean c.has_versions.ensures.reads (λ up. c.self.invariant up ∙ c.self.view_is)
+    (λ found. found) (spec.has_versions c.args.bucket.now) c.has_versions.result c.told.result c.told.ensures (c.has_versions.ensures.value clean) (c.has_versions.ensures.stays clean)

@@ -1,0 +1,4 @@
+pub mod Changes
+pub mod Queries
+pub mod Bodies
+pub mod Rowids

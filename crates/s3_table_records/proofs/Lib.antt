@@ -1,0 +1,9 @@
+pub mod SameBytesLemmas
+pub mod KeptLemmas
+pub mod AnyBytesLemmas
+pub mod DataLemmas
+pub mod CountedLemmas
+pub mod OpeningLemmas
+pub mod FreshLemmas
+pub mod DroppingLemmas
+pub mod UploadLemmas

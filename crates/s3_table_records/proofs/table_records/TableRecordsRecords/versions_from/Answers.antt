@@ -1,0 +1,4 @@
+use Rattle.s3_table_records.proofs.table_records.TableRecordsRecords.versions_from.Goals as goal
+
+pub returns-clause-value : goal.returns-clause-value
+returns-clause-value g c = rw (← c.self.view_is) (c.versions_from.ensures.value (g.B.StoredBodies.contents c.self.inside.bodies))
