@@ -1,0 +1,6 @@
+use Rattle.std.proofs.Common.{ap}
+use Rattle.s3_sql_records.proofs.sql_keeper.SqlKeeperKeeper.keep.Goals as goal
+
+-- no number is named yet
+pub new-records-requires-clause-bodies : goal.new-records-requires-clause-bodies
+new-records-requires-clause-bodies c = λ number. ap (λ uses. uses number) c.new-2.ensures.uses
