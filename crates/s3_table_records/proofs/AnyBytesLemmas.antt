@@ -1,16 +1,16 @@
 -- What is known of the catalogue whatever bytes stand under each number.
 use Rattle.std.proofs.Common.{◌≡◌, refl, sym, ap, ◌∙◌, ℕ, List, [], ◌∷◌, map, filter, ◌&&◌}
-use Rattle.std.specs.Prelude.{IsTrue, nat_lt}
+use Rattle.std.specs.Prelude.{nat_lt}
 use Rattle.std.specs.List.{list_all}
 use Rattle.sqlite_keyed.specs.Lists.{sort_by}
 use Rattle.s3_versions.specs.Rules.{is_new_number}
-use Rattle.s3_records.specs.Catalogue.{versions_of, is_empty_bucket, has_bucket}
-use Rattle.s3_rows.specs.BucketLaws.{RowsTellEmptiness, RowsTellBuckets}
+use Rattle.s3_records.specs.Catalogue.{versions_of, is_empty_bucket}
+use Rattle.s3_rows.specs.BucketLaws.{RowsTellEmptiness}
 use Rattle.s3_rows.specs.ReadingLaws.{RowsTellVersions}
 use Rattle.s3_rows.specs.Columns.{VersionColumns, Tables}
 use Rattle.s3_rows.specs.Finding.{is_at, newest_first}
 use Rattle.s3_rows.specs.Meaning.{version_of, catalogue_of}
-use Rattle.s3_rows.specs.Soundness.{AreSound, has_bucket_row}
+use Rattle.s3_rows.specs.Soundness.{AreSound}
 use Rattle.s3_stored_bodies.specs.Numbers.{Contents}
 use Rattle.s3_stored_rows.specs.Bodies.{encoding}
 

@@ -1,5 +1,5 @@
 -- The numbers of a row are among those that rows name.
-use Rattle.std.proofs.Common.{◌≡◌, refl, sym, subst, ap, ◌∙◌, ℕ, ◌+◌, ◌<◌, ◌≤◌, List, [], ◌∷◌, ◌++◌, Bool, true, find, filter, Option, Some, None, slice_get, cond, false, Ordering, arith, option_map}
+use Rattle.std.proofs.Common.{◌≡◌, sym, subst, ℕ, ◌<◌, ◌≤◌, List, [], ◌∷◌, ◌++◌, Bool, true, find, filter, Option, Some, None, slice_get, cond, false, Ordering, arith, option_map}
 use Rattle.std.specs.Prelude.{All, IfSome}
 use Rattle.std.specs.List.{AllByRecursion, flat_map}
 use Rattle.std.proofs.lemmas.List.Elements.{All-from_recursion}
@@ -7,7 +7,7 @@ use Rattle.sqlite_keyed.specs.Lists.{sort_by}
 use Rattle.sqlite_keyed.proofs.ListLemmas.{all-filter}
 use Rattle.s3_stored_bodies.specs.Numbers.{times}
 use Rattle.s3_stored_bodies.proofs.NumberLemmas.{times-append}
-use Rattle.s3_rows.specs.Columns.{VersionColumns, PartColumns, Tables}
+use Rattle.s3_rows.specs.Columns.{VersionColumns, Tables}
 use Rattle.s3_stored_rows.specs.Bodies.{version_numbers, part_numbers, numbers_named}
 use Rattle.s3_stored_rows.specs.Changes.{version_columns}
 use Rattle.s3_stored_rows.specs.declared.rows.StoredVersion.{StoredVersion}

@@ -1,12 +1,12 @@
 -- What is stored under a number that was just kept is what was to be stored.
-use Rattle.std.proofs.Common.{◌≡◌, refl, ap, ◌∙◌, ℕ, List, [], ◌∷◌, ◌++◌}
+use Rattle.std.proofs.Common.{◌≡◌, ap, ◌∙◌, ℕ, List, [], ◌∷◌, ◌++◌}
 use Rattle.std.proofs.lemmas.List.{append-nil}
 use Rattle.std.specs.FinMap.{insert}
 use Rattle.s3_stored_bodies.specs.Numbers.{Contents, bytes_under}
 use Rattle.s3_versions.specs.declared.version.Data.{Data}
 use Rattle.s3_versions.specs.Rules.{VersionPut}
 use Rattle.s3_uploads.specs.declared.part.Part.{Part}
-use Rattle.s3_records.specs.Changes.{Change, KeyChanged, UploadCompleted, PartPut}
+use Rattle.s3_records.specs.Changes.{KeyChanged, UploadCompleted, PartPut}
 use Rattle.s3_row_values.specs.Values.{data_with, part_with}
 use Rattle.s3_row_values.specs.declared.described.Described.{Described}
 use Rattle.s3_row_values.specs.declared.described.DescribedPart.{DescribedPart}

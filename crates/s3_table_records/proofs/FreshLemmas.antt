@@ -1,11 +1,10 @@
 -- What is kept before anything is.
-use Rattle.std.proofs.Common.{◌≡◌, refl, sym, subst, ◌∙◌, ℕ, pos, List, [], ◌∷◌}
+use Rattle.std.proofs.Common.{◌≡◌, ℕ, pos, [], ◌∷◌}
 use Rattle.std.proofs.lemmas.List.Elements.{All-nil}
 use Rattle.s3_records.specs.Catalogue.{opening}
 use Rattle.s3_rows.specs.BucketLaws.{RowsOpen}
 use Rattle.s3_rows.specs.Columns.{StoreColumns, Tables, no_rows}
 use Rattle.s3_rows.specs.Meaning.{catalogue_of}
-use Rattle.s3_rows.specs.Soundness.{AreSound}
 use Rattle.s3_stored_bodies.specs.Numbers.{Contents}
 use Rattle.s3_stored_rows.specs.Bodies.{encoding, numbers_named}
 use Rattle.s3_table_records.specs.Kept.{kept, IsKept, catalogue}

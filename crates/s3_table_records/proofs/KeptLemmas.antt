@@ -1,15 +1,15 @@
 -- What is kept, as rows change and numbers of bodies come and go.
-use Rattle.std.proofs.Common.{◌≡◌, refl, sym, ap, subst, ◌∙◌, ℕ, ℤ, pos, ◌+◌, ◌-◌, ◌<◌, ◌≤◌, ◌==◌, zero, suc, cond, Bool, true, false, List, [], ◌∷◌, ◌++◌, Option, Some, None, ◌↔◌, ◌+ℤ◌, arith}
-use Rattle.std.specs.Prelude.{int_lt, IsTrue, All, unwrap_or, Result, Ok, Err, OnOk, OnErr}
+use Rattle.std.proofs.Common.{◌≡◌, refl, sym, ap, subst, ◌∙◌, ℕ, ℤ, pos, ◌+◌, ◌<◌, ◌≤◌, cond, true, false, List, [], ◌∷◌, Option, Some, None, ◌↔◌, ◌+ℤ◌, arith}
+use Rattle.std.specs.Prelude.{int_lt, IsTrue, unwrap_or, Result, Ok, Err, OnOk, OnErr}
 use Rattle.std.proofs.lemmas.Int.{ints}
 use Rattle.std.specs.Cmp.{nat_cmp_total, eq_by_cmp_equiv}
 use Rattle.std.specs.FinMap.{get, insert, get-insert}
-use Rattle.std.specs.List.{AllByRecursion, flat_map}
+use Rattle.std.specs.List.{AllByRecursion}
 use Rattle.std.specs.Ordering.{nat_cmp, eq_by_cmp}
 use Rattle.sqlite_keyed.specs.Rules.{AllPass}
 use Rattle.std.proofs.lemmas.List.Elements.{All-from_recursion, recursion_from_All}
 use Rattle.s3_stored_bodies.specs.Numbers.{Contents, bytes_under, times, named_more, named_less, KeepsNamed}
-use Rattle.s3_stored_bodies.proofs.NumberLemmas.{times-append, named_less-none}
+use Rattle.s3_stored_bodies.proofs.NumberLemmas.{named_less-none}
 use Rattle.s3_records.specs.Changes.{Change, changed}
 use Rattle.s3_rows.specs.Columns.{Tables}
 use Rattle.s3_rows.specs.Meaning.{catalogue_of}
@@ -18,7 +18,7 @@ use Rattle.s3_row_changes.specs.Trading.{Trades}
 use Rattle.s3_row_steps.specs.Steps.{AreKept, Steps}
 use Rattle.s3_stored_rows.specs.Rowids.{AreRowsBelow}
 use Rattle.s3_terms.specs.declared.memory.NoMemory.{NoMemory}
-use Rattle.s3_table_records.specs.Kept.{Kept, kept, IsKept, Changes, catalogue}
+use Rattle.s3_table_records.specs.Kept.{kept, IsKept, Changes, catalogue}
 use Rattle.s3_table_records.proofs.SameBytesLemmas.{same_catalogue}
 
 -- each number is counted as often as rows name it

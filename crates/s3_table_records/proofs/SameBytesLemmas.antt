@@ -1,16 +1,15 @@
 -- The catalogue rests on the bytes under the numbers that rows name, and on no others.
-use Rattle.std.proofs.Common.{◌≡◌, refl, sym, ap, ◌∙◌, ℕ, ℤ, ◌+◌, ◌<◌, ◌==◌, cond, Bool, true, false, List, [], ◌∷◌, ◌++◌, map, filter, Ordering, unsigned_abs, arith}
+use Rattle.std.proofs.Common.{◌≡◌, refl, ap, ◌∙◌, ℕ, ℤ, ◌<◌, cond, true, false, List, [], ◌∷◌, ◌++◌, map, filter, Ordering, unsigned_abs, arith}
 use Rattle.std.specs.FinMap.{from_entries, entries}
 use Rattle.std.specs.List.{AllByRecursion, flat_map}
 use Rattle.std.specs.Ordering.{nat_cmp, is_gt}
 use Rattle.sqlite_keyed.specs.Lists.{sort_by, insert_sorted}
 use Rattle.sqlite_keyed.proofs.ListLemmas.{all-filter, map_same}
-use Rattle.s3_text.specs.Order.{byte_order}
 use Rattle.s3_stored_bodies.specs.Numbers.{Contents, bytes_under, times}
 use Rattle.s3_stored_bodies.proofs.NumberLemmas.{times-append}
 use Rattle.s3_rows.specs.Columns.{VersionColumns, PartColumns, UploadColumns, Tables}
 use Rattle.s3_rows.specs.Finding.{is_in, is_at, newest_first, is_upload_in, is_upload_to, is_sent_to}
-use Rattle.s3_rows.specs.Meaning.{collected, version_of, rows_at, versions_under, keys_in, part_of, parts_of, upload_of, uploads_to, uploads_in, bucket_of, catalogue_of}
+use Rattle.s3_rows.specs.Meaning.{version_of, rows_at, versions_under, keys_in, part_of, parts_of, upload_of, uploads_to, uploads_in, bucket_of, catalogue_of}
 use Rattle.s3_stored_rows.specs.Bodies.{bytes_in, encoding, version_numbers, part_numbers, numbers_named}
 
 -- functions that agree on the members of a list

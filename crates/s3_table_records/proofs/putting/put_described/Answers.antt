@@ -1,9 +1,8 @@
-use Rattle.std.proofs.Common.{to_z-of_z, ◌≡◌, refl, sym, ap, subst, ◌∙◌, ℕ, ◌∷◌, []}
+use Rattle.std.proofs.Common.{to_z-of_z, subst, ◌∷◌, []}
 use Rattle.std.specs.Prelude.{IsTrue}
 use Rattle.s3_versions.specs.Rules.{VersionPut}
 use Rattle.s3_records.specs.Changes.{KeyChanged}
 use Rattle.s3_row_values.specs.Values.{data_with}
-use Rattle.s3_stored_bodies.specs.Numbers.{times, named_more, named_less}
 use Rattle.s3_table_records.proofs.AnyBytesLemmas.{new_number_alike}
 use Rattle.s3_table_records.proofs.KeptLemmas.{less_counted, is_put, is_back}
 use Rattle.s3_table_records.proofs.DataLemmas.{put_same}

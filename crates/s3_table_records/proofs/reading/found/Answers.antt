@@ -1,4 +1,3 @@
-use Rattle.std.proofs.Common.{◌≡◌}
 use Rattle.s3_rows.specs.Finding.{is_at, newest_first, is_version, id_column}
 use Rattle.s3_stored_bodies.proofs.HeldLemmas.{if_ok}
 use Rattle.s3_stored_rows.specs.Bodies.{version_numbers, numbers_named}
