@@ -1,0 +1,4 @@
+pub mod Extent
+pub mod Uses
+pub mod Faults
+pub mod BlockFile

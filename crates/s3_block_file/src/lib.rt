@@ -1,0 +1,15 @@
+//! The bytes of bodies in one file. Each body lies in an extent of its own, and nothing is written where a live body lies, so a crash leaves
+//! the bytes of each that was synced. What is free isn't kept on the disk: it is counted when the file is opened, from the extents of
+//! the live bodies.
+#![tactic(auto)]
+
+mod block_file;
+mod disk_calls;
+mod extent;
+mod granules;
+mod peeking;
+mod uses;
+
+pub use block_file::BlockFile;
+pub use extent::{Extent, GRANULE, MAX_GRANULE, MAX_SIZE};
+pub use peeking::read_at;
