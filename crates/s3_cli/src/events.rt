@@ -14,29 +14,32 @@ ghost use Rattle.s3_simulation.specs.StandsAfter.{StandsAfter};
 ghost use Rattle.s3_cli.specs.Run.{IsEventsAnswered, IsScriptAnsweredAs};
 ghost use Rattle.s3_cli.specs.Reading.{IsAnswerFault, IsLinesFault, IsReadingFault, TellsFirst};
 
+use crate::opening::opened_store;
 use crate::run::PIECE;
 use s3_config::Config;
 use s3_devices::Device;
 use s3_events::{EventsError, Script, print_fault, print_output, read_events};
-use s3_records::{MapRecords, Records};
+use s3_keepers::Keeper;
+use s3_records::Records;
 use s3_settings::{Fault, read_piece};
 use s3_simulation::{World, run, worlds_run};
-use s3_store::Store;
 use s3_terms::NoMemory;
 use std::alloc::Global;
 use std::sync::Wait;
 
 /// What the connections are answered whose events all the input spells, under some settings: a line each, in the order of
 /// their numbers; and behind these, where `faults` says so, a line for each first fault, in the same order. All lines are read
-/// before the first event happens. It may wait for the device, and then never return.
+/// before the first event happens. Their store has the records that a keeper makes. It may wait for the device, and then never
+/// return.
 ///
 /// # Errors
 ///
 /// `InputFailed` where a read failed, `BadEventLine` with the number of its first bad line, and
 /// `OutOfMemory`.
-pub fn events_answered<'a, R: Wait, D: Device>(
+pub fn events_answered<'a, R: Wait, Q: Keeper, D: Device>(
     rt: &R,
     alloc: Global,
+    keeper: &Q,
     config: &Config,
     faults: bool,
     device: &mut D,
@@ -46,7 +49,7 @@ pub fn events_answered<'a, R: Wait, D: Device>(
 {
     let mut text = Vec::new(alloc);
     read_all(rt, &mut text, device)?;
-    lines_answered(alloc, config, faults, text.as_slice())
+    lines_answered(alloc, keeper, config, faults, text.as_slice())
 }
 
 // Adds all that the device gives to a text, in pieces as they are read.
@@ -70,8 +73,9 @@ fn read_all<'a, R: Wait, D: Device>(
 }
 
 // What event lines are answered, with the first faults where these are wanted.
-fn lines_answered<'a>(
+fn lines_answered<'a, Q: Keeper>(
     alloc: Global,
+    keeper: &Q,
     config: &Config,
     faults: bool,
     text: &[u8],
@@ -80,7 +84,7 @@ fn lines_answered<'a>(
     ensures refused { IfErr result (IsLinesFault text.now) }
 {
     let script = script_of(alloc, text)?;
-    let out = script_answered(alloc, config, faults, &script)?;
+    let out = script_answered(alloc, keeper, config, faults, &script)?;
     Ok(out)
 }
 
@@ -97,8 +101,9 @@ fn script_of<'a>(alloc: Global, text: &[u8]) -> Result<Script, Fault<'a>>
 }
 
 // What a script is answered, with the first faults where these are wanted.
-fn script_answered(
+fn script_answered<Q: Keeper>(
     alloc: Global,
+    keeper: &Q,
     config: &Config,
     faults: bool,
     script: &Script,
@@ -106,7 +111,7 @@ fn script_answered(
     ensures { IfOk result (λ out. IsScriptAnsweredAs faults config.now script.now out.items) }
 {
     worlds_run();
-    let world = world_of(alloc, config, script)?;
+    let world = world_of(alloc, keeper, config, script)?;
     let text = printed(alloc, &world)?;
     if faults {
         with_faults(text, &world)
@@ -115,18 +120,19 @@ fn script_answered(
     }
 }
 
-// The world after the events of a script, over a store of its own, whose records are kept in maps.
-fn world_of<'a>(
+// The world after the events of a script, over a store of its own with the records that a keeper makes.
+fn world_of<'a, Q: Keeper>(
     alloc: Global,
+    keeper: &Q,
     config: &'a Config,
     script: &'a Script,
-) -> Result<World<'a, MapRecords>, NoMemory>
+) -> Result<World<'a, Q::Kept>, NoMemory>
     ensures runs { IfOk result (λ world. Runs config.now (each_moments script.now.moments.items) script.now.events.items
         (written_by_all world.connections) world.recorded_store.entries) }
     ensures stands { IfOk result (λ world. StandsAfter world (each_moments script.now.moments.items) script.now.events.items) }
     ensures settings { IfOk result (λ world. world.settings ≡ config.now) }
 {
-    let store = Store::open(alloc, config.buckets())?;
+    let store = opened_store(alloc, keeper, config)?;
     let (moments, events) = (script.moments.as_slice(), script.events.as_slice());
     run(alloc, config, store, moments, events)
 }

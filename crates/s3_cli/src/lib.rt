@@ -1,9 +1,11 @@
 //! What the program does: it reads the words of its command line, and answers one connection, answers event
-//! lines of several or signs one request, over any files and devices. Where the words ask for a server, it says so.
+//! lines of several or signs one request, over any files, devices and keepers of records. Where the words ask for a server, it
+//! says so.
 #![tactic(auto)]
 
 mod events;
 mod mode;
+mod opening;
 mod run;
 mod sign;
 

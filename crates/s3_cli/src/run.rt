@@ -14,18 +14,19 @@ ghost use Rattle.s3_settings.specs.declared.options.ServeOptions.{ServeOptions};
 ghost use Rattle.s3_cli.specs.declared.run.Ran.TheVariants.{Ended, Serve};
 
 use crate::events::events_answered;
+use crate::opening::opened_store;
 use crate::sign::signed_text;
 use s3_calendar::Moment;
 use s3_command_line::{Asked, Task, WordsError, read_words};
 use s3_config::Config;
 use s3_devices::Device;
+use s3_keepers::{Keeper, MapKeeper};
 use s3_records::Records;
 use s3_settings::{
-    Fault, Files, ReplayMode, ReplayOptions, ServeOptions, Setup, configure, read_piece,
-    write_output,
+    Fault, Files, RecordsKind, ReplayMode, ReplayOptions, ServeOptions, Setup, configure,
+    read_piece, write_output,
 };
 use s3_simulation::Replay;
-use s3_store::Store;
 use std::alloc::Global;
 use std::convert::AsStr;
 use std::mem::drop;
@@ -56,7 +57,8 @@ pub enum Ran<'a> {
 /// status, or the options of the server that the words ask for. A server isn't started here: the caller has the sockets.
 ///
 /// `device` gives the input and takes the output. `files` has the keys file and the body of a request. `errors` takes what
-/// the user is told. It may wait for `device` and `errors`, and then never return.
+/// the user is told. It may wait for `device` and `errors`, and then never return. Records are kept in maps, or as `tables`
+/// keeps them where the words ask for `sql`.
 ///
 /// The status is one of these:
 ///
@@ -66,11 +68,12 @@ pub enum Ran<'a> {
 ///
 /// Where a write to `errors` fails, `errors` has taken a beginning of its text, and the status stays. Where a read fails,
 /// whatever the reason, the input failed: for memory that the device lacks too.
-pub fn run_words<'a, R: Wait, S: AsStr, F: Files, D: Device, E: Device>(
+pub fn run_words<'a, R: Wait, S: AsStr, F: Files, Q: Keeper, D: Device, E: Device>(
     rt: &R,
     alloc: Global,
     words: &'a [S],
     files: &F,
+    tables: &Q,
     device: &mut D,
     errors: &mut E,
 ) -> Ran<'a>
@@ -86,18 +89,21 @@ pub fn run_words<'a, R: Wait, S: AsStr, F: Files, D: Device, E: Device>(
     ensures undone { (options : ServeOptions) → result ≡ Serve options → (errors.new ≡ errors.old) × (device.new ≡ device.old) }
 {
     match read_words(alloc, words) {
-        Ok(Asked::Work(task)) => Ran::Ended(run_task(rt, alloc, &task, files, device, errors)),
+        Ok(Asked::Work(task)) => Ran::Ended(run_task(
+            rt, alloc, &task, files, tables, device, errors,
+        )),
         Ok(Asked::Server(options)) => Ran::Serve(options),
         Err(error) => Ran::Ended(refused(rt, errors, error)),
     }
 }
 
 // Runs a task and answers its status; a fault is told.
-fn run_task<'a, R: Wait, F: Files, D: Device, E: Device>(
+fn run_task<'a, R: Wait, F: Files, Q: Keeper, D: Device, E: Device>(
     rt: &R,
     alloc: Global,
     task: &Task<'a>,
     files: &F,
+    tables: &Q,
     device: &mut D,
     errors: &mut E,
 ) -> u8
@@ -107,7 +113,7 @@ fn run_task<'a, R: Wait, F: Files, D: Device, E: Device>(
     ensures failed { result ≡ FAILED → HasFailed (IsTaskFault (F.known files.now) (D.traffic device.old) (D.traffic device.new) task.now) (E.traffic errors.old) (E.traffic errors.new) (device.new ≡ device.old) }
     ensures input { is_signing task.now ≡ true → IsUnread (D.traffic device.old) (D.traffic device.new) }
 {
-    match work(rt, alloc, task, files, device) {
+    match work(rt, alloc, task, files, tables, device) {
         Ok(()) => DONE,
         Err(fault) => failed(rt, errors, fault),
     }
@@ -141,11 +147,12 @@ fn failed<R: Wait, E: Device>(rt: &R, errors: &mut E, fault: Fault<'_>) -> u8
 
 // Does what the words ask for.
 #[tactic(auto, using(crate::proofs::RunLemmas::runs))]
-fn work<'a, R: Wait, F: Files, D: Device>(
+fn work<'a, R: Wait, F: Files, Q: Keeper, D: Device>(
     rt: &R,
     alloc: Global,
     task: &Task<'a>,
     files: &F,
+    tables: &Q,
     device: &mut D,
 ) -> Result<(), Fault<'a>>
     ensures done { OnOk result (IsTaskDone (F.known files.now) (D.traffic device.old) (D.traffic device.new) task.now) }
@@ -153,16 +160,17 @@ fn work<'a, R: Wait, F: Files, D: Device>(
     ensures unread { IfErr result (λ fault. IsTrue (is_before_input fault) → device.new ≡ device.old) }
     ensures input { is_signing task.now ≡ true → IsUnread (D.traffic device.old) (D.traffic device.new) }
 {
-    let text = task_text(rt, alloc, task, files, device)?;
+    let text = task_text(rt, alloc, task, files, tables, device)?;
     write_output(rt, device, text.as_slice())
 }
 
 // What the words ask to write.
-fn task_text<'a, R: Wait, F: Files, D: Device>(
+fn task_text<'a, R: Wait, F: Files, Q: Keeper, D: Device>(
     rt: &R,
     alloc: Global,
     task: &Task<'a>,
     files: &F,
+    tables: &Q,
     device: &mut D,
 ) -> Result<Vec<u8>, Fault<'a>>
     ensures value { IfOk result (λ text. IsTaskText (F.known files.now) (D.traffic device.old) (D.traffic device.new) task.now text.items) }
@@ -171,18 +179,19 @@ fn task_text<'a, R: Wait, F: Files, D: Device>(
     ensures input { is_signing task.now ≡ true → D.traffic device.new ≡ D.traffic device.old }
 {
     match task {
-        Task::Replay(options) => replay(rt, alloc, options, files, device),
+        Task::Replay(options) => replay(rt, alloc, options, files, tables, device),
         Task::Sign(options) => signed_text(alloc, options, files),
     }
 }
 
 // What all the input is answered, read as the options say.
 #[tactic(auto, using(crate::proofs::ConfigLemmas::config_fault))]
-fn replay<'a, R: Wait, F: Files, D: Device>(
+fn replay<'a, R: Wait, F: Files, Q: Keeper, D: Device>(
     rt: &R,
     alloc: Global,
     options: &ReplayOptions<'a>,
     files: &F,
+    tables: &Q,
     device: &mut D,
 ) -> Result<Vec<u8>, Fault<'a>>
     ensures value { IfOk result (λ text. IsReplayed (F.known files.now) (D.traffic device.old) (D.traffic device.new) options.now text.items) }
@@ -191,15 +200,36 @@ fn replay<'a, R: Wait, F: Files, D: Device>(
 {
     let mode = ReplayMode::read(options)?;
     let setup = Setup::read(alloc, &options.common)?;
+    let records = setup.records;
     let config = configure(alloc, setup, files)?;
-    answered(rt, alloc, &config, mode, device)
+    answered(rt, alloc, records, tables, &config, mode, device)
 }
 
-// What all the input is answered, read in a mode and under some settings. The records are kept in maps.
-#[tactic(auto, using(crate::proofs::ReadingLemmas::readings))]
-fn answered<'a, R: Wait, D: Device>(
+// What all the input is answered, read in a mode and under some settings, over records of a kind.
+fn answered<'a, R: Wait, Q: Keeper, D: Device>(
     rt: &R,
     alloc: Global,
+    records: RecordsKind,
+    tables: &Q,
+    config: &Config,
+    mode: ReplayMode,
+    device: &mut D,
+) -> Result<Vec<u8>, Fault<'a>>
+    ensures value { IfOk result (λ text. GivesAll (λ bytes. IsAnswered config.now mode bytes text.items) (D.traffic device.old) (D.traffic device.new)) }
+    ensures refused { IfErr result (IsAnswerFault mode (D.traffic device.old) (D.traffic device.new)) }
+{
+    match records {
+        RecordsKind::Map => answered_by(rt, alloc, &MapKeeper, config, mode, device),
+        RecordsKind::Sql => answered_by(rt, alloc, tables, config, mode, device),
+    }
+}
+
+// The same over the records that a keeper makes.
+#[tactic(auto, using(crate::proofs::ReadingLemmas::readings))]
+fn answered_by<'a, R: Wait, Q: Keeper, D: Device>(
+    rt: &R,
+    alloc: Global,
+    keeper: &Q,
     config: &Config,
     mode: ReplayMode,
     device: &mut D,
@@ -208,15 +238,16 @@ fn answered<'a, R: Wait, D: Device>(
     ensures refused { IfErr result (IsAnswerFault mode (D.traffic device.old) (D.traffic device.new)) }
 {
     match mode {
-        ReplayMode::AtMoment(moment) => answers(rt, alloc, config, moment, device),
-        ReplayMode::Events { faults } => events_answered(rt, alloc, config, faults, device),
+        ReplayMode::AtMoment(moment) => answers(rt, alloc, keeper, config, moment, device),
+        ReplayMode::Events { faults } => events_answered(rt, alloc, keeper, config, faults, device),
     }
 }
 
 // What the connection of all the input is answered, under some settings at a moment.
-fn answers<'a, R: Wait, D: Device>(
+fn answers<'a, R: Wait, Q: Keeper, D: Device>(
     rt: &R,
     alloc: Global,
+    keeper: &Q,
     config: &Config,
     moment: Moment,
     device: &mut D,
@@ -224,7 +255,7 @@ fn answers<'a, R: Wait, D: Device>(
     ensures value { IfOk result (λ text. GivesAll (λ bytes. Replays config.now moment bytes text.items) (D.traffic device.old) (D.traffic device.new)) }
     ensures refused { IfErr result (IsReadingFault (D.traffic device.old) (D.traffic device.new)) }
 {
-    let store = Store::open(alloc, config.buckets())?;
+    let store = opened_store(alloc, keeper, config)?;
     let mut replay = Replay::new(alloc, config, store, &moment)?;
     let written = written_after(rt, &mut replay, device);
     drop(replay);

@@ -21,6 +21,9 @@ pub(crate) const BODY_LIMIT: &str = "67108864";
 /// How documents are spelled where no option says another dialect: as JSON.
 pub(crate) const DIALECT: &str = "json";
 
+/// How records are kept where no option says otherwise: in maps.
+pub(crate) const RECORDS: &str = "map";
+
 /// How many threads serve connections where no option says another number.
 pub(crate) const WORKERS: &str = "8";
 
@@ -97,9 +100,18 @@ const SPELLING: Argument = Argument {
     kind: Kind::Defaulted(DIALECT),
 };
 
+// The option of what has a store, and so keeps records.
+const KEEPING: Argument = Argument {
+    name: "records",
+    value: "K",
+    help: "How records are kept: map, or sql for tables of SQLite",
+    kind: Kind::Defaulted(RECORDS),
+};
+
 // The further options of `s3d replay`.
-static REPLAYING: [Argument; 4] = [
+static REPLAYING: [Argument; 5] = [
     SPELLING,
+    KEEPING,
     Argument {
         name: "moment",
         value: "T",
@@ -185,8 +197,9 @@ static SIGNING: [Argument; 10] = [
 ];
 
 // The further options of `s3d serve`.
-static SERVING: [Argument; 6] = [
+static SERVING: [Argument; 7] = [
     SPELLING,
+    KEEPING,
     Argument {
         name: "listen",
         value: "ADDR",

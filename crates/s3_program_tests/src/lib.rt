@@ -5,6 +5,8 @@
 #[cfg(test)]
 mod checks;
 #[cfg(test)]
+mod keepers;
+#[cfg(test)]
 mod program;
 #[cfg(test)]
 mod server;

@@ -5,6 +5,7 @@ use crate::server::{Server, SystemFiles, config, server_of};
 use crate::trimmed::leave_same;
 use s3_cli::{Ran, run_words};
 use s3_devices::{Recorded, Streams};
+use s3_keepers::MapKeeper;
 use std::alloc::Global;
 use std::sync::Wait;
 use std::{fs, io};
@@ -71,6 +72,7 @@ fn answers<W: Wait>(waits: &W, rt: &HostRuntime, words: &[&str], events: &[u8]) 
         alloc,
         words,
         &SystemFiles(rt),
+        &MapKeeper,
         &mut device,
         &mut errors,
     ) {

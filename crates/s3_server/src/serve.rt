@@ -16,12 +16,16 @@ use crate::logging::Logging;
 use crate::report::ServerReport;
 use crate::running::run;
 use crate::slots::Slots;
+use s3_bodies::Body;
 use s3_config::Config;
 use s3_devices::Device;
 use s3_journal::Start;
+use s3_keepers::{Keeper, MapKeeper};
 use s3_log::LogWriter;
-use s3_records::Records;
-use s3_settings::{Fault, Files, ServeMode, ServeOptions, server_settings, write_flushed};
+use s3_records::{Records, numbers_stay_below};
+use s3_settings::{
+    Fault, Files, RecordsKind, ServeMode, ServeOptions, server_settings, write_flushed,
+};
 use s3_sockets::{Listener, Network};
 use s3_store::Store;
 use s3_terms::NoMemory;
@@ -40,8 +44,9 @@ const DONE: u8 = 0;
 const FAILED: u8 = 1;
 
 /// Starts a server as `options` say, serves until its end, and answers the exit status. `files` has the keys file, and
-/// takes the log. `output` takes `listening ADDR` at the beginning, with the port that was taken, and `entries K` at
-/// the end: the number of commands that the store answered. The log gets one line for each message, or for its loss.
+/// takes the log. Records are kept in maps, or as `tables` keeps them where the options ask for `sql`. `output` takes
+/// `listening ADDR` at the beginning, with the port that was taken, and `entries K` at the end: the number of commands that the
+/// store answered. The log gets one line for each message, or for its loss.
 ///
 /// The status is one of these:
 ///
@@ -54,11 +59,19 @@ const FAILED: u8 = 1;
 /// of anything else; the history of the store is legal, its entries are those of these connections, and each wrote what it has to;
 /// and K is the number of the entries. To be read is that `Network` binds the address that it was asked for, that `Door::accept`
 /// notes each socket that the system hands out, and that `Recorded` notes what the system's socket did.
-pub fn serve_words<R: Wait + Threads + Clock + Sync, N: Net, F: Files + Sync, W: Write, E: Device>(
+pub fn serve_words<
+    R: Wait + Threads + Clock + Sync,
+    N: Net,
+    F: Files + Sync,
+    Q: Keeper,
+    W: Write,
+    E: Device,
+>(
     rt: &R,
     alloc: Global,
     options: &ServeOptions<'_>,
     files: &F,
+    tables: &Q,
     network: &mut Network<'_, N>,
     report: &mut ServerReport,
     output: &mut W,
@@ -72,7 +85,7 @@ pub fn serve_words<R: Wait + Threads + Clock + Sync, N: Net, F: Files + Sync, W:
         × IsTold (E.traffic errors.old) (E.traffic errors.new) (line_of fault) }
     ensures begun { result ≡ FAILED → IsToldInPart (W.contents output.old) (W.contents output.new) }
 {
-    match serve(rt, alloc, options, files, network, report, output) {
+    match serve(rt, alloc, options, files, tables, network, report, output) {
         Ok(()) => DONE,
         Err(fault) => {
             fault.tell(rt, errors);
@@ -83,11 +96,12 @@ pub fn serve_words<R: Wait + Threads + Clock + Sync, N: Net, F: Files + Sync, W:
 
 // Serves as the options say.
 #[tactic(auto, using(crate::proofs::ServedLemmas::telling))]
-fn serve<'a, R: Wait + Threads + Clock + Sync, N: Net, F: Files + Sync, W: Write>(
+fn serve<'a, R: Wait + Threads + Clock + Sync, N: Net, F: Files + Sync, Q: Keeper, W: Write>(
     rt: &R,
     alloc: Global,
     options: &ServeOptions<'a>,
     files: &'a F,
+    tables: &Q,
     network: &mut Network<'_, N>,
     report: &mut ServerReport,
     output: &mut W,
@@ -97,18 +111,49 @@ fn serve<'a, R: Wait + Threads + Clock + Sync, N: Net, F: Files + Sync, W: Write
     ensures refused { IfErr result (IsServeFault (F.known files.now) options.now) }
     ensures begun { OnErr result (IsToldInPart (W.contents output.old) (W.contents output.new)) }
 {
-    let (mode, config) = server_settings(alloc, options, files)?;
-    serve_mode(rt, alloc, &mode, &config, files, network, report, output)
+    let (mode, records, config) = server_settings(alloc, options, files)?;
+    serve_mode(
+        rt, alloc, &mode, &config, files, records, tables, network, report, output,
+    )
 }
 
-// Serves with these settings.
-#[tactic(auto, using(crate::proofs::ServedLemmas::telling))]
-fn serve_mode<'a, R: Wait + Threads + Clock + Sync, N: Net, F: Files + Sync, W: Write>(
+// Serves with these settings, over records of a kind.
+fn serve_mode<'a, R: Wait + Threads + Clock + Sync, N: Net, F: Files + Sync, Q: Keeper, W: Write>(
     rt: &R,
     alloc: Global,
     mode: &ServeMode<'a>,
     config: &Config,
     files: &'a F,
+    records: RecordsKind,
+    tables: &Q,
+    network: &mut Network<'_, N>,
+    report: &mut ServerReport,
+    output: &mut W,
+) -> Result<(), Fault<'a>>
+    ensures served { OnOk result (HasServedAndTold config.now mode.now.address.now mode.now.workers network.old network.new report.old report.new
+        (W.contents output.old) (W.contents output.new)) }
+    ensures refused { IfErr result (IsModeFault mode.now) }
+    ensures begun { OnErr result (IsToldInPart (W.contents output.old) (W.contents output.new)) }
+{
+    match records {
+        RecordsKind::Map => serve_by(
+            rt, alloc, mode, config, files, &MapKeeper, network, report, output,
+        ),
+        RecordsKind::Sql => serve_by(
+            rt, alloc, mode, config, files, tables, network, report, output,
+        ),
+    }
+}
+
+// The same over the records that a keeper makes.
+#[tactic(auto, using(crate::proofs::ServedLemmas::telling))]
+fn serve_by<'a, R: Wait + Threads + Clock + Sync, N: Net, F: Files + Sync, Q: Keeper, W: Write>(
+    rt: &R,
+    alloc: Global,
+    mode: &ServeMode<'a>,
+    config: &Config,
+    files: &'a F,
+    keeper: &Q,
     network: &mut Network<'_, N>,
     report: &mut ServerReport,
     output: &mut W,
@@ -125,20 +170,22 @@ fn serve_mode<'a, R: Wait + Threads + Clock + Sync, N: Net, F: Files + Sync, W: 
         mode,
         config,
         logging.as_ref(),
+        keeper,
         network,
         report,
         output,
     )
 }
 
-// Serves with this log, if there is one. The records are kept in maps.
+// The same with this log, if there is one.
 #[tactic(auto, using(crate::proofs::ServedLemmas::telling))]
-fn serve_logged<'a, R: Wait + Threads + Clock + Sync, N: Net, F: Files + Sync, W: Write>(
+fn serve_logged<'a, R: Wait + Threads + Clock + Sync, N: Net, F: Files + Sync, Q: Keeper, W: Write>(
     rt: &R,
     alloc: Global,
     mode: &ServeMode<'a>,
     config: &Config,
     logging: Option<&Logging<'a, F>>,
+    keeper: &Q,
     network: &mut Network<'_, N>,
     report: &mut ServerReport,
     output: &mut W,
@@ -148,12 +195,25 @@ fn serve_logged<'a, R: Wait + Threads + Clock + Sync, N: Net, F: Files + Sync, W
     ensures refused { IfErr result (IsToldFault mode.now.address) }
     ensures begun { OnErr result (IsToldInPart (W.contents output.old) (W.contents output.new)) }
 {
-    let store = Store::open(alloc, config.buckets())?;
+    let store = opened_store(alloc, keeper, config)?;
     let start = start(alloc, config, store, mode.workers)?;
     let entries = serve_start(
         rt, alloc, mode, config, logging, start, network, report, output,
     )?;
     tell_entries(alloc, entries, output)
+}
+
+// A store with the opening buckets, over the records that a keeper makes.
+fn opened_store<Q: Keeper>(
+    alloc: Global,
+    keeper: &Q,
+    config: &Config,
+) -> Result<Store<Q::Kept>, NoMemory>
+    ensures { IfOk result (λ store. store ≡ opened (opening config.now.buckets)) }
+{
+    numbers_stay_below::<Body>();
+    let records = keeper.keep(alloc, config.buckets())?;
+    Ok(Store::over(records, 0))
 }
 
 // What a shared store over this store, which has the opening buckets, is opened with, for so many workers.

@@ -12,6 +12,8 @@ use Rattle.s3_settings.specs.declared.fault.Fault.{Fault}
 use Rattle.s3_settings.specs.declared.fault.Fault.TheVariants.{CannotRead, BadKeysLine, BadSetting, OutOfMemory}
 use Rattle.s3_settings.specs.declared.options.Options.{Options}
 use Rattle.s3_settings.specs.declared.options.ReplayOptions.{ReplayOptions}
+use Rattle.s3_settings.specs.declared.records_kind.RecordsKind.{RecordsKind}
+use Rattle.s3_settings.specs.declared.records_kind.RecordsKind.TheVariants.{Map, Sql}
 use Rattle.s3_settings.specs.declared.settings.Setup.{Setup}
 use Rattle.s3_settings.specs.declared.mode.ReplayMode.{ReplayMode}
 use Rattle.s3_settings.specs.declared.mode.ReplayMode.TheVariants.{AtMoment, Events}
@@ -38,6 +40,13 @@ dialect_named text =
     else if bytes_eq text (codes "s3") then Some S3
     else None
 
+-- the kind of records that a text names, if it is the name of one
+abbrev pub records_named : List ℕ → Option RecordsKind
+records_named text =
+    if bytes_eq text (codes "map") then Some Map
+    else if bytes_eq text (codes "sql") then Some Sql
+    else None
+
 -- no bucket, or one whose name is a bucket's
 abbrev pub is_bucket_option : Option (List ℕ) → Bool
 is_bucket_option None = true
@@ -48,6 +57,7 @@ unfoldable pub are_options : Options → Bool
 are_options o =
     is_some o.keys && is_some (option_number o.min_part.now) && is_some (option_number o.body_limit.now)
     && is_bucket_option (option_map (λ name. name.now) o.bucket) && is_some (dialect_named o.dialect.now)
+    && is_some (records_named o.records.now)
 
 -- the options are of their forms, and a setup has what they say
 pub record IsSetupOf (o : Options) (s : Setup) : Type 0 where
@@ -58,6 +68,7 @@ pub record IsSetupOf (o : Options) (s : Setup) : Type 0 where
   pub body_limit : option_number o.body_limit.now ≡ Some s.body_limit
   pub bucket : option_map (λ name. name.now) o.bucket ≡ s.bucket
   pub dialect : dialect_named o.dialect.now ≡ Some s.dialect
+  pub records : records_named o.records.now ≡ Some s.records
 
 -- what a replay's own options ask for: one moment for everything, or events, with faults or without; both or neither asks for
 -- nothing, and so do faults without events

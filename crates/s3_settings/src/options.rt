@@ -16,6 +16,8 @@ pub struct Options<'a> {
     pub bucket: Option<&'a str>,
     /// How documents are spelled: `json` or `s3`.
     pub dialect: &'a str,
+    /// How records are kept: `map` or `sql`.
+    pub records: &'a str,
 }
 
 /// The options of `s3d replay`.

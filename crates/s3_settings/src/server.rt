@@ -3,12 +3,13 @@
 ghost use Rattle.std.specs.Prelude.{◌≡◌, ◌≤◌, false, Some, None, IfOk, IfErr, option_map};
 ghost use Rattle.s3_settings.specs.Server.{are_serve_options, connections_asked, greatest_held, greatest_workers, positive, IsServeModeOf, IsServer, IsServerFault};
 ghost use Rattle.s3_settings.specs.Server as rules;
-ghost use Rattle.s3_settings.specs.Settings.{option_number};
+ghost use Rattle.s3_settings.specs.Settings.{option_number, records_named};
 ghost use Rattle.s3_settings.specs.declared.fault.Fault.TheVariants.{BadSetting};
 
 use crate::fault::Fault;
 use crate::files::Files;
 use crate::options::ServeOptions;
+use crate::records_kind::RecordsKind;
 use crate::settings::{Setup, configure, option_number};
 use s3_config::Config;
 use std::alloc::Global;
@@ -98,7 +99,8 @@ fn positive_number(text: &str) -> Option<u64>
     if 1 <= count { Some(count) } else { None }
 }
 
-/// How the server runs that the options ask for, and its settings, which they and the keys file make.
+/// How the server runs that the options ask for, how it keeps its records, and its settings, which they and the keys file
+/// make.
 ///
 /// # Errors
 ///
@@ -109,14 +111,16 @@ pub fn server_settings<'a, F: Files>(
     alloc: Global,
     options: &ServeOptions<'a>,
     files: &F,
-) -> Result<(ServeMode<'a>, Config), Fault<'a>>
-    ensures value { IfOk result (λ server. IsServer (F.known files.now) options.now server.0 server.1) }
+) -> Result<(ServeMode<'a>, RecordsKind, Config), Fault<'a>>
+    ensures value { IfOk result (λ server. IsServer (F.known files.now) options.now server.0 server.2) }
+    ensures records { IfOk result (λ server. records_named options.now.common.records.now ≡ Some server.1) }
     ensures workers { IfOk result (λ server. (1 ≤ server.0.workers) × (server.0.workers ≤ greatest_workers)) }
     ensures held { IfOk result (λ server. (1 ≤ server.0.most_held) × (server.0.most_held ≤ greatest_held)) }
     ensures refused { IfErr result (IsServerFault (F.known files.now) options.now) }
 {
     let mode = ServeMode::read(options)?;
     let setup = Setup::read(alloc, &options.common)?;
+    let records = setup.records;
     let config = configure(alloc, setup, files)?;
-    Ok((mode, config))
+    Ok((mode, records, config))
 }

@@ -3,12 +3,13 @@
 ghost use Rattle.std.specs.Prelude.{◌≡◌, true, false, Some, None, IfSome, IfOk, IfErr, OnOk, IsErrOf, IsTrue, is_some, option_map, option_to_list};
 ghost use Rattle.s3_config.specs.Settings.{are_settings, is_region, is_region_byte};
 ghost use Rattle.s3_settings.specs.Fault.{MemoryOr};
-ghost use Rattle.s3_settings.specs.Settings.{option_number, option_moment, dialect_named, is_bucket_option, are_options, IsSetupOf, HasKeys, settings_of, IsConfigured, IsConfigFault};
+ghost use Rattle.s3_settings.specs.Settings.{option_number, option_moment, dialect_named, records_named, is_bucket_option, are_options, IsSetupOf, HasKeys, settings_of, IsConfigured, IsConfigFault};
 
 use crate::fault::Fault;
 use crate::files::{Files, read_file};
 use crate::keys::read_keys;
 use crate::options::Options;
+use crate::records_kind::{RecordsKind, records_named};
 use s3_calendar::Moment;
 use s3_config::{Config, Credential};
 use s3_names::BucketName;
@@ -34,16 +35,18 @@ pub struct Setup<'a> {
     pub bucket: Option<BucketName>,
     /// How documents are spelled.
     pub dialect: Dialect,
+    /// How records are kept.
+    pub records: RecordsKind,
 }
 
 impl<'a> Setup<'a> {
     /// Reads what the options ask for: the path of the keys file, the region, the least size of a part, the greatest size
-    /// of a body, the name of a bucket, and how documents are spelled.
+    /// of a body, the name of a bucket, how documents are spelled, and how records are kept.
     ///
     /// # Errors
     ///
-    /// `BadSetting` where no keys file is named, or a number, the bucket's name or the dialect is out of its form.
-    /// `OutOfMemory` where there is none for the bucket's name.
+    /// `BadSetting` where no keys file is named, or a number, the bucket's name, the dialect or the kind of the records is
+    /// out of its form. `OutOfMemory` where there is none for the bucket's name.
     #[tactic(auto, unfolding(crate::specs::Settings::are_options))]
     pub fn read(alloc: Global, options: &Options<'a>) -> Result<Setup<'a>, Fault<'a>>
         ensures value { IfOk result (IsSetupOf options.now) }
@@ -64,6 +67,7 @@ impl<'a> Setup<'a> {
             body_limit: parts.body_limit,
             bucket,
             dialect: parts.dialect,
+            records: parts.records,
         })
     }
 
@@ -121,6 +125,7 @@ struct FixedParts<'a> {
     min_part: u64,
     body_limit: u64,
     dialect: Dialect,
+    records: RecordsKind,
 }
 
 // The parts that options say and that take no memory, if each of these options is there and of its form.
@@ -129,7 +134,8 @@ fn fixed_parts<'a>(options: &Options<'a>) -> Option<FixedParts<'a>>
     ensures value { IfSome result (λ parts. (option_map (λ path. path.now) options.now.keys ≡ Some parts.keys.now)
         × (option_number options.now.min_part.now ≡ Some parts.min_part)
         × (option_number options.now.body_limit.now ≡ Some parts.body_limit)
-        × (dialect_named options.now.dialect.now ≡ Some parts.dialect)) }
+        × (dialect_named options.now.dialect.now ≡ Some parts.dialect)
+        × (records_named options.now.records.now ≡ Some parts.records)) }
     ensures refused { result ≡ None → are_options options.now ≡ false }
 {
     Some(FixedParts {
@@ -137,6 +143,7 @@ fn fixed_parts<'a>(options: &Options<'a>) -> Option<FixedParts<'a>>
         min_part: option_number(options.min_part)?,
         body_limit: option_number(options.body_limit)?,
         dialect: dialect_named(options.dialect)?,
+        records: records_named(options.records)?,
     })
 }
 

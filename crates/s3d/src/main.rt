@@ -9,9 +9,11 @@ ghost use Rattle.std.specs.Process.{exit_status};
 
 use s3_cli::{Ran, run_words};
 use s3_devices::{Device, Recorded, Streams};
+use s3_keepers::Keeper;
 use s3_server::{ServerReport, serve_words};
 use s3_settings::{Files, ServeOptions};
 use s3_sockets::Network;
+use s3_sql_records::SqlKeeper;
 use std::alloc::Global;
 use std::fs::OpenOptions;
 use std::io::Write;
@@ -59,11 +61,12 @@ fn exit_code(status: u8) -> ExitCode
 }
 
 // Serves over the network of the system, and answers the exit status.
-fn serve<R: Wait + Threads + Net + Clock + Sync, F: Files + Sync, W: Write, E: Device>(
+fn serve<R: Wait + Threads + Net + Clock + Sync, F: Files + Sync, Q: Keeper, W: Write, E: Device>(
     rt: &R,
     alloc: Global,
     options: &ServeOptions<'_>,
     files: &F,
+    tables: &Q,
     output: &mut W,
     errors: &mut E,
 ) -> u8 {
@@ -75,6 +78,7 @@ fn serve<R: Wait + Threads + Net + Clock + Sync, F: Files + Sync, W: Write, E: D
         alloc,
         options,
         files,
+        tables,
         &mut network,
         &mut report,
         output,
@@ -83,7 +87,7 @@ fn serve<R: Wait + Threads + Net + Clock + Sync, F: Files + Sync, W: Write, E: D
 }
 
 fn main(rt: HostRuntime) -> ExitCode {
-    let (alloc, files) = (rt.alloc(), SystemFiles(&rt));
+    let (alloc, files, tables) = (rt.alloc(), SystemFiles(&rt), SqlKeeper);
     let words = arguments(&rt).unwrap_or(Vec::new(alloc));
     let (Some(mut device), Some(mut errors)) = (
         Recorded::new(Streams {
@@ -102,6 +106,7 @@ fn main(rt: HostRuntime) -> ExitCode {
         alloc,
         words.as_slice(),
         &files,
+        &tables,
         &mut device,
         &mut errors,
     );
@@ -109,7 +114,15 @@ fn main(rt: HostRuntime) -> ExitCode {
         Ran::Ended(status) => status,
         Ran::Serve(options) => {
             let mut output = rt.stdout();
-            serve(&rt, alloc, &options, &files, &mut output, &mut errors)
+            serve(
+                &rt,
+                alloc,
+                &options,
+                &files,
+                &tables,
+                &mut output,
+                &mut errors,
+            )
         }
     })
 }

@@ -1,4 +1,5 @@
 //! The files and streams that the tests run the program over, and the runs.
+use crate::keepers::FullTables;
 use s3_cli::{Ran, run_words};
 use s3_devices::{Recorded, Streams};
 use s3_settings::Files;
@@ -140,7 +141,8 @@ pub fn files<'a>(is_full: bool) -> Shelf<'a> {
     }
 }
 
-/// A run on these words and files, over a device of the input and the output; `None` where there is no device.
+/// A run on these words and files, over a device of the input and the output, with tables that have no room for a bucket;
+/// `None` where there is no device.
 pub fn run<'a, R: Wait>(
     rt: &R,
     alloc: Global,
@@ -155,5 +157,13 @@ pub fn run<'a, R: Wait>(
         input: io::empty(),
         output: errors,
     })?;
-    Some(run_words(rt, alloc, words, files, &mut device, &mut errors))
+    Some(run_words(
+        rt,
+        alloc,
+        words,
+        files,
+        &FullTables,
+        &mut device,
+        &mut errors,
+    ))
 }

@@ -27,7 +27,7 @@ const WRONG: Run = Run {
     ..QUIET
 };
 
-static RUNS: [Run; 11] = [
+static RUNS: [Run; 13] = [
     Run {
         name: "no line",
         given: b"",
@@ -35,6 +35,20 @@ static RUNS: [Run; 11] = [
         ..RIGHT
     },
     RIGHT,
+    // The tables have room where no bucket is named, and maps always.
+    Run {
+        name: "records in maps",
+        words: "s3d replay --keys keys --events --records map --bucket pail",
+        ..RIGHT
+    },
+    Run {
+        name: "records in full tables",
+        words: "s3d replay --keys keys --events --records sql --bucket pail",
+        written: b"",
+        status: 1,
+        said: "out of memory",
+        ..RIGHT
+    },
     Run {
         name: "a slow input",
         input: Manner::Halting,

@@ -35,6 +35,7 @@ const USAGES: &str = "\
     s3d sign --help|--host <H> [NAME:VALUE]...\n;\
     s3d sign --keys keys --id id --moment 0 --method GET --target /|not provided:\n  --host <H>\n;\
     s3d sign --keys keys --id id --moment 0 --method GET --target / --host h --log x|error: unexpected argument '--log' found\n;\
+    s3d sign --keys keys --id id --moment 0 --method GET --target / --host h --records map|error: unexpected argument '--records' found\n;\
     s3d serve --help|Usage: s3d serve [OPTIONS] --keys <FILE> --listen <ADDR>\n;\
     s3d serve --keys keys|not provided:\n  --listen <ADDR>\n;\
     s3d serve --keys keys --listen localhost:0 --events|error: unexpected argument '--events' found\n;\
@@ -63,6 +64,10 @@ const FAULTS: &str = "\
     s3d replay --keys keys --moment 0 --region US|bad setting;\
     s3d replay --keys keys --moment 0 --min-part 1e3|bad setting;\
     s3d replay --keys keys --moment 0 --body-limit 67108865|bad setting;\
+    s3d replay --keys shelf --moment 0 --records maps|bad setting;\
+    s3d replay --keys shelf --moment 0 --records |bad setting;\
+    s3d replay --keys shelf --events --records SQL|bad setting;\
+    s3d replay --keys shelf --moment 0 --records sql|cannot read shelf;\
     s3d replay --keys none --moment 0|bad setting;\
     s3d replay --keys shelf --moment 0|cannot read shelf;\
     s3d replay --keys no-space --moment 0|bad keys line 2;\
@@ -191,7 +196,7 @@ const OUT_OF_MEMORY: Run = Run {
 // The words of a signing.
 const SIGN: &str = "s3d sign --keys keys --id id --moment 0 --method GET --target / --host h";
 
-static RUNS: [Run; 15] = [
+static RUNS: [Run; 18] = [
     ABLE,
     Run {
         name: "slow devices",
@@ -263,6 +268,22 @@ static RUNS: [Run; 15] = [
     Run {
         name: "files without memory",
         is_full: true,
+        ..OUT_OF_MEMORY
+    },
+    // The tables have room where no bucket is named, and maps always.
+    Run {
+        name: "records in maps",
+        words: "s3d replay --keys keys --moment 0 --bucket pail",
+        ..ABLE
+    },
+    Run {
+        name: "records in tables",
+        words: "s3d replay --keys keys --moment 0 --records sql",
+        ..ABLE
+    },
+    Run {
+        name: "records in full tables",
+        words: "s3d replay --keys keys --moment 0 --records sql --bucket pail",
         ..OUT_OF_MEMORY
     },
 ];

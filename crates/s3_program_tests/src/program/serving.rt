@@ -3,11 +3,12 @@ use crate::checks::check;
 use crate::program::devices::{Manner, Stream, files, run};
 use crate::program::runs::words_of;
 use s3_cli::Ran;
-use s3_settings::{Fault, ServeMode, server_settings};
+use s3_settings::{Fault, RecordsKind, ServeMode, server_settings};
 use std::alloc::Global;
 use std::sync::Wait;
 
-// Words with one space between two, a bar, and what is told of the server: how it runs, or why there is none.
+// Words with one space between two, a bar, and what is told of the server: how it runs and keeps its records, or why there is
+// none.
 const SERVERS: &str = "\
     s3d serve --keys keys --listen localhost:0|localhost:0 8 1024;\
     s3d serve --keys keys --listen :80 --workers 64|:80 64 1024;\
@@ -17,6 +18,9 @@ const SERVERS: &str = "\
     s3d serve --keys keys --listen a --log log|a 8 1024 to log;\
     s3d serve --keys keys --listen a --connections 3 --log -|a 8 1024 3 to -;\
     s3d serve --keys keys --listen a --log |a 8 1024 to ;\
+    s3d serve --keys keys --listen a --records map|a 8 1024;\
+    s3d serve --keys keys --listen a --records sql --log log|a 8 1024 to log over tables;\
+    s3d serve --keys shelf --listen a --records table|bad setting;\
     s3d serve --keys shelf --listen a --workers 0|bad setting;\
     s3d serve --keys shelf --listen a --workers 65|bad setting;\
     s3d serve --keys shelf --listen a --workers 1x|bad setting;\
@@ -31,7 +35,16 @@ const SERVERS: &str = "\
     s3d serve --keys keys --listen a --region US|bad setting;\
     s3d serve --keys none --listen a|bad setting";
 
-// How a server runs, in words.
+// How a server runs and keeps its records, in words.
+fn server_words(alloc: Global, mode: &ServeMode, records: RecordsKind) -> Option<String> {
+    let text = mode_text(alloc, mode)?;
+    match records {
+        RecordsKind::Map => Some(text),
+        RecordsKind::Sql => format!(in alloc; "{text} over tables").ok(),
+    }
+}
+
+// How it runs.
 fn mode_text(alloc: Global, mode: &ServeMode) -> Option<String> {
     let text = numbers_text(alloc, mode)?;
     match mode.log {
@@ -75,7 +88,7 @@ fn server_text<R: Wait>(rt: &R, alloc: Global, words: &[&str]) -> Option<String>
         &mut errors,
     ) {
         Some(Ran::Serve(options)) => match server_settings(alloc, &options, &files) {
-            Ok((mode, _config)) => mode_text(alloc, &mode),
+            Ok((mode, records, _config)) => server_words(alloc, &mode, records),
             Err(fault) => fault_text(alloc, &fault),
         },
         _ => None,

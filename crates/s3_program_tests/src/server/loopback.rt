@@ -1,5 +1,6 @@
 //! A server and two clients.
 use crate::checks::check;
+use crate::keepers::FullTables;
 use crate::server::client::is_answered;
 use crate::server::screen::Screen;
 use s3_devices::{Recorded, Streams};
@@ -48,8 +49,8 @@ fn is_local(line: &[u8]) -> bool {
     })
 }
 
-// A server that ends after two connections.
-fn options() -> ServeOptions<'static> {
+// A server that ends after two connections, and keeps records of this kind.
+fn options(records: &str) -> ServeOptions<'_> {
     ServeOptions {
         common: Options {
             keys: Some("keys"),
@@ -58,6 +59,7 @@ fn options() -> ServeOptions<'static> {
             body_limit: "67108864",
             bucket: Some("pail"),
             dialect: "json",
+            records,
         },
         listen: Some("127.0.0.1:0"),
         workers: "2",
@@ -67,11 +69,13 @@ fn options() -> ServeOptions<'static> {
     }
 }
 
-// Serves, and answers the exit status, and whether four entries were told, a line of the log for each, and no error.
+// Serves over maps, or over tables that have no room for a bucket, and answers the exit status, and whether four entries were
+// told, a line of the log for each, and no error.
 fn server<R: Wait + Threads + Net + Clock + Sync>(
     rt: &R,
     alloc: Global,
     port: &AtomicU64,
+    records: &str,
 ) -> (u8, bool) {
     let mut output = Screen {
         lines: Vec::new(alloc),
@@ -93,8 +97,9 @@ fn server<R: Wait + Threads + Net + Clock + Sync>(
     let status = serve_words(
         rt,
         alloc,
-        &options(),
+        &options(records),
         &files,
+        &FullTables,
         &mut network,
         &mut report,
         &mut output,
@@ -143,8 +148,15 @@ fn served<R: Wait + Threads + Net + Clock + Sync>(
     thread::join(
         rt,
         || clients(rt, system, alloc, &port),
-        || server(rt, alloc, &port),
+        || server(rt, alloc, &port, "map"),
     )
+}
+
+// The tables have no room for the bucket of the options.
+#[test]
+fn full_tables(rt: HostRuntime) {
+    let (status, _) = server(&rt, rt.alloc(), &AtomicU64::new(0), "sql");
+    check(&rt, status == 1, "a server over full tables");
 }
 
 #[test]

@@ -4,7 +4,7 @@ use Rattle.s3_cli.proofs.FaultsLemmas.{faults_told}
 use Rattle.s3_cli.proofs.events.script_answered.Goals as goal
 
 pub returns-then-faults : goal.returns-then-faults
-returns-then-faults c =
+returns-then-faults g c =
     let script = c.args.script.now in
     let stands = c.in_ok-world.ensures.stands in
     rw c.if-faults.true

@@ -1,0 +1,22 @@
+//! Keepers that the tests run the program over.
+use s3_keepers::Keeper;
+use s3_names::BucketName;
+use s3_records::MapRecords;
+use s3_terms::NoMemory;
+use std::alloc::Global;
+
+/// Tables that have no room for a bucket, so that a run shows whether it was asked for them.
+#[derive(Clone, Copy)]
+pub(crate) struct FullTables;
+
+impl Keeper for FullTables {
+    type Kept = MapRecords;
+
+    fn keep(&self, alloc: Global, buckets: &[BucketName]) -> Result<MapRecords, NoMemory> {
+        if buckets.is_empty() {
+            MapRecords::of_buckets(alloc, buckets)
+        } else {
+            Err(NoMemory)
+        }
+    }
+}
