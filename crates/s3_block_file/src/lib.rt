@@ -1,6 +1,6 @@
-//! The bytes of bodies in one file. Each body lies in an extent of its own, and nothing is written where a live body lies, so a crash leaves
-//! the bytes of each that was synced. What is free isn't kept on the disk: it is counted when the file is opened, from the extents of
-//! the live bodies.
+//! The bytes of bodies in one file. Each body lies in an extent of its own, which is apart from all that are live. As long as pieces are put
+//! only where room was reserved for them, a crash leaves the bytes of each body that was synced. What is free isn't kept on the disk: it
+//! is counted when the file is opened, from the extents of the live bodies.
 #![tactic(auto)]
 
 mod block_file;
