@@ -8,7 +8,7 @@ use s3_memory_disk::MemoryDisk;
 use s3_stored_rows::{
     Change, StoreNumbers, StoredBucket, StoredPart, StoredRows, StoredUpload, StoredVersion,
 };
-use s3_tables::TableFile;
+use s3_tables::{TableFile, stored_rows_are_unique};
 use s3_terms::NoMemory;
 use sqlite::{Error, FileStore};
 use std::alloc::Global;
@@ -26,16 +26,16 @@ pub struct SqlRows {
 }
 
 impl Model for SqlRows {
-    ghost use Rattle.std.specs.Prelude.{◌≡◌, IsTrue};
     ghost use Rattle.sqlite.specs.Files.{file_state};
     ghost use Rattle.s3_rows.specs.Columns.{Tables};
     ghost use Rattle.s3_tables.specs.Keeping.{tables};
+    ghost use Rattle.s3_sql_rows.specs.Known.{IsKnown};
 
     ghost Value = { Tables };
 
     ghost view = { λ s. tables (file_state s.known.value) };
 
-    ghost invariant = { λ s. IsTrue (file_state s.file).is_open → tables (file_state s.file) ≡ tables (file_state s.known.value) };
+    ghost invariant = { λ s. IsKnown (file_state s.file) (file_state s.known.value) };
 }
 
 // It is written out, so that no crate above proves again how a store over files is dropped.
@@ -60,6 +60,7 @@ impl SqlRows {
     pub fn new(alloc: Global) -> Result<SqlRows, NoMemory>
         ensures { IfOk result (λ rows. rows ≡ first_tables (record { row = pos 1; form = pos 1; number = pos 0 })) }
     {
+        stored_rows_are_unique();
         let Ok(database) = open_in_memory(alloc) else {
             return Err(NoMemory);
         };
@@ -78,11 +79,23 @@ impl SqlRows {
     }
 }
 
-/// A call takes the time of its statements: those that ask visit the rows that they show, and a change syncs the log once.
+/// A call takes the time of its statements: those that ask visit the rows that they show, and a change syncs the log once. A crash
+/// leaves nothing.
 impl StoredRows for SqlRows {
     ghost tables = { λ rows. rows };
 
+    ghost leaves = { λ _ _. ⊥ };
+
+    fn are_unique(&self) {
+        let _ = &self.known;
+    }
+
+    fn is_live(&self) -> bool {
+        true
+    }
+
     fn apply(&mut self, changes: &[Change]) -> Result<(), NoMemory> {
+        stored_rows_are_unique();
         match self.file.apply(changes) {
             Ok(()) => {
                 self.known = Snapshot::of(&self.file);

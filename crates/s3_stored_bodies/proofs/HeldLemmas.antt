@@ -1,5 +1,5 @@
 -- Bodies in memory, as one of them changes.
-use Rattle.std.proofs.Common.{◌≡◌, inl, inr, sym, ap, subst, refl, ◌∙◌, ℕ, ◌+◌, ◌<◌, IsTrue, List, [], ◌∷◌, Option, Some, None, is_some, option_map, unwrap_or, Result, Ok, Err, IfOk, OnErr, arith}
+use Rattle.std.proofs.Common.{◌≡◌, inl, inr, sym, ap, subst, refl, ◌∙◌, ℕ, ◌+◌, ◌<◌, max, IsTrue, List, [], ◌∷◌, Option, Some, None, is_some, option_map, unwrap_or, Result, Ok, Err, IfOk, OnOk, OnErr, arith}
 use Rattle.std.specs.FinMap as map
 use Rattle.std.specs.Ordering.{nat_cmp}
 use Rattle.s3_stored_bodies.specs.declared.held.HeldBody.{HeldBody}
@@ -70,10 +70,10 @@ bytes_there m k held there = ap (λ found. unwrap_or found []) (get-contents_of 
 pub below_none : {next : ℕ} (m : Held) → m ≡ map.empty → AreBelow next m
 below_none m none = λ q there. absurd (cc (there, ap (λ n. is_some (map.get n q)) none, ap is_some (map.get-empty {X = HeldBody} nat_cmp q)))
 
-pub below_put : (m : Held) (k next : ℕ) (held : HeldBody) → AreBelow k m → k < next → AreBelow next (map.insert m k held)
-below_put m k next held below less = λ q there.
+pub below_more : (m : Held) (k next : ℕ) (held : HeldBody) → AreBelow next m → AreBelow (max next (k + 1)) (map.insert m k held)
+below_more m k next held below = λ q there.
     elim (same_or q k) [
-      | inl same ↦ subst (λ q. q < next) (sym same) less
+      | inl same ↦ subst (λ q. q < max next (k + 1)) (sym same) (omega arith)
       | inr differ ↦ let small = below q (ap is_some (sym (get-insert_other m k held q differ)) ∙ there) in omega arith
     ]
 
@@ -118,3 +118,7 @@ if_both (Err e) then p q = tt
 pub then_err : {T E P Q : Type 0} (r : Result T E) → (P → Q) → OnErr r P → OnErr r Q
 then_err (Ok x) then p = tt
 then_err (Err e) then p = then p
+
+pub then_ok : {T E P Q : Type 0} (r : Result T E) → (P → Q) → OnOk r P → OnOk r Q
+then_ok (Ok x) then p = then p
+then_ok (Err e) then p = tt

@@ -1,6 +1,7 @@
 //! Bodies in memory.
-ghost use Rattle.std.specs.Prelude.{◌≡◌, ◌<◌, ◌^◌, Some, None, true, IfOk, OnErr};
+ghost use Rattle.std.specs.Prelude.{◌≡◌, ◌↔◌, ◌<◌, ◌^◌, [], ◌∷◌, Some, None, true, IsTrue, IfOk, OnOk, OnErr};
 ghost use Rattle.std.specs.FinMap as map;
+ghost use Rattle.s3_stored_bodies.specs.Numbers.{named_more};
 ghost use Rattle.s3_stored_bodies.specs.Held.{contents_of, uses_of, named_where_held};
 ghost use Rattle.s3_stored_bodies.specs.declared.held.HeldBody.{HeldBody};
 
@@ -15,8 +16,8 @@ use std::marker::Model;
 /// No number reaches this one: integers of SQLite end here.
 const END_OF_NUMBERS: u64 = 1 << 63;
 
-/// Bodies in memory, which are gone when the server ends. Their numbers rise from 0, and none is given twice. To find a
-/// body costs the logarithm of how many there are.
+/// Bodies in memory, which are gone when the server ends. A number that `keep` gives is above all that stand, or stood. To
+/// find a body costs the logarithm of how many there are.
 #[derive(Drop)]
 pub struct MemoryBodies {
     by_number: BTreeMap<u64, HeldBody>,
@@ -49,6 +50,25 @@ impl MemoryBodies {
         }
     }
 
+    /// Whether a row names this number.
+    pub fn is_named(&self, number: u64) -> bool
+        ensures { IsTrue result ↔ (0 < uses_of self.now number) }
+    {
+        self.by_number.contains_key(&number)
+    }
+
+    /// Keeps a body for one row under a number that its caller chose, and which no row names. `NoMemory` leaves all as it
+    /// was.
+    pub fn keep_under(&mut self, number: u64, body: Body) -> Result<(), NoMemory>
+        requires unnamed { uses_of self.old number ≡ 0 }
+        requires below { number < 2 ^ 63 }
+        ensures contents { OnOk result (contents_of self.new ≡ map.insert (contents_of self.old) number body) }
+        ensures uses { OnOk result (uses_of self.new ≡ named_more (number ∷ []) (uses_of self.old)) }
+        ensures err { OnErr result (self.new ≡ self.old) }
+    {
+        self.put(number, body)
+    }
+
     // Puts a body under the next number, for one row. `NoMemory` leaves all as it was.
     fn add(&mut self, body: Body) -> Result<u64, NoMemory>
         ensures ok { IfOk result (λ number. self.new ≡ map.insert self.old number (record { body = body; more = 0 })) }
@@ -60,10 +80,21 @@ impl MemoryBodies {
         if number >= END_OF_NUMBERS {
             return Err(NoMemory);
         }
+        self.put(number, body)?;
+        Ok(number)
+    }
+
+    // Puts a body under a number, for one row, in place of what stood there. The next number is above it. `NoMemory` leaves
+    // all as it was.
+    fn put(&mut self, number: u64, body: Body) -> Result<(), NoMemory>
+        requires { number < 2 ^ 63 }
+        ensures ok { OnOk result (self.new ≡ map.insert self.old number (record { body = body; more = 0 })) }
+        ensures err { OnErr result (self.new ≡ self.old) }
+    {
         let former = self.by_number.insert(number, HeldBody { body, more: 0 })?;
         drop(former);
-        self.next = number + 1;
-        Ok(number)
+        self.next = self.next.max(number + 1);
+        Ok(())
     }
 
     // The body under a number that is named.

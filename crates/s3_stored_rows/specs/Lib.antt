@@ -2,3 +2,4 @@ pub mod Changes
 pub mod Queries
 pub mod Bodies
 pub mod Rowids
+pub mod Unique

@@ -7,3 +7,4 @@ pub mod OpeningLemmas
 pub mod FreshLemmas
 pub mod DroppingLemmas
 pub mod UploadLemmas
+pub mod MissingLemmas

@@ -15,6 +15,7 @@ ghost use Rattle.s3_table_records.specs.Kept.{kept, catalogue, IsKept, Changes};
 
 use crate::found::{FoundUpload, find_upload};
 use crate::gone::give_up_both;
+use crate::keeping::keep;
 use s3_bodies::Body;
 use s3_calendar::Moment;
 use s3_names::{BucketName, Key, UploadId};
@@ -144,7 +145,7 @@ fn complete_found<R: StoredRows, B: StoredBodies>(
 {
     rows_tell_buckets();
     rows_tell_versions();
-    let held = match bodies.keep(alloc, body) {
+    let held = match keep(rows, bodies, alloc, body) {
         Ok(held) => held,
         Err(failed) => return Err(failed),
     };

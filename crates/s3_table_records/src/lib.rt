@@ -9,6 +9,7 @@ mod completion;
 mod dropping;
 mod found;
 mod gone;
+mod keeping;
 mod named;
 mod opening;
 mod parts;
@@ -17,5 +18,5 @@ mod reading;
 mod table_records;
 mod uploads;
 
-pub use opening::open_buckets;
+pub use opening::{add_missing, open_buckets};
 pub use table_records::TableRecords;

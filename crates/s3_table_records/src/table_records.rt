@@ -2,6 +2,7 @@
 ghost use Rattle.std.specs.Prelude.{◌≡◌, ◌∷◌, ℕ, false, []};
 ghost use Rattle.s3_records.specs.Catalogue.{opening};
 ghost use Rattle.s3_rows.specs.Columns.{StoreColumns, no_rows};
+ghost use Rattle.s3_table_records.specs.Kept.{kept, catalogue, IsKept};
 
 use crate::{asking, buckets, completing, completion, dropping, parts, putting, reading, uploads};
 use s3_bodies::Body;
@@ -61,6 +62,14 @@ impl<R: StoredRows, B: StoredBodies> TableRecords<R, B> {
             bodies,
             next: 1,
         }
+    }
+
+    /// The records that stand in rows, with a rowid above all of theirs, and in the bodies that these name. It takes no memory.
+    pub fn over(rows: R, bodies: B, next: i64) -> TableRecords<R, B>
+        requires { IsKept (kept (R.tables rows) (B.contents bodies) (B.uses bodies) next) }
+        ensures { result ≡ catalogue (kept (R.tables rows) (B.contents bodies) (B.uses bodies) next) }
+    {
+        TableRecords { rows, bodies, next }
     }
 }
 

@@ -1,5 +1,7 @@
 pub mod Texts
+pub mod ListedLemmas
 pub mod StoredLemmas
+pub mod UniqueLemmas
 pub mod StepLemmas
 pub mod RowLemmas
 pub mod TableLemmas
@@ -8,6 +10,9 @@ pub mod StatementLemmas
 pub mod ApplyLemmas
 pub mod MakingLemmas
 pub mod ReadTexts
+pub mod RowTexts
 pub mod SortLemmas
 pub mod AnswerLemmas
 pub mod ReadLemmas
+pub mod RowReadLemmas
+pub mod FoundLemmas

@@ -16,7 +16,7 @@ use Rattle.sqlite.proofs.StateLemmas.{survives_weaker, survives_then}
 use Rattle.s3_rows.specs.Columns.{Tables}
 use Rattle.s3_tables.specs.Schema.{schema}
 use Rattle.s3_tables.specs.Stored.{Stores, tables_in}
-use Rattle.s3_tables.specs.Keeping.{tables, Serves, Keeps, LeavesAlone, Makes, Steps}
+use Rattle.s3_tables.specs.Keeping.{tables, Serves, Keeps, LeavesAlone, Makes, MayBecome, Steps}
 use Rattle.s3_tables.specs.Keeping as spec
 
 -- what an open store may leave at a crash is its last commit
@@ -147,7 +147,7 @@ then_asked change a b c e f one two =
       made = λ _. tt;
       kept = λ clean up. two.kept clean up ∙ one.kept (early clean) (two.was_open clean up);
       was_open = λ clean up. one.was_open (early clean) (two.was_open clean up);
-      survives = survives_then a b c _ _ (λ db. Stores db (change (tables a))) (λ _ db made. made) (λ _ db none. absurd none) one.survives two.survives;
+      survives = survives_then a b c _ _ (MayBecome change a) (λ _ db made. made) (λ _ db none. absurd none) one.survives two.survives;
     }
 
 -- a connection that still answers is asked before a change
@@ -160,7 +160,8 @@ asked_then {X = X} change a b c one up r two =
       made = λ clean. made (same clean) r (two.made clean);
       kept = λ clean. kept (same clean) r (two.kept clean);
       was_open = λ clean opened. one.was_open (early clean) (two.was_open clean opened);
-      survives = survives_then a b c _ _ (λ db. Stores db (change (tables a))) (λ _ db none. absurd none) (λ clean db stored. subst (λ t. Stores db (change t)) (same clean) stored) one.survives two.survives;
+      survives = survives_then a b c _ _ (MayBecome change a) (λ _ db none. absurd none)
+          (λ clean db made. (one.was_open (early clean) made.0, subst (λ t. Stores db (change t)) (same clean) made.1)) one.survives two.survives;
     }
   where
     made : tables b ≡ tables a → (r : Result X Error) → OnOk r (Makes change b c) → OnOk r (Makes change a c)

@@ -19,7 +19,7 @@ use Rattle.sqlite.proofs.StateLemmas.{survives_then, survives_weaker}
 use Rattle.s3_rows.specs.Columns.{Tables}
 use Rattle.s3_tables.specs.Schema.{schema}
 use Rattle.s3_tables.specs.Stored.{Stores, tables_in}
-use Rattle.s3_tables.specs.Keeping.{tables, Serves, Keeps, Steps, Inside, Advances}
+use Rattle.s3_tables.specs.Keeping.{tables, Serves, Keeps, MayBecome, Steps, Inside, Advances}
 use Rattle.s3_tables.proofs.StoredLemmas.{tables_are, stores_all}
 use Rattle.s3_tables.proofs.TableLemmas.{Stands}
 use Rattle.s3_tables.proofs.StepLemmas.{IsSettled, IsSame, keeps_same, left_alone, found_before}
@@ -133,18 +133,20 @@ module _ (old mid new : State) (law : IsSettled new) (keeps : HasCleanDisk old �
 
   -- it is committed, or the commit fails
   module _ (change : Tables → Tables) (base : Database) (inside : HasCleanDisk mid → Inside base (change (tables old)) mid) (survives : Survives old mid (λ _. ⊥)) (last : Survives mid new (λ db. db ≡ mid.now.trees)) where
-    whole : Survives old new (λ db. Stores db (change (tables old)))
-    whole = survives_then old mid new _ _ (λ db. Stores db (change (tables old))) (λ _ db none. absurd none)
-        (λ clean db is. subst (λ t. Stores t (change (tables old))) (sym is) (inside (omega (arith, last.clean))).stores) survives last
-
     mid_clean : HasCleanDisk new → HasCleanDisk mid
     mid_clean clean = omega (arith, last.clean)
+
+    may_become : HasCleanDisk new → (db : Trees) → db ≡ mid.now.trees → MayBecome change old db
+    may_become clean db is = let it = inside (mid_clean clean) in ((kept (mid_clean clean)).was_open it.is_open, subst (λ t. Stores t (change (tables old))) (sym is) it.stores)
+
+    whole : Survives old new (MayBecome change old)
+    whole = survives_then old mid new _ _ (MayBecome change old) (λ _ db none. absurd none) may_become survives last
 
     was_kept : HasCleanDisk new → Keeps old
     was_kept clean = keeps (omega (arith, whole.clean))
 
     found : HasCleanDisk new → (db : Trees) → new.may_leave db → Stores db (tables_in db)
-    found clean db left = elim (whole.crash clean db left) [ inl before ↦ (was_kept clean).found db before | inr made ↦ stores_all db _ made ]
+    found clean db left = elim (whole.crash clean db left) [ inl before ↦ (was_kept clean).found db before | inr made ↦ stores_all db _ made.1 ]
 
     pub commit_steps : {X : Type 0} (r : Result X Error)
         → (HasCleanDisk new → OnOk r (IsTrue mid.in_transaction × Shows mid new mid.now mid.now false × KeepsCounts mid new × (new.marks ≡ [])))

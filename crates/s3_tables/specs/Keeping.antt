@@ -32,19 +32,23 @@ pub record Makes (change : Tables → Tables) (old new : State) : Type 0 where
   pub made : tables new ≡ change (tables old)
   pub settled : (db : Trees) → new.may_leave db → Stores db (tables new)
 
+-- a crash may leave the change of an open connection; one that was shut changes nothing any more
+abbrev pub MayBecome : (Tables → Tables) → State → Trees → Type 0
+MayBecome change old db = IsTrue old.is_open × Stores db (change (tables old))
+
 -- nothing is changed, or the disk has shut the connection
 abbrev pub LeavesAlone : State → State → Type 0
 LeavesAlone old new = IsTrue new.is_open → tables new ≡ tables old
 
 -- What a call that writes promises: where it answers Ok the change is made, and no crash undoes it; where it answers an error
 -- and the connection is open nothing is changed; a connection that was shut stays shut; and a crash, during the call or after
--- it, leaves what it could leave before, or the whole change.
+-- it, leaves what it could leave before, or, where the connection was open, the whole change.
 pub record Steps {X : Type 0} (change : Tables → Tables) (old new : State) (result : Result X Error) : Type 0 where
   pub keeps : HasCleanDisk new → Keeps new
   pub made : HasCleanDisk new → OnOk result (Makes change old new)
   pub kept : HasCleanDisk new → OnErr result (LeavesAlone old new)
   pub was_open : HasCleanDisk new → IsTrue new.is_open → IsTrue old.is_open
-  pub survives : Survives old new (λ db. Stores db (change (tables old)))
+  pub survives : Survives old new (MayBecome change old)
 
 -- the same of a call that reads
 pub record Reads (old new : State) : Type 0 where

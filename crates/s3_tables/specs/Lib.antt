@@ -1,4 +1,5 @@
 pub mod Schema
+pub mod Listed
 pub mod Stored
 pub mod Statements
 pub mod Keeping

@@ -194,6 +194,17 @@ pub(crate) fn first_store(rows: &[Row]) -> Result<Option<StoreNumbers>, Error>
     }
 }
 
+/// What each row says.
+pub(crate) fn all_stores(alloc: Global, rows: &[Row]) -> Result<Vec<StoreNumbers>, Error>
+    ensures { IfOk result (λ all. map store_columns all.items ≡ map store_shown rows.now) }
+{
+    let mut all = Vec::new(alloc);
+    for row in rows {
+        all.push(store_from(row)?)?;
+    }
+    Ok(all)
+}
+
 /// Whether there is a row.
 pub(crate) fn has_row(rows: &[Row]) -> bool
     ensures { result ≡ is_some (slice_get rows.now 0) }

@@ -4,12 +4,16 @@
 
 mod applying;
 mod changing;
+mod comparing;
 mod decoding;
+mod laws;
 mod making;
 mod querying;
 mod reading_buckets;
+mod reading_rows;
 mod reading_uploads;
 mod reading_versions;
 mod table_file;
 
+pub use laws::{stored_rows_are_unique, stored_tables_are_one};
 pub use table_file::TableFile;

@@ -6,18 +6,23 @@ ghost use Rattle.sqlite.specs.Given.{IsPlain};
 ghost use Rattle.sqlite.specs.Listing.{understood};
 ghost use Rattle.sqlite.specs.Values.{bound};
 ghost use Rattle.sqlite.specs.Held.{state};
-ghost use Rattle.sqlite.specs.View.{doubt};
+ghost use Rattle.sqlite.specs.View.{doubt, IsClean};
+ghost use Rattle.sqlite.specs.Steps.{IsFresh};
+ghost use Rattle.s3_rows.specs.Columns.{Tables};
 ghost use Rattle.s3_stored_rows.specs.Changes.{after_all, store_columns};
 ghost use Rattle.s3_tables.specs.Schema.{no_schema, schema};
-ghost use Rattle.s3_tables.specs.Keeping.{Keeps, Serves, Steps, Reads, IsMade};
+ghost use Rattle.s3_tables.specs.Stored.{Stores, tables_in};
+ghost use Rattle.s3_tables.specs.Keeping.{tables, Keeps, Serves, Steps, Reads, IsMade};
 ghost use Rattle.s3_tables.specs.Making.{first_tables};
 
 use crate::applying::apply_in;
+use crate::comparing::is_ours;
 use crate::making::{is_new, make_in};
 use crate::querying::query_in;
 use s3_stored_rows::{Change, StoreNumbers};
 use sqlite::{Alter, Connection, Error, ErrorCode, Row};
 use sqlite_value::value::ValueRef;
+use std::alloc::Global;
 use std::marker::Model;
 
 /// The tables of a store over any disk. Contracts see its connection: `tables` of that is what it holds. After an error it
@@ -154,5 +159,42 @@ impl<S: Alter + Drop> TableFile<S> {
             conn,
             is_live: true,
         })
+    }
+
+    // Takes a store that was just opened, or whose changes were undone.
+    fn over(alloc: Global, store: S) -> Result<TableFile<S>, Error>
+        requires { IsClean (S.Store.view store) → IsFresh (S.Store.view store) }
+        ensures keeps { IfOk result (λ t. HasCleanDisk (state S.Store t) → Keeps (state S.Store t)) }
+        ensures open { IfOk result (λ t. HasCleanDisk (state S.Store t) → IsTrue (state S.Store t).is_open) }
+        ensures trees { IfOk result (λ t. HasCleanDisk (state S.Store t) → (state S.Store t).now.trees ≡ (S.Store.view store).trees) }
+        ensures falls { IfOk result (λ t. doubt (S.Store.view store).is_clean ≤ doubt (state S.Store t).is_clean) }
+    {
+        let conn = match Connection::over(alloc, store) {
+            Ok(conn) => conn,
+            Err((error, _)) => return Err(error),
+        };
+        if !is_ours(conn.schema()) {
+            return Err(Error::SqliteFailure(ErrorCode::NotADatabase));
+        }
+        Ok(TableFile {
+            conn,
+            is_live: true,
+        })
+    }
+
+    /// Takes a database that has the tables and nothing else, as it was last committed. What the connection did since is undone,
+    /// and the database is read anew. One with another schema answers `NotADatabase`, and a connection that a failure has shut
+    /// `Closed`. The row of `store` says which form the rows have, and nothing is said of it here.
+    pub fn found(alloc: Global, conn: Connection<S>) -> Result<TableFile<S>, Error>
+        ensures found { IfOk result (λ t. HasCleanDisk (state S.Store t) → IsMade (tables_in (state S.Store conn).committed.trees) (state S.Store t)) }
+        ensures trees { IfOk result (λ t. HasCleanDisk (state S.Store t) → (state S.Store t).now.trees ≡ (state S.Store conn).committed.trees) }
+        ensures stored { IfOk result (λ t. HasCleanDisk (state S.Store t) → (u : Tables) → Stores (state S.Store conn).committed.trees u → tables (state S.Store t) ≡ u) }
+        ensures falls { IfOk result (λ t. doubt (state S.Store conn).is_clean ≤ doubt (state S.Store t).is_clean) }
+    {
+        let store = conn.into_store();
+        if store.is_broken() {
+            return Err(Error::SqliteFailure(ErrorCode::Closed));
+        }
+        TableFile::over(alloc, store)
     }
 }

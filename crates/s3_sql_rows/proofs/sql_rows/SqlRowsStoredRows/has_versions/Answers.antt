@@ -1,15 +1,16 @@
-use Rattle.std.proofs.Common.{refl, ◌∙◌}
+use Rattle.std.proofs.Common.{refl}
 use Rattle.sqlite.specs.Files.{file_state}
 use Rattle.s3_stored_rows.specs.Queries as spec
 use Rattle.s3_sql_rows.proofs.CleanLemmas.{stays_clean}
-use Rattle.s3_sql_rows.proofs.KnownLemmas.{still_known, known_found}
+use Rattle.s3_sql_rows.proofs.KnownLemmas.{seen, known_still, known_found}
 use Rattle.s3_sql_rows.proofs.sql_rows.SqlRowsStoredRows.has_versions.Goals as goal
 
 pub invariant_of-self : goal.invariant_of-self
-invariant_of-self c = still_known (file_state c.self.inside.file) (file_state c.has_versions.new.self) _ (stays_clean (λ _. refl) c.has_versions.new.self) c.has_versions.ensures.reads c.self.invariant
+invariant_of-self c =
+    known_still (file_state c.self.inside.file) (file_state c.has_versions.new.self) (file_state c.self.inside.known.value) (stays_clean (λ _. refl) c.has_versions.new.self) c.has_versions.ensures.reads c.self.invariant
 
 pub returns-clause-value : goal.returns-clause-value
 returns-clause-value c =
     let clean = stays_clean (λ _. refl) c.has_versions.new.self in
-    known_found (file_state c.self.inside.file) (file_state c.has_versions.new.self) c.args.self.now clean c.has_versions.ensures.reads (λ up. c.self.invariant up ∙ c.self.view_is)
+    known_found (file_state c.self.inside.file) (file_state c.has_versions.new.self) c.args.self.now clean c.has_versions.ensures.reads (seen (file_state c.self.inside.file) (file_state c.self.inside.known.value) c.args.self.now c.self.invariant c.self.view_is)
     (λ found. found) (spec.has_versions c.args.bucket.now) c.has_versions.result c.told.result c.told.ensures (c.has_versions.ensures.value clean) (c.has_versions.ensures.stays clean)

@@ -1,17 +1,18 @@
-use Rattle.std.proofs.Common.{refl, ◌∙◌}
+use Rattle.std.proofs.Common.{refl}
 use Rattle.std.specs.Prelude.{option_map}
 use Rattle.sqlite.specs.Files.{file_state}
 use Rattle.s3_stored_rows.specs.Changes.{version_columns}
 use Rattle.s3_stored_rows.specs.Queries as spec
 use Rattle.s3_sql_rows.proofs.CleanLemmas.{stays_clean}
-use Rattle.s3_sql_rows.proofs.KnownLemmas.{still_known, known_found}
+use Rattle.s3_sql_rows.proofs.KnownLemmas.{seen, known_still, known_found}
 use Rattle.s3_sql_rows.proofs.sql_rows.SqlRowsStoredRows.newest.Goals as goal
 
 pub invariant_of-self : goal.invariant_of-self
-invariant_of-self c = still_known (file_state c.self.inside.file) (file_state c.newest.new.self) _ (stays_clean (λ _. refl) c.newest.new.self) c.newest.ensures.reads c.self.invariant
+invariant_of-self c =
+    known_still (file_state c.self.inside.file) (file_state c.newest.new.self) (file_state c.self.inside.known.value) (stays_clean (λ _. refl) c.newest.new.self) c.newest.ensures.reads c.self.invariant
 
 pub returns-clause-value : goal.returns-clause-value
 returns-clause-value c =
     let clean = stays_clean (λ _. refl) c.newest.new.self in
-    known_found (file_state c.self.inside.file) (file_state c.newest.new.self) c.args.self.now clean c.newest.ensures.reads (λ up. c.self.invariant up ∙ c.self.view_is)
+    known_found (file_state c.self.inside.file) (file_state c.newest.new.self) c.args.self.now clean c.newest.ensures.reads (seen (file_state c.self.inside.file) (file_state c.self.inside.known.value) c.args.self.now c.self.invariant c.self.view_is)
     (option_map version_columns) (spec.newest_version c.args.bucket.now c.args.key.now) c.newest.result c.told.result c.told.ensures (c.newest.ensures.value clean) (c.newest.ensures.stays clean)

@@ -1,4 +1,4 @@
-use Rattle.std.proofs.Common.{refl, ◌∙◌, to_z-of_z}
+use Rattle.std.proofs.Common.{refl, to_z-of_z}
 use Rattle.std.specs.Prelude.{Vec, map, take}
 use Rattle.std.specs.declared.alloc.Global.{Global}
 use Rattle.s3_stored_rows.specs.declared.rows.StoredUpload.{StoredUpload}
@@ -6,14 +6,15 @@ use Rattle.sqlite.specs.Files.{file_state}
 use Rattle.s3_stored_rows.specs.Changes.{upload_columns}
 use Rattle.s3_stored_rows.specs.Queries as spec
 use Rattle.s3_sql_rows.proofs.CleanLemmas.{stays_clean}
-use Rattle.s3_sql_rows.proofs.KnownLemmas.{still_known, known_found}
+use Rattle.s3_sql_rows.proofs.KnownLemmas.{seen, known_still, known_found}
 use Rattle.s3_sql_rows.proofs.sql_rows.SqlRowsStoredRows.uploads_above.Goals as goal
 
 pub invariant_of-self : goal.invariant_of-self
-invariant_of-self c = still_known (file_state c.self.inside.file) (file_state c.uploads_above.new.self) _ (stays_clean (λ _. refl) c.uploads_above.new.self) c.uploads_above.ensures.reads c.self.invariant
+invariant_of-self c =
+    known_still (file_state c.self.inside.file) (file_state c.uploads_above.new.self) (file_state c.self.inside.known.value) (stays_clean (λ _. refl) c.uploads_above.new.self) c.uploads_above.ensures.reads c.self.invariant
 
 pub returns-clause-value : goal.returns-clause-value
 returns-clause-value c =
     let clean = stays_clean (λ _. refl) c.uploads_above.new.self in
-    known_found (file_state c.self.inside.file) (file_state c.uploads_above.new.self) c.args.self.now clean c.uploads_above.ensures.reads (λ up. c.self.invariant up ∙ c.self.view_is)
+    known_found (file_state c.self.inside.file) (file_state c.uploads_above.new.self) c.args.self.now clean c.uploads_above.ensures.reads (seen (file_state c.self.inside.file) (file_state c.self.inside.known.value) c.args.self.now c.self.invariant c.self.view_is)
     (λ (all : Vec StoredUpload Global). map upload_columns all.items) (λ t. take c.args.most (spec.uploads_above c.args.bucket.now c.args.key.now c.args.id t)) c.uploads_above.result c.told.result c.told.ensures (rw (to_z-of_z c.ranges.id) at (c.uploads_above.ensures.value clean)) (c.uploads_above.ensures.stays clean)

@@ -1,4 +1,4 @@
-use Rattle.std.proofs.Common.{refl, ◌∙◌}
+use Rattle.std.proofs.Common.{refl}
 use Rattle.std.specs.Prelude.{Vec, map, take}
 use Rattle.std.specs.declared.alloc.Global.{Global}
 use Rattle.s3_stored_rows.specs.declared.rows.StoredVersion.{StoredVersion}
@@ -6,14 +6,15 @@ use Rattle.sqlite.specs.Files.{file_state}
 use Rattle.s3_stored_rows.specs.Changes.{version_columns}
 use Rattle.s3_stored_rows.specs.Queries as spec
 use Rattle.s3_sql_rows.proofs.CleanLemmas.{stays_clean}
-use Rattle.s3_sql_rows.proofs.KnownLemmas.{still_known, known_found}
+use Rattle.s3_sql_rows.proofs.KnownLemmas.{seen, known_still, known_found}
 use Rattle.s3_sql_rows.proofs.sql_rows.SqlRowsStoredRows.versions_from.Goals as goal
 
 pub invariant_of-self : goal.invariant_of-self
-invariant_of-self c = still_known (file_state c.self.inside.file) (file_state c.versions_from.new.self) _ (stays_clean (λ _. refl) c.versions_from.new.self) c.versions_from.ensures.reads c.self.invariant
+invariant_of-self c =
+    known_still (file_state c.self.inside.file) (file_state c.versions_from.new.self) (file_state c.self.inside.known.value) (stays_clean (λ _. refl) c.versions_from.new.self) c.versions_from.ensures.reads c.self.invariant
 
 pub returns-clause-value : goal.returns-clause-value
 returns-clause-value c =
     let clean = stays_clean (λ _. refl) c.versions_from.new.self in
-    known_found (file_state c.self.inside.file) (file_state c.versions_from.new.self) c.args.self.now clean c.versions_from.ensures.reads (λ up. c.self.invariant up ∙ c.self.view_is)
+    known_found (file_state c.self.inside.file) (file_state c.versions_from.new.self) c.args.self.now clean c.versions_from.ensures.reads (seen (file_state c.self.inside.file) (file_state c.self.inside.known.value) c.args.self.now c.self.invariant c.self.view_is)
     (λ (all : Vec StoredVersion Global). map version_columns all.items) (λ t. take c.args.most (spec.versions_from c.args.bucket.now c.args.key.now t)) c.versions_from.result c.told.result c.told.ensures (c.versions_from.ensures.value clean) (c.versions_from.ensures.stays clean)

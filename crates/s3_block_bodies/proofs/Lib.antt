@@ -1,0 +1,9 @@
+pub mod FileLemmas
+pub mod HeaderLemmas
+pub mod ListLemmas
+pub mod MapLemmas
+pub mod ReadingLemmas
+pub mod RoomLemmas
+pub mod SameLemmas
+pub mod SoundLemmas
+pub mod SparesLemmas

@@ -1,0 +1,37 @@
+-- Bodies in a file, each in an extent of its own that its number names.
+use Rattle.std.specs.Prelude.{◌≡◌, ◌≢◌, ℕ, ◌+◌, List, length, Bool, IsTrue, Some}
+use Rattle.std.specs.FinMap as map
+use Rattle.s3_stored_bodies.specs.Numbers.{Contents}
+use Rattle.s3_block_file.specs.declared.extent.Extent.{Extent}
+use Rattle.s3_block_file.specs.Extent.{granules_for, IsAddressable, AreApart, Stores}
+use Rattle.s3_block_file.specs.Uses.{AreTaken}
+use Rattle.s3_block_bodies.specs.Header.{stored}
+
+-- where a body of so many bytes lies: from the granule of its number on, behind a header of 32 bytes
+abbrev pub extent_of : ℕ → ℕ → Extent
+extent_of number size = record { first = number; size = size + 32 }
+
+-- the file has this body under this number: the header, and the bytes behind it
+abbrev pub IsStored : List ℕ → ℕ → List ℕ → Type 0
+IsStored file number bytes = Stores file (extent_of number (length bytes)) (stored bytes)
+
+-- the file has each of these bodies
+abbrev pub AreStored : Contents → List ℕ → Type 0
+AreStored contents file = (number : ℕ) (bytes : List ℕ) → map.get contents number ≡ Some bytes → IsStored file number bytes
+
+-- the disk has each of these bodies, and so has whatever a crash now leaves
+pub record AreSafe {D : Type 0} (seen : D → List ℕ) (may_leave : D → List ℕ → Type 0) (contents : Contents) (disk : D) : Type 0 where
+  pub now : AreStored contents (seen disk)
+  pub later : (left : List ℕ) → may_leave disk left → AreStored contents left
+
+-- each of these bodies has granules of its own, which nothing else is written to
+pub record AreHoused (contents : Contents) (uses : List ℕ) : Type 0 where
+  pub addressable : (number : ℕ) (bytes : List ℕ) → map.get contents number ≡ Some bytes → IsAddressable (extent_of number (length bytes))
+  pub taken : (number : ℕ) (bytes : List ℕ) → map.get contents number ≡ Some bytes → AreTaken uses number (granules_for (length bytes + 32))
+  pub apart : (m n : ℕ) (a b : List ℕ) → map.get contents m ≡ Some a → map.get contents n ≡ Some b → m ≢ n
+      → AreApart (extent_of m (length a)) (extent_of n (length b))
+
+-- what is true of a keeper at all times; of what the file has, as long as no wrong answer of the disk was taken as true
+pub record IsSound {D : Type 0} (seen : D → List ℕ) (may_leave : D → List ℕ → Type 0) (is_clean : D → Bool) (contents : Contents) (disk : D) (uses : List ℕ) : Type 0 where
+  pub housed : AreHoused contents uses
+  pub safe : IsTrue (is_clean disk) → AreSafe seen may_leave contents disk

@@ -1,0 +1,127 @@
+//! Bodies in memory and in a file.
+ghost use Rattle.std.specs.Prelude.{◌≡◌, ℕ, List, true, Some, IsTrue, IfOk};
+ghost use Rattle.std.specs.FinMap as map;
+ghost use Rattle.s3_stored_bodies.specs.Numbers.{times};
+ghost use Rattle.s3_stored_bodies.specs.Held.{named_where_held};
+ghost use Rattle.s3_block_bodies.specs.Stored.{AreStored, AreSafe, AreHoused};
+ghost use Rattle.s3_block_bodies.specs.Parts.{contents_in, uses_in, disk_in};
+
+use crate::changing;
+use crate::loading::{Loaded, load_all};
+use s3_block_file::BlockFile;
+use s3_bodies::Body;
+use s3_storage::StorageFault;
+use s3_stored_bodies::{MemoryBodies, StoredBodies};
+use s3_terms::NoMemory;
+use sqlite_disk::Disk;
+use std::alloc::Global;
+use std::marker::Model;
+
+/// Bodies in memory and in a file, from which a later run has them again. The number of a body is the granule of the file at
+/// which it begins.
+///
+/// A body is on the disk, synced, before `keep` answers. What a crash leaves, and what an `open` finds, is told as long as
+/// no wrong answer of the disk was taken as true (`is_clean`); all else holds whatever the disk does, since the bytes are
+/// read from memory. After a sync that failed nothing more is asked of the file, and each `keep` has an error.
+#[derive(Drop)]
+pub struct BlockBodies<D: Disk> {
+    memory: MemoryBodies,
+    file: BlockFile<D>,
+}
+
+impl<D: Disk> Model for BlockBodies<D> {
+    ghost use Rattle.s3_stored_bodies.specs.Held.{contents_of};
+    ghost use Rattle.s3_block_file.specs.BlockFile.{disk_of, uses_of as granules_of};
+    ghost use Rattle.s3_block_bodies.specs.Stored.{IsSound};
+    ghost use Rattle.s3_block_bodies.specs.Parts.{Parts, coded_parts};
+
+    ghost Value = { Parts D };
+
+    ghost coded = { coded_parts D.code };
+
+    ghost view = { λ bodies. record {
+      held = bodies.memory;
+      disk = disk_of bodies.file;
+      granules = granules_of bodies.file;
+    } };
+
+    ghost invariant = { λ bodies. IsSound D.Disk.seen D.Disk.may_leave D.Disk.is_clean (contents_of bodies.memory) (disk_of bodies.file) (granules_of bodies.file) };
+}
+
+impl<D: Disk + Drop> BlockBodies<D> {
+    /// The bodies that a file has under the numbers that rows name: each number as often as rows name it, in any order. All
+    /// other room of the file is free.
+    ///
+    /// # Errors
+    ///
+    /// `Damaged` where a number has no body, a checksum isn't that of the bytes, or two bodies have a granule in common.
+    /// `NoMemory`. `NoRoom` or `Failed` where a call of the disk failed.
+    pub fn open(alloc: Global, mut disk: D, numbers: &[u64]) -> Result<BlockBodies<D>, StorageFault>
+        requires { IsTrue (D.Disk.is_usable disk) }
+        ensures uses { IfOk result (λ bodies. uses_in bodies ≡ (λ number. times number numbers.now)) }
+        ensures found { IfOk result (λ bodies. IsTrue (D.Disk.is_clean (disk_in bodies)) → AreStored (contents_in bodies) (D.Disk.seen disk)) }
+        ensures seen { IfOk result (λ bodies. D.Disk.seen (disk_in bodies) ≡ D.Disk.seen disk) }
+        ensures live { IfOk result (λ bodies. IsTrue (D.Disk.is_usable (disk_in bodies))) }
+        ensures clean { IfOk result (λ bodies. IsTrue (D.Disk.is_clean (disk_in bodies)) → IsTrue (D.Disk.is_clean disk)) }
+    {
+        let loaded = load_all(alloc, &mut disk, numbers)?;
+        let Loaded { memory, extents } = loaded;
+        let file = BlockFile::open(alloc, disk, extents.as_slice())?;
+        Ok(BlockBodies { memory, file })
+    }
+
+    /// Whether a body may still be kept: no sync of the file has failed.
+    pub fn is_live(&self) -> bool
+        ensures { result ≡ D.Disk.is_usable (disk_in self.now) }
+    {
+        self.file.is_usable()
+    }
+
+    /// That the disk has each body that a row names, and so has whatever a crash now leaves; and that nothing else is written
+    /// where it lies. It costs nothing.
+    pub fn are_safe(&self)
+        ensures housed { AreHoused (contents_in self.now) self.now.granules }
+        ensures safe { IsTrue (D.Disk.is_clean (disk_in self.now)) → AreSafe D.Disk.seen D.Disk.may_leave (contents_in self.now) (disk_in self.now) }
+    {
+        let _ = &self.file;
+    }
+
+    /// The disk, as it is.
+    pub fn into_disk(self) -> D
+        ensures { result ≡ disk_in self }
+    {
+        let BlockBodies { memory: _, file } = self;
+        file.into_disk()
+    }
+}
+
+/// A call of `keep` takes the time to write the body and to sync it; all others don't touch the file.
+impl<D: Disk + Drop> StoredBodies for BlockBodies<D> {
+    ghost contents = { contents_in };
+
+    ghost uses = { uses_in };
+
+    ghost is_in_memory = { true };
+
+    ghost named_where_there = { λ bodies. named_where_held bodies.held };
+
+    fn keep(&mut self, alloc: Global, body: Body) -> Result<u64, NoMemory> {
+        changing::keep(&mut self.memory, &mut self.file, alloc, body)
+    }
+
+    fn share(&mut self, number: u64) -> Result<(), NoMemory> {
+        self.memory.share(number)
+    }
+
+    fn give_up(&mut self, number: u64) {
+        changing::give_up(&mut self.memory, &mut self.file, number);
+    }
+
+    fn body(&mut self, alloc: Global, number: u64) -> Result<Body, NoMemory> {
+        self.memory.body(alloc, number)
+    }
+
+    fn size(&self, number: u64) -> u64 {
+        self.memory.size(number)
+    }
+}

@@ -1,0 +1,2 @@
+pub mod OpeningLemmas
+pub mod ReadingLemmas

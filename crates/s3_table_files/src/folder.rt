@@ -1,0 +1,33 @@
+//! The folder of a store.
+ghost use Rattle.std.specs.Prelude.{IfErr};
+ghost use Rattle.s3_table_files.specs.Faults.{IsOfOpening};
+
+use crate::faults::system_fault;
+use s3_storage::StorageFault;
+use std::fs::{self, Files};
+use std::io::ErrorKind;
+
+/// Makes a folder at a path. That it is there already is fine. Folders above it aren't made.
+///
+/// `NotAStore` comes where something else stands there, `NoMemory` where memory runs out, `NoRoom` where the disk has none, and
+/// `Failed` where the system refuses it.
+pub fn make_folder(files: &impl Files, path: &str) -> Result<(), StorageFault>
+    ensures { IfErr result IsOfOpening }
+{
+    match fs::create_dir(files, path) {
+        Ok(()) => Ok(()),
+        Err(error) if error.kind() == ErrorKind::AlreadyExists => is_folder(files, path),
+        Err(error) => Err(system_fault(&error)),
+    }
+}
+
+// That what stands at the path is a folder.
+fn is_folder(files: &impl Files, path: &str) -> Result<(), StorageFault>
+    ensures { IfErr result IsOfOpening }
+{
+    match fs::metadata(files, path) {
+        Ok(found) if found.is_dir() => Ok(()),
+        Ok(_) => Err(StorageFault::NotAStore),
+        Err(error) => Err(system_fault(&error)),
+    }
+}

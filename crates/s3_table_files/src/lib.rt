@@ -1,0 +1,15 @@
+//! The tables and the blocks of a store in files of the system: made where there is nothing yet, and found again.
+#![tactic(auto)]
+
+mod blocks;
+mod faults;
+mod file_tables;
+mod folder;
+mod reading;
+mod tables;
+
+pub use blocks::open_blocks;
+pub use file_tables::FileTables;
+pub use folder::make_folder;
+pub use reading::read_tables;
+pub use tables::open_tables;

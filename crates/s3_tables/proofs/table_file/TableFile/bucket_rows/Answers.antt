@@ -1,0 +1,20 @@
+use Rattle.std.specs.Prelude.{Vec, map}
+use Rattle.std.specs.declared.alloc.Global.{Global}
+use Rattle.s3_stored_rows.specs.declared.rows.StoredBucket.{StoredBucket}
+use Rattle.sqlite.specs.Held.{state}
+use Rattle.s3_stored_rows.specs.Changes.{bucket_columns}
+use Rattle.s3_tables.proofs.RowTexts.{bucket_rows_is}
+use Rattle.s3_tables.proofs.RowReadLemmas.{bucket_rows_found}
+use Rattle.s3_tables.proofs.AnswerLemmas.{as_asked, on_ok}
+use Rattle.s3_tables.proofs.table_file.TableFile.bucket_rows.Goals as goal
+
+pub query-requires : goal.query-requires
+query-requires g c = bucket_rows_is.1
+
+pub returns-clause-value : goal.returns-clause-value
+returns-clause-value g c clean =
+    as_asked (λ (all : Vec StoredBucket Global). map bucket_columns all.items) c.all_buckets.result (rw c.as_slice.ensures.value at c.all_buckets.ensures)
+    (bucket_rows_found (state g.S.Store c.args.self.now) (state g.S.Store c.query.new.self) c.in_ok-rows.rows.items (c.in_ok-rows.ensures.shown clean))
+
+pub returns-clause-stays : goal.returns-clause-stays
+returns-clause-stays g c clean = on_ok c.all_buckets.result (c.in_ok-rows.ensures.stays clean)

@@ -1,0 +1,20 @@
+use Rattle.std.specs.Prelude.{Vec, map}
+use Rattle.std.specs.declared.alloc.Global.{Global}
+use Rattle.s3_stored_rows.specs.declared.rows.StoredUpload.{StoredUpload}
+use Rattle.sqlite.specs.Held.{state}
+use Rattle.s3_stored_rows.specs.Changes.{upload_columns}
+use Rattle.s3_tables.proofs.RowTexts.{upload_rows_is}
+use Rattle.s3_tables.proofs.RowReadLemmas.{upload_rows_found}
+use Rattle.s3_tables.proofs.AnswerLemmas.{as_asked, on_ok}
+use Rattle.s3_tables.proofs.table_file.TableFile.upload_rows.Goals as goal
+
+pub query-requires : goal.query-requires
+query-requires g c = upload_rows_is.1
+
+pub returns-clause-value : goal.returns-clause-value
+returns-clause-value g c clean =
+    as_asked (λ (all : Vec StoredUpload Global). map upload_columns all.items) c.all_uploads.result (rw c.as_slice.ensures.value at c.all_uploads.ensures)
+    (upload_rows_found (state g.S.Store c.args.self.now) (state g.S.Store c.query.new.self) c.in_ok-rows.rows.items (c.in_ok-rows.ensures.shown clean))
+
+pub returns-clause-stays : goal.returns-clause-stays
+returns-clause-stays g c clean = on_ok c.all_uploads.result (c.in_ok-rows.ensures.stays clean)
