@@ -5,7 +5,7 @@ use Rattle.s3_devices.specs.Device.{Traffic}
 use Rattle.s3_settings.specs.Devices.{GivesSome}
 use Rattle.s3_settings.specs.Settings.{IsConfigFault, IsSetupOf, replay_mode}
 use Rattle.s3_settings.specs.declared.fault.Fault.{Fault}
-use Rattle.s3_settings.specs.declared.fault.Fault.TheVariants.{CannotRead, CannotWrite, BadKeysLine, BadEventLine, BadSetting, CannotListen, InputFailed, OutputFailed, OutOfMemory}
+use Rattle.s3_settings.specs.declared.fault.Fault.TheVariants.{CannotRead, CannotWrite, BadKeysLine, BadEventLine, BadSetting, CannotListen, CannotUse, InputFailed, OutputFailed, OutOfMemory}
 use Rattle.s3_settings.specs.declared.mode.ReplayMode.{ReplayMode}
 use Rattle.s3_settings.specs.declared.settings.Setup.{Setup}
 use Rattle.s3_cli.specs.Run.{IsReplayFault}
@@ -23,6 +23,7 @@ config_fault known o mode setup t (BadKeysLine number) timed asked why = (refl, 
 config_fault known o mode setup t (BadEventLine number) timed asked why = absurd why
 config_fault known o mode setup t BadSetting timed asked why = (refl, inr (ap is_some timed, (setup, asked, why)))
 config_fault known o mode setup t (CannotListen address) timed asked why = absurd why
+config_fault known o mode setup t (CannotUse path cause) timed asked why = absurd why
 config_fault known o mode setup t InputFailed timed asked why = absurd why
 config_fault known o mode setup t OutputFailed timed asked why = absurd why
 config_fault known o mode setup t OutOfMemory timed asked why = (gives_nothing t, rw (timed, asked.valid) refl)

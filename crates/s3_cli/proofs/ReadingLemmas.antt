@@ -3,7 +3,7 @@ use Rattle.std.proofs.Common.{◌≡◌, ◌∙◌, ℕ, Bool, List, ◌++◌, t
 use Rattle.std.specs.Prelude.{IfErr, IfOk}
 use Rattle.s3_devices.specs.Device.{Traffic}
 use Rattle.s3_settings.specs.declared.fault.Fault.{Fault}
-use Rattle.s3_settings.specs.declared.fault.Fault.TheVariants.{CannotRead, CannotWrite, BadKeysLine, BadEventLine, BadSetting, CannotListen, InputFailed, OutputFailed, OutOfMemory}
+use Rattle.s3_settings.specs.declared.fault.Fault.TheVariants.{CannotRead, CannotWrite, BadKeysLine, BadEventLine, BadSetting, CannotListen, CannotUse, InputFailed, OutputFailed, OutOfMemory}
 use Rattle.s3_settings.specs.declared.mode.ReplayMode.{ReplayMode}
 use Rattle.s3_settings.specs.Devices.{Gives, GivesAll, GivesSome, Reads}
 use Rattle.s3_simulation.specs.Replaying.{HasTaken, Replaying}
@@ -47,6 +47,7 @@ reading_answer mode old new (BadKeysLine number) why = absurd why
 reading_answer mode old new (BadEventLine number) why = absurd why
 reading_answer mode old new BadSetting why = absurd why
 reading_answer mode old new (CannotListen address) why = absurd why
+reading_answer mode old new (CannotUse path cause) why = absurd why
 reading_answer mode old new InputFailed why = why
 reading_answer mode old new OutputFailed why = absurd why
 reading_answer mode old new OutOfMemory why = why

@@ -5,7 +5,7 @@ use Rattle.std.specs.Borrow.{Bor}
 use Rattle.std.specs.List.{list_all}
 use Rattle.s3_config.specs.Settings.{Settings}
 use Rattle.s3_settings.specs.declared.fault.Fault.{Fault}
-use Rattle.s3_settings.specs.declared.fault.Fault.TheVariants.{CannotRead, CannotWrite, BadKeysLine, BadEventLine, BadSetting, CannotListen, InputFailed, OutputFailed, OutOfMemory}
+use Rattle.s3_settings.specs.declared.fault.Fault.TheVariants.{CannotRead, CannotWrite, BadKeysLine, BadEventLine, BadSetting, CannotListen, CannotUse, InputFailed, OutputFailed, OutOfMemory}
 use Rattle.s3_settings.specs.declared.settings.Setup.{Setup}
 use Rattle.s3_cli.specs.declared.sign.Draft.{Draft}
 use Rattle.s3_settings.specs.declared.options.SignOptions.{SignOptions}
@@ -41,6 +41,7 @@ config_fault known o setup moment draft (BadKeysLine number) timed asked drafted
 config_fault known o setup moment draft (BadEventLine number) timed asked drafted h = absurd h
 config_fault known o setup moment draft BadSetting timed asked drafted h = inr (inl (draft, ap is_some timed, drafted, (setup, asked, h)))
 config_fault known o setup moment draft (CannotListen address) timed asked drafted h = absurd h
+config_fault known o setup moment draft (CannotUse path why) timed asked drafted h = absurd h
 config_fault known o setup moment draft InputFailed timed asked drafted h = absurd h
 config_fault known o setup moment draft OutputFailed timed asked drafted h = absurd h
 config_fault known o setup moment draft OutOfMemory timed asked drafted h = first_right o setup moment timed asked
@@ -53,6 +54,7 @@ request_fault known o draft settings stamp (BadKeysLine number) ready h = absurd
 request_fault known o draft settings stamp (BadEventLine number) ready h = absurd h
 request_fault known o draft settings stamp BadSetting ready h = inr (inr (draft, settings, stamp, ready, h))
 request_fault known o draft settings stamp (CannotListen address) ready h = absurd h
+request_fault known o draft settings stamp (CannotUse path why) ready h = absurd h
 request_fault known o draft settings stamp InputFailed ready h = absurd h
 request_fault known o draft settings stamp OutputFailed ready h = absurd h
 request_fault known o draft settings stamp OutOfMemory ready h = first_right o ready.setup ready.moment ready.timed ready.asked

@@ -2,7 +2,7 @@
 use Rattle.std.specs.Prelude.{◌≡◌, ◌⊎◌, IsTrue, ℕ, Bool, true, false, ◌&&◌, List, ◌++◌, Option, Some, is_some, option_map}
 use Rattle.s3_config.specs.Settings.{Settings}
 use Rattle.s3_settings.specs.declared.fault.Fault.{Fault}
-use Rattle.s3_settings.specs.declared.fault.Fault.TheVariants.{CannotRead, CannotWrite, BadKeysLine, BadEventLine, BadSetting, CannotListen, InputFailed, OutputFailed, OutOfMemory}
+use Rattle.s3_settings.specs.declared.fault.Fault.TheVariants.{CannotRead, CannotWrite, BadKeysLine, BadEventLine, BadSetting, CannotListen, CannotUse, InputFailed, OutputFailed, OutOfMemory}
 use Rattle.s3_settings.specs.declared.options.ReplayOptions.{ReplayOptions}
 use Rattle.s3_settings.specs.declared.mode.ReplayMode.{ReplayMode}
 use Rattle.s3_settings.specs.declared.mode.ReplayMode.TheVariants.{AtMoment, Events}
@@ -99,6 +99,7 @@ IsReplayFault known old new options (BadKeysLine number) = (new ≡ old) × HasM
 IsReplayFault known old new options (BadEventLine number) =
     GivesBadLine old new number × (option_map reads_events (replay_mode options) ≡ Some true) × HasSettings known options.common
 IsReplayFault known old new options (CannotListen address) = ⊥
+IsReplayFault known old new options (CannotUse path why) = ⊥
 IsReplayFault known old new options InputFailed =
     FailsToGive old new × (is_some (replay_mode options) ≡ true) × HasSettings known options.common
 IsReplayFault known old new options OutputFailed = ⊥

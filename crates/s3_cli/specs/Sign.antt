@@ -10,7 +10,7 @@ use Rattle.s3_signer.specs.Request.{HeaderLine, IsSignable, given_lines, request
 use Rattle.s3_signer.specs.Chunked.{IsChunkedText, IsSignableInChunks}
 use Rattle.s3_signer.specs.Presigned.{IsPresignable, IsPresignableWith, presigned_request_text, presigned_target_text}
 use Rattle.s3_settings.specs.declared.fault.Fault.{Fault}
-use Rattle.s3_settings.specs.declared.fault.Fault.TheVariants.{CannotRead, CannotWrite, BadKeysLine, BadEventLine, BadSetting, CannotListen, InputFailed, OutputFailed, OutOfMemory}
+use Rattle.s3_settings.specs.declared.fault.Fault.TheVariants.{CannotRead, CannotWrite, BadKeysLine, BadEventLine, BadSetting, CannotListen, CannotUse, InputFailed, OutputFailed, OutOfMemory}
 use Rattle.s3_settings.specs.declared.settings.Setup.{Setup}
 use Rattle.s3_cli.specs.declared.mode.SignMode.{SignMode}
 use Rattle.s3_cli.specs.declared.mode.SignMode.TheVariants.{Hashed, Chunked, Presigned, Address}
@@ -183,6 +183,7 @@ IsSignFault known o (CannotWrite path) = ⊥
 IsSignFault known o (BadKeysLine number) = HasDraftAndConfigFault known o (BadKeysLine number)
 IsSignFault known o (BadEventLine number) = ⊥
 IsSignFault known o (CannotListen address) = ⊥
+IsSignFault known o (CannotUse path why) = ⊥
 IsSignFault known o InputFailed = ⊥
 IsSignFault known o OutputFailed = ⊥
 IsSignFault known o OutOfMemory = are_first_options o ≡ true

@@ -45,9 +45,6 @@ default_body_limit = codes "67108864"
 abbrev pub default_dialect : Text
 default_dialect = codes "json"
 
-abbrev pub default_records : Text
-default_records = codes "map"
-
 abbrev pub default_workers : Text
 default_workers = codes "8"
 
@@ -70,7 +67,7 @@ with_dialect a = with_rule a (default_rule (codes "dialect") default_dialect)
 
 -- the option of those that keep records
 abbrev pub with_records : App → App
-with_records a = with_rule a (default_rule (codes "records") default_records)
+with_records a = with_rule a (option_rule (codes "records"))
 
 -- `s3d replay`
 abbrev pub replay_app : App
@@ -98,12 +95,13 @@ sign_app =
 -- `s3d serve`
 abbrev pub serve_app : App
 serve_app =
-    with_rule (with_rule (with_rule (with_rule (with_rule (with_records (with_dialect (with_settings (new_app (codes "serve")))))
+    with_rule (with_rule (with_rule (with_rule (with_rule (with_rule (with_records (with_dialect (with_settings (new_app (codes "serve")))))
     (required_rule (codes "listen")))
     (default_rule (codes "workers") default_workers))
     (default_rule (codes "max-connections") default_max_connections))
     (option_rule (codes "connections")))
-    (option_rule (codes "log"))
+    (option_rule (codes "log")))
+    (option_rule (codes "data"))
 
 -- `s3d` before it has a subcommand
 abbrev pub bare_app : App
@@ -142,19 +140,15 @@ AreRightWords words = AreReplayWords words ⊎ (AreSignWords words ⊎ AreServeW
 abbrev pub dialect_in : List Row → Text
 dialect_in rows = unwrap_or (first_of (codes "dialect") rows) default_dialect
 
--- the kind of records that some matches say
-abbrev pub records_in : List Row → Text
-records_in rows = unwrap_or (first_of (codes "records") rows) default_records
-
--- the options are those of some matches, with this dialect and this kind of records
-pub record HasOptions (rows : List Row) (dialect records : Text) (o : Options) : Type 0 where
+-- the options are those of some matches, with this dialect and this kind of records, if one is named
+pub record HasOptions (rows : List Row) (dialect : Text) (records : Option Text) (o : Options) : Type 0 where
   pub keys : option_map (λ text. text.now) o.keys ≡ first_of (codes "keys") rows
   pub region : o.region.now ≡ unwrap_or (first_of (codes "region") rows) default_region
   pub min_part : o.min_part.now ≡ unwrap_or (first_of (codes "min-part") rows) default_min_part
   pub body_limit : o.body_limit.now ≡ unwrap_or (first_of (codes "body-limit") rows) default_body_limit
   pub bucket : option_map (λ text. text.now) o.bucket ≡ first_of (codes "bucket") rows
   pub spelled : o.dialect.now ≡ dialect
-  pub kept : o.records.now ≡ records
+  pub kept : option_map (λ text. text.now) o.records ≡ records
 
 -- the value that a flag has is that of one that is there
 abbrev pub is_set : Option Text → Bool
@@ -163,24 +157,25 @@ is_set (Some text) = bytes_eq text (codes "true")
 
 -- the options of a replay are those of some matches
 pub record HasReplayOptions (rows : List Row) (o : ReplayOptions) : Type 0 where
-  pub common : HasOptions rows (dialect_in rows) (records_in rows) o.common
+  pub common : HasOptions rows (dialect_in rows) (first_of (codes "records") rows) o.common
   pub moment : option_map (λ text. text.now) o.moment ≡ first_of (codes "moment") rows
   pub events : o.events ≡ is_set (first_of (codes "events") rows)
   pub faults : o.faults ≡ is_set (first_of (codes "faults") rows)
 
 -- the options of a server are those of some matches
 pub record HasServeOptions (rows : List Row) (o : ServeOptions) : Type 0 where
-  pub common : HasOptions rows (dialect_in rows) (records_in rows) o.common
+  pub common : HasOptions rows (dialect_in rows) (first_of (codes "records") rows) o.common
   pub listen : option_map (λ text. text.now) o.listen ≡ first_of (codes "listen") rows
   pub workers : o.workers.now ≡ unwrap_or (first_of (codes "workers") rows) default_workers
   pub max_connections : o.max_connections.now ≡ unwrap_or (first_of (codes "max-connections") rows) default_max_connections
   pub connections : option_map (λ text. text.now) o.connections ≡ first_of (codes "connections") rows
   pub log : option_map (λ text. text.now) o.log ≡ first_of (codes "log") rows
+  pub folder : option_map (λ text. text.now) o.folder ≡ first_of (codes "data") rows
 
--- the options of a signing are those of some matches; it has no documents and no records, and its dialect and its kind of
--- records are those of no option
+-- the options of a signing are those of some matches; it has no documents and no records, and its dialect is the one of
+-- no option
 pub record HasSignOptions (rows : List Row) (o : SignOptions) : Type 0 where
-  pub common : HasOptions rows default_dialect default_records o.common
+  pub common : HasOptions rows default_dialect None o.common
   pub moment : option_map (λ text. text.now) o.moment ≡ first_of (codes "moment") rows
   pub id : option_map (λ text. text.now) o.id ≡ first_of (codes "id") rows
   pub method : option_map (λ text. text.now) o.method ≡ first_of (codes "method") rows

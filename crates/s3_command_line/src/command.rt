@@ -21,9 +21,6 @@ pub(crate) const BODY_LIMIT: &str = "67108864";
 /// How documents are spelled where no option says another dialect: as JSON.
 pub(crate) const DIALECT: &str = "json";
 
-/// How records are kept where no option says otherwise: in maps.
-pub(crate) const RECORDS: &str = "map";
-
 /// How many threads serve connections where no option says another number.
 pub(crate) const WORKERS: &str = "8";
 
@@ -104,8 +101,8 @@ const SPELLING: Argument = Argument {
 const KEEPING: Argument = Argument {
     name: "records",
     value: "K",
-    help: "How records are kept: map, or sql for tables of SQLite",
-    kind: Kind::Defaulted(RECORDS),
+    help: "How records are kept: map, which is the default, or sql for tables of SQLite",
+    kind: Kind::Optional,
 };
 
 // The further options of `s3d replay`.
@@ -197,7 +194,7 @@ static SIGNING: [Argument; 10] = [
 ];
 
 // The further options of `s3d serve`.
-static SERVING: [Argument; 7] = [
+static SERVING: [Argument; 8] = [
     SPELLING,
     KEEPING,
     Argument {
@@ -228,6 +225,12 @@ static SERVING: [Argument; 7] = [
         name: "log",
         value: "FILE",
         help: "Appends a line for each message to FILE, or to the standard error where FILE is -",
+        kind: Kind::Optional,
+    },
+    Argument {
+        name: "data",
+        value: "FOLDER",
+        help: "Keeps the store in FOLDER, and goes on with one that is there",
         kind: Kind::Optional,
     },
 ];

@@ -2,10 +2,10 @@
 
 ghost use Rattle.std.specs.Prelude.{◌≡◌, IfOk, MatchOption, [], map, option_map, unwrap_or};
 ghost use Rattle.clap.specs.Words.{all_of, found_of, rows_of};
-ghost use Rattle.s3_command_line.specs.Words.{dialect_in, records_in, HasOptions, HasReplayOptions, HasServeOptions, HasSignOptions, is_set};
+ghost use Rattle.s3_command_line.specs.Words.{dialect_in, HasOptions, HasReplayOptions, HasServeOptions, HasSignOptions, is_set};
 ghost use Rattle.s3_command_line.specs.Task.{AskFor, AskForNothing, AskForNoTask, AskForTask};
 
-use crate::command::{BODY_LIMIT, DIALECT, MAX_CONNECTIONS, MIN_PART, RECORDS, REGION, WORKERS};
+use crate::command::{BODY_LIMIT, DIALECT, MAX_CONNECTIONS, MIN_PART, REGION, WORKERS};
 use clap::ArgMatches;
 use s3_settings::{Options, ReplayOptions, ServeOptions, SignOptions};
 use std::alloc::{AllocError, Global};
@@ -64,10 +64,14 @@ impl<'a> Task<'a> {
     }
 }
 
-// The options that each subcommand has, with this dialect and this kind of records.
+// The options that each subcommand has, with this dialect and this kind of records, if one is named.
 #[tactic(auto, using(crate::proofs::WordsLemmas::rows))]
-fn common_options<'a>(matches: &ArgMatches<'a>, dialect: &'a str, records: &'a str) -> Options<'a>
-    ensures { HasOptions (rows_of (found_of matches.now)) dialect.entry.now records.entry.now result }
+fn common_options<'a>(
+    matches: &ArgMatches<'a>,
+    dialect: &'a str,
+    records: Option<&'a str>,
+) -> Options<'a>
+    ensures { HasOptions (rows_of (found_of matches.now)) dialect.entry.now (option_map (λ text. text.now) records.entry) result }
 {
     Options {
         keys: matches.get_str("keys"),
@@ -88,21 +92,13 @@ fn dialect<'a>(matches: &ArgMatches<'a>) -> &'a str
     matches.get_str("dialect").unwrap_or(DIALECT)
 }
 
-// The kind of records that an option says, or the default one.
-#[tactic(auto, using(crate::proofs::WordsLemmas::rows))]
-fn records<'a>(matches: &ArgMatches<'a>) -> &'a str
-    ensures { result.now ≡ records_in (rows_of (found_of matches.now)) }
-{
-    matches.get_str("records").unwrap_or(RECORDS)
-}
-
 // The options of a replay.
 #[tactic(auto, using(crate::proofs::WordsLemmas::rows))]
 fn replay_options<'a>(matches: &ArgMatches<'a>) -> ReplayOptions<'a>
     ensures { HasReplayOptions (rows_of (found_of matches.now)) result }
 {
     ReplayOptions {
-        common: common_options(matches, dialect(matches), records(matches)),
+        common: common_options(matches, dialect(matches), matches.get_str("records")),
         moment: matches.get_str("moment"),
         events: is_set(matches.get_str("events")),
         faults: is_set(matches.get_str("faults")),
@@ -125,7 +121,7 @@ fn serve_options<'a>(matches: &ArgMatches<'a>) -> ServeOptions<'a>
     ensures { HasServeOptions (rows_of (found_of matches.now)) result }
 {
     ServeOptions {
-        common: common_options(matches, dialect(matches), records(matches)),
+        common: common_options(matches, dialect(matches), matches.get_str("records")),
         listen: matches.get_str("listen"),
         workers: matches.get_str("workers").unwrap_or(WORKERS),
         max_connections: matches
@@ -133,6 +129,7 @@ fn serve_options<'a>(matches: &ArgMatches<'a>) -> ServeOptions<'a>
             .unwrap_or(MAX_CONNECTIONS),
         connections: matches.get_str("connections"),
         log: matches.get_str("log"),
+        folder: matches.get_str("data"),
     }
 }
 
@@ -143,7 +140,7 @@ fn sign_options<'a>(alloc: Global, matches: &ArgMatches<'a>) -> Result<SignOptio
 {
     let headers = all_values(alloc, matches, "header")?;
     Ok(SignOptions {
-        common: common_options(matches, DIALECT, RECORDS),
+        common: common_options(matches, DIALECT, None),
         moment: matches.get_str("moment"),
         id: matches.get_str("id"),
         method: matches.get_str("method"),

@@ -1,7 +1,8 @@
 //! Keepers that the tests run the program over.
-use s3_keepers::Keeper;
+use s3_keepers::{FolderKeeper, Keeper, Opened};
 use s3_names::BucketName;
 use s3_records::MapRecords;
+use s3_storage::StorageFault;
 use s3_terms::NoMemory;
 use std::alloc::Global;
 
@@ -18,5 +19,22 @@ impl Keeper for FullTables {
         } else {
             Err(NoMemory)
         }
+    }
+}
+
+/// Folders that another process has.
+#[derive(Clone, Copy)]
+pub(crate) struct HeldFolders;
+
+impl FolderKeeper for HeldFolders {
+    type Kept = MapRecords;
+
+    fn open(
+        &self,
+        _alloc: Global,
+        _path: &str,
+        _buckets: &[BucketName],
+    ) -> Result<Opened<MapRecords>, StorageFault> {
+        Err(StorageFault::Held)
     }
 }

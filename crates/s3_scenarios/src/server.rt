@@ -45,7 +45,7 @@ pub(crate) fn config(rt: &HostRuntime, server: Server<'_>) -> Option<Config> {
         body_limit: "67108864",
         bucket: Some(server.bucket),
         dialect: server.dialect,
-        records: "map",
+        records: None,
     };
     let setup = Setup::read(rt.alloc(), &options).ok()?;
     configure(rt.alloc(), setup, &SystemFiles(rt)).ok()

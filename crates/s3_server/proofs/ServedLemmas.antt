@@ -10,11 +10,10 @@ use Rattle.std.specs.Io.KnownBytes.{Appends}
 use Rattle.std.specs.declared.net.socket_addr.SocketAddr.{SocketAddr}
 use Rattle.s3_settings.specs.Devices.{AppendsBeginning}
 use Rattle.s3_config.specs.Settings.{Settings}
-use Rattle.s3_records.specs.Catalogue.{opening}
 use Rattle.s3_machine.specs.History.{Legal}
 use Rattle.s3_machine.specs.Rules.{rules_of}
 use Rattle.s3_machine.specs.declared.rules.Rules.{Rules}
-use Rattle.s3_store.specs.Steps.{Standing, opened}
+use Rattle.s3_store.specs.Steps.{Standing}
 use Rattle.s3_journal.specs.RecordedStore.{Journal}
 use Rattle.s3_journal.specs.Recorded.{history_of}
 use Rattle.s3_journal.specs.SharedStore.{Base}
@@ -27,19 +26,19 @@ use Rattle.s3_sockets.specs.Network.{AllAreClosed, NetworkState, all_back, all_h
 use Rattle.s3_settings.specs.declared.options.ServeOptions.{ServeOptions}
 use Rattle.s3_settings.specs.declared.server.ServeMode.{ServeMode}
 use Rattle.s3_settings.specs.Server.{IsServer}
-use Rattle.s3_server.specs.Served.{AllHavePassed, AreFresh, HasLeft, WasAskedToListen, HasServed, HasServedAs, HasServedAndTold, HasWorked, HaveClosed, IsToldInPart, IsToldPlace, ServerRun, address_line, entries_line}
+use Rattle.s3_server.specs.Served.{AllHavePassed, AreFresh, HasLeft, WasAskedToListen, HasServed, HasServedAs, HasServedAndTold, HasServedSo, HasWorked, IsBegun, HaveClosed, IsToldInPart, IsToldPlace, ServerRun, address_line, entries_line}
 
 -- what a shared store left
 pub has_left : (settings : Settings) (base : Base) (recorded_store : Journal) (gone : List (Gone Account)) (earlier later : List ServerRun) (entries : ℕ)
-    → IsClosed (Fits base.settings) base recorded_store gone → base.settings ≡ settings → base.store ≡ opened (opening settings.buckets)
-    → later ≡ earlier ++ record { history = recorded_store.entries; gone = gone } ∷ [] → entries ≡ length recorded_store.entries → HasLeft settings gone earlier later entries
-has_left settings base recorded_store gone earlier later entries closed same store told counted =
+    → IsClosed (Fits base.settings) base recorded_store gone → base.settings ≡ settings
+    → later ≡ earlier ++ record { history = recorded_store.entries; gone = gone } ∷ [] → entries ≡ length recorded_store.entries → HasLeft settings base.store gone earlier later entries
+has_left settings base recorded_store gone earlier later entries closed same told counted =
     let rules : recorded_store.rules ≡ rules_of settings = closed.continues.rules ∙ ap rules_of same in
-    let from : recorded_store.opening ≡ opened (opening settings.buckets) = closed.continues.store ∙ store in
+    let from : recorded_store.opening ≡ base.store = closed.continues.store in
     record {
       history = recorded_store.entries;
       reported = told;
-      legal = subst (λ (r : Rules). Legal r (opening settings.buckets) 0 (history_of recorded_store.entries)) rules
+      legal = subst (λ (r : Rules). Legal r base.store.state base.store.number (history_of recorded_store.entries)) rules
           (subst (λ (s : Standing). Legal recorded_store.rules s.state s.number (history_of recorded_store.entries)) from closed.keeps.legal);
       apart = closed.apart;
       each = subst (λ (s : Settings). AreWhole (Fits s) recorded_store.entries gone) same closed.each;
@@ -100,10 +99,10 @@ same_length [] (roster ∷ rosters) passed = absurd passed
 same_length (door ∷ doors) [] passed = absurd passed
 same_length (door ∷ doors) (roster ∷ rosters) passed = let rest = same_length doors rosters passed.1 in omega (arith, rest)
 
-has_worked : (settings : Settings) (workers : ℕ) (before after : NetworkState) (earlier later : List ServerRun) (rosters : List (Rostered Account)) (entries : ℕ)
-    → length rosters ≡ workers → HasLeft settings (all_gone rosters) earlier later entries → HaveClosed before after rosters → AreBack 0 rosters → AllAreClosed after
-    → HasWorked settings workers before after earlier later entries
-has_worked settings workers before after earlier later rosters entries len left have back closed = record {
+has_worked : (settings : Settings) (base : Standing) (workers : ℕ) (before after : NetworkState) (earlier later : List ServerRun) (rosters : List (Rostered Account)) (entries : ℕ)
+    → length rosters ≡ workers → HasLeft settings base (all_gone rosters) earlier later entries → HaveClosed before after rosters → AreBack 0 rosters → AllAreClosed after
+    → HasWorked settings base workers before after earlier later entries
+has_worked settings base workers before after earlier later rosters entries len left have back closed = record {
   gone = all_gone rosters;
   left = left;
   doors = have.doors;
@@ -117,18 +116,18 @@ has_worked settings workers before after earlier later rosters entries len left 
 }
 
 -- where it answers how many entries there are
-pub worked_so : {E : Type 0} (r : Result ℕ E) (settings : Settings) (workers : ℕ) (before after : NetworkState) (earlier later : List ServerRun)
-    (rosters : List (Rostered Account)) → length rosters ≡ workers → IfOk r (HasLeft settings (all_gone rosters) earlier later) → OnOk r (AreBack 0 rosters) → HaveClosed before after rosters → AllAreClosed after
-    → IfOk r (HasWorked settings workers before after earlier later)
-worked_so (Ok entries) settings workers before after earlier later rosters len left back have closed =
-    has_worked settings workers before after earlier later rosters entries len left have back closed
-worked_so (Err e) settings workers before after earlier later rosters len left back have closed = tt
+pub worked_so : {E : Type 0} (r : Result ℕ E) (settings : Settings) (base : Standing) (workers : ℕ) (before after : NetworkState) (earlier later : List ServerRun)
+    (rosters : List (Rostered Account)) → length rosters ≡ workers → IfOk r (HasLeft settings base (all_gone rosters) earlier later) → OnOk r (AreBack 0 rosters) → HaveClosed before after rosters → AllAreClosed after
+    → IfOk r (HasWorked settings base workers before after earlier later)
+worked_so (Ok entries) settings base workers before after earlier later rosters len left back have closed =
+    has_worked settings base workers before after earlier later rosters entries len left have back closed
+worked_so (Err e) settings base workers before after earlier later rosters len left back have closed = tt
 
 -- it listened before
-pub has_served : (settings : Settings) (address : List ℕ) (workers : ℕ) (before between after : NetworkState) (earlier later : List ServerRun) (entries : ℕ)
-    → WasAskedToListen address before between → HasWorked settings workers between after earlier later entries
-    → HasServed settings address workers before after earlier later entries
-has_served settings address workers before between after earlier later entries listened worked = record {
+pub has_served : (settings : Settings) (base : Standing) (address : List ℕ) (workers : ℕ) (before between after : NetworkState) (earlier later : List ServerRun) (entries : ℕ)
+    → WasAskedToListen address before between → HasWorked settings base workers between after earlier later entries
+    → HasServed settings base address workers before after earlier later entries
+has_served settings base address workers before between after earlier later entries listened worked = record {
   run = record { history = worked.left.history; gone = worked.gone };
   reported = worked.left.reported;
   asked = worked.asked ∙ listened.asked;
@@ -244,12 +243,12 @@ place_alone (Err e) before after told =
     )
 
 -- the second line after the first, or a beginning of it
-pub lines_told : {T E : Type 0} (r : Result T E) (settings : Settings) (address : List ℕ) (workers : ℕ) (old new : NetworkState) (earlier later : List ServerRun)
-    (entries : ℕ) (before between after : Option (List ℕ)) → HasServed settings address workers old new earlier later entries → IsToldPlace before between
-    → OnOk r (Appends between after (entries_line entries)) → OnOk r (HasServedAndTold settings address workers old new earlier later before after)
-lines_told (Ok x) settings address workers old new earlier later entries before between after served place told =
+pub lines_told : {T E : Type 0} (r : Result T E) (settings : Settings) (base : Standing) (address : List ℕ) (workers : ℕ) (old new : NetworkState) (earlier later : List ServerRun)
+    (entries : ℕ) (before between after : Option (List ℕ)) → HasServed settings base address workers old new earlier later entries → IsToldPlace before between
+    → OnOk r (Appends between after (entries_line entries)) → OnOk r (HasServedAndTold settings base address workers old new earlier later before after)
+lines_told (Ok x) settings base address workers old new earlier later entries before between after served place told =
     (entries, served, (place.0, Appends-trans before between after (address_line place.0) (entries_line entries) place.1 told))
-lines_told (Err e) settings address workers old new earlier later entries before between after served place told = tt
+lines_told (Err e) settings base address workers old new earlier later entries before between after served place told = tt
 
 pub lines_begun : {T E : Type 0} (r : Result T E) (entries : ℕ) (before between after : Option (List ℕ)) → IsToldPlace before between
     → OnErr r (AppendsBeginning between after (entries_line entries)) → OnErr r (IsToldInPart before after)
@@ -268,24 +267,32 @@ lines_begun (Err e) entries before between after place part =
 -- the same with the options
 pub served_as : {T E : Type 0} (r : Result T E) (known : List ℕ → Option (List ℕ)) (o : ServeOptions) (mode : ServeMode) (settings : Settings)
     (old new : NetworkState) (earlier later : List ServerRun) (before after : Option (List ℕ))
-    → IsServer known o mode settings → OnOk r (HasServedAndTold settings mode.address.now mode.workers old new earlier later before after)
+    → IsServer known o mode settings → OnOk r (HasServedSo settings mode old new earlier later before after)
     → OnOk r (HasServedAs known o old new earlier later before after)
-served_as (Ok x) known o mode settings old new earlier later before after asked (entries, served, lines) =
-    record { mode = mode; settings = settings; entries = entries; place = lines.0; asked = asked; served = served; told = lines.1 }
+served_as (Ok x) known o mode settings old new earlier later before after asked (base, begun, (entries, served, lines)) =
+    record { mode = mode; settings = settings; base = base; entries = entries; place = lines.0; asked = asked; begun = begun; served = served; told = lines.1 }
 served_as (Err e) known o mode settings old new earlier later before after asked all = tt
 
--- the number of the entries, with another reason why there is none
-pub served_still : {E F : Type 0} (entries : Result ℕ E) (r : Result ℕ F) (settings : Settings) (address : List ℕ) (workers count : ℕ)
-    (before between after : NetworkState) (earlier later : List ServerRun) → WasAskedToListen address before between → count ≡ workers
-    → IfOk entries (HasWorked settings count between after earlier later) → IfOk r (λ count. entries ≡ Ok count)
-    → IfOk r (HasServed settings address workers before after earlier later)
-served_still {E = E} entries (Ok k) settings address workers count before between after earlier later listened many worked same =
-    has_served settings address workers before between after earlier later k listened
-    (subst (λ (w : ℕ). HasWorked settings w between after earlier later k) many
-    (subst (λ (e : Result ℕ E). IfOk e (HasWorked settings count between after earlier later)) same worked))
-served_still {E = E} entries (Err e) settings address workers count before between after earlier later listened many worked same = tt
+-- the same from the store with which it begins
+pub served_so : {T E : Type 0} (r : Result T E) (mode : ServeMode) (settings : Settings) (base : Standing)
+    (old new : NetworkState) (earlier later : List ServerRun) (before after : Option (List ℕ))
+    → IsBegun mode.folder settings base → OnOk r (HasServedAndTold settings base mode.address.now mode.workers old new earlier later before after)
+    → OnOk r (HasServedSo settings mode old new earlier later before after)
+served_so (Ok x) mode settings base old new earlier later before after begun all = (base, begun, all)
+served_so (Err e) mode settings base old new earlier later before after begun all = tt
 
-pub ruleset telling = (nothing_told, nothing_begun, begun_still, place_still, place_told, place_begun, place_alone, lines_told, lines_begun, served_as, served_still)
+-- the number of the entries, with another reason why there is none
+pub served_still : {E F : Type 0} (entries : Result ℕ E) (r : Result ℕ F) (settings : Settings) (base : Standing) (address : List ℕ) (workers count : ℕ)
+    (before between after : NetworkState) (earlier later : List ServerRun) → WasAskedToListen address before between → count ≡ workers
+    → IfOk entries (HasWorked settings base count between after earlier later) → IfOk r (λ count. entries ≡ Ok count)
+    → IfOk r (HasServed settings base address workers before after earlier later)
+served_still {E = E} entries (Ok k) settings base address workers count before between after earlier later listened many worked same =
+    has_served settings base address workers before between after earlier later k listened
+    (subst (λ (w : ℕ). HasWorked settings base w between after earlier later k) many
+    (subst (λ (e : Result ℕ E). IfOk e (HasWorked settings base count between after earlier later)) same worked))
+served_still {E = E} entries (Err e) settings base address workers count before between after earlier later listened many worked same = tt
+
+pub ruleset telling = (nothing_told, nothing_begun, begun_still, place_still, place_told, place_begun, place_alone, lines_told, lines_begun, served_as, served_so, served_still)
 
 -- what holds of what a shared store was closed with, by what it hands out
 pub told_by : {X V : Type 0} (F : X → V → Type 0) (handed : X → V) (given : V) (closed : Option X) → IfSome closed (λ c. F c given)

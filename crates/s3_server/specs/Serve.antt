@@ -4,8 +4,9 @@ use Rattle.std.specs.Borrow.{Bor}
 use Rattle.s3_config.specs.Settings.{Settings}
 use Rattle.s3_settings.specs.declared.options.ServeOptions.{ServeOptions}
 use Rattle.s3_settings.specs.declared.fault.Fault.{Fault}
-use Rattle.s3_settings.specs.declared.fault.Fault.TheVariants.{CannotListen, CannotWrite, OutputFailed, OutOfMemory}
+use Rattle.s3_settings.specs.declared.fault.Fault.TheVariants.{CannotListen, CannotUse, CannotWrite, OutputFailed, OutOfMemory}
 use Rattle.s3_settings.specs.declared.server.ServeMode.{ServeMode}
+use Rattle.s3_storage.specs.declared.storage_fault.StorageFault.{StorageFault}
 use Rattle.s3_settings.specs.Server.{IsServer, IsServerFault}
 
 -- the options ask for a server that can be started
@@ -13,12 +14,15 @@ abbrev pub HasServer : (List ℕ → Option (List ℕ)) → ServeOptions → Typ
 HasServer known o = (mode : ServeMode) × (settings : Settings) × IsServer known o mode settings
 
 -- why a server that is asked for fails, each fault only where none that comes before it is there: first what is wrong with the
--- options, the keys file and the settings, and then the file of the log, the address of the options, the output or the memory
+-- options, the keys file and the settings, and then the file of the log, the folder, the address of the options, the output or the
+-- memory
 abbrev pub IsServeFault : (List ℕ → Option (List ℕ)) → ServeOptions → Fault → Type 0
 IsServeFault known o (CannotListen address) =
     (option_map (λ text. text.now) o.listen ≡ Some address.now) × HasServer known o
 IsServeFault known o (CannotWrite path) =
     (option_map (λ text. text.now) o.log ≡ Some path.now) × HasServer known o
+IsServeFault known o (CannotUse path why) =
+    (option_map (λ text. text.now) o.folder ≡ Some path.now) × HasServer known o
 IsServeFault known o OutputFailed = HasServer known o
 IsServeFault known o fault = IsServerFault known o fault
 
@@ -27,6 +31,11 @@ IsServeFault known o fault = IsServerFault known o fault
 -- why a server has no log that it is asked for
 abbrev pub IsLogFault : Option (Bor (List ℕ)) → Fault → Type 0
 IsLogFault log fault = ((path : Bor (List ℕ)) × (log ≡ Some path) × (fault ≡ CannotWrite path)) ⊎ (fault ≡ OutOfMemory)
+
+-- why a server doesn't get the records of a folder
+abbrev pub IsFolderFault : Option (Bor (List ℕ)) → Fault → Type 0
+IsFolderFault folder fault =
+    ((path : Bor (List ℕ)) × (why : StorageFault) × (folder ≡ Some path) × (fault ≡ CannotUse path why)) ⊎ (fault ≡ OutOfMemory)
 
 -- why a server doesn't listen on an address
 abbrev pub IsListenFault : Bor (List ℕ) → Fault → Type 0
@@ -38,4 +47,4 @@ IsToldFault address fault = IsListenFault address fault ⊎ (fault ≡ OutputFai
 
 -- why a server fails whose options, keys file and settings are right
 abbrev pub IsModeFault : ServeMode → Fault → Type 0
-IsModeFault mode fault = IsLogFault mode.log fault ⊎ IsToldFault mode.address fault
+IsModeFault mode fault = IsLogFault mode.log fault ⊎ (IsFolderFault mode.folder fault ⊎ IsToldFault mode.address fault)

@@ -4,8 +4,6 @@ ghost use Rattle.std.specs.Prelude.{◌≡◌, ◌*◌, [], length, IfOk, IfSome
 ghost use Rattle.s3_journal.specs.SharedStore.{seats_each};
 ghost use Rattle.s3_journal.specs.Gone.{IsClosed};
 ghost use Rattle.s3_journal.specs.Roster.{AreBack, AreNew, NobodyIsOut, all_gone};
-ghost use Rattle.s3_records.specs.Catalogue.{opening};
-ghost use Rattle.s3_store.specs.Steps.{opened};
 ghost use Rattle.s3_driver.specs.Account.{Fits};
 ghost use Rattle.s3_sockets.specs.Network.{AllAreClosed};
 ghost use Rattle.s3_server.specs.Served.{HasLeft, HasWorked, HaveClosed};
@@ -52,8 +50,7 @@ pub(crate) fn run<
     requires base { J.base ≡ start.base }
     requires parts { J.parts ≡ start.rosters * seats_each }
     requires settings { J.base.settings ≡ config.now }
-    requires store { J.base.store ≡ opened (opening config.now.buckets) }
-    ensures worked { IfOk result (HasWorked config.now (length jobs.opened.items) network.old network.new report.old report.new) }
+    ensures worked { IfOk result (HasWorked config.now J.base.store (length jobs.opened.items) network.old network.new report.old report.new) }
 {
     let (shared, rosters) = SharedStore::<J, K>::open::<Account>(alloc, start)?;
     let back = all_back(
@@ -112,8 +109,7 @@ fn end<J: Ground, K: Records + Drop>(
     rosters: Vec<Roster<J, Account>>,
 ) -> Result<u64, NoMemory>
     requires settings { J.base.settings ≡ config.now }
-    requires store { J.base.store ≡ opened (opening config.now.buckets) }
-    ensures left { IfOk result (HasLeft config.now (all_gone rosters.items) report.old report.new) }
+    ensures left { IfOk result (HasLeft config.now J.base.store (all_gone rosters.items) report.old report.new) }
     ensures back { OnOk result (AreBack 0 rosters.items) }
 {
     match shared.close::<Account>(rosters) {
@@ -131,8 +127,7 @@ fn tell_left<J: Ground, K: Records + Drop>(
 ) -> u64
     requires closed { IsClosed (Fits J.base.settings) J.base closed.recorded_store (all_gone closed.rosters.value.items) }
     requires settings { J.base.settings ≡ config.now }
-    requires store { J.base.store ≡ opened (opening config.now.buckets) }
-    ensures left { HasLeft config.now (all_gone closed.rosters.value.items) report.old report.new result }
+    ensures left { HasLeft config.now J.base.store (all_gone closed.rosters.value.items) report.old report.new result }
 {
     let _ = config;
     report.tell(&closed);

@@ -1,6 +1,6 @@
 //! A server from its options to its end.
 
-ghost use Rattle.std.specs.Prelude.{◌≡◌, ◌⊎◌, ◌*◌, length, Ok, IfOk, IfErr, IfSome, OnErr, OnOk};
+ghost use Rattle.std.specs.Prelude.{◌≡◌, ◌⊎◌, ◌*◌, length, Ok, Some, None, IfOk, IfErr, IfSome, OnErr, OnOk};
 ghost use Rattle.std.specs.Io.KnownBytes.{Appends};
 ghost use Rattle.s3_journal.specs.SharedStore.{seats_each};
 ghost use Rattle.s3_records.specs.Catalogue.{opening};
@@ -8,8 +8,10 @@ ghost use Rattle.s3_store.specs.Steps.{opened};
 ghost use Rattle.s3_settings.specs.Devices.{AppendsBeginning, IsTold};
 ghost use Rattle.s3_settings.specs.Fault.{line_of};
 ghost use Rattle.s3_settings.specs.declared.fault.Fault.{Fault};
-ghost use Rattle.s3_server.specs.Serve.{IsServeFault, IsModeFault, IsToldFault, IsListenFault};
-ghost use Rattle.s3_server.specs.Served.{WasAskedToListen, HasServed, HasServedAs, HasServedAndTold, HasWorked, IsToldInPart, IsToldPlace, address_line, entries_line};
+ghost use Rattle.s3_server.specs.Serve.{IsServeFault, IsFolderFault, IsModeFault, IsToldFault, IsListenFault};
+ghost use Rattle.s3_keepers.specs.Begun.{HasBuckets};
+ghost use Rattle.s3_records.specs.Places.{AreBelow};
+ghost use Rattle.s3_server.specs.Served.{WasAskedToListen, HasServed, HasServedAs, HasServedAndTold, HasServedSo, HasWorked, IsToldInPart, IsToldPlace, address_line, entries_line};
 
 use crate::jobs::{Jobs, one_opened};
 use crate::logging::Logging;
@@ -20,13 +22,14 @@ use s3_bodies::Body;
 use s3_config::Config;
 use s3_devices::Device;
 use s3_journal::Start;
-use s3_keepers::{Keeper, MapKeeper};
+use s3_keepers::{FolderKeeper, Keeper, MapKeeper, Opened};
 use s3_log::LogWriter;
 use s3_records::{Records, numbers_stay_below};
 use s3_settings::{
     Fault, Files, RecordsKind, ServeMode, ServeOptions, server_settings, write_flushed,
 };
 use s3_sockets::{Listener, Network};
+use s3_storage::StorageFault;
 use s3_store::Store;
 use s3_terms::NoMemory;
 use std::alloc::Global;
@@ -64,6 +67,7 @@ pub fn serve_words<
     N: Net,
     F: Files + Sync,
     Q: Keeper,
+    D: FolderKeeper,
     W: Write,
     E: Device,
 >(
@@ -72,6 +76,7 @@ pub fn serve_words<
     options: &ServeOptions<'_>,
     files: &F,
     tables: &Q,
+    folders: &D,
     network: &mut Network<'_, N>,
     report: &mut ServerReport,
     output: &mut W,
@@ -85,7 +90,10 @@ pub fn serve_words<
         × IsTold (E.traffic errors.old) (E.traffic errors.new) (line_of fault) }
     ensures begun { result ≡ FAILED → IsToldInPart (W.contents output.old) (W.contents output.new) }
 {
-    match serve(rt, alloc, options, files, tables, network, report, output) {
+    let served = serve(
+        rt, alloc, options, files, tables, folders, network, report, output,
+    );
+    match served {
         Ok(()) => DONE,
         Err(fault) => {
             fault.tell(rt, errors);
@@ -96,12 +104,21 @@ pub fn serve_words<
 
 // Serves as the options say.
 #[tactic(auto, using(crate::proofs::ServedLemmas::telling))]
-fn serve<'a, R: Wait + Threads + Clock + Sync, N: Net, F: Files + Sync, Q: Keeper, W: Write>(
+fn serve<
+    'a,
+    R: Wait + Threads + Clock + Sync,
+    N: Net,
+    F: Files + Sync,
+    Q: Keeper,
+    D: FolderKeeper,
+    W: Write,
+>(
     rt: &R,
     alloc: Global,
     options: &ServeOptions<'a>,
     files: &'a F,
     tables: &Q,
+    folders: &D,
     network: &mut Network<'_, N>,
     report: &mut ServerReport,
     output: &mut W,
@@ -113,12 +130,20 @@ fn serve<'a, R: Wait + Threads + Clock + Sync, N: Net, F: Files + Sync, Q: Keepe
 {
     let (mode, records, config) = server_settings(alloc, options, files)?;
     serve_mode(
-        rt, alloc, &mode, &config, files, records, tables, network, report, output,
+        rt, alloc, &mode, &config, files, records, tables, folders, network, report, output,
     )
 }
 
 // Serves with these settings, over records of a kind.
-fn serve_mode<'a, R: Wait + Threads + Clock + Sync, N: Net, F: Files + Sync, Q: Keeper, W: Write>(
+fn serve_mode<
+    'a,
+    R: Wait + Threads + Clock + Sync,
+    N: Net,
+    F: Files + Sync,
+    Q: Keeper,
+    D: FolderKeeper,
+    W: Write,
+>(
     rt: &R,
     alloc: Global,
     mode: &ServeMode<'a>,
@@ -126,21 +151,53 @@ fn serve_mode<'a, R: Wait + Threads + Clock + Sync, N: Net, F: Files + Sync, Q: 
     files: &'a F,
     records: RecordsKind,
     tables: &Q,
+    folders: &D,
     network: &mut Network<'_, N>,
     report: &mut ServerReport,
     output: &mut W,
 ) -> Result<(), Fault<'a>>
-    ensures served { OnOk result (HasServedAndTold config.now mode.now.address.now mode.now.workers network.old network.new report.old report.new
+    ensures served { OnOk result (HasServedSo config.now mode.now network.old network.new report.old report.new
         (W.contents output.old) (W.contents output.new)) }
     ensures refused { IfErr result (IsModeFault mode.now) }
     ensures begun { OnErr result (IsToldInPart (W.contents output.old) (W.contents output.new)) }
 {
+    let logging = Logging::asked(alloc, mode, files)?;
+    let logging = logging.as_ref();
+    match mode.folder {
+        Some(path) => serve_folder(
+            rt, alloc, mode, config, logging, path, folders, network, report, output,
+        ),
+        None => serve_kind(
+            rt, alloc, mode, config, logging, records, tables, network, report, output,
+        ),
+    }
+}
+
+// The same over records in memory, of a kind.
+fn serve_kind<'a, R: Wait + Threads + Clock + Sync, N: Net, F: Files + Sync, Q: Keeper, W: Write>(
+    rt: &R,
+    alloc: Global,
+    mode: &ServeMode<'a>,
+    config: &Config,
+    logging: Option<&Logging<'a, F>>,
+    records: RecordsKind,
+    tables: &Q,
+    network: &mut Network<'_, N>,
+    report: &mut ServerReport,
+    output: &mut W,
+) -> Result<(), Fault<'a>>
+    requires { mode.now.folder ≡ None }
+    ensures served { OnOk result (HasServedSo config.now mode.now network.old network.new report.old report.new
+        (W.contents output.old) (W.contents output.new)) }
+    ensures refused { IfErr result (IsToldFault mode.now.address) }
+    ensures begun { OnErr result (IsToldInPart (W.contents output.old) (W.contents output.new)) }
+{
     match records {
         RecordsKind::Map => serve_by(
-            rt, alloc, mode, config, files, &MapKeeper, network, report, output,
+            rt, alloc, mode, config, logging, &MapKeeper, network, report, output,
         ),
         RecordsKind::Sql => serve_by(
-            rt, alloc, mode, config, files, tables, network, report, output,
+            rt, alloc, mode, config, logging, tables, network, report, output,
         ),
     }
 }
@@ -152,55 +209,108 @@ fn serve_by<'a, R: Wait + Threads + Clock + Sync, N: Net, F: Files + Sync, Q: Ke
     alloc: Global,
     mode: &ServeMode<'a>,
     config: &Config,
-    files: &'a F,
-    keeper: &Q,
-    network: &mut Network<'_, N>,
-    report: &mut ServerReport,
-    output: &mut W,
-) -> Result<(), Fault<'a>>
-    ensures served { OnOk result (HasServedAndTold config.now mode.now.address.now mode.now.workers network.old network.new report.old report.new
-        (W.contents output.old) (W.contents output.new)) }
-    ensures refused { IfErr result (IsModeFault mode.now) }
-    ensures begun { OnErr result (IsToldInPart (W.contents output.old) (W.contents output.new)) }
-{
-    let logging = Logging::asked(alloc, mode, files)?;
-    serve_logged(
-        rt,
-        alloc,
-        mode,
-        config,
-        logging.as_ref(),
-        keeper,
-        network,
-        report,
-        output,
-    )
-}
-
-// The same with this log, if there is one.
-#[tactic(auto, using(crate::proofs::ServedLemmas::telling))]
-fn serve_logged<'a, R: Wait + Threads + Clock + Sync, N: Net, F: Files + Sync, Q: Keeper, W: Write>(
-    rt: &R,
-    alloc: Global,
-    mode: &ServeMode<'a>,
-    config: &Config,
     logging: Option<&Logging<'a, F>>,
     keeper: &Q,
     network: &mut Network<'_, N>,
     report: &mut ServerReport,
     output: &mut W,
 ) -> Result<(), Fault<'a>>
-    ensures served { OnOk result (HasServedAndTold config.now mode.now.address.now mode.now.workers network.old network.new report.old report.new
+    requires { mode.now.folder ≡ None }
+    ensures served { OnOk result (HasServedSo config.now mode.now network.old network.new report.old report.new
         (W.contents output.old) (W.contents output.new)) }
     ensures refused { IfErr result (IsToldFault mode.now.address) }
     ensures begun { OnErr result (IsToldInPart (W.contents output.old) (W.contents output.new)) }
 {
     let store = opened_store(alloc, keeper, config)?;
+    serve_store(
+        rt, alloc, mode, config, logging, store, network, report, output,
+    )
+}
+
+// The same over the records in a folder.
+#[tactic(auto, using(crate::proofs::ServedLemmas::telling))]
+fn serve_folder<
+    'a,
+    R: Wait + Threads + Clock + Sync,
+    N: Net,
+    F: Files + Sync,
+    D: FolderKeeper,
+    W: Write,
+>(
+    rt: &R,
+    alloc: Global,
+    mode: &ServeMode<'a>,
+    config: &Config,
+    logging: Option<&Logging<'a, F>>,
+    path: &'a str,
+    folders: &D,
+    network: &mut Network<'_, N>,
+    report: &mut ServerReport,
+    output: &mut W,
+) -> Result<(), Fault<'a>>
+    requires { mode.now.folder ≡ Some path }
+    ensures served { OnOk result (HasServedSo config.now mode.now network.old network.new report.old report.new
+        (W.contents output.old) (W.contents output.new)) }
+    ensures refused { IfErr result (λ fault. IsFolderFault mode.now.folder fault ⊎ IsToldFault mode.now.address fault) }
+    ensures begun { OnErr result (IsToldInPart (W.contents output.old) (W.contents output.new)) }
+{
+    let store = found_store(alloc, folders, path, config)?;
+    serve_store(
+        rt, alloc, mode, config, logging, store, network, report, output,
+    )
+}
+
+// The same with this store.
+#[tactic(auto, using(crate::proofs::ServedLemmas::telling))]
+fn serve_store<
+    'a,
+    K: Records + Drop + Send,
+    R: Wait + Threads + Clock + Sync,
+    N: Net,
+    F: Files + Sync,
+    W: Write,
+>(
+    rt: &R,
+    alloc: Global,
+    mode: &ServeMode<'a>,
+    config: &Config,
+    logging: Option<&Logging<'a, F>>,
+    store: Store<K>,
+    network: &mut Network<'_, N>,
+    report: &mut ServerReport,
+    output: &mut W,
+) -> Result<(), Fault<'a>>
+    ensures served { OnOk result (HasServedAndTold config.now store mode.now.address.now mode.now.workers network.old network.new report.old report.new
+        (W.contents output.old) (W.contents output.new)) }
+    ensures refused { IfErr result (IsToldFault mode.now.address) }
+    ensures begun { OnErr result (IsToldInPart (W.contents output.old) (W.contents output.new)) }
+{
     let start = start(alloc, config, store, mode.workers)?;
     let entries = serve_start(
         rt, alloc, mode, config, logging, start, network, report, output,
     )?;
     tell_entries(alloc, entries, output)
+}
+
+// A store over the records in a folder.
+fn found_store<'a, D: FolderKeeper>(
+    alloc: Global,
+    folders: &D,
+    path: &'a str,
+    config: &Config,
+) -> Result<Store<D::Kept>, Fault<'a>>
+    ensures buckets { IfOk result (λ store. HasBuckets config.now.buckets store.state) }
+    ensures below { IfOk result (λ store. AreBelow store.number store.state) }
+    ensures refused { IfErr result (IsFolderFault (Some path.entry)) }
+{
+    match folders.open(alloc, path, config.buckets()) {
+        Ok(opened) => {
+            let Opened { records, number } = opened;
+            Ok(Store::over(records, number))
+        }
+        Err(StorageFault::NoMemory) => Err(Fault::OutOfMemory),
+        Err(fault) => Err(Fault::CannotUse(path, fault)),
+    }
 }
 
 // A store with the opening buckets, over the records that a keeper makes.
@@ -216,16 +326,15 @@ fn opened_store<Q: Keeper>(
     Ok(Store::over(records, 0))
 }
 
-// What a shared store over this store, which has the opening buckets, is opened with, for so many workers.
+// What a shared store over this store is opened with, for so many workers.
 fn start<K: Records + Drop>(
     alloc: Global,
     config: &Config,
     store: Store<K>,
     workers: u64,
 ) -> Result<Start<K>, NoMemory>
-    requires opening { store ≡ opened (opening config.now.buckets) }
     ensures settings { IfOk result (λ start. start.base.settings ≡ config.now) }
-    ensures store { IfOk result (λ start. start.base.store ≡ opened (opening config.now.buckets)) }
+    ensures store { IfOk result (λ start. start.base.store ≡ store) }
 {
     Start::new(
         alloc,
@@ -256,8 +365,7 @@ fn serve_start<
     output: &mut W,
 ) -> Result<u64, Fault<'a>>
     requires settings { start.base.settings ≡ config.now }
-    requires store { start.base.store ≡ opened (opening config.now.buckets) }
-    ensures served { IfOk result (HasServed config.now mode.now.address.now mode.now.workers network.old network.new report.old report.new) }
+    ensures served { IfOk result (HasServed config.now start.base.store mode.now.address.now mode.now.workers network.old network.new report.old report.new) }
     ensures told { OnOk result (IsToldPlace (W.contents output.old) (W.contents output.new)) }
     ensures refused { IfErr result (IsToldFault mode.now.address) }
     ensures begun { OnErr result (IsToldInPart (W.contents output.old) (W.contents output.new)) }
@@ -375,8 +483,7 @@ fn run_all<K: Records + Drop + Send, R: Wait + Threads + Clock + Sync, N: Net, F
     report: &mut ServerReport,
 ) -> Result<u64, NoMemory>
     requires settings { start.base.settings ≡ config.now }
-    requires store { start.base.store ≡ opened (opening config.now.buckets) }
-    ensures worked { IfOk result (HasWorked config.now (length jobs.opened.items) network.old network.new report.old report.new) }
+    ensures worked { IfOk result (HasWorked config.now start.base.store (length jobs.opened.items) network.old network.new report.old report.new) }
 {
     run::<Brand, K, R, N, F>(
         rt, alloc, config, slots, logging, start, jobs, network, report,

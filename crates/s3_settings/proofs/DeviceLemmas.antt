@@ -88,9 +88,9 @@ either_told (Ok x) old after bytes all part = inl all
 either_told (Err e) old after bytes all part = inr part.1
 
 -- the line of a fault from its parts
-pub line_said : (first second start end text : List ℕ) → start ≡ first → end ≡ second → first ++ second ≡ text → (codes "s3d: " ++ start) ++ (end ++ 10 ∷ []) ≡ codes "s3d: " ++ text ++ 10 ∷ []
-line_said first second start end text s t e =
-    let joined : start ++ end ≡ text = cc in
-    append_assoc (codes "s3d: ") start (end ++ 10 ∷ [])
-    ∙ ap (λ (l : List ℕ). codes "s3d: " ++ l) (sym (append_assoc start end (10 ∷ [])) ∙ ap (λ (l : List ℕ). l ++ 10 ∷ []) joined)
-    ∙ sym (append_assoc (codes "s3d: ") text (10 ∷ []))
+pub line_said : (first second third start between end text : List ℕ) → start ≡ first → between ≡ second → end ≡ third → first ++ (second ++ third) ≡ text
+    → ((codes "s3d: " ++ start) ++ (between ++ end)) ++ 10 ∷ [] ≡ codes "s3d: " ++ text ++ 10 ∷ []
+line_said first second third start between end text s b t e =
+    let joined : start ++ (between ++ end) ≡ text = cc in
+    ap (λ (l : List ℕ). l ++ 10 ∷ []) (append_assoc (codes "s3d: ") start (between ++ end) ∙ ap (λ (l : List ℕ). codes "s3d: " ++ l) joined)
+    ∙ append_assoc (codes "s3d: ") text (10 ∷ [])

@@ -3,7 +3,19 @@ use Rattle.std.specs.Prelude.{◌≡◌, ◌⊎◌, ⊤, ℕ, List, [], ◌∷�
 use Rattle.std.specs.Fmt.{decimal}
 use Rattle.s3_text.specs.Characters.{line_feed}
 use Rattle.s3_settings.specs.declared.fault.Fault.{Fault}
-use Rattle.s3_settings.specs.declared.fault.Fault.TheVariants.{CannotRead, CannotWrite, BadKeysLine, BadEventLine, BadSetting, CannotListen, InputFailed, OutputFailed, OutOfMemory}
+use Rattle.s3_settings.specs.declared.fault.Fault.TheVariants.{CannotRead, CannotWrite, BadKeysLine, BadEventLine, BadSetting, CannotListen, CannotUse, InputFailed, OutputFailed, OutOfMemory}
+use Rattle.s3_storage.specs.declared.storage_fault.StorageFault.{StorageFault}
+use Rattle.s3_storage.specs.declared.storage_fault.StorageFault.TheVariants as storage
+
+-- why a folder can't be used
+abbrev pub reason_text : StorageFault → List ℕ
+reason_text storage.NoMemory = codes ": out of memory"
+reason_text storage.Held = codes ": held"
+reason_text storage.NotAStore = codes ": not a store"
+reason_text storage.LaterForm = codes ": later form"
+reason_text storage.Damaged = codes ": damaged"
+reason_text storage.NoRoom = codes ": no room"
+reason_text storage.Failed = codes ": failed"
 
 -- the text of a fault
 abbrev pub text_of : Fault → List ℕ
@@ -13,6 +25,7 @@ text_of (BadKeysLine number) = codes "bad keys line " ++ decimal number
 text_of (BadEventLine number) = codes "bad event line " ++ decimal number
 text_of BadSetting = codes "bad setting"
 text_of (CannotListen address) = codes "cannot listen on " ++ address.now
+text_of (CannotUse path fault) = codes "cannot use " ++ path.now ++ reason_text fault
 text_of InputFailed = codes "input failed"
 text_of OutputFailed = codes "output failed"
 text_of OutOfMemory = codes "out of memory"

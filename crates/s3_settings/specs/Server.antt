@@ -1,5 +1,6 @@
 -- What the options of a server ask for, and the settings that it is started with.
-use Rattle.std.specs.Prelude.{◌≡◌, ◌⊎◌, ℕ, Bool, true, false, ◌&&◌, nat_le, if◌then◌else◌, List, Option, Some, None, is_some, option_map}
+use Rattle.std.specs.Prelude.{◌≡◌, ◌⊎◌, ℕ, Bool, true, false, not, ◌&&◌, nat_le, if◌then◌else◌, List, codes, Option, Some, None, is_some, option_map}
+use Rattle.std.specs.Str.{bytes_eq}
 use Rattle.s3_config.specs.Settings.{Settings}
 use Rattle.s3_settings.specs.declared.options.ServeOptions.{ServeOptions}
 use Rattle.s3_settings.specs.declared.fault.Fault.{Fault}
@@ -31,12 +32,24 @@ abbrev pub connections_asked : Option (List ℕ) → Option (Option ℕ)
 connections_asked None = Some None
 connections_asked (Some text) = option_map Some (positive (option_number text))
 
--- the address is there, and the numbers of threads, of connections at a time and of connections in all are such
+-- an option doesn't name maps
+abbrev pub isnt_map : Option (List ℕ) → Bool
+isnt_map None = true
+isnt_map (Some records) = not (bytes_eq records (codes "map"))
+
+-- these options may stand together: a folder doesn't keep maps
+abbrev pub are_together : Option (List ℕ) → Option (List ℕ) → Bool
+are_together None records = true
+are_together (Some folder) records = isnt_map records
+
+-- the address is there, and the numbers of threads, of connections at a time and of connections in all are such, and
+-- no folder is named beside maps
 unfoldable pub are_serve_options : ServeOptions → Bool
 are_serve_options o =
     is_some o.listen && is_some (up_to greatest_workers (option_number o.workers.now))
     && is_some (up_to greatest_held (option_number o.max_connections.now))
     && is_some (connections_asked (option_map (λ text. text.now) o.connections))
+    && are_together (option_map (λ text. text.now) o.folder) (option_map (λ text. text.now) o.common.records)
 
 -- the options are of their forms, and a server runs as they say
 pub record IsServeModeOf (o : ServeOptions) (mode : ServeMode) : Type 0 where
@@ -46,6 +59,7 @@ pub record IsServeModeOf (o : ServeOptions) (mode : ServeMode) : Type 0 where
   pub most_held : up_to greatest_held (option_number o.max_connections.now) ≡ Some mode.most_held
   pub connections : connections_asked (option_map (λ text. text.now) o.connections) ≡ Some mode.connections
   pub log : option_map (λ text. text.now) o.log ≡ option_map (λ text. text.now) mode.log
+  pub folder : option_map (λ text. text.now) o.folder ≡ option_map (λ text. text.now) mode.folder
 
 -- a server runs as the options say, under the settings that they and the keys file make
 pub record IsServer (known : List ℕ → Option (List ℕ)) (o : ServeOptions) (mode : ServeMode) (settings : Settings) : Type 0 where

@@ -47,6 +47,11 @@ records_named text =
     else if bytes_eq text (codes "sql") then Some Sql
     else None
 
+-- the kind that an option names; without the option it is maps
+abbrev pub records_asked : Option (List ℕ) → Option RecordsKind
+records_asked None = Some Map
+records_asked (Some text) = records_named text
+
 -- no bucket, or one whose name is a bucket's
 abbrev pub is_bucket_option : Option (List ℕ) → Bool
 is_bucket_option None = true
@@ -57,7 +62,7 @@ unfoldable pub are_options : Options → Bool
 are_options o =
     is_some o.keys && is_some (option_number o.min_part.now) && is_some (option_number o.body_limit.now)
     && is_bucket_option (option_map (λ name. name.now) o.bucket) && is_some (dialect_named o.dialect.now)
-    && is_some (records_named o.records.now)
+    && is_some (records_asked (option_map (λ text. text.now) o.records))
 
 -- the options are of their forms, and a setup has what they say
 pub record IsSetupOf (o : Options) (s : Setup) : Type 0 where
@@ -68,7 +73,7 @@ pub record IsSetupOf (o : Options) (s : Setup) : Type 0 where
   pub body_limit : option_number o.body_limit.now ≡ Some s.body_limit
   pub bucket : option_map (λ name. name.now) o.bucket ≡ s.bucket
   pub dialect : dialect_named o.dialect.now ≡ Some s.dialect
-  pub records : records_named o.records.now ≡ Some s.records
+  pub records : records_asked (option_map (λ text. text.now) o.records) ≡ Some s.records
 
 -- what a replay's own options ask for: one moment for everything, or events, with faults or without; both or neither asks for
 -- nothing, and so do faults without events

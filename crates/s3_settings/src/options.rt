@@ -17,7 +17,7 @@ pub struct Options<'a> {
     /// How documents are spelled: `json` or `s3`.
     pub dialect: &'a str,
     /// How records are kept: `map` or `sql`.
-    pub records: &'a str,
+    pub records: Option<&'a str>,
 }
 
 /// The options of `s3d replay`.
@@ -48,6 +48,8 @@ pub struct ServeOptions<'a> {
     pub connections: Option<&'a str>,
     /// The path of the file that tells of its messages, or `-` for the standard error.
     pub log: Option<&'a str>,
+    /// The path of the folder that keeps the store.
+    pub folder: Option<&'a str>,
 }
 
 /// The options of `s3d sign`.

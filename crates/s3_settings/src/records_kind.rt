@@ -1,7 +1,7 @@
 //! How a server keeps its records.
 
-ghost use Rattle.std.specs.Prelude.{◌≡◌};
-ghost use Rattle.s3_settings.specs.Settings.{records_named};
+ghost use Rattle.std.specs.Prelude.{◌≡◌, option_map};
+ghost use Rattle.s3_settings.specs.Settings.{records_asked, records_named};
 
 /// How a server keeps its records.
 #[derive(Clone, Copy)]
@@ -12,8 +12,18 @@ pub enum RecordsKind {
     Sql,
 }
 
-/// The kind that an option names: `map` or `sql`; `None` where it names none.
-pub(crate) fn records_named(text: &str) -> Option<RecordsKind>
+/// The kind that an option names, `map` or `sql`, and maps without it; `None` where it names none.
+pub(crate) fn records_asked(option: Option<&str>) -> Option<RecordsKind>
+    ensures { result ≡ records_asked (option_map (λ text. text.now) option.entry) }
+{
+    match option {
+        Some(text) => records_named(text),
+        None => Some(RecordsKind::Map),
+    }
+}
+
+// The kind of this name.
+fn records_named(text: &str) -> Option<RecordsKind>
     ensures { result ≡ records_named text.now }
 {
     match text {

@@ -1,9 +1,9 @@
 //! What a server is started with: how it runs, and its settings.
 
 ghost use Rattle.std.specs.Prelude.{◌≡◌, ◌≤◌, false, Some, None, IfOk, IfErr, option_map};
-ghost use Rattle.s3_settings.specs.Server.{are_serve_options, connections_asked, greatest_held, greatest_workers, positive, IsServeModeOf, IsServer, IsServerFault};
+ghost use Rattle.s3_settings.specs.Server.{are_serve_options, are_together, isnt_map, connections_asked, greatest_held, greatest_workers, positive, IsServeModeOf, IsServer, IsServerFault};
 ghost use Rattle.s3_settings.specs.Server as rules;
-ghost use Rattle.s3_settings.specs.Settings.{option_number, records_named};
+ghost use Rattle.s3_settings.specs.Settings.{option_number, records_asked};
 ghost use Rattle.s3_settings.specs.declared.fault.Fault.TheVariants.{BadSetting};
 
 use crate::fault::Fault;
@@ -33,6 +33,8 @@ pub struct ServeMode<'a> {
     pub connections: Option<u64>,
     /// The path of the file that tells of its messages, or `-` for the standard error; without one nothing tells of them.
     pub log: Option<&'a str>,
+    /// The path of the folder that keeps the store; without one it is gone when the server ends.
+    pub folder: Option<&'a str>,
 }
 
 impl<'a> ServeMode<'a> {
@@ -54,13 +56,37 @@ impl<'a> ServeMode<'a> {
             return Err(Fault::BadSetting);
         };
         let connections = connections(options.connections)?;
+        if !are_together(options.folder, options.common.records) {
+            return Err(Fault::BadSetting);
+        }
         Ok(ServeMode {
             address,
             workers,
             most_held,
             connections,
             log: options.log,
+            folder: options.folder,
         })
+    }
+}
+
+// Whether these options may stand together: a folder doesn't keep maps.
+fn are_together(folder: Option<&str>, records: Option<&str>) -> bool
+    ensures { result ≡ are_together (option_map (λ text. text.now) folder.entry) (option_map (λ text. text.now) records.entry) }
+{
+    match folder {
+        Some(_) => isnt_map(records),
+        None => true,
+    }
+}
+
+// Whether an option doesn't name maps.
+fn isnt_map(records: Option<&str>) -> bool
+    ensures { result ≡ isnt_map (option_map (λ text. text.now) records.entry) }
+{
+    match records {
+        Some(text) => text != "map",
+        None => true,
     }
 }
 
@@ -113,7 +139,7 @@ pub fn server_settings<'a, F: Files>(
     files: &F,
 ) -> Result<(ServeMode<'a>, RecordsKind, Config), Fault<'a>>
     ensures value { IfOk result (λ server. IsServer (F.known files.now) options.now server.0 server.2) }
-    ensures records { IfOk result (λ server. records_named options.now.common.records.now ≡ Some server.1) }
+    ensures records { IfOk result (λ server. records_asked (option_map (λ text. text.now) options.now.common.records) ≡ Some server.1) }
     ensures workers { IfOk result (λ server. (1 ≤ server.0.workers) × (server.0.workers ≤ greatest_workers)) }
     ensures held { IfOk result (λ server. (1 ≤ server.0.most_held) × (server.0.most_held ≤ greatest_held)) }
     ensures refused { IfErr result (IsServerFault (F.known files.now) options.now) }

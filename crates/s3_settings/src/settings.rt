@@ -3,13 +3,13 @@
 ghost use Rattle.std.specs.Prelude.{◌≡◌, true, false, Some, None, IfSome, IfOk, IfErr, OnOk, IsErrOf, IsTrue, is_some, option_map, option_to_list};
 ghost use Rattle.s3_config.specs.Settings.{are_settings, is_region, is_region_byte};
 ghost use Rattle.s3_settings.specs.Fault.{MemoryOr};
-ghost use Rattle.s3_settings.specs.Settings.{option_number, option_moment, dialect_named, records_named, is_bucket_option, are_options, IsSetupOf, HasKeys, settings_of, IsConfigured, IsConfigFault};
+ghost use Rattle.s3_settings.specs.Settings.{option_number, option_moment, dialect_named, records_asked, is_bucket_option, are_options, IsSetupOf, HasKeys, settings_of, IsConfigured, IsConfigFault};
 
 use crate::fault::Fault;
 use crate::files::{Files, read_file};
 use crate::keys::read_keys;
 use crate::options::Options;
-use crate::records_kind::{RecordsKind, records_named};
+use crate::records_kind::{RecordsKind, records_asked};
 use s3_calendar::Moment;
 use s3_config::{Config, Credential};
 use s3_names::BucketName;
@@ -135,7 +135,7 @@ fn fixed_parts<'a>(options: &Options<'a>) -> Option<FixedParts<'a>>
         × (option_number options.now.min_part.now ≡ Some parts.min_part)
         × (option_number options.now.body_limit.now ≡ Some parts.body_limit)
         × (dialect_named options.now.dialect.now ≡ Some parts.dialect)
-        × (records_named options.now.records.now ≡ Some parts.records)) }
+        × (records_asked (option_map (λ text. text.now) options.now.records) ≡ Some parts.records)) }
     ensures refused { result ≡ None → are_options options.now ≡ false }
 {
     Some(FixedParts {
@@ -143,7 +143,7 @@ fn fixed_parts<'a>(options: &Options<'a>) -> Option<FixedParts<'a>>
         min_part: option_number(options.min_part)?,
         body_limit: option_number(options.body_limit)?,
         dialect: dialect_named(options.dialect)?,
-        records: records_named(options.records)?,
+        records: records_asked(options.records)?,
     })
 }
 

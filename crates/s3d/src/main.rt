@@ -9,7 +9,8 @@ ghost use Rattle.std.specs.Process.{exit_status};
 
 use s3_cli::{Ran, run_words};
 use s3_devices::{Device, Recorded, Streams};
-use s3_keepers::Keeper;
+use s3_file_records::FileKeeper;
+use s3_keepers::{FolderKeeper, Keeper};
 use s3_server::{ServerReport, serve_words};
 use s3_settings::{Files, ServeOptions};
 use s3_sockets::Network;
@@ -61,12 +62,20 @@ fn exit_code(status: u8) -> ExitCode
 }
 
 // Serves over the network of the system, and answers the exit status.
-fn serve<R: Wait + Threads + Net + Clock + Sync, F: Files + Sync, Q: Keeper, W: Write, E: Device>(
+fn serve<
+    R: Wait + Threads + Net + Clock + Sync,
+    F: Files + Sync,
+    Q: Keeper,
+    D: FolderKeeper,
+    W: Write,
+    E: Device,
+>(
     rt: &R,
     alloc: Global,
     options: &ServeOptions<'_>,
     files: &F,
     tables: &Q,
+    folders: &D,
     output: &mut W,
     errors: &mut E,
 ) -> u8 {
@@ -79,6 +88,7 @@ fn serve<R: Wait + Threads + Net + Clock + Sync, F: Files + Sync, Q: Keeper, W: 
         options,
         files,
         tables,
+        folders,
         &mut network,
         &mut report,
         output,
@@ -120,6 +130,7 @@ fn main(rt: HostRuntime) -> ExitCode {
                 &options,
                 &files,
                 &tables,
+                &FileKeeper(&rt),
                 &mut output,
                 &mut errors,
             )

@@ -1,6 +1,6 @@
 //! A server and two clients.
 use crate::checks::check;
-use crate::keepers::FullTables;
+use crate::keepers::{FullTables, HeldFolders};
 use crate::server::client::is_answered;
 use crate::server::screen::Screen;
 use s3_devices::{Recorded, Streams};
@@ -49,8 +49,8 @@ fn is_local(line: &[u8]) -> bool {
     })
 }
 
-// A server that ends after two connections, and keeps records of this kind.
-fn options(records: &str) -> ServeOptions<'_> {
+// A server that ends after two connections, and keeps records of this kind or in a folder.
+fn options<'a>(records: &'a str, folder: Option<&'a str>) -> ServeOptions<'a> {
     ServeOptions {
         common: Options {
             keys: Some("keys"),
@@ -59,13 +59,14 @@ fn options(records: &str) -> ServeOptions<'_> {
             body_limit: "67108864",
             bucket: Some("pail"),
             dialect: "json",
-            records,
+            records: Some(records),
         },
         listen: Some("127.0.0.1:0"),
         workers: "2",
         max_connections: "16",
         connections: Some("2"),
         log: Some("log"),
+        folder,
     }
 }
 
@@ -76,6 +77,7 @@ fn server<R: Wait + Threads + Net + Clock + Sync>(
     alloc: Global,
     port: &AtomicU64,
     records: &str,
+    folder: Option<&str>,
 ) -> (u8, bool) {
     let mut output = Screen {
         lines: Vec::new(alloc),
@@ -97,9 +99,10 @@ fn server<R: Wait + Threads + Net + Clock + Sync>(
     let status = serve_words(
         rt,
         alloc,
-        &options(records),
+        &options(records, folder),
         &files,
         &FullTables,
+        &HeldFolders,
         &mut network,
         &mut report,
         &mut output,
@@ -148,15 +151,22 @@ fn served<R: Wait + Threads + Net + Clock + Sync>(
     thread::join(
         rt,
         || clients(rt, system, alloc, &port),
-        || server(rt, alloc, &port, "map"),
+        || server(rt, alloc, &port, "map", None),
     )
 }
 
 // The tables have no room for the bucket of the options.
 #[test]
 fn full_tables(rt: HostRuntime) {
-    let (status, _) = server(&rt, rt.alloc(), &AtomicU64::new(0), "sql");
+    let (status, _) = server(&rt, rt.alloc(), &AtomicU64::new(0), "sql", None);
     check(&rt, status == 1, "a server over full tables");
+}
+
+// Another process has the folder.
+#[test]
+fn held_folder(rt: HostRuntime) {
+    let (status, _) = server(&rt, rt.alloc(), &AtomicU64::new(0), "sql", Some("shelf"));
+    check(&rt, status == 1, "a server over a folder that is held");
 }
 
 #[test]

@@ -1,0 +1,3 @@
+pub mod FoundLemmas
+pub mod NumberLemmas
+pub mod SendLemmas

@@ -1,0 +1,18 @@
+use Rattle.std.proofs.Common.{sym, ap, subst, ◌∙◌, ℕ, ℤ, SFits, w64, to_z-of_z, rules}
+use Rattle.s3_records.specs.Places.{AreBelow}
+use Rattle.s3_row_steps.specs.Steps.{AreKept}
+use Rattle.s3_file_records.proofs.opening.with_buckets.Goals as goal
+
+pub over-records-requires : goal.over-records-requires
+over-records-requires g c =
+    let found = c.requires.found in
+    let next : SFits w64 c.args.found.now.next = search rules in
+    record {
+      rows = subst (λ (n : ℤ). AreKept n (g.R.StoredRows.tables c.args.rows)) (sym (to_z-of_z next)) found.kept;
+      named = λ n. ap (λ (f : ℕ → ℕ). f n) c.requires.named ∙ found.named n;
+    }
+
+pub returns-in-Ok-clause-below : goal.returns-in-Ok-clause-below
+returns-in-Ok-clause-below g c =
+    c.add_missing.ensures.below c.args.found.now.number
+    (subst (AreBelow c.args.found.now.number) (sym c.over-records.ensures) (c.requires.found.below (g.B.StoredBodies.contents c.args.bodies)))

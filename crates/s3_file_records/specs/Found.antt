@@ -1,0 +1,19 @@
+-- What is known of rows that were found.
+use Rattle.std.specs.Prelude.{◌≡◌, ℕ, pos, [], ◌∷◌}
+use Rattle.s3_found_rows.specs.declared.loading.Found.{Found}
+use Rattle.s3_records.specs.Places.{AreBelow}
+use Rattle.s3_row_steps.specs.Steps.{AreKept}
+use Rattle.s3_rows.specs.Columns.{StoreColumns, Tables}
+use Rattle.s3_rows.specs.Meaning.{catalogue_of}
+use Rattle.s3_stored_bodies.specs.Numbers.{Contents, times}
+use Rattle.s3_stored_rows.specs.Bodies.{encoding, numbers_named}
+
+-- the rows are sound and name these bodies, and those of versions were made by entries whose numbers are below the next one's
+pub record IsFound (found : Found) (t : Tables) : Type 0 where
+  pub kept : AreKept found.next t
+  pub named : (n : ℕ) → times n found.bodies.items ≡ times n (numbers_named t)
+  pub below : (contents : Contents) → AreBelow found.number (catalogue_of (encoding contents) t)
+
+-- the row of the store is the first one, and says this number
+abbrev pub HasStore : ℕ → Tables → Type 0
+HasStore number t = (store : StoreColumns) × (store.row ≡ pos 1) × (store.number ≡ pos number) × (t.store ≡ store ∷ [])

@@ -1,0 +1,199 @@
+//! A folder is opened: its rows are read and checked, then the bodies that these name.
+ghost use Rattle.std.specs.Prelude.{◌≡◌, false, length, IsTrue, IfOk};
+ghost use Rattle.sqlite.specs.State.{HasCleanDisk};
+ghost use Rattle.sqlite.specs.Files.{file_state};
+ghost use Rattle.s3_records.specs.Places.{AreBelow};
+ghost use Rattle.s3_keepers.specs.Begun.{HasBuckets};
+ghost use Rattle.s3_stored_bodies.specs.Numbers.{times};
+ghost use Rattle.s3_block_bodies.specs.Parts.{uses_in};
+ghost use Rattle.s3_tables.specs.Keeping.{tables as file_tables};
+ghost use Rattle.s3_found_rows.specs.Found.{tables_of};
+ghost use Rattle.s3_file_records.specs.Found.{IsFound, HasStore};
+
+use crate::file_keeper::FileRecords;
+use crate::numbers::take_numbers;
+use s3_block_bodies::BlockBodies;
+use s3_found_rows::{Found, FoundTables, load};
+use s3_keepers::Opened;
+use s3_mirrored_rows::MirroredRows;
+use s3_names::BucketName;
+use s3_sql_rows::SqlRows;
+use s3_storage::StorageFault;
+use s3_stored_bodies::StoredBodies;
+use s3_stored_rows::StoredRows;
+use s3_table_files::{FileTables, make_folder, open_blocks};
+use s3_table_records::{TableRecords, add_missing};
+use sqlite_disk::Disk;
+use sqlite_std_file::{File, Unknown};
+use std::alloc::Global;
+
+/// Bodies in memory and in a file.
+pub type FileBodies = BlockBodies<File>;
+
+/// The records of the folder at a path, as `FolderKeeper::open` says.
+pub(crate) fn opened(
+    rt: &HostRuntime,
+    alloc: Global,
+    path: &str,
+    buckets: &[BucketName],
+) -> Result<Opened<FileRecords>, StorageFault>
+    ensures below { IfOk result (λ opened. AreBelow opened.number opened.records) }
+    ensures buckets { IfOk result (λ opened. HasBuckets buckets.now opened.records) }
+{
+    make_folder(rt, path)?;
+    let (rows, found) = found_rows(rt, alloc, path)?;
+    match found_bodies(rt, alloc, path, &found) {
+        Ok(bodies) => begun(alloc, rows, bodies, &found, buckets),
+        Err(fault) => {
+            drop(rows);
+            Err(fault)
+        }
+    }
+}
+
+// The records over rows and bodies that were found, with these buckets. The numbers of this run are taken first.
+fn begun<R: StoredRows + Drop, B: StoredBodies + Drop>(
+    alloc: Global,
+    rows: R,
+    bodies: B,
+    found: &Found,
+    buckets: &[BucketName],
+) -> Result<Opened<TableRecords<R, B>>, StorageFault>
+    requires found { IsFound found.now (R.tables rows) }
+    requires store { HasStore found.now.number (R.tables rows) }
+    requires named { B.uses bodies ≡ (λ number. times number found.now.bodies.items) }
+    ensures below { IfOk result (λ opened. AreBelow opened.number opened.records) }
+    ensures buckets { IfOk result (λ opened. HasBuckets buckets.now opened.records) }
+{
+    let mut rows = rows;
+    match take_numbers(&mut rows, found.number) {
+        Ok(()) => with_buckets(alloc, rows, bodies, found, buckets),
+        Err(fault) => {
+            drop(rows);
+            drop(bodies);
+            Err(fault)
+        }
+    }
+}
+
+// The same, once they are taken.
+fn with_buckets<R: StoredRows + Drop, B: StoredBodies + Drop>(
+    alloc: Global,
+    rows: R,
+    bodies: B,
+    found: &Found,
+    buckets: &[BucketName],
+) -> Result<Opened<TableRecords<R, B>>, StorageFault>
+    requires found { IsFound found.now (R.tables rows) }
+    requires named { B.uses bodies ≡ (λ number. times number found.now.bodies.items) }
+    ensures below { IfOk result (λ opened. AreBelow opened.number opened.records) }
+    ensures buckets { IfOk result (λ opened. HasBuckets buckets.now opened.records) }
+{
+    let mut records = TableRecords::over(rows, bodies, found.next);
+    match add_missing(&mut records, alloc, buckets) {
+        Ok(()) => Ok(Opened {
+            records,
+            number: found.number,
+        }),
+        Err(failed) => {
+            drop(records);
+            Err(StorageFault::from(failed))
+        }
+    }
+}
+
+// The rows that stand there, and what is known of them.
+fn found_rows(
+    rt: &HostRuntime,
+    alloc: Global,
+    path: &str,
+) -> Result<(MirroredRows, Found), StorageFault>
+    ensures found { IfOk result (λ opened. IsFound opened.1 opened.0.memory) }
+    ensures store { IfOk result (λ opened. HasStore opened.1.number opened.0.memory) }
+{
+    let name = format!(in alloc; "{path}/records.db")?;
+    let mut file = FileTables::open(rt, name.as_str())?;
+    match loaded(alloc, &mut file) {
+        Ok((memory, found)) => mirrored(memory, file, found),
+        Err(fault) => {
+            drop(file);
+            Err(fault)
+        }
+    }
+}
+
+// The rows of a file in memory, and what is known of them.
+fn loaded(alloc: Global, file: &mut FileTables) -> Result<(SqlRows, Found), StorageFault>
+    ensures found { IfOk result (λ loaded. IsFound loaded.1 loaded.0) }
+    ensures store { IfOk result (λ loaded. HasStore loaded.1.number loaded.0) }
+    ensures same { IfOk result (λ loaded. HasCleanDisk (file_state file.new) → IsTrue (file_state file.new).is_open → file_tables (file_state file.new) ≡ loaded.0) }
+{
+    let mut found = file.read(alloc)?;
+    in_memory(alloc, &mut found)
+}
+
+// The rows that were found in memory, and what is known of them.
+fn in_memory(alloc: Global, tables: &mut FoundTables) -> Result<(SqlRows, Found), StorageFault>
+    ensures found { IfOk result (λ loaded. IsFound loaded.1 loaded.0) }
+    ensures store { IfOk result (λ loaded. HasStore loaded.1.number loaded.0) }
+    ensures same { IfOk result (λ loaded. loaded.0 ≡ tables_of tables.old) }
+{
+    let mut memory = SqlRows::new(alloc)?;
+    match load(alloc, tables, &mut memory) {
+        Ok(found) => Ok((memory, found)),
+        Err(fault) => {
+            drop(memory);
+            Err(fault)
+        }
+    }
+}
+
+// Rows in memory over a file that has the same.
+fn mirrored(
+    memory: SqlRows,
+    file: FileTables,
+    found: Found,
+) -> Result<(MirroredRows, Found), StorageFault>
+    requires found { IsFound found memory }
+    requires store { HasStore found.number memory }
+    requires same { HasCleanDisk (file_state file) → IsTrue (file_state file).is_open → file_tables (file_state file) ≡ memory }
+    ensures found { IfOk result (λ opened. IsFound opened.1 opened.0.memory) }
+    ensures store { IfOk result (λ opened. HasStore opened.1.number opened.0.memory) }
+{
+    if !file.is_live() {
+        drop(memory);
+        drop(file);
+        return Err(StorageFault::Failed);
+    }
+    Ok((MirroredRows::new(memory, file), found))
+}
+
+// The bodies that rows name. Where the rows are those of a new store there may be no bytes: else these are of rows that were lost.
+fn found_bodies(
+    rt: &HostRuntime,
+    alloc: Global,
+    path: &str,
+    found: &Found,
+) -> Result<FileBodies, StorageFault>
+    ensures { IfOk result (λ bodies. uses_in bodies ≡ (λ number. times number found.now.bodies.items)) }
+{
+    let name = format!(in alloc; "{path}/blocks")?;
+    let mut disk = open_blocks(rt, name.as_str(), Unknown)?;
+    if found.number == 0 && has_bytes(&mut disk) {
+        drop(disk);
+        return Err(StorageFault::Damaged);
+    }
+    BlockBodies::open(alloc, disk, found.bodies.as_slice())
+}
+
+// Whether a file has bytes. One whose length can't be asked for may have some.
+fn has_bytes<D: Disk>(disk: &mut D) -> bool
+    requires { IsTrue (D.Disk.is_usable disk.old) }
+    ensures usable { IsTrue (D.Disk.is_usable disk.new) }
+    ensures none { result ≡ false → IsTrue (D.Disk.is_clean disk.new) → length (D.Disk.seen disk.old) ≡ 0 }
+{
+    match disk.len() {
+        Ok(length) => length > 0,
+        Err(_) => true,
+    }
+}
