@@ -1,3 +1,2 @@
 pub mod FoundLemmas
-pub mod NumberLemmas
 pub mod SendLemmas

@@ -41,42 +41,69 @@ pub(crate) fn opened(
     ensures buckets { IfOk result (λ opened. HasBuckets buckets.now opened.records) }
 {
     make_folder(rt, path)?;
-    let (rows, found) = found_rows(rt, alloc, path)?;
-    match found_bodies(rt, alloc, path, &found) {
-        Ok(bodies) => begun(alloc, rows, bodies, &found, buckets),
+    let name = format!(in alloc; "{path}/records.db")?;
+    let mut file = FileTables::open(rt, name.as_str())?;
+    match loaded(alloc, &mut file) {
+        Ok((memory, found)) => over_file(rt, alloc, path, memory, file, &found, buckets),
         Err(fault) => {
-            drop(rows);
+            drop(file);
             Err(fault)
         }
     }
 }
 
-// The records over rows and bodies that were found, with these buckets. The numbers of this run are taken first.
-fn begun<R: StoredRows + Drop, B: StoredBodies + Drop>(
+// The records over rows that were found in a file, and the bodies that these name.
+fn over_file(
+    rt: &HostRuntime,
     alloc: Global,
-    rows: R,
-    bodies: B,
+    path: &str,
+    memory: SqlRows,
+    file: FileTables,
     found: &Found,
     buckets: &[BucketName],
-) -> Result<Opened<TableRecords<R, B>>, StorageFault>
-    requires found { IsFound found.now (R.tables rows) }
-    requires store { HasStore found.now.number (R.tables rows) }
-    requires named { B.uses bodies ≡ (λ number. times number found.now.bodies.items) }
+) -> Result<Opened<FileRecords>, StorageFault>
+    requires found { IsFound found.now memory }
+    requires store { HasStore found.now.number memory }
+    requires same { HasCleanDisk (file_state file) → IsTrue (file_state file).is_open → file_tables (file_state file) ≡ memory }
     ensures below { IfOk result (λ opened. AreBelow opened.number opened.records) }
     ensures buckets { IfOk result (λ opened. HasBuckets buckets.now opened.records) }
 {
-    let mut rows = rows;
-    match take_numbers(&mut rows, found.number) {
-        Ok(()) => with_buckets(alloc, rows, bodies, found, buckets),
+    match found_bodies(rt, alloc, path, found) {
+        Ok(bodies) => over_both(alloc, memory, file, bodies, found, buckets),
         Err(fault) => {
-            drop(rows);
+            drop(memory);
+            drop(file);
+            Err(fault)
+        }
+    }
+}
+
+// The same with these bodies.
+fn over_both(
+    alloc: Global,
+    memory: SqlRows,
+    file: FileTables,
+    bodies: FileBodies,
+    found: &Found,
+    buckets: &[BucketName],
+) -> Result<Opened<FileRecords>, StorageFault>
+    requires found { IsFound found.now memory }
+    requires store { HasStore found.now.number memory }
+    requires same { HasCleanDisk (file_state file) → IsTrue (file_state file).is_open → file_tables (file_state file) ≡ memory }
+    requires named { uses_in bodies ≡ (λ number. times number found.now.bodies.items) }
+    ensures below { IfOk result (λ opened. AreBelow opened.number opened.records) }
+    ensures buckets { IfOk result (λ opened. HasBuckets buckets.now opened.records) }
+{
+    match mirrored(memory, file, found) {
+        Ok(rows) => with_buckets(alloc, rows, bodies, found, buckets),
+        Err(fault) => {
             drop(bodies);
             Err(fault)
         }
     }
 }
 
-// The same, once they are taken.
+// The records over rows and bodies that were found, with these buckets.
 fn with_buckets<R: StoredRows + Drop, B: StoredBodies + Drop>(
     alloc: Global,
     rows: R,
@@ -98,26 +125,6 @@ fn with_buckets<R: StoredRows + Drop, B: StoredBodies + Drop>(
         Err(failed) => {
             drop(records);
             Err(StorageFault::from(failed))
-        }
-    }
-}
-
-// The rows that stand there, and what is known of them.
-fn found_rows(
-    rt: &HostRuntime,
-    alloc: Global,
-    path: &str,
-) -> Result<(MirroredRows, Found), StorageFault>
-    ensures found { IfOk result (λ opened. IsFound opened.1 opened.0.memory) }
-    ensures store { IfOk result (λ opened. HasStore opened.1.number opened.0.memory) }
-{
-    let name = format!(in alloc; "{path}/records.db")?;
-    let mut file = FileTables::open(rt, name.as_str())?;
-    match loaded(alloc, &mut file) {
-        Ok((memory, found)) => mirrored(memory, file, found),
-        Err(fault) => {
-            drop(file);
-            Err(fault)
         }
     }
 }
@@ -148,24 +155,22 @@ fn in_memory(alloc: Global, tables: &mut FoundTables) -> Result<(SqlRows, Found)
     }
 }
 
-// Rows in memory over a file that has the same.
-fn mirrored(
-    memory: SqlRows,
-    file: FileTables,
-    found: Found,
-) -> Result<(MirroredRows, Found), StorageFault>
-    requires found { IsFound found memory }
-    requires store { HasStore found.number memory }
+// Rows in memory over a file that has the same, where the numbers of this run are taken.
+fn mirrored(memory: SqlRows, file: FileTables, found: &Found) -> Result<MirroredRows, StorageFault>
+    requires found { IsFound found.now memory }
+    requires store { HasStore found.now.number memory }
     requires same { HasCleanDisk (file_state file) → IsTrue (file_state file).is_open → file_tables (file_state file) ≡ memory }
-    ensures found { IfOk result (λ opened. IsFound opened.1 opened.0.memory) }
-    ensures store { IfOk result (λ opened. HasStore opened.1.number opened.0.memory) }
+    ensures { IfOk result (λ rows. IsFound found.now rows.memory) }
 {
-    if !file.is_live() {
-        drop(memory);
-        drop(file);
-        return Err(StorageFault::Failed);
+    let (mut memory, mut file) = (memory, file);
+    match take_numbers(&mut memory, &mut file, found.number) {
+        Ok(()) => Ok(MirroredRows::new(memory, file)),
+        Err(fault) => {
+            drop(memory);
+            drop(file);
+            Err(fault)
+        }
     }
-    Ok((MirroredRows::new(memory, file), found))
 }
 
 // The bodies that rows name. Where the rows are those of a new store there may be no bytes: else these are of rows that were lost.

@@ -6,7 +6,7 @@ use Rattle.sqlite.specs.declared.error.Error.{Error}
 use Rattle.sqlite.specs.State.{State, HasCleanDisk}
 use Rattle.s3_rows.specs.Columns.{Tables}
 use Rattle.s3_tables.specs.Stored.{Stores, tables_in}
-use Rattle.s3_tables.specs.Keeping.{tables, Keeps, Steps}
+use Rattle.s3_tables.specs.Keeping.{tables, Keeps, Steps, Reads}
 use Rattle.s3_mirrored_rows.specs.Mirror.{Agrees, MayLeave}
 
 -- what is read in trees that store tables is those
@@ -54,3 +54,14 @@ survived change old new known agrees shown r steps t (clean, db, left, is) =
       | inl kept ↦ inl (early, db, kept, is)
       | inr changed ↦ inr (sym is ∙ shown db (change (tables old)) changed.1 ∙ ap change (agrees early changed.0))
     ]
+
+-- a call that reads leaves what agrees, and what a crash leaves
+module _ (old new : State) (reads : Reads old new) where
+  early : HasCleanDisk new → HasCleanDisk old
+  early clean = omega (arith, reads.survives.clean, clean)
+
+  pub read_agrees : (known : Tables) → Agrees old known → Agrees new known
+  read_agrees known agrees clean up = reads.kept clean up ∙ agrees (early clean) (reads.was_open clean up)
+
+  pub read_stays : (t : Tables) → MayLeave new t → MayLeave old t
+  read_stays t (clean, db, left, is) = (early clean, db, (elim (reads.survives.crash clean db left) [ inl before ↦ before | inr never ↦ absurd never ]), is)

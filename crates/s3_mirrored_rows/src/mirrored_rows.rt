@@ -21,7 +21,7 @@ use std::marker::Model;
 ///
 /// Contracts see the rows in memory and the connection of the file. Where the file has an error, memory keeps what it had: the
 /// next open finds the list whole or not at all, and one that the disk has shut changes no more. Where the file was only short
-/// of memory, a later change goes through. Where a list was made in the file and memory ran out before it was made in memory,
+/// of memory, it is asked again with the next bucket. Where a list was made in the file and memory ran out before it was made in memory,
 /// the file is written no more, and each later change has an error: the next open finds that list whole.
 #[derive(Drop)]
 pub struct MirroredRows {
@@ -95,6 +95,7 @@ impl StoredRows for MirroredRows {
     }
 
     fn bucket(&mut self, name: &[u8]) -> Result<Option<StoredBucket>, NoMemory> {
+        self.file.wake();
         self.memory.bucket(name)
     }
 

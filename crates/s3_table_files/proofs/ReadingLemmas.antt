@@ -1,11 +1,11 @@
 -- What several calls that read one after another found.
-use Rattle.std.proofs.Common.{◌≡◌, Ok, Err, Result, Some, ap, sym, ◌∙◌, arith, subst}
+use Rattle.std.proofs.Common.{◌≡◌, Ok, Err, Result, Some, inl, refl, ap, sym, ◌∙◌, arith, subst}
 use Rattle.std.specs.Prelude.{IsTrue, IfOk}
 use Rattle.std.specs.Result.{result_ok}
 use Rattle.sqlite.specs.declared.error.Error.{Error}
 use Rattle.sqlite.specs.State.{State, HasCleanDisk}
 use Rattle.s3_rows.specs.Columns.{Tables}
-use Rattle.s3_tables.specs.Keeping.{tables, Reads}
+use Rattle.s3_tables.specs.Keeping.{tables, Keeps, Reads}
 
 pub of_ok : {R : Type 0} (P : R → Type 0) (answer : Result R Error) (x : R) → Some x ≡ result_ok answer → IfOk answer P → P x
 of_ok P (Ok y) x same value = let is : y ≡ x = cc in subst P is value
@@ -39,3 +39,19 @@ module _ (s0 s1 s2 s3 s4 s5 : State) (r1 : Reads s0 s1) (r2 : Reads s1 s2) (r3 :
       five_same {a = tables s5} {b = found}
       (ap (λ (t : Tables). t.buckets) e1 ∙ sym (buckets c1)) (ap (λ (t : Tables). t.versions) e2 ∙ sym (versions c2))
       (ap (λ (t : Tables). t.uploads) e3 ∙ sym (uploads c3)) (ap (λ (t : Tables). t.parts) e4 ∙ sym (parts c4)) (ap (λ (t : Tables). t.store) e5 ∙ sym (store c5))
+
+-- where nothing is done nothing is read
+pub none_read : (s : State) → (HasCleanDisk s → Keeps s) → Reads s s
+none_read s keeps = record {
+  keeps = keeps;
+  kept = λ _ _. refl;
+  was_open = λ _ up. up;
+  survives = record {
+    clean = omega arith;
+    shield = λ shielded. shielded;
+    counts = omega arith;
+    limit = refl;
+    closes = λ _ up. inl up;
+    crash = λ _ db left. inl left;
+  };
+}

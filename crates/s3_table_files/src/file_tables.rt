@@ -1,12 +1,13 @@
 //! The tables in files of the system.
-ghost use Rattle.std.specs.Prelude.{◌≡◌, IsTrue, IfOk, IfErr};
+ghost use Rattle.std.specs.Prelude.{◌≡◌, IsTrue, IfOk, IfErr, OnOk};
 ghost use Rattle.sqlite.specs.State.{HasCleanDisk};
 ghost use Rattle.sqlite.specs.Files.{file_state};
 ghost use Rattle.s3_stored_rows.specs.Changes.{after_all};
-ghost use Rattle.s3_tables.specs.Keeping.{tables, Keeps, Steps};
+ghost use Rattle.s3_tables.specs.Keeping.{tables, Keeps, Makes, Steps, Reads};
 ghost use Rattle.s3_found_rows.specs.Found.{tables_of};
 ghost use Rattle.s3_table_files.specs.Faults.{IsOfTables};
 
+use crate::faults::table_fault;
 use crate::reading::read_tables;
 use crate::tables::open_tables;
 use s3_found_rows::FoundTables;
@@ -62,12 +63,34 @@ impl FileTables {
         self.tables.apply(changes)
     }
 
+    /// The same, where an error says what is wrong with the files.
+    pub fn change(&mut self, changes: &[Change]) -> Result<(), StorageFault>
+        ensures clean { HasCleanDisk (file_state self.new) → HasCleanDisk (file_state self.old) }
+        ensures was_open { HasCleanDisk (file_state self.new) → IsTrue (file_state self.new).is_open → IsTrue (file_state self.old).is_open }
+        ensures made { OnOk result (HasCleanDisk (file_state self.new) → Makes (after_all changes.now) (file_state self.old) (file_state self.new)) }
+        ensures fault { IfErr result IsOfTables }
+    {
+        match self.apply(changes) {
+            Ok(()) => Ok(()),
+            Err(error) => Err(table_fault(error)),
+        }
+    }
+
     /// Whether the connection still answered when it was last asked.
     pub fn is_live(&self) -> bool
         ensures keeps { HasCleanDisk (file_state self.now) → Keeps (file_state self.now) }
         ensures live { IsTrue result → HasCleanDisk (file_state self.now) → IsTrue (file_state self.now).is_open }
     {
         self.tables.is_live()
+    }
+
+    /// Asks the connection again where it didn't answer when it was last asked, as where memory ran out: it may answer by now.
+    pub fn wake(&mut self)
+        ensures { Reads (file_state self.old) (file_state self.new) }
+    {
+        if !self.tables.is_live() {
+            let _ = self.tables.store();
+        }
     }
 
     /// Reads all rows, as `read_tables` says.

@@ -1,8 +1,5 @@
-use Rattle.std.proofs.Common.{refl}
+use Rattle.s3_file_records.proofs.FoundLemmas.{still_found}
 use Rattle.s3_file_records.proofs.opening.mirrored.Goals as goal
 
-pub new-requires-clause-open : goal.new-requires-clause-open
-new-requires-clause-open c = λ clean. c.if-not-is_live.ensures.live refl clean
-
-pub new-requires-clause-same : goal.new-requires-clause-same
-new-requires-clause-same c = λ clean. c.requires.same clean (c.if-not-is_live.ensures.live refl clean)
+pub returns-in-Ok : goal.returns-in-Ok
+returns-in-Ok c = rw c.new.ensures.value (still_found c.args.found.now c.args.memory c.take_numbers.new.memory _ c.in-Ok.ensures.taken c.requires.found)
