@@ -33,6 +33,31 @@ CONFIGURATIONS = {
 # Which sub-resources of a bucket that dialect answers, and which of a key, by the method.
 OF_BUCKETS = {"GET": {b"location", *CONFIGURATIONS}, "POST": {b"delete"}}
 OF_KEYS = {"GET": {b"tagging"}}
+# What header lines ask of operations that the dialect s3 hasn't: how the names of such lines begin of those that write, and
+# of those that read; and the names of others of those that write, with the values that ask for nothing more.
+WRITES = {
+    "create_bucket",
+    "put_object",
+    "copy_object",
+    "create_multipart_upload",
+    "upload_part",
+    "upload_part_copy",
+    "complete_multipart_upload",
+}
+UNSERVED_OF_WRITES = (
+    "x-amz-server-side-encryption",
+    "x-amz-copy-source-server-side-encryption-",
+    "x-amz-object-lock-",
+    "x-amz-grant-",
+)
+UNSERVED_OF_READS = ("x-amz-server-side-encryption-customer-",)
+UNSERVED_VALUES = {
+    "x-amz-acl": {"private", "bucket-owner-full-control", "bucket-owner-read"},
+    "x-amz-bucket-object-lock-enabled": {"false"},
+    "x-amz-tagging": set(),
+    "x-amz-tagging-directive": {"COPY"},
+    "x-amz-website-redirect-location": set(),
+}
 # The conditions of a key that is to be deleted with others, which aren't there; and how a document says yes and no.
 CONDITIONS, TRUTHS = {"ETag", "LastModifiedTime", "Size"}, {"true": True, "false": False}
 VERSION_ID, UPLOAD_ID = re.compile(rb"null|v[0-9a-f]{16}"), re.compile(rb"u[0-9a-f]{16}")
@@ -121,9 +146,20 @@ class Request:
         pairs = [(key.lower(), value.strip(" \t")) for key, _, value in pairs]
         return [(key.removeprefix(name), value) for key, value in pairs if key.startswith(name)]
 
+    def all_of(self, name):
+        """The values of the header lines of a name."""
+        return [value for behind, value in self.values(name) if behind == ""]
+
     def line(self, name):
         """The value of the first header line of a name."""
-        return next((value for behind, value in self.values(name) if behind == ""), None)
+        return next(iter(self.all_of(name)), None)
+
+    def asks_for_more(self, operation):
+        """Whether a line asks an operation for what isn't here."""
+        if operation in WRITES:
+            others = (value not in said for name, said in UNSERVED_VALUES.items() for value in self.all_of(name))
+            return any(map(self.values, UNSERVED_OF_WRITES)) or any(others)
+        return operation == "get_object" and any(map(self.values, UNSERVED_OF_READS))
 
     def description(self):
         """The media type and the metadata of what is made."""
@@ -375,5 +411,6 @@ def operation(request):
     for method, is_key, is_so, found in OPERATIONS:
         if method == request.method and is_key == (request.key != b"") and is_so(request):
             refuse(found is None, "NotImplemented")
+            refuse(is_s3(request) and request.asks_for_more(found), "NotImplemented")
             return found
     raise Refused("MethodNotAllowed")

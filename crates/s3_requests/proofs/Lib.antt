@@ -1,5 +1,6 @@
 pub mod CopySourceLemmas
 pub mod DescriptionLemmas
+pub mod LineLemmas
 pub mod MemoryLemmas
 pub mod TokenLemmas
 pub mod UnbrokenLemmas

@@ -333,7 +333,7 @@ module _ (head : HeadParts) where
   asked_right : (dialect : Dialect) (target : TargetParts) (asked : KeyAsked) → key_plan dialect head target ≡ Ok asked → IsRightUnder head asked
   unfolding key_plan
   asked_right dialect target asked is =
-      let one = bound (served dialect (key_operation (method_of head.method) head target)) (λ (operation : Operation). asked_for dialect operation head target) asked is in
+      let one = bound (served dialect head (key_operation (method_of head.method) head target)) (λ (operation : Operation). asked_for dialect operation head target) asked is in
       asked_right_for dialect one.0 target asked one.2
 
   service_right_for : (operation : Operation) (plan : Plan) → service_plan_for operation ≡ Ok plan → IsRight head plan
@@ -345,7 +345,7 @@ module _ (head : HeadParts) where
   service_right : (dialect : Dialect) (plan : Plan) → service_plan dialect head ≡ Ok plan → IsRight head plan
   unfolding service_plan
   service_right dialect plan is =
-      let one = bound (served dialect (service_operation (method_of head.method))) service_plan_for plan is in
+      let one = bound (served dialect head (service_operation (method_of head.method))) service_plan_for plan is in
       service_right_for one.0 plan one.2
 
   creation_right : (dialect : Dialect) (name region : List ℕ) → IsRight head (creation_plan dialect name region)
@@ -369,7 +369,7 @@ module _ (head : HeadParts) where
   bucket_right : (settings : Settings) (name : List ℕ) (target : TargetParts) (plan : Plan) → plan_of_bucket settings name head target ≡ Ok plan → IsRight head plan
   unfolding plan_of_bucket
   bucket_right settings name target plan is =
-      let one = bound (served settings.dialect (bucket_operation (method_of head.method) target)) (λ (operation : Operation). plan_in_bucket settings name operation head target) plan is in
+      let one = bound (served settings.dialect head (bucket_operation (method_of head.method) target)) (λ (operation : Operation). plan_in_bucket settings name operation head target) plan is in
       bucket_right_for settings name one.0 target plan one.2
 
   key_right : (dialect : Dialect) (name : List ℕ) (target : TargetParts) (plan : Plan) → plan_of_key dialect name head target ≡ Ok plan → IsRight head plan

@@ -1,9 +1,9 @@
 -- What a copy is from (Amazon S3 API Reference, CopyObject and UploadPartCopy): the value of `x-amz-copy-source` is an
 -- optional slash, a bucket, a slash and a key, and then may name a version behind `?`. It is cut at its first `?`, and what
 -- stands before that at the first slash behind the optional one; then the bucket and the key are percent-decoded.
-use Rattle.std.specs.Prelude.{ℕ, Bool, not, ◌&&◌, ◌==◌, if◌then◌else◌, List, [], ◌∷◌, take, codes, Option, None, ok_or, Result, Ok}
+use Rattle.std.specs.Prelude.{ℕ, Bool, not, ◌&&◌, ◌==◌, if◌then◌else◌, List, [], ◌∷◌, codes, Option, None, ok_or, Result, Ok}
 use Rattle.std.specs.List.{list_any, before_first, after_first}
-use Rattle.std.specs.Str.{bytes_eq, str_to_ascii_lowercase}
+use Rattle.std.specs.Str.{bytes_eq}
 use Rattle.percent_encoding.specs.Percent.{percent_decode}
 use Rattle.s3_text.specs.Characters.{slash, equals_sign, question_mark}
 use Rattle.s3_terms.specs.Fault.{refuse, ◌>>◌, ◌>>=◌}
@@ -19,6 +19,7 @@ use Rattle.s3_http_heads.specs.Head.{HeadParts, first_value}
 use Rattle.s3_http_heads.specs.Target.{has_bad_escape}
 use Rattle.s3_machine.specs.declared.command.Source.{Source}
 use Rattle.s3_requests.specs.Arguments.{as_argument, id_read}
+use Rattle.s3_requests.specs.LineNames.{begins_with}
 use Rattle.s3_requests.specs.Operations.{is_xml}
 use Rattle.s3_requests.specs.ReadConditions.{source_conditions_of}
 
@@ -63,9 +64,9 @@ source_in conditions value = do
   key ← key_in (path_in value)
   Ok (record { bucket = bucket; key = key; version = version; conditions = conditions })
 
--- lines of this name set a condition for the source: it begins with these 21 bytes, in capitals or not
+-- lines of this name set a condition for the source
 abbrev pub is_condition : List ℕ → Bool
-is_condition name = bytes_eq (str_to_ascii_lowercase (take 21 name)) (codes "x-amz-copy-source-if-")
+is_condition name = begins_with (codes "x-amz-copy-source-if-") name
 
 abbrev pub has_source_condition : HeadParts → Bool
 has_source_condition head = list_any (λ (line : List ℕ × List ℕ). is_condition line.0) head.headers

@@ -5,6 +5,7 @@ pub mod Copies
 pub mod CopySource
 pub mod Description
 pub mod Laws
+pub mod LineNames
 pub mod ListArguments
 pub mod Memory
 pub mod Name
@@ -12,6 +13,7 @@ pub mod Operations
 pub mod Protection
 pub mod ReadConditions
 pub mod Routing
+pub mod Unserved
 pub mod UploadArguments
 pub mod WriteCondition
 pub use Rattle.s3_http_heads.specs.Head

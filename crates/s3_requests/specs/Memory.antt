@@ -84,7 +84,7 @@ InBucketTakes dialect other target = ⊥
 -- what is asked of a bucket takes it where this server has the operation
 unfoldable pub BucketTakes : Dialect → HeadParts → TargetParts → Type 0
 BucketTakes dialect head target =
-    IsOkAnd (served dialect (bucket_operation (method_of head.method) target)) (λ operation. InBucketTakes dialect operation target)
+    IsOkAnd (served dialect head (bucket_operation (method_of head.method) target)) (λ operation. InBucketTakes dialect operation target)
 
 -- an operation on a key takes it for what is said of an object, for the tags of a read, or for the source of a copy
 abbrev pub UnderKeyTakes : Dialect → Operation → HeadParts → TargetParts → Type 0
@@ -99,7 +99,7 @@ UnderKeyTakes dialect other head target = ⊥
 -- what is asked of a key takes it where this server has the operation
 unfoldable pub KeyTakes : Dialect → HeadParts → TargetParts → Type 0
 KeyTakes dialect head target =
-    IsOkAnd (served dialect (key_operation (method_of head.method) head target)) (λ operation. UnderKeyTakes dialect operation head target)
+    IsOkAnd (served dialect head (key_operation (method_of head.method) head target)) (λ operation. UnderKeyTakes dialect operation head target)
 
 -- a bucket and a key that are named so take it where they are long; behind them their operation takes it
 unfoldable pub NamedTakes : Dialect → HeadParts → TargetParts → Type 0

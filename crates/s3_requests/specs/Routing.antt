@@ -34,12 +34,14 @@ use Rattle.s3_requests.specs.ReadConditions.{conditions_of}
 use Rattle.s3_requests.specs.WriteCondition.{absence_of}
 use Rattle.s3_requests.specs.Description.{description_of}
 use Rattle.s3_requests.specs.Operations.{service_operation, bucket_operation, key_operation, is_served}
+use Rattle.s3_requests.specs.Unserved.{asks_for_more}
 
--- an operation that is there, and that this server has
-unfoldable pub served : Dialect → Option Operation → Result Operation Code
-served dialect found = do
+-- an operation that is there, that this server has, and of which the head asks for nothing more than that
+unfoldable pub served : Dialect → HeadParts → Option Operation → Result Operation Code
+served dialect head found = do
   operation ← ok_or found MethodNotAllowed
   refuse (not (is_served dialect operation)) NotImplemented
+  refuse (asks_for_more dialect operation head) NotImplemented
   Ok operation
 
 -- the service's operations, with their arguments
@@ -50,7 +52,7 @@ service_plan_for other = Err NotImplemented
 -- what is asked of the service
 unfoldable pub service_plan : Dialect → HeadParts → Result Plan Code
 service_plan dialect head = do
-  operation ← served dialect (service_operation (method_of head.method))
+  operation ← served dialect head (service_operation (method_of head.method))
   service_plan_for operation
 
 -- the name of the bucket that a target names
@@ -121,7 +123,7 @@ plan_in_bucket settings name other head target = of_bucket name (bucket_command_
 -- what is asked of the bucket of this name, or of objects in it
 unfoldable pub plan_of_bucket : Settings → List ℕ → HeadParts → TargetParts → Result Plan Code
 plan_of_bucket settings name head target = do
-  operation ← served settings.dialect (bucket_operation (method_of head.method) target)
+  operation ← served settings.dialect head (bucket_operation (method_of head.method) target)
   plan_in_bucket settings name operation head target
 
 -- CopyObject, with what it copies
@@ -223,7 +225,7 @@ asked_for dialect other head target = of_key (key_command_for dialect other head
 -- what is asked of a key, or of an upload to it
 unfoldable pub key_plan : Dialect → HeadParts → TargetParts → Result KeyAsked Code
 key_plan dialect head target = do
-  operation ← served dialect (key_operation (method_of head.method) head target)
+  operation ← served dialect head (key_operation (method_of head.method) head target)
   asked_for dialect operation head target
 
 -- the plan of what is asked of this key

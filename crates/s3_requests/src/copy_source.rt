@@ -1,5 +1,5 @@
 //! What a copy is from.
-ghost use Rattle.std.specs.Prelude.{◌≡◌, ◌==◌, take, IfOk};
+ghost use Rattle.std.specs.Prelude.{◌≡◌, ◌==◌, IfOk};
 ghost use Rattle.std.specs.List.{list_any};
 ghost use Rattle.percent_encoding.specs.Percent.{percent_decode};
 ghost use Rattle.s3_text.specs.Characters.{question_mark};
@@ -8,11 +8,12 @@ ghost use Rattle.s3_requests.specs.CopySource as rules;
 ghost use Rattle.s3_requests.specs.Memory.{FollowsWhere, SourceInTakes, SourceTakes};
 
 use crate::arguments::read_id;
+use crate::line_names::begins_with;
 use crate::operations::is_xml;
 use crate::read_conditions::source_conditions_of;
 use percent_encoding::percent_decode;
 use s3_conditions::Conditions;
-use s3_http_heads::{Head, has_bad_escape, is_named};
+use s3_http_heads::{Head, has_bad_escape};
 use s3_machine::Source;
 use s3_names::{BucketName, Key, VersionId};
 use s3_terms::{Code, Dialect, NoMemory};
@@ -68,15 +69,7 @@ fn has_source_condition(head: &Head) -> bool
 fn is_condition(name: &[u8]) -> bool
     ensures { result ≡ rules.is_condition name.now }
 {
-    is_named(front_of(name), CONDITION)
-}
-
-// As many bytes of a name as those names begin with.
-fn front_of(name: &[u8]) -> &[u8]
-    ensures { result.now ≡ take 21 name.now }
-{
-    let (front, _) = name.split_at(name.len().min(CONDITION.len()));
-    front
+    begins_with(name, CONDITION)
 }
 
 // What a value names, on the conditions of the head.

@@ -9,11 +9,13 @@ mod copies;
 mod copy_source;
 mod description;
 mod laws;
+mod line_names;
 mod list_arguments;
 mod operations;
 mod protection;
 mod read_conditions;
 mod routing;
+mod unserved;
 mod upload_arguments;
 mod write_condition;
 

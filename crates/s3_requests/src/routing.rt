@@ -14,6 +14,7 @@ use crate::list_arguments::{objects_asked, parts_asked, uploads_asked, versions_
 use crate::operations::{Operation, bucket_operation, is_served, key_operation, service_operation};
 use crate::protection::is_protected;
 use crate::read_conditions::conditions_of;
+use crate::unserved::asks_for_more;
 use crate::upload_arguments::{part_argument, upload_argument};
 use crate::write_condition::absence_of;
 use s3_config::Config;
@@ -117,13 +118,17 @@ pub fn route(alloc: Global, config: &Config, head: &Head) -> Result<Plan, Code>
     named_plan(alloc, config, head, target)
 }
 
-// The operation, where there is one and this server has it: `MethodNotAllowed`, and then `NotImplemented`.
+// The operation, where there is one, and this server has it and all that the head asks of it: `MethodNotAllowed`, and then
+// `NotImplemented`.
 #[tactic(auto, unfolding(crate::specs::Routing::served))]
-fn served(dialect: Dialect, found: Option<Operation>) -> Result<Operation, Code>
-    ensures { result ≡ rules.served dialect found }
+fn served(dialect: Dialect, head: &Head, found: Option<Operation>) -> Result<Operation, Code>
+    ensures { result ≡ rules.served dialect head.now found }
 {
     let operation = found.ok_or(Code::MethodNotAllowed)?;
     if !is_served(dialect, operation) {
+        return Err(Code::NotImplemented);
+    }
+    if asks_for_more(dialect, operation, head) {
         return Err(Code::NotImplemented);
     }
     Ok(operation)
@@ -134,7 +139,7 @@ fn served(dialect: Dialect, found: Option<Operation>) -> Result<Operation, Code>
 fn service_plan(dialect: Dialect, head: &Head) -> Result<Plan, Code>
     ensures { result ≡ rules.service_plan dialect head.now }
 {
-    let operation = served(dialect, service_operation(head.method()))?;
+    let operation = served(dialect, head, service_operation(head.method()))?;
     match operation {
         Operation::ListBuckets => Ok(Plan::Ready(Command::ListBuckets)),
         _ => Err(Code::NotImplemented),
@@ -204,7 +209,11 @@ fn plan_of_bucket(
 ) -> Result<Plan, Code>
     ensures { FollowsWhere (memory.BucketTakes config.now.dialect head.now target.now) result (rules.plan_of_bucket config.now name head.now target.now) }
 {
-    let operation = served(config.dialect(), bucket_operation(head.method(), target))?;
+    let operation = served(
+        config.dialect(),
+        head,
+        bucket_operation(head.method(), target),
+    )?;
     plan_in_bucket(alloc, config, head, target, name, operation)
 }
 
@@ -324,7 +333,7 @@ fn list_of_uploads(alloc: Global, dialect: Dialect, target: &Target) -> Result<B
 fn key_plan(alloc: Global, dialect: Dialect, head: &Head, target: &Target) -> Result<KeyAsked, Code>
     ensures { FollowsWhere (memory.KeyTakes dialect head.now target.now) result (rules.key_plan dialect head.now target.now) }
 {
-    let operation = served(dialect, key_operation(head.method(), head, target))?;
+    let operation = served(dialect, head, key_operation(head.method(), head, target))?;
     asked_for(alloc, dialect, head, target, operation)
 }
 
