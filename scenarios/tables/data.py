@@ -1,4 +1,4 @@
-"""The committed data of `s3_scenarios`, which makers write, or compare with what they make."""
+"""The committed data of `s3_scenarios`, and of other programs, which makers write, or compare with what they make."""
 
 import argparse
 import sys
@@ -16,7 +16,8 @@ def in_both(in_json, in_xml):
 
 def run(about, makers):
     """Has the makers of the names of the command line, or all, write their files; with `--check` it writes none, says
-    which files are others, and ends with status 1 where there is one. A maker gives texts or bytes by their files."""
+    which files are others, and ends with status 1 where there is one. A maker gives texts by the names of their files, or
+    by whole paths where they aren't of `s3_scenarios`."""
     words = argparse.ArgumentParser(description=about, formatter_class=argparse.RawDescriptionHelpFormatter)
     words.add_argument("--check", action="store_true", help="write nothing, and say what differs")
     words.add_argument("names", nargs="*", metavar="NAME", help="what to make (all, where none is named)")
