@@ -24,6 +24,14 @@ pub record AreSafe {D : Type 0} (seen : D → List ℕ) (may_leave : D → List 
   pub now : AreStored contents (seen disk)
   pub later : (left : List ℕ) → may_leave disk left → AreStored contents left
 
+-- what one may find under numbers who opens the file after a crash now: of a clean disk, there is a file that the crash may leave, and
+-- what stands in it under a number is found under that number
+pub record MayFind {D : Type 0} (may_leave : D → List ℕ → Type 0) (is_clean : D → Bool) (disk : D) (found : Contents) : Type 0 where
+  pub clean : IsTrue (is_clean disk)
+  pub file : List ℕ
+  pub left : may_leave disk file
+  pub has : (number : ℕ) (bytes : List ℕ) → IsStored file number bytes → map.get found number ≡ Some bytes
+
 -- each of these bodies has granules of its own, which nothing else is written to
 pub record AreHoused (contents : Contents) (uses : List ℕ) : Type 0 where
   pub addressable : (number : ℕ) (bytes : List ℕ) → map.get contents number ≡ Some bytes → IsAddressable (extent_of number (length bytes))

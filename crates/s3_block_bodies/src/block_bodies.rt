@@ -3,7 +3,7 @@ ghost use Rattle.std.specs.Prelude.{◌≡◌, ℕ, List, true, Some, IsTrue, If
 ghost use Rattle.std.specs.FinMap as map;
 ghost use Rattle.s3_stored_bodies.specs.Numbers.{times};
 ghost use Rattle.s3_stored_bodies.specs.Held.{named_where_held};
-ghost use Rattle.s3_block_bodies.specs.Stored.{AreStored, AreSafe, AreHoused};
+ghost use Rattle.s3_block_bodies.specs.Stored.{AreStored, AreSafe, MayFind, AreHoused};
 ghost use Rattle.s3_block_bodies.specs.Parts.{contents_in, uses_in, disk_in};
 
 use crate::changing;
@@ -103,7 +103,17 @@ impl<D: Disk + Drop> StoredBodies for BlockBodies<D> {
 
     ghost is_in_memory = { true };
 
+    ghost leaves = { λ bodies. MayFind D.Disk.may_leave D.Disk.is_clean (disk_in bodies) };
+
     ghost named_where_there = { λ bodies. named_where_held bodies.held };
+
+    fn outlive_crashes(&self) {
+        self.are_safe();
+    }
+
+    fn is_live(&self) -> bool {
+        self.is_live()
+    }
 
     fn keep(&mut self, alloc: Global, body: Body) -> Result<u64, NoMemory> {
         changing::keep(&mut self.memory, &mut self.file, alloc, body)

@@ -98,7 +98,7 @@ right_replay_words : AreReplayWords (codes "s3d" ∷ codes "replay" ∷ codes "-
 unfolding clap_on_literals
 right_replay_words = (refl, refl)
 
-right_serve_words : AreServeWords (codes "s3d" ∷ codes "serve" ∷ codes "--keys" ∷ codes "keys" ∷ codes "--listen" ∷ codes "127.0.0.1:0" ∷ codes "--connections" ∷ codes "3" ∷ [])
+right_serve_words : AreServeWords (codes "s3d" ∷ codes "serve" ∷ codes "--keys" ∷ codes "keys" ∷ codes "--listen" ∷ codes "127.0.0.1:0" ∷ codes "--connections" ∷ codes "3" ∷ codes "--rounds" ∷ codes "2" ∷ [])
 unfolding clap_on_literals
 right_serve_words = (refl, refl)
 

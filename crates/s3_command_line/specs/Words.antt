@@ -95,11 +95,12 @@ sign_app =
 -- `s3d serve`
 abbrev pub serve_app : App
 serve_app =
-    with_rule (with_rule (with_rule (with_rule (with_rule (with_rule (with_records (with_dialect (with_settings (new_app (codes "serve")))))
+    with_rule (with_rule (with_rule (with_rule (with_rule (with_rule (with_rule (with_records (with_dialect (with_settings (new_app (codes "serve")))))
     (required_rule (codes "listen")))
     (default_rule (codes "workers") default_workers))
     (default_rule (codes "max-connections") default_max_connections))
     (option_rule (codes "connections")))
+    (option_rule (codes "rounds")))
     (option_rule (codes "log")))
     (option_rule (codes "data"))
 
@@ -169,6 +170,7 @@ pub record HasServeOptions (rows : List Row) (o : ServeOptions) : Type 0 where
   pub workers : o.workers.now ≡ unwrap_or (first_of (codes "workers") rows) default_workers
   pub max_connections : o.max_connections.now ≡ unwrap_or (first_of (codes "max-connections") rows) default_max_connections
   pub connections : option_map (λ text. text.now) o.connections ≡ first_of (codes "connections") rows
+  pub rounds : option_map (λ text. text.now) o.rounds ≡ first_of (codes "rounds") rows
   pub log : option_map (λ text. text.now) o.log ≡ first_of (codes "log") rows
   pub folder : option_map (λ text. text.now) o.folder ≡ first_of (codes "data") rows
 

@@ -194,7 +194,7 @@ static SIGNING: [Argument; 10] = [
 ];
 
 // The further options of `s3d serve`.
-static SERVING: [Argument; 8] = [
+static SERVING: [Argument; 9] = [
     SPELLING,
     KEEPING,
     Argument {
@@ -219,6 +219,12 @@ static SERVING: [Argument; 8] = [
         name: "connections",
         value: "N",
         help: "Ends after so many connections",
+        kind: Kind::Optional,
+    },
+    Argument {
+        name: "rounds",
+        value: "M",
+        help: "Serves so many connections M times, once by default; only with a number of connections",
         kind: Kind::Optional,
     },
     Argument {

@@ -128,6 +128,7 @@ fn serve_options<'a>(matches: &ArgMatches<'a>) -> ServeOptions<'a>
             .get_str("max-connections")
             .unwrap_or(MAX_CONNECTIONS),
         connections: matches.get_str("connections"),
+        rounds: matches.get_str("rounds"),
         log: matches.get_str("log"),
         folder: matches.get_str("data"),
     }

@@ -1,11 +1,15 @@
--- What is known of rows that were found.
-use Rattle.std.specs.Prelude.{◌≡◌, ℕ, pos, [], ◌∷◌}
+-- What is known of rows that were found, and of records over them.
+use Rattle.std.specs.Prelude.{◌≡◌, ℕ, List, pos, [], ◌∷◌}
 use Rattle.s3_found_rows.specs.declared.loading.Found.{Found}
+use Rattle.s3_records.specs.Catalogue.{Catalogue}
 use Rattle.s3_records.specs.Places.{AreBelow}
 use Rattle.s3_row_steps.specs.Steps.{AreKept}
 use Rattle.s3_rows.specs.Columns.{StoreColumns, Tables}
 use Rattle.s3_rows.specs.Meaning.{catalogue_of}
 use Rattle.s3_stored_bodies.specs.Numbers.{Contents, times}
+use Rattle.s3_block_bodies.specs.Parts.{Parts as Bodies, contents_in, uses_in}
+use Rattle.s3_mirrored_rows.specs.Mirror.{Mirror}
+use Rattle.s3_table_records.specs.Kept.{Parts, catalogue, kept_in}
 use Rattle.s3_stored_rows.specs.Bodies.{encoding, numbers_named}
 
 -- the rows are sound and name these bodies, and those of versions were made by entries whose numbers are below the next one's
@@ -17,3 +21,7 @@ pub record IsFound (found : Found) (t : Tables) : Type 0 where
 -- the row of the store is the first one, and says this number
 abbrev pub HasStore : ℕ → Tables → Type 0
 HasStore number t = (store : StoreColumns) × (store.row ≡ pos 1) × (store.number ≡ pos number) × (t.store ≡ store ∷ [])
+
+-- the catalogue of records over rows in memory and a file, and bodies in memory and a file of blocks
+abbrev pub catalogue_in : {D : Type 0} → Parts Mirror (Bodies D) → Catalogue (List ℕ)
+catalogue_in records = catalogue (kept_in (λ (rows : Mirror). rows.memory) contents_in uses_in records)

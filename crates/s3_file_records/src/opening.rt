@@ -8,7 +8,8 @@ ghost use Rattle.s3_stored_bodies.specs.Numbers.{times};
 ghost use Rattle.s3_block_bodies.specs.Parts.{uses_in};
 ghost use Rattle.s3_tables.specs.Keeping.{tables as file_tables};
 ghost use Rattle.s3_found_rows.specs.Found.{tables_of};
-ghost use Rattle.s3_file_records.specs.Found.{IsFound, HasStore};
+ghost use Rattle.s3_table_records.specs.Kept.{catalogue, kept_in};
+ghost use Rattle.s3_file_records.specs.Found.{IsFound, HasStore, catalogue_in};
 
 use crate::file_keeper::FileRecords;
 use crate::numbers::take_numbers;
@@ -37,8 +38,8 @@ pub(crate) fn opened(
     path: &str,
     buckets: &[BucketName],
 ) -> Result<Opened<FileRecords>, StorageFault>
-    ensures below { IfOk result (λ opened. AreBelow opened.number opened.records) }
-    ensures buckets { IfOk result (λ opened. HasBuckets buckets.now opened.records) }
+    ensures below { IfOk result (λ opened. AreBelow opened.number (catalogue_in opened.records)) }
+    ensures buckets { IfOk result (λ opened. HasBuckets buckets.now (catalogue_in opened.records)) }
 {
     make_folder(rt, path)?;
     let name = format!(in alloc; "{path}/records.db")?;
@@ -65,8 +66,8 @@ fn over_file(
     requires found { IsFound found.now memory }
     requires store { HasStore found.now.number memory }
     requires same { HasCleanDisk (file_state file) → IsTrue (file_state file).is_open → file_tables (file_state file) ≡ memory }
-    ensures below { IfOk result (λ opened. AreBelow opened.number opened.records) }
-    ensures buckets { IfOk result (λ opened. HasBuckets buckets.now opened.records) }
+    ensures below { IfOk result (λ opened. AreBelow opened.number (catalogue_in opened.records)) }
+    ensures buckets { IfOk result (λ opened. HasBuckets buckets.now (catalogue_in opened.records)) }
 {
     match found_bodies(rt, alloc, path, found) {
         Ok(bodies) => over_both(alloc, memory, file, bodies, found, buckets),
@@ -91,8 +92,8 @@ fn over_both(
     requires store { HasStore found.now.number memory }
     requires same { HasCleanDisk (file_state file) → IsTrue (file_state file).is_open → file_tables (file_state file) ≡ memory }
     requires named { uses_in bodies ≡ (λ number. times number found.now.bodies.items) }
-    ensures below { IfOk result (λ opened. AreBelow opened.number opened.records) }
-    ensures buckets { IfOk result (λ opened. HasBuckets buckets.now opened.records) }
+    ensures below { IfOk result (λ opened. AreBelow opened.number (catalogue_in opened.records)) }
+    ensures buckets { IfOk result (λ opened. HasBuckets buckets.now (catalogue_in opened.records)) }
 {
     match mirrored(memory, file, found) {
         Ok(rows) => with_buckets(alloc, rows, bodies, found, buckets),
@@ -113,8 +114,8 @@ fn with_buckets<R: StoredRows + Drop, B: StoredBodies + Drop>(
 ) -> Result<Opened<TableRecords<R, B>>, StorageFault>
     requires found { IsFound found.now (R.tables rows) }
     requires named { B.uses bodies ≡ (λ number. times number found.now.bodies.items) }
-    ensures below { IfOk result (λ opened. AreBelow opened.number opened.records) }
-    ensures buckets { IfOk result (λ opened. HasBuckets buckets.now opened.records) }
+    ensures below { IfOk result (λ opened. AreBelow opened.number (catalogue (kept_in R.tables B.contents B.uses opened.records))) }
+    ensures buckets { IfOk result (λ opened. HasBuckets buckets.now (catalogue (kept_in R.tables B.contents B.uses opened.records))) }
 {
     let mut records = TableRecords::over(rows, bodies, found.next);
     match add_missing(&mut records, alloc, buckets) {

@@ -1,5 +1,5 @@
 -- What a call of a seat does.
-use Rattle.std.specs.Prelude.{◌≡◌, ℕ, ◌+◌, Bool, List, [], ◌∷◌, ◌++◌, length}
+use Rattle.std.specs.Prelude.{◌≡◌, ℕ, ◌+◌, Bool, false, List, [], ◌∷◌, ◌++◌, length}
 use mathlib.Core.List.{IsPrefix}
 use Rattle.s3_machine.specs.declared.command.Answer.{Answer}
 use Rattle.s3_machine.specs.declared.turn.Turn.{Turn}
@@ -47,3 +47,9 @@ pub record LacksMemory (in_memory : Bool) (base : Base) (old new : Seated) (turn
   pub begins : IsPrefix old.seen new.seen
   pub legal : IsLegal base new.seen
   pub lacks : MayLack in_memory (rules_of base.settings) (left_by base new.seen) turn
+
+-- A seat's turn was answered, but its commit failed, as it may where the rows are not in memory: the answer isn't told.
+pub record IsUntold (in_memory : Bool) (base : Base) (old new : Seated) (turn : Turn) : Type 0 where
+  pub rows : in_memory ≡ false
+  pub answer : Answer
+  pub answered : IsAnswered base old new turn answer

@@ -1,6 +1,7 @@
 //! What a shared store stands on, and what it is opened with.
 
 ghost use Rattle.std.specs.Prelude.{◌≡◌, ◌*◌, [], IfOk};
+ghost use Rattle.s3_machine.specs.Rules.{rules_of};
 ghost use Rattle.s3_journal.specs.SharedStore.{Continues, seats_each};
 
 use crate::recorded_store::RecordedStore;
@@ -82,6 +83,23 @@ impl<R: Records + Drop> Start<R> {
             settings: Snapshot::of(config),
             rosters,
         })
+    }
+
+    /// The same over a recorded store that was folded and answered nothing since, with the settings whose rules it goes by: the
+    /// history goes on where the one before the fold ended. It takes no memory.
+    pub fn again(config: &Config, recorded_store: RecordedStore<R>, rosters: u16) -> Start<R>
+        requires folded { recorded_store.entries ≡ [] }
+        requires rules { recorded_store.rules ≡ rules_of config.now }
+        ensures settings { result.base.settings ≡ config.now }
+        ensures store { result.base.store ≡ recorded_store.opening }
+        ensures rosters { result.rosters ≡ rosters }
+    {
+        Start {
+            recorded_store,
+            blank: Blank::new(u64::from(rosters) * SEATS),
+            settings: Snapshot::of(config),
+            rosters,
+        }
     }
 
     // The recorded store, the ledger that counts its entries, with all its shares, and how many rosters there will be.

@@ -1,5 +1,5 @@
 //! The recorded store.
-ghost use Rattle.std.specs.Prelude.{◌≡◌, ◌++◌, ◌∷◌, [], length, IfOk, OnOk, OnErr};
+ghost use Rattle.std.specs.Prelude.{◌≡◌, ◌++◌, ◌∷◌, [], false, length, IfOk, OnOk, OnErr};
 ghost use mathlib.Core.List.{IsPrefix};
 ghost use Rattle.s3_journal.specs.RecordedStore.{KeepsHistory, MayLack};
 ghost use Rattle.s3_journal.specs.Recorded.{recorded};
@@ -8,7 +8,7 @@ ghost use Rattle.s3_store.specs.Steps.{after_step, outcome_of};
 use crate::entry::Entry;
 use s3_history::{AsItself, Recorder};
 use s3_machine::{Answer, Rules, Turn, one_more_entry};
-use s3_records::Records;
+use s3_records::{CommitError, Records};
 use s3_store::Store;
 use s3_terms::NoMemory;
 use std::alloc::Global;
@@ -134,6 +134,18 @@ impl<R: Records + Drop> RecordedStore<R> {
         };
         self.recorder.record::<Entry, AsItself>(&entry);
         Ok(answer)
+    }
+
+    /// Commits all entries so far, as `Records::commit` says: their answers may be told after it.
+    ///
+    /// # Errors
+    ///
+    /// Those of `Records::commit`. The recorded store is as it was. Records in memory have no error here.
+    pub fn commit(&mut self) -> Result<(), CommitError>
+        ensures same { self.new ≡ self.old }
+        ensures memory { OnErr result (R.is_in_memory ≡ false) }
+    {
+        self.store.commit()
     }
 
     /// The store as it is, to which the history leads. The history is legal, so that every law of `s3_machine` about legal

@@ -1,5 +1,5 @@
 //! What lies under a shared store's lock.
-ghost use Rattle.std.specs.Prelude.{◌≡◌, ◌++◌, ◌∷◌, [], ◌*◌, length, true, IfOk, IfSome, IsSome, OnErr};
+ghost use Rattle.std.specs.Prelude.{◌≡◌, ◌++◌, ◌∷◌, [], ◌*◌, length, true, false, IfOk, IfSome, IsSome, OnErr};
 ghost use mathlib.Core.List.{IsPrefix};
 ghost use Rattle.s3_journal.specs.RecordedStore.{KeepsHistory, MayLack};
 ghost use Rattle.s3_journal.specs.Calls.{HasAnswered, IsAnswered, LacksMemory};
@@ -15,7 +15,7 @@ use crate::recorded_store::{Prefix, RecordedStore};
 use crate::roster::Roster;
 use crate::seat::Seat;
 use s3_machine::{Answer, Turn};
-use s3_records::Records;
+use s3_records::{CommitError, Records};
 use s3_terms::NoMemory;
 use std::marker::Model;
 use std::snapshot::Snapshot;
@@ -118,6 +118,14 @@ impl<J: Ground, R: Records + Drop> Room<J, R> {
                 Err(none)
             }
         }
+    }
+
+    /// Commits all turns so far.
+    pub(crate) fn commit(&mut self) -> Result<(), CommitError>
+        ensures same { self.new ≡ self.old }
+        ensures memory { OnErr result (R.is_in_memory ≡ false) }
+    {
+        self.recorded_store.commit()
     }
 
     /// What is left when all rosters have come back.

@@ -1,6 +1,6 @@
 //! The shared store.
-ghost use Rattle.std.specs.Prelude.{◌≡◌, ◌*◌, length, IfOk, IfSome, IsSome, OnErr};
-ghost use Rattle.s3_journal.specs.Calls.{IsAnswered, LacksMemory};
+ghost use Rattle.std.specs.Prelude.{◌≡◌, ◌⊎◌, ◌*◌, length, IfOk, IfSome, IsSome, OnErr};
+ghost use Rattle.s3_journal.specs.Calls.{IsAnswered, IsUntold, LacksMemory};
 ghost use Rattle.s3_journal.specs.SharedStore.{seats_each};
 ghost use Rattle.s3_journal.specs.Gone.{IsClosed};
 ghost use Rattle.s3_journal.specs.Roster.{AreBack, AreNew, all_gone};
@@ -62,24 +62,33 @@ impl<J: Ground, R: Records + Drop> SharedStore<J, R> {
         Turns::new(self.enter(rt))
     }
 
-    /// Answers a seat's turn as a batch of its own: one entry more of the shared store's history, and of the seat's.
+    /// Answers a seat's turn as a batch of its own, and commits it: one entry more of the shared store's history, and of the seat's.
     ///
-    /// It waits for the lock, and promises what it does if it returns. It holds the lock for one step of the store.
-    /// Reading, verifying and printing are the caller's, without the lock.
+    /// It waits for the lock, and promises what it does if it returns. It holds the lock for one step of the store and its
+    /// commit. Reading, verifying and printing are the caller's, without the lock.
     ///
     /// # Errors
     ///
     /// `NoMemory` leaves the recorded store as it was, and the seat has only seen more of the history. If the rows are in memory
     /// and numbers are left, the turn takes room at the state that the seat has then seen, and the machine doesn't
     /// refuse it there.
+    ///
+    /// It is `NoMemory` too where the commit fails, which never happens if the rows are in memory. After a failed commit the entry
+    /// is in the history and the seat's, although its answer wasn't told.
     pub fn submit(&self, rt: &impl Wait, seat: &mut Seat<J>, turn: Turn) -> Result<Answer, NoMemory>
         ensures answered { IfOk result (λ answer. IsAnswered J.base seat.old seat.new turn answer) }
-        ensures memory { OnErr result (LacksMemory R.is_in_memory J.base seat.old seat.new turn) }
+        ensures memory { OnErr result (LacksMemory R.is_in_memory J.base seat.old seat.new turn
+            ⊎ IsUntold R.is_in_memory J.base seat.old seat.new turn) }
     {
         let mut turns = self.turns(rt);
-        let answer = turns.answer(seat, turn);
-        turns.commit();
-        answer
+        let answer = turns.answer(seat, turn)?;
+        match turns.commit() {
+            Ok(()) => Ok(answer),
+            Err(_) => {
+                drop(answer);
+                Err(NoMemory)
+            }
+        }
     }
 
     // Takes the lock, or waits for it. Most turns are short, and a thread that sleeps is woken late: so it tries the lock a

@@ -1,5 +1,5 @@
 //! Turns that are answered in one go.
-ghost use Rattle.std.specs.Prelude.{◌≡◌, ◌++◌, ◌∷◌, [], IfOk, OnErr};
+ghost use Rattle.std.specs.Prelude.{◌≡◌, ◌++◌, ◌∷◌, [], false, IfOk, OnErr};
 ghost use Rattle.std.specs.Sync.Mutex.{mutex_guard_value};
 ghost use mathlib.Core.List.{IsPrefix};
 ghost use Rattle.s3_journal.specs.Calls.{IsAnswered, LacksMemory};
@@ -9,7 +9,7 @@ use crate::ground::Ground;
 use crate::room::Room;
 use crate::seat::Seat;
 use s3_machine::{Answer, Turn};
-use s3_records::Records;
+use s3_records::{CommitError, Records};
 use s3_terms::NoMemory;
 use std::marker::Model;
 use std::sync::MutexGuard;
@@ -59,12 +59,19 @@ impl<'a, J: Ground, R: Records + Drop> Turns<'a, J, R> {
         self.room.answer(seat, turn)
     }
 
-    /// Ends the batch, which lets the lock go. It takes no memory.
+    /// Commits the turns of the batch, and lets the lock go. Where it answers `Ok`, their answers may be told: a crash leaves what
+    /// they changed (as the records' `commit` says).
     ///
-    /// Over a store in memory there is nothing to commit. This is the one place where a keeper on a disk commits the turns of a
-    /// batch, before any of their answers is told.
-    pub fn commit(self) {
-        let Turns { room } = self;
+    /// # Errors
+    ///
+    /// `CommitError::NoMemory`: the caller may ask again, by an empty batch. `CommitError::Failed`: no answer of the batch may be
+    /// told. The turns are entries of the history in either case. Records in memory have no error here.
+    pub fn commit(self) -> Result<(), CommitError>
+        ensures memory { OnErr result (R.is_in_memory ≡ false) }
+    {
+        let Turns { mut room } = self;
+        let committed = room.commit();
         drop(room);
+        committed
     }
 }

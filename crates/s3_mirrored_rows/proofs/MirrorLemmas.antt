@@ -65,3 +65,11 @@ module _ (old new : State) (reads : Reads old new) where
 
   pub read_stays : (t : Tables) → MayLeave new t → MayLeave old t
   read_stays t (clean, db, left, is) = (early clean, db, (elim (reads.survives.crash clean db left) [ inl before ↦ before | inr never ↦ absurd never ]), is)
+
+-- of a file that was asked again, and answered, a crash leaves what agreed
+pub asked_is : {X E Y F : Type 0} → ShownLaw → (old new : State) (known : Tables) → Reads old new → Agrees old known → (asked : Result X E) (told : Result Y F) → is_ok told ≡ is_ok asked
+    → OnOk asked (HasCleanDisk new → IsTrue new.is_open) → OnOk told ((t : Tables) → MayLeave new t → t ≡ known)
+asked_is shown old new known reads agrees (Ok x) (Ok y) alike up = left_is shown new known reads.keeps up (λ clean. read_agrees old new reads known agrees clean (up clean))
+asked_is shown old new known reads agrees (Err e) (Ok y) alike up = absurd cc
+asked_is shown old new known reads agrees (Ok x) (Err f) alike up = tt
+asked_is shown old new known reads agrees (Err e) (Err f) alike up = tt

@@ -1,12 +1,14 @@
 //! The keeper of rows that reads from memory and writes to a file too.
-ghost use Rattle.std.specs.Prelude.{◌≡◌, IsTrue};
+ghost use Rattle.std.specs.Prelude.{◌≡◌, IsTrue, is_ok};
 ghost use Rattle.sqlite.specs.State.{HasCleanDisk};
 ghost use Rattle.sqlite.specs.Files.{file_state};
 ghost use Rattle.s3_rows.specs.Columns.{Tables};
 ghost use Rattle.s3_tables.specs.Keeping.{tables as file_tables};
 ghost use Rattle.s3_mirrored_rows.specs.Mirror.{MayLeave};
 
+use s3_records::CommitError;
 use s3_sql_rows::SqlRows;
+use s3_storage::StorageFault;
 use s3_stored_rows::{
     Change, StoreNumbers, StoredBucket, StoredPart, StoredRows, StoredUpload, StoredVersion,
 };
@@ -21,8 +23,8 @@ use std::marker::Model;
 ///
 /// Contracts see the rows in memory and the connection of the file. Where the file has an error, memory keeps what it had: the
 /// next open finds the list whole or not at all, and one that the disk has shut changes no more. Where the file was only short
-/// of memory, it is asked again with the next bucket. Where a list was made in the file and memory ran out before it was made in memory,
-/// the file is written no more, and each later change has an error: the next open finds that list whole.
+/// of memory, it is asked again with the next bucket or commit. Where a list was made in the file and memory ran out before it was
+/// made in memory, the file is written no more, and each later change or commit has an error: the next open finds that list whole.
 #[derive(Drop)]
 pub struct MirroredRows {
     memory: SqlRows,
@@ -64,6 +66,17 @@ impl MirroredRows {
     }
 }
 
+// What is told of a file that was asked again.
+fn told(answer: Result<(), StorageFault>) -> Result<(), CommitError>
+    ensures { is_ok result ≡ is_ok answer }
+{
+    match answer {
+        Ok(()) => Ok(()),
+        Err(StorageFault::NoMemory) => Err(CommitError::NoMemory),
+        Err(_) => Err(CommitError::Failed),
+    }
+}
+
 /// A call that asks takes the time of the rows in memory. A change takes that of the file too, with its sync.
 impl StoredRows for MirroredRows {
     ghost tables = { λ rows. rows.memory };
@@ -77,6 +90,15 @@ impl StoredRows for MirroredRows {
     fn is_live(&self) -> bool {
         stored_tables_are_one();
         self.in_step && self.file.is_live()
+    }
+
+    fn commit(&mut self) -> Result<(), CommitError> {
+        stored_tables_are_one();
+        if self.in_step {
+            told(self.file.wake())
+        } else {
+            Err(CommitError::Failed)
+        }
     }
 
     fn apply(&mut self, changes: &[Change]) -> Result<(), NoMemory> {
@@ -95,7 +117,7 @@ impl StoredRows for MirroredRows {
     }
 
     fn bucket(&mut self, name: &[u8]) -> Result<Option<StoredBucket>, NoMemory> {
-        self.file.wake();
+        let _ = self.file.wake();
         self.memory.bucket(name)
     }
 

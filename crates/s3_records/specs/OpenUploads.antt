@@ -1,7 +1,7 @@
 -- The open uploads of a bucket, which were begun and aren't completed (Amazon S3 API Reference, CreateMultipartUpload,
 -- CompleteMultipartUpload and ListMultipartUploads): where each stands, and the rows in which lists tell them, by key in the
 -- order of bytes and of one key by id.
-use Rattle.std.specs.Prelude.{ℕ, Bool, nat_lt, if◌then◌else◌, List, [], filter, map as each, Option, Some, None, Result, Err}
+use Rattle.std.specs.Prelude.{ℕ, Bool, nat_lt, if◌then◌else◌, List, [], filter, map as each, Option, Some, None, option_map, Result, Err}
 use Rattle.std.specs.List.{flat_map}
 use Rattle.std.specs.Ordering.{is_lt}
 use Rattle.std.specs.FinMap as map
@@ -13,7 +13,7 @@ use Rattle.s3_versions.specs.declared.version.Data.{Data}
 use Rattle.s3_uploads.specs.declared.upload.Upload.{Upload}
 use Rattle.s3_uploads.specs.declared.listed.ListedPart.{ListedPart}
 use Rattle.s3_uploads.specs.Parts.{PartList}
-use Rattle.s3_uploads.specs.Completion.{completed}
+use Rattle.s3_uploads.specs.Completion.{completed, joined_body, parts_listed}
 use Rattle.s3_records.specs.Catalogue.{KeyUploads, Uploads, Bucket, Catalogue}
 use Rattle.s3_records.specs.Rows.{is_from}
 use Rattle.s3_records.specs.declared.rows.UploadRow.{UploadRow}
@@ -49,6 +49,10 @@ parts_sent (Some u) = u.parts
 
 abbrev pub parts_at : {B : Type 0} → Catalogue B → List ℕ → List ℕ → ℕ → PartList B
 parts_at c name key id = parts_sent (upload_at c name key id)
+
+-- the bytes of those parts that are listed, one part behind another, where the upload is there
+abbrev pub bytes_listed : List ListedPart → Option (Upload (List ℕ)) → Option (List ℕ)
+bytes_listed listed upload = option_map (λ (u : Upload (List ℕ)). joined_body (parts_listed listed u.parts)) upload
 
 -- what the completion of an upload stores, or the first refusal
 abbrev pub completed_at : ℕ → List ListedPart → Option (Upload (List ℕ)) → Result (Data (List ℕ)) Code

@@ -4,6 +4,7 @@
 
 mod adding;
 mod bucket;
+mod commit;
 mod copying;
 mod deletions;
 mod keys;
@@ -16,6 +17,7 @@ mod rows;
 mod upload_listing;
 mod uploads;
 
+pub use commit::CommitError;
 pub use laws::{
     changes_are_by_place, changes_are_by_upload, changes_are_local, changes_follow_rules,
     deletions_are_by_place, deletions_stay_in_order, empty_has_nothing, held_is_got, keys_rise,

@@ -9,6 +9,7 @@ ghost use Rattle.s3_records.specs.Catalogue.{opening, new_bucket, found_versions
 
 use crate::adding::put;
 use crate::bucket::StoredBucket;
+use crate::commit::CommitError;
 use crate::listing::bucket_rows;
 use crate::records::{BucketFacts, ListedBucket, Records};
 use crate::rows::{KeyRow, Start, UploadRow, UploadStart, VersionRow, VersionStart};
@@ -133,6 +134,12 @@ impl Records for MapRecords {
     ghost catalogue = { λ records. records };
 
     ghost is_in_memory = { true };
+
+    ghost leaves = { λ _ _. ⊥ };
+
+    fn commit(&mut self) -> Result<(), CommitError> {
+        Ok(())
+    }
 
     fn bucket(
         &mut self,
@@ -404,6 +411,7 @@ impl Records for MapRecords {
         id: UploadId,
         number: u64,
         moment: Moment,
+        _listed: &[ListedPart],
         stored: Data<Body>,
     ) -> Result<Option<Upload<Body>>, NoMemory> {
         match self.by_name.get_mut(bucket) {

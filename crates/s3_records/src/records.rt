@@ -1,14 +1,15 @@
 //! What every keeper of records promises.
-ghost use Rattle.std.specs.Prelude.{◌≡◌, ◌≢◌, ℕ, List, [], Bool, true, false, None, IfOk, OnOk, OnErr, IsOk, IsTrue, find, take, is_some, option_and_then};
+ghost use Rattle.std.specs.Prelude.{◌≡◌, ◌≢◌, ℕ, List, [], Bool, true, false, Some, None, Ok, IfOk, OnOk, OnErr, IsOk, IsTrue, find, take, is_some, option_and_then};
 ghost use Rattle.s3_versions.specs.Rules.{is_under, asked_for, facts_read, pick, stored, replaced, is_new_number, VersionPut, KeyDeleted, VersionDropped};
 ghost use Rattle.s3_records.specs.Catalogue.{Catalogue, facts_in, listed_buckets, has_bucket, is_empty_bucket, versions_of, versioning_of};
 ghost use Rattle.s3_uploads.specs.Parts.{part_at, rows_behind};
 ghost use Rattle.s3_records.specs.Changes.{changed, BucketAdded, BucketDropped, VersioningSet, KeyChanged, UploadAdded, PartPut, UploadDropped, UploadCompleted};
 ghost use Rattle.s3_records.specs.Deletions.{all_deleted, markers_of};
-ghost use Rattle.s3_records.specs.OpenUploads.{upload_at, parts_at, completed_at, uploads_from};
+ghost use Rattle.s3_records.specs.OpenUploads.{upload_at, parts_at, bytes_listed, completed_at, uploads_from};
 ghost use Rattle.s3_records.specs.Places.{AreBelow};
 ghost use Rattle.s3_records.specs.Rows.{keys_from, versions_from};
 
+use crate::commit::CommitError;
 use crate::rows::{KeyRow, Start, UploadRow, UploadStart, VersionRow, VersionStart};
 use s3_bodies::Body;
 use s3_calendar::Moment;
@@ -49,6 +50,22 @@ pub trait Records {
 
     // Whether the keeper holds all in memory, so that what needs no more room never lacks it.
     ghost is_in_memory: { Bool };
+
+    // The catalogues that one may find who opens the records again after a crash now. There is none where a crash leaves nothing,
+    // and nothing is said of a disk that doesn't give back what was written to it.
+    ghost leaves: { Self → Catalogue (List ℕ) → Type 0 };
+
+    /// Commits all changes so far: where it answers `Ok`, a crash now leaves the catalogue as it is and no other, so that their
+    /// answers may be told. A keeper in memory, of which a crash leaves nothing, has no error here.
+    ///
+    /// # Errors
+    ///
+    /// `CommitError::NoMemory` where memory ran out before the keeper knew: it may be asked again. `CommitError::Failed` where what
+    /// it stands on has failed, for good.
+    fn commit(&mut self) -> Result<(), CommitError>
+        ensures settled { OnOk result ((left : Catalogue (List ℕ)) → leaves self.new left → left ≡ catalogue self.new) }
+        ensures same { catalogue self.new ≡ catalogue self.old }
+        ensures memory { OnErr result (is_in_memory ≡ false) };
 
     /// When a bucket was made, and its versioning. `None` where there is no such bucket. A keeper in memory has no
     /// error here.
@@ -362,8 +379,9 @@ pub trait Records {
         ensures err { OnErr result (catalogue self.new ≡ catalogue self.old) }
         ensures memory { OnErr result (is_in_memory ≡ false) };
 
-    /// Completes an upload: puts a version under its key, as `put_version` does, and drops the upload. That is
-    /// answered; `None` where none was open. A keeper in memory has an error only where no version goes.
+    /// Completes an upload, which has to be open: puts a version under its key, as `put_version` does, and drops the upload,
+    /// which is answered. The bytes that are stored have to be those of the parts that are listed, one behind another, so that a
+    /// keeper may name these parts' bytes and keep no others. A keeper in memory has an error only where no version goes.
     fn complete(
         &mut self,
         alloc: Global,
@@ -372,9 +390,11 @@ pub trait Records {
         id: UploadId,
         number: u64,
         moment: Moment,
+        listed: &[ListedPart],
         stored: Data<Body>,
     ) -> Result<Option<Upload<Body>>, NoMemory>
         requires there { IsTrue (has_bucket (catalogue self.old) bucket.now) }
+        requires joined { bytes_listed listed.now (upload_at (catalogue self.old) bucket.now key id) ≡ Some stored.body }
         requires newer { IsTrue (is_new_number number (versions_of (catalogue self.old) bucket.now key)) }
         ensures ok { OnOk result (catalogue self.new
             ≡ changed (catalogue self.old) bucket.now (UploadCompleted key id (VersionPut number moment stored))) }

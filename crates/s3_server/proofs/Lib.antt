@@ -1,1 +1,3 @@
+pub mod RoundLemmas
 pub mod ServedLemmas
+pub mod ToldLemmas

@@ -32,7 +32,7 @@ IsServeFault known o fault = IsServerFault known o fault
 abbrev pub IsLogFault : Option (Bor (List ℕ)) → Fault → Type 0
 IsLogFault log fault = ((path : Bor (List ℕ)) × (log ≡ Some path) × (fault ≡ CannotWrite path)) ⊎ (fault ≡ OutOfMemory)
 
--- why a server doesn't get the records of a folder
+-- why a server doesn't get the records of a folder, or can't keep them there any more
 abbrev pub IsFolderFault : Option (Bor (List ℕ)) → Fault → Type 0
 IsFolderFault folder fault =
     ((path : Bor (List ℕ)) × (why : StorageFault) × (folder ≡ Some path) × (fault ≡ CannotUse path why)) ⊎ (fault ≡ OutOfMemory)
@@ -45,6 +45,10 @@ IsListenFault address fault = (fault ≡ CannotListen address) ⊎ (fault ≡ Ou
 abbrev pub IsToldFault : Bor (List ℕ) → Fault → Type 0
 IsToldFault address fault = IsListenFault address fault ⊎ (fault ≡ OutputFailed)
 
+-- why a server fails that has its log: it doesn't get the records of its folder, or loses them, or isn't told that it listens
+abbrev pub IsKeptFault : ServeMode → Fault → Type 0
+IsKeptFault mode fault = IsFolderFault mode.folder fault ⊎ IsToldFault mode.address fault
+
 -- why a server fails whose options, keys file and settings are right
 abbrev pub IsModeFault : ServeMode → Fault → Type 0
-IsModeFault mode fault = IsLogFault mode.log fault ⊎ (IsFolderFault mode.folder fault ⊎ IsToldFault mode.address fault)
+IsModeFault mode fault = IsLogFault mode.log fault ⊎ IsKeptFault mode fault

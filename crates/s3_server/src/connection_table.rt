@@ -4,6 +4,7 @@ use crate::slots::Slots;
 use crate::worker::Now;
 use mio::{Registry, Token};
 use s3_driver::{Moved, State};
+use s3_records::CommitError;
 use s3_sockets::Service;
 use std::alloc::Global;
 use std::time::{Duration, Instant};
@@ -24,7 +25,8 @@ pub(crate) struct ConnectionTable<S: Service> {
     count: usize,
     /// By which they come and leave.
     pub(crate) door: S::Door,
-    // The keys of those whose turns wait, in their order; and those that haven't heard their answers.
+    // The keys of those whose turns wait, in their order; and those that haven't heard their answers. For the answers of those
+    // that wait there is room.
     asking: Vec<usize>,
     answered: Vec<S::Answered>,
 }
@@ -78,6 +80,11 @@ impl<S: Service> ConnectionTable<S> {
     /// Whether turns of some wait.
     pub(crate) fn has_turns(&self) -> bool {
         !self.asking.is_empty()
+    }
+
+    /// Whether some have answers that may not be told yet.
+    pub(crate) fn has_unheard(&self) -> bool {
+        !self.answered.is_empty()
     }
 
     /// Holds a connection that came as the one of this number, which is reported from now on, and answers whether it
@@ -230,11 +237,17 @@ impl<S: Service> ConnectionTable<S> {
     fn stays(&mut self, registry: &Registry, key: usize, moved: Moved) -> bool {
         match moved.state {
             State::Ended(_) => false,
-            State::Turn => self.asking.push(key).is_ok() || self.report_again(registry, key),
+            State::Turn => self.note_turn(key) || self.report_again(registry, key),
             _ if moved.may_go_on => self.report_again(registry, key),
             State::Head => !self.begins_no_head(key),
             State::Message | State::Body | State::Room | State::Closing => true,
         }
+    }
+
+    // Notes that the turn of the one under a key waits, and answers whether there is memory for that and for its answer.
+    fn note_turn(&mut self, key: usize) -> bool {
+        let waiting = self.asking.len();
+        self.answered.reserve(waiting.saturating_add(1)).is_ok() && self.asking.push(key).is_ok()
     }
 
     // Whether the peer of the one under a key speaks another protocol.
@@ -245,7 +258,14 @@ impl<S: Service> ConnectionTable<S> {
         }
     }
 
-    /// Takes the turns that wait to the store in one go, in their order, and has each of their connections go on.
+    /// Takes the turns that wait to the store in one go, in their order, and has each of their connections go on where their
+    /// answers may be told. Else these wait, and with them those of earlier calls: the next call asks again, if turns wait then
+    /// or not.
+    ///
+    /// # Errors
+    ///
+    /// `CommitError::NoMemory` where it isn't known yet whether the answers may be told; `CommitError::Failed` where they may never
+    /// be, since what keeps the records has failed.
     pub(crate) fn take_turns(
         &mut self,
         service: &S,
@@ -253,11 +273,48 @@ impl<S: Service> ConnectionTable<S> {
         buffer: &mut [u8],
         registry: &Registry,
         now: &Now,
-    ) {
-        if !self.has_turns() {
-            return;
+    ) -> Result<(), CommitError> {
+        if !self.has_turns() && !self.has_unheard() {
+            return Ok(());
         }
-        self.submit_all(service, registry, now);
+        self.submit_all(service, slots, now)?;
+        self.tell_answers(service, slots, buffer, registry, now);
+        Ok(())
+    }
+
+    // Takes the turns that wait to the store, and commits them with those before.
+    fn submit_all(&mut self, service: &S, slots: &Slots, now: &Now) -> Result<(), CommitError> {
+        let mut turns = service.begin();
+        for place in 0..self.asking.len() {
+            if let Some(&key) = self.asking.get(place) {
+                self.submit(service, slots, key, &mut turns, now);
+            }
+        }
+        self.asking.clear();
+        S::commit(turns)
+    }
+
+    // Takes the turn of the one under a key to the store, if there is one. There is room for its answer; were there none, it
+    // would leave.
+    fn submit(&mut self, service: &S, slots: &Slots, key: usize, turns: &mut S::Turns, now: &Now) {
+        let Some(held) = self.take(key) else {
+            return;
+        };
+        match self.answered.push(S::submit(held, key, turns, now.instant)) {
+            Ok(()) => {}
+            Err(failed) => self.let_unheard_one_go(service, slots, failed.value),
+        }
+    }
+
+    // Gives all their answers, in the order of their turns, and has each go on. These may be told.
+    fn tell_answers(
+        &mut self,
+        service: &S,
+        slots: &Slots,
+        buffer: &mut [u8],
+        registry: &Registry,
+        now: &Now,
+    ) {
         self.answered.reverse();
         for _ in 0..self.answered.len() {
             if let Some(answered) = self.answered.pop() {
@@ -267,38 +324,19 @@ impl<S: Service> ConnectionTable<S> {
         }
     }
 
-    // Takes the turns that wait to the store.
-    fn submit_all(&mut self, service: &S, registry: &Registry, now: &Now) {
-        let mut turns = service.begin();
-        for place in 0..self.asking.len() {
-            if let Some(&key) = self.asking.get(place) {
-                self.submit(service, registry, key, &mut turns, now);
+    /// Has those leave whose answers may not be told yet, untold.
+    pub(crate) fn let_unheard_go(&mut self, service: &S, slots: &Slots) {
+        for _ in 0..self.answered.len() {
+            if let Some(answered) = self.answered.pop() {
+                self.let_unheard_one_go(service, slots, answered);
             }
         }
-        S::commit(turns);
-        self.asking.clear();
     }
 
-    // Takes the turn of the one under a key to the store, if there is one. Where there is no room for its answer, it hears
-    // it at once, and is reported once more.
-    fn submit(
-        &mut self,
-        service: &S,
-        registry: &Registry,
-        key: usize,
-        turns: &mut S::Turns,
-        now: &Now,
-    ) {
-        let Some(held) = self.take(key) else {
-            return;
-        };
-        match self.answered.push(S::submit(held, key, turns, now.instant)) {
-            Ok(()) => {}
-            Err(failed) => {
-                self.hear(service, failed.value);
-                let _ = self.report_again(registry, key);
-            }
-        }
+    // Has one leave whose answer may not be told: it goes on no more, so that nothing of the answer is written.
+    fn let_unheard_one_go(&mut self, service: &S, slots: &Slots, answered: S::Answered) {
+        let key = self.hear(service, answered);
+        self.let_go(slots, key);
     }
 
     // Gives one its answer, puts it back into its place, and answers the key of that.

@@ -10,9 +10,12 @@ mod jobs;
 mod limits;
 mod logging;
 mod report;
+mod rounds;
 mod running;
 mod serve;
 mod slots;
+mod starting;
+mod telling;
 mod worker;
 
 pub use report::{EndedServer, ServerReport};

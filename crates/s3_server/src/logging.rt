@@ -40,6 +40,22 @@ impl<'a, F: Files> Logging<'a, F> {
         }
     }
 
+    /// The same for the workers of another round, where the logs of one are there: nothing was told yet. They go to the same file.
+    pub(crate) fn again(
+        alloc: Global,
+        logging: Option<&Logging<'a, F>>,
+    ) -> Result<Option<Logging<'a, F>>, NoMemory> {
+        let Some(before) = logging else {
+            return Ok(None);
+        };
+        let logs = logs_of(alloc, before.logs.len() as u64)?;
+        Ok(Some(Logging {
+            logs,
+            files: before.files,
+            path: before.path,
+        }))
+    }
+
     /// What the worker of this number tells lines to.
     pub(crate) fn log(&self, number: usize) -> Option<&Log> {
         self.logs.get(number)

@@ -15,7 +15,7 @@ use crate::slots::Slots;
 use crate::worker::{Means, Worker};
 use s3_config::Config;
 use s3_driver::Account;
-use s3_journal::{Closed, Ground, Roster, SharedStore, Start};
+use s3_journal::{Closed, Ground, RecordedStore, Roster, SharedStore, Start};
 use s3_log::{Log, LogWriter};
 use s3_records::Records;
 use s3_settings::Files;
@@ -27,7 +27,7 @@ use std::sync::Wait;
 use std::thread::{self, Threads};
 use std::time::Clock;
 
-/// Has all of this done at the shared store of a brand, a thread each, and answers how many commands the store answered.
+/// Has all of this done at the shared store of a brand, a thread each, and hands out the store that is left, with its history.
 /// `NoMemory` comes too where a worker's door isn't back, or a connection hasn't left by it, though none is kept.
 pub(crate) fn run<
     J: Ground + Send + Sync,
@@ -45,7 +45,7 @@ pub(crate) fn run<
     jobs: Jobs,
     network: &mut Network<'_, N>,
     report: &mut ServerReport,
-) -> Result<u64, NoMemory>
+) -> Result<RecordedStore<K>, NoMemory>
     requires name { J.name ≡ start.name }
     requires base { J.base ≡ start.base }
     requires parts { J.parts ≡ start.rosters * seats_each }
@@ -101,13 +101,13 @@ fn all_back<
     }
 }
 
-// Ends a shared store whose rosters have come back, reports what it left, and answers how many entries that has.
+// Ends a shared store whose rosters have come back, reports what it left, and hands that out.
 fn end<J: Ground, K: Records + Drop>(
     config: &Config,
     report: &mut ServerReport,
     shared: SharedStore<J, K>,
     rosters: Vec<Roster<J, Account>>,
-) -> Result<u64, NoMemory>
+) -> Result<RecordedStore<K>, NoMemory>
     requires settings { J.base.settings ≡ config.now }
     ensures left { IfOk result (HasLeft config.now J.base.store (all_gone rosters.items) report.old report.new) }
     ensures back { OnOk result (AreBack 0 rosters.items) }
@@ -118,20 +118,24 @@ fn end<J: Ground, K: Records + Drop>(
     }
 }
 
-// Reports what a shared store left, and answers how many entries that has.
+// Reports what a shared store left, and hands that out.
 #[tactic(auto, using(crate::proofs::ServedLemmas::has_left))]
 fn tell_left<J: Ground, K: Records + Drop>(
     config: &Config,
     report: &mut ServerReport,
     closed: Closed<J, K, Account>,
-) -> u64
+) -> RecordedStore<K>
     requires closed { IsClosed (Fits J.base.settings) J.base closed.recorded_store (all_gone closed.rosters.value.items) }
     requires settings { J.base.settings ≡ config.now }
     ensures left { HasLeft config.now J.base.store (all_gone closed.rosters.value.items) report.old report.new result }
 {
     let _ = config;
     report.tell(&closed);
-    closed.recorded_store.entries()
+    let Closed {
+        recorded_store,
+        rosters: _,
+    } = closed;
+    recorded_store
 }
 
 // What one thread does.

@@ -1,41 +1,36 @@
 //! A server from its options to its end.
 
-ghost use Rattle.std.specs.Prelude.{◌≡◌, ◌⊎◌, ◌*◌, length, Ok, Some, None, IfOk, IfErr, IfSome, OnErr, OnOk};
-ghost use Rattle.std.specs.Io.KnownBytes.{Appends};
-ghost use Rattle.s3_journal.specs.SharedStore.{seats_each};
+ghost use Rattle.std.specs.Prelude.{◌≡◌, ◌⊎◌, ◌≤◌, length, Some, None, IfOk, IfErr, OnErr, OnOk};
 ghost use Rattle.s3_records.specs.Catalogue.{opening};
 ghost use Rattle.s3_store.specs.Steps.{opened};
-ghost use Rattle.s3_settings.specs.Devices.{AppendsBeginning, IsTold};
+ghost use Rattle.s3_settings.specs.Devices.{IsTold};
 ghost use Rattle.s3_settings.specs.Fault.{line_of};
 ghost use Rattle.s3_settings.specs.declared.fault.Fault.{Fault};
-ghost use Rattle.s3_server.specs.Serve.{IsServeFault, IsFolderFault, IsModeFault, IsToldFault, IsListenFault};
+ghost use Rattle.s3_server.specs.Serve.{IsServeFault, IsFolderFault, IsKeptFault, IsModeFault, IsToldFault};
 ghost use Rattle.s3_keepers.specs.Begun.{HasBuckets};
 ghost use Rattle.s3_records.specs.Places.{AreBelow};
-ghost use Rattle.s3_server.specs.Served.{WasAskedToListen, HasServed, HasServedAs, HasServedAndTold, HasServedSo, HasWorked, IsToldInPart, IsToldPlace, address_line, entries_line};
+ghost use Rattle.s3_server.specs.Served.{WasAskedToListen, HasServedAs, HasServedAndTold, HasServedSo, IsToldInPart, IsToldPlace, most_rounds};
 
-use crate::jobs::{Jobs, one_opened};
+use crate::jobs::{Jobs, all_jobs};
 use crate::logging::Logging;
 use crate::report::ServerReport;
-use crate::running::run;
-use crate::slots::Slots;
+use crate::rounds::serve_rounds;
+use crate::starting::start;
+use crate::telling::tell_address;
 use s3_bodies::Body;
 use s3_config::Config;
 use s3_devices::Device;
 use s3_journal::Start;
 use s3_keepers::{FolderKeeper, Keeper, MapKeeper, Opened};
-use s3_log::LogWriter;
 use s3_records::{Records, numbers_stay_below};
-use s3_settings::{
-    Fault, Files, RecordsKind, ServeMode, ServeOptions, server_settings, write_flushed,
-};
+use s3_settings::{Fault, Files, RecordsKind, ServeMode, ServeOptions, server_settings};
 use s3_sockets::{Listener, Network};
 use s3_storage::StorageFault;
 use s3_store::Store;
 use s3_terms::NoMemory;
 use std::alloc::Global;
 use std::io::Write;
-use std::marker::Brand;
-use std::net::{Net, SocketAddr};
+use std::net::Net;
 use std::sync::Wait;
 use std::thread::Threads;
 use std::time::Clock;
@@ -47,20 +42,30 @@ const DONE: u8 = 0;
 const FAILED: u8 = 1;
 
 /// Starts a server as `options` say, serves until its end, and answers the exit status. `files` has the keys file, and
-/// takes the log. Records are kept in maps, or as `tables` keeps them where the options ask for `sql`. `output` takes
-/// `listening ADDR` at the beginning, with the port that was taken, and `entries K` at the end: the number of commands that the
-/// store answered. The log gets one line for each message, or for its loss.
+/// takes the log. Records are kept in maps, or as `tables` keeps them where the options ask for `sql`. The log gets one line for
+/// each message, or for its loss.
+///
+/// It listens once. Then it serves as many connections as are asked for, as often as is asked for: in each round workers of its own
+/// have doors of their own, which are closed at its end, and the history begins anew at the store that the round before left. A
+/// connection that comes between two rounds waits in the system's queue, and is served in the next.
+///
+/// `output` takes `listening ADDR` at the beginning, with the port that was taken, and `entries K` after each round: the number of
+/// commands that the store answered in this round and those before.
 ///
 /// The status is one of these:
 ///
 /// - 0: the last connection that was asked for has ended, and `errors` takes nothing. A worker whose waiting fails ends with
-///   its connections; the others go on. The status is 0 too after the last such worker. (No clause knows how many came.)
-/// - 1: the server failed. `errors` takes the line of the fault ([`Fault::tell`]), and `output` has a beginning of its lines.
+///   its connections; the others go on. A round ends too after the last such worker. (No clause knows how many came.)
+/// - 1: the server failed, also where a further round can't be begun. `errors` takes the line of the fault ([`Fault::tell`]), and
+///   `output` has a beginning of its lines. Where the folder fails while the server runs, its workers end at once, with all their
+///   connections: no answer is told that a crash may undo, and no number of entries of this round. (No clause knows when a folder
+///   fails.)
 ///
 /// For status 0, `served` says what the server has done, of the network that it was handed and of the report that it made: it listened
-/// on the address of the options, with a door for each worker; each socket that a door handed out has its account, and no account is
-/// of anything else; the history of the store is legal, its entries are those of these connections, and each wrote what it has to;
-/// and K is the number of the entries. To be read is that `Network` binds the address that it was asked for, that `Door::accept`
+/// on the address of the options, and served as many rounds as they ask for, with a door for each worker in each; each socket that a
+/// door handed out has its account in this round, and no account is of anything else; the entries of a round are those of its
+/// connections, and each wrote what it has to; the entries of all rounds, joined, are one legal history of the store; and K is the
+/// number of those so far. To be read is that `Network` binds the address that it was asked for, that `Door::accept`
 /// notes each socket that the system hands out, and that `Recorded` notes what the system's socket did.
 pub fn serve_words<
     R: Wait + Threads + Clock + Sync,
@@ -88,7 +93,7 @@ pub fn serve_words<
         (W.contents output.old) (W.contents output.new) }
     ensures failed { result ≡ FAILED → (fault : Fault) × IsServeFault (F.known files.now) options.now fault
         × IsTold (E.traffic errors.old) (E.traffic errors.new) (line_of fault) }
-    ensures begun { result ≡ FAILED → IsToldInPart (W.contents output.old) (W.contents output.new) }
+    ensures begun { result ≡ FAILED → IsToldInPart (most_rounds options.now) (W.contents output.old) (W.contents output.new) }
 {
     let served = serve(
         rt, alloc, options, files, tables, folders, network, report, output,
@@ -103,7 +108,7 @@ pub fn serve_words<
 }
 
 // Serves as the options say.
-#[tactic(auto, using(crate::proofs::ServedLemmas::telling))]
+#[tactic(auto, using(crate::proofs::ToldLemmas::telling))]
 fn serve<
     'a,
     R: Wait + Threads + Clock + Sync,
@@ -126,7 +131,7 @@ fn serve<
     ensures served { OnOk result (HasServedAs (F.known files.now) options.now network.old network.new report.old report.new
         (W.contents output.old) (W.contents output.new)) }
     ensures refused { IfErr result (IsServeFault (F.known files.now) options.now) }
-    ensures begun { OnErr result (IsToldInPart (W.contents output.old) (W.contents output.new)) }
+    ensures begun { OnErr result (IsToldInPart (most_rounds options.now) (W.contents output.old) (W.contents output.new)) }
 {
     let (mode, records, config) = server_settings(alloc, options, files)?;
     serve_mode(
@@ -156,10 +161,11 @@ fn serve_mode<
     report: &mut ServerReport,
     output: &mut W,
 ) -> Result<(), Fault<'a>>
+    requires rounds { 1 ≤ mode.now.rounds }
     ensures served { OnOk result (HasServedSo config.now mode.now network.old network.new report.old report.new
         (W.contents output.old) (W.contents output.new)) }
     ensures refused { IfErr result (IsModeFault mode.now) }
-    ensures begun { OnErr result (IsToldInPart (W.contents output.old) (W.contents output.new)) }
+    ensures begun { OnErr result (IsToldInPart mode.now.rounds (W.contents output.old) (W.contents output.new)) }
 {
     let logging = Logging::asked(alloc, mode, files)?;
     let logging = logging.as_ref();
@@ -186,11 +192,12 @@ fn serve_kind<'a, R: Wait + Threads + Clock + Sync, N: Net, F: Files + Sync, Q: 
     report: &mut ServerReport,
     output: &mut W,
 ) -> Result<(), Fault<'a>>
-    requires { mode.now.folder ≡ None }
+    requires folder { mode.now.folder ≡ None }
+    requires rounds { 1 ≤ mode.now.rounds }
     ensures served { OnOk result (HasServedSo config.now mode.now network.old network.new report.old report.new
         (W.contents output.old) (W.contents output.new)) }
-    ensures refused { IfErr result (IsToldFault mode.now.address) }
-    ensures begun { OnErr result (IsToldInPart (W.contents output.old) (W.contents output.new)) }
+    ensures refused { IfErr result (IsKeptFault mode.now) }
+    ensures begun { OnErr result (IsToldInPart mode.now.rounds (W.contents output.old) (W.contents output.new)) }
 {
     match records {
         RecordsKind::Map => serve_by(
@@ -203,7 +210,7 @@ fn serve_kind<'a, R: Wait + Threads + Clock + Sync, N: Net, F: Files + Sync, Q: 
 }
 
 // The same over the records that a keeper makes.
-#[tactic(auto, using(crate::proofs::ServedLemmas::telling))]
+#[tactic(auto, using(crate::proofs::ToldLemmas::telling))]
 fn serve_by<'a, R: Wait + Threads + Clock + Sync, N: Net, F: Files + Sync, Q: Keeper, W: Write>(
     rt: &R,
     alloc: Global,
@@ -215,11 +222,12 @@ fn serve_by<'a, R: Wait + Threads + Clock + Sync, N: Net, F: Files + Sync, Q: Ke
     report: &mut ServerReport,
     output: &mut W,
 ) -> Result<(), Fault<'a>>
-    requires { mode.now.folder ≡ None }
+    requires folder { mode.now.folder ≡ None }
+    requires rounds { 1 ≤ mode.now.rounds }
     ensures served { OnOk result (HasServedSo config.now mode.now network.old network.new report.old report.new
         (W.contents output.old) (W.contents output.new)) }
-    ensures refused { IfErr result (IsToldFault mode.now.address) }
-    ensures begun { OnErr result (IsToldInPart (W.contents output.old) (W.contents output.new)) }
+    ensures refused { IfErr result (IsKeptFault mode.now) }
+    ensures begun { OnErr result (IsToldInPart mode.now.rounds (W.contents output.old) (W.contents output.new)) }
 {
     let store = opened_store(alloc, keeper, config)?;
     serve_store(
@@ -228,7 +236,7 @@ fn serve_by<'a, R: Wait + Threads + Clock + Sync, N: Net, F: Files + Sync, Q: Ke
 }
 
 // The same over the records in a folder.
-#[tactic(auto, using(crate::proofs::ServedLemmas::telling))]
+#[tactic(auto, using(crate::proofs::ToldLemmas::telling))]
 fn serve_folder<
     'a,
     R: Wait + Threads + Clock + Sync,
@@ -248,11 +256,12 @@ fn serve_folder<
     report: &mut ServerReport,
     output: &mut W,
 ) -> Result<(), Fault<'a>>
-    requires { mode.now.folder ≡ Some path }
+    requires folder { mode.now.folder ≡ Some path }
+    requires rounds { 1 ≤ mode.now.rounds }
     ensures served { OnOk result (HasServedSo config.now mode.now network.old network.new report.old report.new
         (W.contents output.old) (W.contents output.new)) }
-    ensures refused { IfErr result (λ fault. IsFolderFault mode.now.folder fault ⊎ IsToldFault mode.now.address fault) }
-    ensures begun { OnErr result (IsToldInPart (W.contents output.old) (W.contents output.new)) }
+    ensures refused { IfErr result (IsKeptFault mode.now) }
+    ensures begun { OnErr result (IsToldInPart mode.now.rounds (W.contents output.old) (W.contents output.new)) }
 {
     let store = found_store(alloc, folders, path, config)?;
     serve_store(
@@ -261,7 +270,7 @@ fn serve_folder<
 }
 
 // The same with this store.
-#[tactic(auto, using(crate::proofs::ServedLemmas::telling))]
+#[tactic(auto, using(crate::proofs::ToldLemmas::telling))]
 fn serve_store<
     'a,
     K: Records + Drop + Send,
@@ -280,16 +289,17 @@ fn serve_store<
     report: &mut ServerReport,
     output: &mut W,
 ) -> Result<(), Fault<'a>>
-    ensures served { OnOk result (HasServedAndTold config.now store mode.now.address.now mode.now.workers network.old network.new report.old report.new
+    requires rounds { 1 ≤ mode.now.rounds }
+    ensures served { OnOk result (HasServedAndTold config.now store mode.now.address.now mode.now.workers mode.now.rounds network.old network.new report.old report.new
         (W.contents output.old) (W.contents output.new)) }
-    ensures refused { IfErr result (IsToldFault mode.now.address) }
-    ensures begun { OnErr result (IsToldInPart (W.contents output.old) (W.contents output.new)) }
+    ensures refused { IfErr result (IsKeptFault mode.now) }
+    ensures begun { OnErr result (IsToldInPart mode.now.rounds (W.contents output.old) (W.contents output.new)) }
 {
+    let first = store.number();
     let start = start(alloc, config, store, mode.workers)?;
-    let entries = serve_start(
-        rt, alloc, mode, config, logging, start, network, report, output,
-    )?;
-    tell_entries(alloc, entries, output)
+    serve_start(
+        rt, alloc, mode, config, logging, first, start, network, report, output,
+    )
 }
 
 // A store over the records in a folder.
@@ -326,26 +336,8 @@ fn opened_store<Q: Keeper>(
     Ok(Store::over(records, 0))
 }
 
-// What a shared store over this store is opened with, for so many workers.
-fn start<K: Records + Drop>(
-    alloc: Global,
-    config: &Config,
-    store: Store<K>,
-    workers: u64,
-) -> Result<Start<K>, NoMemory>
-    ensures settings { IfOk result (λ start. start.base.settings ≡ config.now) }
-    ensures store { IfOk result (λ start. start.base.store ≡ store) }
-{
-    Start::new(
-        alloc,
-        config,
-        store,
-        u16::try_from(workers).unwrap_or(u16::MAX),
-    )
-}
-
-// Serves from there, and answers how many commands were answered.
-#[tactic(auto, using(crate::proofs::ServedLemmas::telling))]
+// Serves from there, an entry of the first number being the next one: listens, tells where, and serves all rounds.
+#[tactic(auto, using(crate::proofs::ToldLemmas::telling))]
 fn serve_start<
     'a,
     K: Records + Drop + Send,
@@ -359,24 +351,25 @@ fn serve_start<
     mode: &ServeMode<'a>,
     config: &Config,
     logging: Option<&Logging<'a, F>>,
+    first: u64,
     start: Start<K>,
     network: &mut Network<'_, N>,
     report: &mut ServerReport,
     output: &mut W,
-) -> Result<u64, Fault<'a>>
+) -> Result<(), Fault<'a>>
     requires settings { start.base.settings ≡ config.now }
-    ensures served { IfOk result (HasServed config.now start.base.store mode.now.address.now mode.now.workers network.old network.new report.old report.new) }
-    ensures told { OnOk result (IsToldPlace (W.contents output.old) (W.contents output.new)) }
-    ensures refused { IfErr result (IsToldFault mode.now.address) }
-    ensures begun { OnErr result (IsToldInPart (W.contents output.old) (W.contents output.new)) }
+    requires first { first ≡ start.base.store.number }
+    requires rounds { 1 ≤ mode.now.rounds }
+    ensures served { OnOk result (HasServedAndTold config.now start.base.store mode.now.address.now mode.now.workers mode.now.rounds network.old network.new report.old report.new
+        (W.contents output.old) (W.contents output.new)) }
+    ensures refused { IfErr result (IsKeptFault mode.now) }
+    ensures begun { OnErr result (IsToldInPart mode.now.rounds (W.contents output.old) (W.contents output.new)) }
 {
     match listening(alloc, mode, network, output) {
-        Ok(jobs) => {
-            let slots = Slots::new(mode.connections, mode.most_held);
-            entries_of(run_all(
-                rt, alloc, config, &slots, logging, start, jobs, network, report,
-            ))
-        }
+        Ok((listener, jobs)) => serve_rounds(
+            rt, alloc, mode, config, logging, first, start, jobs, &listener, network, report,
+            output,
+        ),
         Err(fault) => {
             drop(start);
             Err(fault)
@@ -384,34 +377,32 @@ fn serve_start<
     }
 }
 
-// How many commands were answered, where there was memory.
-fn entries_of<'a>(entries: Result<u64, NoMemory>) -> Result<u64, Fault<'a>>
-    ensures same { IfOk result (λ count. entries ≡ Ok count) }
-    ensures refused { IfErr result (λ fault. fault ≡ Fault.OutOfMemory) }
-{
-    Ok(entries?)
-}
-
-// What is to be done, on the address that was asked for, once it is told.
-#[tactic(auto, using(crate::proofs::ServedLemmas::telling))]
+// The listener on the address that was asked for, and what is to be done for the first who come, once the address is told.
+#[tactic(auto, using(crate::proofs::ToldLemmas::telling))]
 fn listening<'a, N: Net, W: Write>(
     alloc: Global,
     mode: &ServeMode<'a>,
     network: &mut Network<'_, N>,
     output: &mut W,
-) -> Result<Jobs, Fault<'a>>
+) -> Result<(Listener, Jobs), Fault<'a>>
     ensures listened { OnOk result (WasAskedToListen mode.now.address.now network.old network.new) }
-    ensures workers { IfOk result (λ jobs. length jobs.opened.items ≡ mode.now.workers) }
+    ensures workers { IfOk result (λ opened. length opened.1.opened.items ≡ mode.now.workers) }
     ensures told { OnOk result (IsToldPlace (W.contents output.old) (W.contents output.new)) }
     ensures refused { IfErr result (IsToldFault mode.now.address) }
-    ensures begun { OnErr result (IsToldInPart (W.contents output.old) (W.contents output.new)) }
+    ensures begun { OnErr result (IsToldInPart mode.now.rounds (W.contents output.old) (W.contents output.new)) }
 {
     let listener = listen(mode.address, network)?;
-    jobs_told(alloc, mode, &listener, network, output)
+    match jobs_told(alloc, mode, &listener, network, output) {
+        Ok(jobs) => Ok((listener, jobs)),
+        Err(fault) => {
+            drop(listener);
+            Err(fault)
+        }
+    }
 }
 
 // What is to be done for those who come to a listener, whose address is told then.
-#[tactic(auto, using(crate::proofs::ServedLemmas::telling))]
+#[tactic(auto, using(crate::proofs::ToldLemmas::telling))]
 fn jobs_told<'a, N: Net, W: Write>(
     alloc: Global,
     mode: &ServeMode<'a>,
@@ -424,7 +415,7 @@ fn jobs_told<'a, N: Net, W: Write>(
     ensures closed { network.new.closed ≡ network.old.closed }
     ensures told { OnOk result (IsToldPlace (W.contents output.old) (W.contents output.new)) }
     ensures refused { IfErr result (IsToldFault mode.now.address) }
-    ensures begun { OnErr result (IsToldInPart (W.contents output.old) (W.contents output.new)) }
+    ensures begun { OnErr result (IsToldInPart mode.now.rounds (W.contents output.old) (W.contents output.new)) }
 {
     let jobs = all_jobs(alloc, mode, listener, network)?;
     match tell_address(alloc, mode, listener, output) {
@@ -445,91 +436,4 @@ fn listen<'a, N: Net>(address: &'a str, network: &mut Network<'_, N>) -> Result<
         Ok(listener) => Ok(listener),
         Err(_) => Err(Fault::CannotListen(address)),
     }
-}
-
-// What is to be done: a worker's work each, and the writing of the log.
-fn all_jobs<'a, N: Net>(
-    alloc: Global,
-    mode: &ServeMode<'a>,
-    listener: &Listener,
-    network: &mut Network<'_, N>,
-) -> Result<Jobs, Fault<'a>>
-    ensures workers { IfOk result (λ jobs. length jobs.opened.items ≡ mode.now.workers) }
-    ensures refused { IfErr result (IsListenFault mode.now.address) }
-    ensures asked { network.new.asked ≡ network.old.asked }
-    ensures closed { network.new.closed ≡ network.old.closed }
-{
-    let mut opened = Vec::new(alloc);
-    for _ in 0..mode.workers {
-        opened.push(one_opened(alloc, mode.address, listener, network)?)?;
-    }
-    let writer = match mode.log {
-        Some(_) => Some(LogWriter::new(alloc)?),
-        None => None,
-    };
-    Ok(Jobs { opened, writer })
-}
-
-// Has each of these done in a thread of its own, and answers how many commands the store answered.
-fn run_all<K: Records + Drop + Send, R: Wait + Threads + Clock + Sync, N: Net, F: Files + Sync>(
-    rt: &R,
-    alloc: Global,
-    config: &Config,
-    slots: &Slots,
-    logging: Option<&Logging<'_, F>>,
-    start: Start<K>,
-    jobs: Jobs,
-    network: &mut Network<'_, N>,
-    report: &mut ServerReport,
-) -> Result<u64, NoMemory>
-    requires settings { start.base.settings ≡ config.now }
-    ensures worked { IfOk result (HasWorked config.now start.base.store (length jobs.opened.items) network.old network.new report.old report.new) }
-{
-    run::<Brand, K, R, N, F>(
-        rt, alloc, config, slots, logging, start, jobs, network, report,
-    )
-}
-
-// Tells where the server listens.
-#[tactic(auto, using(crate::proofs::ServedLemmas::telling))]
-fn tell_address<'a, W: Write>(
-    alloc: Global,
-    mode: &ServeMode<'a>,
-    listener: &Listener,
-    output: &mut W,
-) -> Result<(), Fault<'a>>
-    ensures told { OnOk result (IsToldPlace (W.contents output.old) (W.contents output.new)) }
-    ensures refused { IfErr result (IsToldFault mode.now.address) }
-    ensures begun { OnErr result (IsToldInPart (W.contents output.old) (W.contents output.new)) }
-{
-    let Ok(place) = listener.local_addr() else {
-        return Err(Fault::CannotListen(mode.address));
-    };
-    tell_place(alloc, place, output)
-}
-
-// Tells that it listens at this place.
-#[tactic(auto, using(crate::proofs::ServedLemmas::telling))]
-fn tell_place<'a, W: Write>(
-    alloc: Global,
-    place: SocketAddr,
-    output: &mut W,
-) -> Result<(), Fault<'a>>
-    ensures told { OnOk result (Appends (W.contents output.old) (W.contents output.new) (address_line place)) }
-    ensures refused { IfErr result (λ fault. (fault ≡ Fault.OutOfMemory) ⊎ (fault ≡ Fault.OutputFailed)) }
-    ensures begun { OnErr result (AppendsBeginning (W.contents output.old) (W.contents output.new) (address_line place)) }
-{
-    let line = format!(in alloc; "listening {place}\n")?;
-    write_flushed(output, line.as_bytes())
-}
-
-// Tells how many entries there are at the end.
-#[tactic(auto, using(crate::proofs::ServedLemmas::telling))]
-fn tell_entries<'a, W: Write>(alloc: Global, entries: u64, output: &mut W) -> Result<(), Fault<'a>>
-    ensures told { OnOk result (Appends (W.contents output.old) (W.contents output.new) (entries_line entries)) }
-    ensures refused { IfErr result (λ fault. (fault ≡ Fault.OutOfMemory) ⊎ (fault ≡ Fault.OutputFailed)) }
-    ensures begun { OnErr result (AppendsBeginning (W.contents output.old) (W.contents output.new) (entries_line entries)) }
-{
-    let line = format!(in alloc; "entries {entries}\n")?;
-    write_flushed(output, line.as_bytes())
 }

@@ -1,10 +1,10 @@
 //! The slots for connections.
 
-use std::sync::atomic::{AtomicU64, Ordering};
+use std::sync::atomic::{AtomicBool, AtomicU64, Ordering};
 
 /// How many connections came and are held, what the most is of both, how many workers hold them, how many of these want
-/// a slot that another one may give, and how many offer one. All workers count in one, so that no clause can tell what
-/// a call finds; tests tell it of one worker.
+/// a slot that another one may give, and how many offer one; and whether what keeps the records has failed. All workers
+/// count in one, so that no clause can tell what a call finds; tests tell it of one worker.
 #[derive(Drop)]
 pub struct Slots {
     came: AtomicU64,
@@ -14,11 +14,12 @@ pub struct Slots {
     workers: AtomicU64,
     wants: AtomicU64,
     offers: AtomicU64,
+    has_failed: AtomicBool,
 }
 
 impl Slots {
-    /// None came yet. After `most` the server ends, without such a number it goes on for ever; and it holds no more
-    /// than `most_held` at a time.
+    /// None came yet, and what keeps the records hasn't failed. After `most` the server ends, without such a number it goes
+    /// on for ever; and it holds no more than `most_held` at a time.
     pub fn new(most: Option<u64>, most_held: u64) -> Slots {
         Slots {
             came: AtomicU64::new(0),
@@ -28,6 +29,7 @@ impl Slots {
             workers: AtomicU64::new(0),
             wants: AtomicU64::new(0),
             offers: AtomicU64::new(0),
+            has_failed: AtomicBool::new(false),
         }
     }
 
@@ -51,6 +53,16 @@ impl Slots {
     /// Whether the server ends some time.
     pub fn has_end(&self) -> bool {
         self.most.is_some()
+    }
+
+    /// Notes that what keeps the records has failed, for good: all workers end.
+    pub fn fail(&self) {
+        self.has_failed.store(true, Ordering::SeqCst);
+    }
+
+    /// Whether what keeps the records has failed.
+    pub fn has_failed(&self) -> bool {
+        self.has_failed.load(Ordering::SeqCst)
     }
 
     /// Takes the slot of one that is held, and answers whether there was one.

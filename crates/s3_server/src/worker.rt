@@ -6,6 +6,7 @@ use crate::limits::Looks;
 use crate::slots::Slots;
 use mio::{Events, Poll};
 use s3_calendar::Moment;
+use s3_records::CommitError;
 use s3_sockets::{Service, WorkerClock};
 use std::alloc::{AllocError, Global};
 use std::io;
@@ -17,8 +18,8 @@ const EVENTS: usize = 256;
 // How many bytes a read takes at most.
 const BUFFER: usize = 262_144;
 
-// Milliseconds that it waits for events where the server goes on for ever, and where it ends some time or a connection
-// is at the door or left to the others.
+// Milliseconds that it waits for events where the server goes on for ever, and where it ends some time, a connection is
+// at the door or left to the others, or answers may not be told yet.
 const PATIENCE: u64 = 1000;
 
 const SHORT_PATIENCE: u64 = 20;
@@ -100,8 +101,8 @@ impl<'a, S: Service> Worker<'a, S> {
         }
     }
 
-    /// Serves connections until no more are taken and the last one has ended, or the system fails. Then it has all leave,
-    /// and hands out the door.
+    /// Serves connections until no more are taken and the last one has ended, or the system or what keeps the records fails.
+    /// Then it has all leave, and hands out the door.
     pub(crate) fn work(mut self) -> S::Door {
         let rt = self.service.runtime();
         self.slots.begin_work();
@@ -131,9 +132,10 @@ impl<'a, S: Service> Worker<'a, S> {
         held.end(service, arrivals.into_taken())
     }
 
-    // Whether no more connections are taken, and the last one has ended.
+    // Whether what keeps the records has failed; or no more connections are taken, and the last one has ended.
     fn is_done(&self) -> bool {
-        self.slots.is_full() && self.held.is_empty() && !self.arrivals.has_one()
+        self.slots.has_failed()
+            || (self.slots.is_full() && self.held.is_empty() && !self.arrivals.has_one())
     }
 
     // Waits once, and serves what is ready.
@@ -154,7 +156,9 @@ impl<'a, S: Service> Worker<'a, S> {
     // How long it waits for events.
     fn patience(&self) -> Duration {
         let is_short = self.arrivals.has_one() || self.arrivals.are_left();
-        Duration::from_millis(if self.held.has_turns() {
+        Duration::from_millis(if self.held.has_unheard() {
+            SHORT_PATIENCE
+        } else if self.held.has_turns() {
             0
         } else if is_short || self.slots.lacks_slots() {
             SHORT_PATIENCE
@@ -181,11 +185,17 @@ impl<'a, S: Service> Worker<'a, S> {
         }
     }
 
-    // Takes the turns that wait to the store, and has their connections go on.
+    // Takes the turns that wait to the store, and has their connections go on. Where what keeps the records has failed, all
+    // workers are told so.
     fn take_turns(&mut self, now: &Now) {
         let (buffer, registry) = (self.buffer.as_mut_slice(), self.poll.registry());
-        self.held
+        let taken = self
+            .held
             .take_turns(self.service, self.slots, buffer, registry, now);
+        match taken {
+            Ok(()) | Err(CommitError::NoMemory) => {}
+            Err(CommitError::Failed) => self.slots.fail(),
+        }
     }
 
     /// Has the connection under a key go on, if there is one.
@@ -198,6 +208,7 @@ impl<'a, S: Service> Worker<'a, S> {
     // Lets all go, and asks for nothing more.
     fn let_all_go(&mut self) {
         self.ask_no_more();
+        self.held.let_unheard_go(self.service, self.slots);
         for key in 0..self.held.capacity() {
             self.held.let_go(self.slots, key);
         }

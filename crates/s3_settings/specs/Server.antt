@@ -32,6 +32,16 @@ abbrev pub connections_asked : Option (List ℕ) → Option (Option ℕ)
 connections_asked None = Some None
 connections_asked (Some text) = option_map Some (positive (option_number text))
 
+-- how many times a server serves so many connections, if the option says a number of times; without the option once
+abbrev pub rounds_asked : Option (List ℕ) → Option ℕ
+rounds_asked None = Some 1
+rounds_asked (Some text) = positive (option_number text)
+
+-- these options may stand together: rounds that are asked for end, after a number of connections each
+abbrev pub rounds_end : Option (List ℕ) → Option (List ℕ) → Bool
+rounds_end None connections = true
+rounds_end (Some rounds) connections = is_some connections
+
 -- an option doesn't name maps
 abbrev pub isnt_map : Option (List ℕ) → Bool
 isnt_map None = true
@@ -42,13 +52,15 @@ abbrev pub are_together : Option (List ℕ) → Option (List ℕ) → Bool
 are_together None records = true
 are_together (Some folder) records = isnt_map records
 
--- the address is there, and the numbers of threads, of connections at a time and of connections in all are such, and
--- no folder is named beside maps
+-- the address is there, and the numbers of threads, of connections at a time, of connections in all and of rounds are
+-- such, and no rounds are asked for without a number of connections, and no folder is named beside maps
 unfoldable pub are_serve_options : ServeOptions → Bool
 are_serve_options o =
     is_some o.listen && is_some (up_to greatest_workers (option_number o.workers.now))
     && is_some (up_to greatest_held (option_number o.max_connections.now))
     && is_some (connections_asked (option_map (λ text. text.now) o.connections))
+    && is_some (rounds_asked (option_map (λ text. text.now) o.rounds))
+    && rounds_end (option_map (λ text. text.now) o.rounds) (option_map (λ text. text.now) o.connections)
     && are_together (option_map (λ text. text.now) o.folder) (option_map (λ text. text.now) o.common.records)
 
 -- the options are of their forms, and a server runs as they say
@@ -58,6 +70,7 @@ pub record IsServeModeOf (o : ServeOptions) (mode : ServeMode) : Type 0 where
   pub workers : up_to greatest_workers (option_number o.workers.now) ≡ Some mode.workers
   pub most_held : up_to greatest_held (option_number o.max_connections.now) ≡ Some mode.most_held
   pub connections : connections_asked (option_map (λ text. text.now) o.connections) ≡ Some mode.connections
+  pub rounds : rounds_asked (option_map (λ text. text.now) o.rounds) ≡ Some mode.rounds
   pub log : option_map (λ text. text.now) o.log ≡ option_map (λ text. text.now) mode.log
   pub folder : option_map (λ text. text.now) o.folder ≡ option_map (λ text. text.now) mode.folder
 

@@ -46,6 +46,8 @@ pub struct ServeOptions<'a> {
     pub max_connections: &'a str,
     /// After how many connections it ends.
     pub connections: Option<&'a str>,
+    /// How many times it serves so many connections.
+    pub rounds: Option<&'a str>,
     /// The path of the file that tells of its messages, or `-` for the standard error.
     pub log: Option<&'a str>,
     /// The path of the folder that keeps the store.

@@ -1,7 +1,7 @@
 //! What a server is started with: how it runs, and its settings.
 
 ghost use Rattle.std.specs.Prelude.{◌≡◌, ◌≤◌, false, Some, None, IfOk, IfErr, option_map};
-ghost use Rattle.s3_settings.specs.Server.{are_serve_options, are_together, isnt_map, connections_asked, greatest_held, greatest_workers, positive, IsServeModeOf, IsServer, IsServerFault};
+ghost use Rattle.s3_settings.specs.Server.{are_serve_options, are_together, isnt_map, connections_asked, rounds_asked, rounds_end, greatest_held, greatest_workers, positive, IsServeModeOf, IsServer, IsServerFault};
 ghost use Rattle.s3_settings.specs.Server as rules;
 ghost use Rattle.s3_settings.specs.Settings.{option_number, records_asked};
 ghost use Rattle.s3_settings.specs.declared.fault.Fault.TheVariants.{BadSetting};
@@ -31,6 +31,8 @@ pub struct ServeMode<'a> {
     pub most_held: u64,
     /// After how many connections it ends, from 1; without a number it goes on.
     pub connections: Option<u64>,
+    /// How many times it serves so many connections, from 1; it is 1 where no number of connections ends it.
+    pub rounds: u64,
     /// The path of the file that tells of its messages, or `-` for the standard error; without one nothing tells of them.
     pub log: Option<&'a str>,
     /// The path of the folder that keeps the store; without one it is gone when the server ends.
@@ -44,6 +46,7 @@ impl<'a> ServeMode<'a> {
         ensures value { IfOk result (IsServeModeOf options.now) }
         ensures workers { IfOk result (λ mode. (1 ≤ mode.workers) × (mode.workers ≤ greatest_workers)) }
         ensures held { IfOk result (λ mode. (1 ≤ mode.most_held) × (mode.most_held ≤ greatest_held)) }
+        ensures rounds { IfOk result (λ mode. 1 ≤ mode.rounds) }
         ensures refused { IfErr result (λ fault. (fault ≡ BadSetting) × (are_serve_options options.now ≡ false)) }
     {
         let Some(address) = options.listen else {
@@ -56,6 +59,12 @@ impl<'a> ServeMode<'a> {
             return Err(Fault::BadSetting);
         };
         let connections = connections(options.connections)?;
+        let Some(rounds) = rounds_asked(options.rounds) else {
+            return Err(Fault::BadSetting);
+        };
+        if !rounds_end(options.rounds, options.connections) {
+            return Err(Fault::BadSetting);
+        }
         if !are_together(options.folder, options.common.records) {
             return Err(Fault::BadSetting);
         }
@@ -64,9 +73,20 @@ impl<'a> ServeMode<'a> {
             workers,
             most_held,
             connections,
+            rounds,
             log: options.log,
             folder: options.folder,
         })
+    }
+}
+
+// Whether these options may stand together: rounds that are asked for end, after a number of connections each.
+fn rounds_end(rounds: Option<&str>, connections: Option<&str>) -> bool
+    ensures { result ≡ rounds_end (option_map (λ text. text.now) rounds.entry) (option_map (λ text. text.now) connections.entry) }
+{
+    match rounds {
+        Some(_) => connections.is_some(),
+        None => true,
     }
 }
 
@@ -117,6 +137,16 @@ fn connections<'a>(option: Option<&str>) -> Result<Option<u64>, Fault<'a>>
     }
 }
 
+// The number of rounds that an option asks for; one where it isn't there.
+fn rounds_asked(option: Option<&str>) -> Option<u64>
+    ensures { result ≡ rounds_asked (option_map (λ text. text.now) option.entry) }
+{
+    match option {
+        Some(text) => positive_number(text),
+        None => Some(1),
+    }
+}
+
 // The number from 1 that a text says.
 fn positive_number(text: &str) -> Option<u64>
     ensures { result ≡ positive (option_number text.now) }
@@ -142,6 +172,7 @@ pub fn server_settings<'a, F: Files>(
     ensures records { IfOk result (λ server. records_asked (option_map (λ text. text.now) options.now.common.records) ≡ Some server.1) }
     ensures workers { IfOk result (λ server. (1 ≤ server.0.workers) × (server.0.workers ≤ greatest_workers)) }
     ensures held { IfOk result (λ server. (1 ≤ server.0.most_held) × (server.0.most_held ≤ greatest_held)) }
+    ensures rounds { IfOk result (λ server. 1 ≤ server.0.rounds) }
     ensures refused { IfErr result (IsServerFault (F.known files.now) options.now) }
 {
     let mode = ServeMode::read(options)?;

@@ -6,6 +6,7 @@ use crate::socket::Socket;
 use mio::{Registry, Token};
 use s3_calendar::Moment;
 use s3_driver::Moved;
+use s3_records::CommitError;
 use std::alloc::Global;
 use std::io::ErrorKind;
 use std::sync::Wait;
@@ -100,13 +101,18 @@ pub trait Service: Sized {
     fn submit(held: Self::Held, key: usize, turns: &mut Self::Turns, now: Instant) -> Self::Answered
         ensures number { answered_number result ≡ held_number held };
 
-    /// Commits the turns, before their answers are told.
-    fn commit(turns: Self::Turns);
+    /// Commits the turns, and all that came to the store before them. Where it answers `Ok`, all their answers may be told.
+    ///
+    /// # Errors
+    ///
+    /// `CommitError::NoMemory` where that isn't known yet: it may be asked again by no turns at all. `CommitError::Failed` where what
+    /// keeps the records has failed, for good: no answer may be told that no earlier commit allowed.
+    fn commit(turns: Self::Turns) -> Result<(), CommitError>;
 
     /// The key of its place.
     fn key(answered: &Self::Answered) -> usize;
 
-    /// Gives a connection its answer. Its times count from the one at which its turn was taken.
+    /// Gives a connection its answer, which it tells when it goes on. Its times count from the one at which its turn was taken.
     fn hear(&self, one: Self::Answered) -> Self::Held
         ensures number { held_number result ≡ answered_number one };
 
@@ -134,7 +140,8 @@ pub trait Service: Sized {
     /// The same, to go on.
     fn held_mut<'p>(place: &'p mut Self::Place) -> Option<&'p mut Self::Held>;
 
-    /// Has all leave that are still there, and gives the memory back that they were held in.
+    /// Has all leave that are still there, and gives the memory back that they were held in. Nothing more is written: those that
+    /// haven't heard their answers are told none.
     fn leave_all(
         &self,
         places: Vec<Self::Place>,

@@ -15,7 +15,7 @@ use s3_driver::{AnsweredConnection, Driver, Moved, ServedConnection, new_driver}
 use s3_history::Recorder;
 use s3_journal::{Ground, SharedStore, Turns};
 use s3_log::{Log, MessageLog};
-use s3_records::Records;
+use s3_records::{CommitError, Records};
 use std::alloc::Global;
 use std::io::ErrorKind;
 use std::marker::Model;
@@ -240,8 +240,8 @@ impl<'a, J: Ground, K: Records + Drop, W: Wait + Clock> Service for Sharing<'a, 
         }
     }
 
-    fn commit(turns: Turns<'a, J, K>) {
-        turns.commit();
+    fn commit(turns: Turns<'a, J, K>) -> Result<(), CommitError> {
+        turns.commit()
     }
 
     fn key(answered: &Answered<'a, J, W>) -> usize {

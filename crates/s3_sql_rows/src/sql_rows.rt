@@ -5,6 +5,7 @@ ghost use Rattle.s3_tables.specs.Making.{first_tables};
 
 use s3_memory_database::open_in_memory;
 use s3_memory_disk::MemoryDisk;
+use s3_records::CommitError;
 use s3_stored_rows::{
     Change, StoreNumbers, StoredBucket, StoredPart, StoredRows, StoredUpload, StoredVersion,
 };
@@ -92,6 +93,10 @@ impl StoredRows for SqlRows {
 
     fn is_live(&self) -> bool {
         true
+    }
+
+    fn commit(&mut self) -> Result<(), CommitError> {
+        Ok(())
     }
 
     fn apply(&mut self, changes: &[Change]) -> Result<(), NoMemory> {

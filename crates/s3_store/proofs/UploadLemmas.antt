@@ -1,18 +1,21 @@
 -- What comes of commands on uploads, from what is told of the records.
-use Rattle.std.proofs.Common.{◌≡◌, refl, ℕ, Bool, true, false, ◌&&◌, List, Option, Some, None, Result, Ok, Err}
-use Rattle.std.specs.Prelude.{is_some, is_ok, ok_or}
+use Rattle.std.proofs.Common.{◌≡◌, refl, ap, ℕ, Bool, true, false, ◌&&◌, List, Option, Some, None, Result, Ok, Err}
+use Rattle.std.specs.Prelude.{is_some, is_ok, not, ok_or}
+use Rattle.std.specs.List.{list_all, list_any}
 use Rattle.s3_terms.specs.Fault.{◌>>◌, ◌>>=◌}
+use Rattle.s3_terms.specs.Fault as faults
 use Rattle.s3_terms.specs.declared.code.Code.{Code}
-use Rattle.s3_terms.specs.declared.code.Code.TheVariants.{NoSuchUpload, PreconditionFailed}
+use Rattle.s3_terms.specs.declared.code.Code.TheVariants.{EntityTooSmall, InvalidPart, InvalidPartOrder, NoSuchUpload, PreconditionFailed}
 use Rattle.s3_bodies.specs.Payload.{tag_of}
 use Rattle.s3_versions.specs.declared.picking.Refusal.{Refusal}
 use Rattle.s3_versions.specs.declared.version.Data.{Data}
-use Rattle.s3_uploads.specs.Completion.{completed}
-use Rattle.s3_uploads.specs.Parts.{part_sent}
+use Rattle.s3_uploads.specs.Completion.{completed, completed_parts, front_of, is_sent, is_small, joined_body, joined_data, numbers_listed, parts_listed}
+use Rattle.s3_uploads.specs.Parts.{part_sent, rises}
 use Rattle.s3_uploads.specs.declared.listed.ListedPart.{ListedPart}
+use Rattle.s3_uploads.specs.declared.part.Part.{Part}
 use Rattle.s3_uploads.specs.declared.upload.Upload.{Upload}
 use Rattle.s3_records.specs.Changes.{PartPut, UploadDropped, changed}
-use Rattle.s3_records.specs.OpenUploads.{upload_at, parts_at, parts_sent, completed_at}
+use Rattle.s3_records.specs.OpenUploads.{upload_at, parts_at, parts_sent, bytes_listed, completed_at}
 use Rattle.s3_listings.specs.declared.asked.PartsAsked.{PartsAsked}
 use Rattle.s3_listings.specs.Parts.{parts_page}
 use Rattle.s3_documents.specs.Document as documents
@@ -109,6 +112,31 @@ module _ (rules : Rules) (s : State) (n t : ℕ) (name key : List ℕ) (id : ℕ
   completion_accepted (Ok stored) is = refl
   completion_accepted (Err code) is = absurd (cc)
 
+-- ---- what a completion stores
+
+-- behind the three faults that its list may have
+joined_behind : (order sent small : Bool) (u : Upload (List ℕ)) (parts : List (Part (List ℕ))) (stored : Data (List ℕ))
+    → ((faults.refuse order InvalidPartOrder >> (faults.refuse sent InvalidPart >> (faults.refuse small EntityTooSmall >> Ok parts)))
+    >>= (λ parts. Ok (joined_data u parts))) ≡ Ok stored
+    → joined_body parts ≡ stored.body
+joined_behind true sent small u parts stored is = absurd (cc)
+joined_behind false true small u parts stored is = absurd (cc)
+joined_behind false false true u parts stored is = absurd (cc)
+joined_behind false false false u parts stored is = cc
+
+joined_is : (least : ℕ) (listed : List ListedPart) (u : Upload (List ℕ)) (stored : Data (List ℕ)) → completed least listed u ≡ Ok stored
+    → joined_body (parts_listed listed u.parts) ≡ stored.body
+unfolding completed completed_parts
+joined_is least listed u stored is =
+    joined_behind (not (rises (numbers_listed listed))) (not (list_all (is_sent u.parts) listed)) (list_any (is_small least u.parts) (front_of listed))
+    u (parts_listed listed u.parts) stored is
+
+-- the bytes that it stores are those of the parts that it lists
+pub bytes_joined : (least : ℕ) (listed : List ListedPart) (found : Option (Upload (List ℕ))) (stored : Data (List ℕ))
+    → completed_at least listed found ≡ Ok stored → bytes_listed listed found ≡ Some stored.body
+bytes_joined least listed None stored is = absurd (cc)
+bytes_joined least listed (Some u) stored is = ap Some (joined_is least listed u stored is)
+
 -- how it is refused, by whether its upload is open
 pub open_code : (found : Option (Upload (List ℕ))) → is_some found ≡ true → barred_code found ≡ PreconditionFailed
 open_code None is = absurd (cc)
@@ -123,3 +151,5 @@ pub ruleset barred_codes = (open_code, closed_code)
 pub ruleset upload_steps = (upload_lost, part_put, upload_dropped, parts_told)
 
 pub ruleset completion_steps = (completes, completion_barred)
+
+pub ruleset joined_parts = (completion_accepted, bytes_joined)

@@ -1,6 +1,6 @@
 //! What the completion of an upload does.
-ghost use Rattle.std.specs.Prelude.{◌≡◌, true, false, IfOk, OnErr};
-ghost use Rattle.s3_records.specs.OpenUploads.{completed_at, upload_at};
+ghost use Rattle.std.specs.Prelude.{◌≡◌, Some, true, false, IfOk, OnErr};
+ghost use Rattle.s3_records.specs.OpenUploads.{bytes_listed, completed_at, upload_at};
 ghost use Rattle.s3_documents.specs.Document as documents;
 ghost use Rattle.s3_machine.specs.Effects.{is_refused};
 ghost use Rattle.s3_store.specs.Steps.{upload_step, completion_step, completed_as, barred_code, MayEnter};
@@ -15,7 +15,7 @@ use s3_machine::{Outcome, Rules, UploadCommand};
 use s3_names::{BucketName, Key, Tag, UploadId};
 use s3_records::Records;
 use s3_terms::{Code, NoMemory};
-use s3_uploads::ListedParts;
+use s3_uploads::{ListedPart, ListedParts};
 use s3_versions::{Data, Versioning};
 use std::alloc::Global;
 
@@ -85,7 +85,7 @@ fn refuse_barred<R: Records>(
 }
 
 // A completion whose condition holds, or that has none.
-#[tactic(auto, using(crate::proofs::UploadLemmas::completion_accepted))]
+#[tactic(auto, using(crate::proofs::UploadLemmas::joined_parts))]
 fn join<R: Records>(
     records: &mut R,
     alloc: Global,
@@ -112,7 +112,16 @@ fn join<R: Records>(
     match records.completed(alloc, bucket, &key, id, least_part, listed.as_slice())? {
         Err(code) => Ok(refused(code)),
         Ok(stored) => put_joined(
-            records, alloc, bucket, versioning, key, id, stored, number, moment,
+            records,
+            alloc,
+            bucket,
+            versioning,
+            key,
+            id,
+            listed.as_slice(),
+            stored,
+            number,
+            moment,
         ),
     }
 }
@@ -131,7 +140,7 @@ fn completed_document(
     Document::of_completed(alloc, bucket, key, tag.copy())
 }
 
-// Puts what the listed parts make, and drops the upload with all its parts.
+// Puts what the listed parts make, which has their bytes, and drops the upload with all its parts.
 fn put_joined<R: Records>(
     records: &mut R,
     alloc: Global,
@@ -139,11 +148,13 @@ fn put_joined<R: Records>(
     versioning: Versioning,
     key: Key,
     id: UploadId,
+    listed: &[ListedPart],
     stored: Data<Body>,
     number: u64,
     moment: Moment,
 ) -> Result<Outcome, NoMemory>
-    requires { MayEnter (R.catalogue records.old) number bucket.now versioning }
+    requires enters { MayEnter (R.catalogue records.old) number bucket.now versioning }
+    requires joined { bytes_listed listed.now (upload_at (R.catalogue records.old) bucket.now key id) ≡ Some stored.body }
     ensures ok { IfOk result (λ outcome.
         completion_step (R.catalogue records.old) number moment bucket.now key id stored ≡ (R.catalogue records.new, outcome)) }
     ensures err { OnErr result (R.catalogue records.new ≡ R.catalogue records.old) }
@@ -153,7 +164,7 @@ fn put_joined<R: Records>(
         drop(stored);
         return Err(NoMemory);
     };
-    match records.complete(alloc, bucket, key, id, number, moment, stored) {
+    match records.complete(alloc, bucket, key, id, number, moment, listed, stored) {
         Ok(gone) => {
             drop(gone);
             let shown = shown(versioning, versioning.new_id(number));

@@ -10,7 +10,7 @@ use s3_bodies::Body;
 use s3_calendar::Moment;
 use s3_machine::{Answer, Command, Rules, steps_keep};
 use s3_names::BucketName;
-use s3_records::{MapRecords, Records, numbers_stay_below};
+use s3_records::{CommitError, MapRecords, Records, numbers_stay_below};
 use s3_terms::NoMemory;
 use std::alloc::Global;
 use std::marker::Model;
@@ -110,5 +110,17 @@ impl<R: Records + Drop> Store<R> {
         let outcome = take(&mut self.records, alloc, rules, command, number, moment)?;
         self.number = number + 1;
         Ok(Answer { number, outcome })
+    }
+
+    /// Commits all changes so far, as `Records::commit` says: answers may be told after it.
+    ///
+    /// # Errors
+    ///
+    /// Those of `Records::commit`. The store is as it was. Records in memory have no error here.
+    pub fn commit(&mut self) -> Result<(), CommitError>
+        ensures same { self.new ≡ self.old }
+        ensures memory { OnErr result (R.is_in_memory ≡ false) }
+    {
+        self.records.commit()
     }
 }

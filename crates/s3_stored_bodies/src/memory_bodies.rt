@@ -137,7 +137,15 @@ impl StoredBodies for MemoryBodies {
 
     ghost is_in_memory = { true };
 
+    ghost leaves = { λ _ _. ⊥ };
+
     ghost named_where_there = { named_where_held };
+
+    fn outlive_crashes(&self) {}
+
+    fn is_live(&self) -> bool {
+        true
+    }
 
     fn keep(&mut self, _alloc: Global, body: Body) -> Result<u64, NoMemory> {
         self.add(body)

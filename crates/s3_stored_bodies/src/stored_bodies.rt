@@ -23,6 +23,19 @@ pub trait StoredBodies {
     // Whether the keeper holds all in memory, so that what needs no more room never lacks it.
     ghost is_in_memory: { Bool };
 
+    // The bytes that one may find under numbers who opens the bodies again after a crash now. There are none where a crash leaves
+    // nothing, and nothing is said of a disk that doesn't give back what was written to it.
+    ghost leaves: { Self → Contents → Type 0 };
+
+    /// That what stands under a number outlives a crash. It costs nothing.
+    fn outlive_crashes(&self)
+        ensures { (left : Contents) → leaves self.now left → (number : ℕ) (bytes : List ℕ)
+            → map.get (contents self.now) number ≡ Some bytes → map.get left number ≡ Some bytes };
+
+    /// Whether more bodies may be kept. Where it is false, what keeps them has failed, for good. Want of memory doesn't do that, and
+    /// no clause tells when it is so.
+    fn is_live(&self) -> bool;
+
     /// Keeps a body for one row, and answers the number under which it stands, which is below 2^63. Nothing stood under
     /// that number, or these bytes did.
     fn keep(&mut self, alloc: Global, body: Body) -> Result<u64, NoMemory>

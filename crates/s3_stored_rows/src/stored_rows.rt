@@ -7,6 +7,7 @@ ghost use Rattle.s3_stored_rows.specs.Unique.{AreUnique};
 
 use crate::change::Change;
 use crate::rows::{StoreNumbers, StoredBucket, StoredPart, StoredUpload, StoredVersion};
+use s3_records::CommitError;
 use s3_terms::NoMemory;
 use std::alloc::Global;
 
@@ -31,6 +32,17 @@ pub trait StoredRows {
     /// through, which asks again.
     fn is_live(&self) -> bool
         ensures settled { result ≡ true → (t : Tables) → leaves self.now t → t ≡ tables self.now };
+
+    /// Asks again where `is_live` isn't true. Where it answers `Ok`, a crash now leaves these rows and nothing else.
+    ///
+    /// # Errors
+    ///
+    /// `CommitError::NoMemory` where memory ran out before that was known: it may be asked again. `CommitError::Failed` where what the
+    /// rows stand on has failed, for good.
+    fn commit(&mut self) -> Result<(), CommitError>
+        ensures settled { OnOk result ((t : Tables) → leaves self.new t → t ≡ tables self.new) }
+        ensures same { tables self.new ≡ tables self.old }
+        ensures stays { (t : Tables) → leaves self.new t → leaves self.old t };
 
     /// Makes all changes in their order, or none. A change that adds a row where its rowid is there, or what is unique in its
     /// table, is an error. Where it answers `Ok` no crash undoes them, and a crash during the call leaves what it could leave before,

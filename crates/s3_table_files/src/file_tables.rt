@@ -84,13 +84,20 @@ impl FileTables {
         self.tables.is_live()
     }
 
-    /// Asks the connection again where it didn't answer when it was last asked, as where memory ran out: it may answer by now.
-    pub fn wake(&mut self)
-        ensures { Reads (file_state self.old) (file_state self.new) }
+    /// Asks the connection again where it didn't answer when it was last asked, as where memory ran out: it may answer by now. The
+    /// error is that of this time.
+    pub fn wake(&mut self) -> Result<(), StorageFault>
+        ensures live { OnOk result (HasCleanDisk (file_state self.new) → IsTrue (file_state self.new).is_open) }
+        ensures fault { IfErr result IsOfTables }
+        ensures reads { Reads (file_state self.old) (file_state self.new) }
     {
-        if !self.tables.is_live() {
-            let _ = self.tables.store();
+        if self.tables.is_live() {
+            return Ok(());
         }
+        if let Err(error) = self.tables.store() {
+            return Err(table_fault(error));
+        }
+        Ok(())
     }
 
     /// Reads all rows, as `read_tables` says.

@@ -10,6 +10,7 @@ use Rattle.sqlite_keyed.specs.Rules.{AllPass}
 use Rattle.std.proofs.lemmas.List.Elements.{All-from_recursion, recursion_from_All}
 use Rattle.s3_stored_bodies.specs.Numbers.{Contents, bytes_under, times, named_more, named_less, KeepsNamed}
 use Rattle.s3_stored_bodies.proofs.NumberLemmas.{named_less-none}
+use Rattle.s3_records.specs.Catalogue.{Catalogue}
 use Rattle.s3_records.specs.Changes.{Change, changed}
 use Rattle.s3_rows.specs.Columns.{Tables}
 use Rattle.s3_rows.specs.Meaning.{catalogue_of}
@@ -18,7 +19,7 @@ use Rattle.s3_row_changes.specs.Trading.{Trades}
 use Rattle.s3_row_steps.specs.Steps.{AreKept, Steps}
 use Rattle.s3_stored_rows.specs.Rowids.{AreRowsBelow}
 use Rattle.s3_terms.specs.declared.memory.NoMemory.{NoMemory}
-use Rattle.s3_table_records.specs.Kept.{kept, IsKept, Changes, catalogue}
+use Rattle.s3_table_records.specs.Kept.{kept, IsKept, IsLeft, Changes, catalogue}
 use Rattle.s3_table_records.proofs.SameBytesLemmas.{same_catalogue}
 
 -- each number is counted as often as rows name it
@@ -64,6 +65,29 @@ module _ (c : Contents) (uses : ℕ → ℕ) (number : ℕ) (body : List ℕ) wh
 
   pub under_here : bytes_under (insert c number body) number ≡ body
   under_here = ap (λ found. unwrap_or found []) (get-insert nat_cmp_total c number body number ∙ ap (λ b. cond b (Some body) (get c number)) ((eq_by_cmp_equiv nat_cmp_total).refl number))
+
+-- and over all that outlives a crash of bytes that stand under numbers
+outlived : (found left : Option (List ℕ)) → (found ≡ None → ⊥) → ((bytes : List ℕ) → found ≡ Some bytes → left ≡ Some bytes) → unwrap_or left [] ≡ unwrap_or found []
+outlived None left there stays = absurd (there refl)
+outlived (Some bytes) left there stays = ap (λ o. unwrap_or o []) (stays bytes refl)
+
+pub left_catalogue : (c d : Contents) (uses : ℕ → ℕ) (t : Tables) → AreNamed uses t → ((m : ℕ) → (uses m ≡ 0) ↔ (get c m ≡ None))
+    → ((m : ℕ) (bytes : List ℕ) → get c m ≡ Some bytes → get d m ≡ Some bytes) → catalogue_of (encoding d) t ≡ catalogue_of (encoding c) t
+left_catalogue c d uses t named there outlives =
+    same_catalogue c d t (λ n is. outlived (get c n) (get d n) (λ none. let nothing = (there n).1 none in omega (arith, named n)) (outlives n))
+
+-- so what a crash leaves is the catalogue, where the rows are those that it leaves
+pub all_left : (rows : Tables → Type 0) (bodies : Contents → Type 0) (t : Tables) (c : Contents) (u : ℕ → ℕ) (next : ℤ) → IsKept (kept t c u next)
+    → ((m : ℕ) → (u m ≡ 0) ↔ (get c m ≡ None)) → ((d : Contents) → bodies d → (m : ℕ) (bytes : List ℕ) → get c m ≡ Some bytes → get d m ≡ Some bytes)
+    → ((s : Tables) → rows s → s ≡ t) → (left : Catalogue (List ℕ)) → IsLeft rows bodies left → left ≡ catalogue (kept t c u next)
+all_left rows bodies t c u next is there outlive settled left found =
+    found.means ∙ ap (catalogue_of (encoding found.contents)) (settled found.tables found.of_rows)
+    ∙ left_catalogue c found.contents u t is.named there (outlive found.contents found.of_bodies)
+
+-- what follows where an answer is no error
+pub on_ok : {X E A B : Type 0} (result : Result X E) → (A → B) → OnOk result A → OnOk result B
+on_ok (Ok x) follows is = follows is
+on_ok (Err error) follows is = cc
 
 -- ---- the next rowid grows
 
@@ -117,6 +141,25 @@ module _ (t : Tables) (c : Contents) (u : ℕ → ℕ) (next : ℤ) (before : Is
           kept_catalogue (insert c number body) d v new (kept_changed is).named keeps ∙ steps.means (insert c number body)
           ∙ ap (λ before. changed before bucket (change (insert c number body))) (kept_beside c u number body t before.named is_new there)
 
+  -- bodies that are there were named once more and once less again
+  module _ (d : Contents) (v : ℕ → ℕ) (more : List ℕ) (is : v ≡ named_less more (named_more more u)) (keeps : KeepsNamed v c d) where
+    as_before : (n : ℕ) → v n ≡ times n (numbers_named t)
+    as_before n = let at = ap (λ uses. uses n) is in omega (arith, before.named n)
+
+    pub kept_unshared : IsKept (kept t d v (next +ℤ pos 1))
+    kept_unshared = record { rows = rows_kept next t before.rows; named = as_before }
+
+    pub same_unshared : catalogue (kept t d v (next +ℤ pos 1)) ≡ catalogue (kept t c u next)
+    same_unshared = kept_catalogue c d v t as_before keeps
+
+  -- bodies that are there were named once more, rows changed, and what they no more name went
+  module _ (d : Contents) (v : ℕ → ℕ) (new : Tables) (bucket : List ℕ) (change : Contents → Change (List ℕ)) (less more : List ℕ) (steps : Steps t new (next +ℤ pos 1) bucket change less more) (is : v ≡ named_less less (named_more more u)) (keeps : KeepsNamed v c d) where
+    pub kept_shared : IsKept (kept new d v (next +ℤ pos 1))
+    kept_shared = record { rows = steps.kept; named = λ n. ap (λ uses. uses n) is ∙ named_after t new u less more before.named steps.trades n }
+
+    pub is_changed_shared : catalogue (kept new d v (next +ℤ pos 1)) ≡ changed (catalogue (kept t c u next)) bucket (change c)
+    is_changed_shared = kept_catalogue c d v new kept_shared.named keeps ∙ steps.means c
+
   -- rows changed, and what they no more name went
   module _ (new : Tables) (d : Contents) (v : ℕ → ℕ) (later : ℤ) (bucket : List ℕ) (change : Contents → Change (List ℕ)) (less : List ℕ) (steps : Steps t new later bucket change less []) where
     pub kept_dropped : v ≡ named_less less u → IsKept (kept new d v later)
@@ -153,6 +196,23 @@ module _ {X : Type 0} (t : Tables) (c : Contents) (u : ℕ → ℕ) (next : ℤ)
           ok = is_changed t c u next before d v number body there is_new new bucket stands less steps is keeps ∙ ap (changed (catalogue (kept t c u next)) bucket) same;
           err = cc;
         }
+
+  -- bodies that are there were named once more and once less again
+  pub is_unshared : (error : NoMemory) (d : Contents) (v : ℕ → ℕ) (more : List ℕ) → v ≡ named_less more (named_more more u) → KeepsNamed v c d
+      → Changes {X = X} (kept t c u next) (kept t d v (next +ℤ pos 1)) bucket change (Err error)
+  is_unshared error d v more is keeps =
+      record { kept = kept_unshared t c u next before d v more is keeps; ok = cc; err = same_unshared t c u next before d v more is keeps }
+
+  -- bodies that are there were named once more, rows changed, and what they no more name went
+  pub is_shared : (x : X) (new : Tables) (d : Contents) (v : ℕ → ℕ) (stands : Contents → Change (List ℕ)) (less more : List ℕ) → Steps t new (next +ℤ pos 1) bucket stands less more
+      → stands c ≡ change → v ≡ named_less less (named_more more u) → KeepsNamed v c d
+      → Changes (kept t c u next) (kept new d v (next +ℤ pos 1)) bucket change (Ok x)
+  is_shared x new d v stands less more steps same is keeps =
+      record {
+        kept = kept_shared t c u next before d v new bucket stands less more steps is keeps;
+        ok = is_changed_shared t c u next before d v new bucket stands less more steps is keeps ∙ ap (changed (catalogue (kept t c u next)) bucket) same;
+        err = cc;
+      }
 
   -- rows changed, and what they no more name went
   pub is_gone : (x : X) (new : Tables) (d : Contents) (v : ℕ → ℕ) (later : ℤ) (stands : Contents → Change (List ℕ)) (less : List ℕ) → Steps t new later bucket stands less []

@@ -7,4 +7,5 @@ pub mod OpeningLemmas
 pub mod FreshLemmas
 pub mod DroppingLemmas
 pub mod UploadLemmas
+pub mod ListedLemmas
 pub mod MissingLemmas

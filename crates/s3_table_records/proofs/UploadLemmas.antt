@@ -134,7 +134,7 @@ module _ (e : Encoding) (t : Tables) (sound : AreSound t) where
     pub none_told : None ≡ upload_of_id bucket key (pos id) t → None ≡ upload_at (catalogue_of e t) bucket key id
     none_told none = ap (option_map (upload_of e t.parts)) none ∙ sym (tells e t bucket key id sound)
 
-    found_at : (u : UploadColumns) → upload_of_id bucket key (pos id) t ≡ Some u → upload_at (catalogue_of e t) bucket key id ≡ Some (upload_of e t.parts u)
+    pub found_at : (u : UploadColumns) → upload_of_id bucket key (pos id) t ≡ Some u → upload_at (catalogue_of e t) bucket key id ≡ Some (upload_of e t.parts u)
     found_at u found = tells e t bucket key id sound ∙ ap (option_map (upload_of e t.parts)) found
 
     -- its part of a number

@@ -1,5 +1,6 @@
 -- What a keeper over rows and bodies keeps.
-use Rattle.std.specs.Prelude.{◌≡◌, ℕ, ℤ, List, Result, IfOk, OnOk, OnErr}
+use Rattle.std.specs.Prelude.{◌≡◌, ℕ, ℤ, List, Result, IfOk, OnOk, OnErr, refl}
+use Rattle.std.specs.Coded.{Coded, code_by, coded×, coded_ℤ}
 use Rattle.s3_terms.specs.declared.memory.NoMemory.{NoMemory}
 use Rattle.s3_records.specs.Catalogue.{Catalogue}
 use Rattle.s3_records.specs.Changes.{Change, changed}
@@ -30,6 +31,32 @@ catalogue k = catalogue_of (encoding k.contents) k.tables
 pub record IsKept (k : Kept) : Type 0 where
   pub rows : AreKept k.next k.tables
   pub named : (n : ℕ) → k.uses n ≡ times n (numbers_named k.tables)
+
+-- records over rows and bodies, with the next rowid
+pub record Parts (R B : Type 0) : Type 0 where
+  pub rows : R
+  pub bodies : B
+  pub next : ℤ
+
+-- how std numbers them
+abbrev pub coded_parts : {R B : Type 0} → Coded R → Coded B → Coded (Parts R B)
+coded_parts {R} {B} rows bodies =
+    code_by (R × (B × ℤ)) (coded× rows (coded× bodies coded_ℤ))
+    (λ parts. (parts.rows, (parts.bodies, parts.next)))
+    (λ p. record { rows = p.0; bodies = p.1.0; next = p.1.1 })
+    (λ _. refl)
+
+-- what they keep, where this is told of the rows and of the bodies
+abbrev pub kept_in : {R B : Type 0} → (R → Tables) → (B → Contents) → (B → ℕ → ℕ) → Parts R B → Kept
+kept_in tables contents uses parts = kept (tables parts.rows) (contents parts.bodies) (uses parts.bodies) parts.next
+
+-- a catalogue that one may find who opens rows and bodies again after a crash, by what it may leave of the rows and of the bodies
+pub record IsLeft (rows : Tables → Type 0) (bodies : Contents → Type 0) (left : Catalogue (List ℕ)) : Type 0 where
+  pub tables : Tables
+  pub contents : Contents
+  pub of_rows : rows tables
+  pub of_bodies : bodies contents
+  pub means : left ≡ catalogue_of (encoding contents) tables
 
 -- what is kept is this change of the catalogue, or where an error is answered the catalogue as it was
 pub record Changes {X : Type 0} (old new : Kept) (bucket : List ℕ) (change : Change (List ℕ)) (result : Result X NoMemory) : Type 0 where

@@ -10,6 +10,7 @@ mod dropping;
 mod found;
 mod gone;
 mod keeping;
+mod listed;
 mod named;
 mod opening;
 mod parts;

@@ -2,7 +2,7 @@
 ghost use Rattle.std.specs.Prelude.{◌≡◌, ◌∷◌, ℕ, false, []};
 ghost use Rattle.s3_records.specs.Catalogue.{opening};
 ghost use Rattle.s3_rows.specs.Columns.{StoreColumns, no_rows};
-ghost use Rattle.s3_table_records.specs.Kept.{kept, catalogue, IsKept};
+ghost use Rattle.s3_table_records.specs.Kept.{kept, kept_in, catalogue, IsKept, IsLeft};
 
 use crate::{asking, buckets, completing, completion, dropping, parts, putting, reading, uploads};
 use s3_bodies::Body;
@@ -10,8 +10,8 @@ use s3_calendar::Moment;
 use s3_deletions::{Markers, NamedObject};
 use s3_names::{BucketName, Key, PartNumber, UploadId, VersionId};
 use s3_records::{
-    BucketFacts, KeyRow, ListedBucket, Records, Start, UploadRow, UploadStart, VersionRow,
-    VersionStart,
+    BucketFacts, CommitError, KeyRow, ListedBucket, Records, Start, UploadRow, UploadStart,
+    VersionRow, VersionStart,
 };
 use s3_row_lists as lists;
 use s3_rows::rows_open;
@@ -24,7 +24,7 @@ use std::alloc::Global;
 use std::marker::Model;
 
 /// Records whose catalogue stands in the rows of tables, and whose bytes are bodies that the rows name by number. Contracts see
-/// them as the catalogue.
+/// the rows and the bodies, of which `Records` tells the catalogue.
 #[derive(Drop)]
 pub struct TableRecords<R: StoredRows, B: StoredBodies> {
     rows: R,
@@ -34,17 +34,13 @@ pub struct TableRecords<R: StoredRows, B: StoredBodies> {
 }
 
 impl<R: StoredRows, B: StoredBodies> Model for TableRecords<R, B> {
-    ghost use Rattle.std.specs.Prelude.{ℕ, List};
-    ghost use Rattle.s3_versions.specs.Codes.{coded_bytes};
-    ghost use Rattle.s3_records.specs.Catalogue.{Catalogue};
-    ghost use Rattle.s3_records.specs.Codes.{coded_catalogue};
-    ghost use Rattle.s3_table_records.specs.Kept.{kept, catalogue, IsKept};
+    ghost use Rattle.s3_table_records.specs.Kept.{kept, IsKept, Parts, coded_parts};
 
-    ghost Value = { Catalogue (List ℕ) };
+    ghost Value = { Parts R B };
 
-    ghost coded = { coded_catalogue coded_bytes };
+    ghost coded = { coded_parts R.code B.code };
 
-    ghost view = { λ records. catalogue (kept (R.tables records.rows) (B.contents records.bodies) (B.uses records.bodies) records.next) };
+    ghost view = { λ records. record { rows = records.rows; bodies = records.bodies; next = records.next } };
 
     ghost invariant = { λ records. IsKept (kept (R.tables records.rows) (B.contents records.bodies) (B.uses records.bodies) records.next) };
 }
@@ -54,7 +50,7 @@ impl<R: StoredRows, B: StoredBodies> TableRecords<R, B> {
     pub fn new(rows: R, bodies: B) -> TableRecords<R, B>
         requires rows { (store : StoreColumns) × (R.tables rows ≡ record no_rows { store = store ∷ [] }) }
         requires bodies { (number : ℕ) → B.uses bodies number ≡ 0 }
-        ensures { result ≡ opening [] }
+        ensures { catalogue (kept_in R.tables B.contents B.uses result) ≡ opening [] }
     {
         rows_open();
         TableRecords {
@@ -67,16 +63,26 @@ impl<R: StoredRows, B: StoredBodies> TableRecords<R, B> {
     /// The records that stand in rows, with a rowid above all of theirs, and in the bodies that these name. It takes no memory.
     pub fn over(rows: R, bodies: B, next: i64) -> TableRecords<R, B>
         requires { IsKept (kept (R.tables rows) (B.contents bodies) (B.uses bodies) next) }
-        ensures { result ≡ catalogue (kept (R.tables rows) (B.contents bodies) (B.uses bodies) next) }
+        ensures { result ≡ record { rows = rows; bodies = bodies; next = next } }
     {
         TableRecords { rows, bodies, next }
     }
 }
 
 impl<R: StoredRows, B: StoredBodies> Records for TableRecords<R, B> {
-    ghost catalogue = { λ records. records };
+    ghost catalogue = { λ records. catalogue (kept_in R.tables B.contents B.uses records) };
 
     ghost is_in_memory = { false };
+
+    ghost leaves = { λ records left. IsLeft (R.leaves records.rows) (B.leaves records.bodies) left };
+
+    fn commit(&mut self) -> Result<(), CommitError> {
+        self.bodies.outlive_crashes();
+        if !self.bodies.is_live() {
+            return Err(CommitError::Failed);
+        }
+        self.rows.commit()
+    }
 
     fn bucket(
         &mut self,
@@ -414,6 +420,7 @@ impl<R: StoredRows, B: StoredBodies> Records for TableRecords<R, B> {
         id: UploadId,
         number: u64,
         moment: Moment,
+        listed: &[ListedPart],
         stored: Data<Body>,
     ) -> Result<Option<Upload<Body>>, NoMemory> {
         let Some(later) = self.next.checked_add(1) else {
@@ -429,6 +436,7 @@ impl<R: StoredRows, B: StoredBodies> Records for TableRecords<R, B> {
             id,
             number,
             moment,
+            listed,
             stored,
         );
         self.next = later;

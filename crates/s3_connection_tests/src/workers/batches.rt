@@ -176,7 +176,8 @@ fn go_on<J: Ground>(alloc: Global, config: &Config, traced: &mut Traced<J>, now:
     drop(traced.states.push(letter_of(moved.state)));
 }
 
-// Takes the turns of both to the shared store in one batch, and gives them their answers.
+// Takes the turns of both to the shared store in one batch, and gives them their answers; `None` where the batch isn't committed,
+// which never happens over a store in memory.
 fn take_turns<J: Ground, R: Wait>(
     rt: &R,
     alloc: Global,
@@ -184,15 +185,15 @@ fn take_turns<J: Ground, R: Wait>(
     first: Connection<J>,
     second: Connection<J>,
     now: Instant,
-) -> (Connection<J>, Connection<J>) {
+) -> Option<(Connection<J>, Connection<J>)> {
     let mut turns = shared.turns(rt);
     let first = first.submit(&mut turns);
     let second = second.submit(&mut turns);
-    turns.commit();
-    (first.hear(alloc, now), second.hear(alloc, now))
+    turns.commit().ok()?;
+    Some((first.hear(alloc, now), second.hear(alloc, now)))
 }
 
-// Has both have a round.
+// Has both have a round; `None` where their turns aren't committed.
 fn serve_round<J: Ground, R: Wait>(
     rt: &R,
     alloc: Global,
@@ -201,13 +202,13 @@ fn serve_round<J: Ground, R: Wait>(
     mut first: Traced<J>,
     mut second: Traced<J>,
     now: Instant,
-) -> (Traced<J>, Traced<J>)
+) -> Option<(Traced<J>, Traced<J>)>
     requires settings { J.base.settings ≡ config.now }
 {
     go_on(alloc, config, &mut first, now);
     go_on(alloc, config, &mut second, now);
-    let (one, other) = take_turns(rt, alloc, shared, first.connection, second.connection, now);
-    (
+    let (one, other) = take_turns(rt, alloc, shared, first.connection, second.connection, now)?;
+    Some((
         Traced {
             connection: one,
             states: first.states,
@@ -216,7 +217,7 @@ fn serve_round<J: Ground, R: Wait>(
             connection: other,
             states: second.states,
         },
-    )
+    ))
 }
 
 // Whether a connection was served as is wanted, which leaves the roster.
@@ -271,7 +272,10 @@ fn are_served<J: Ground, R: Wait>(
         return false;
     };
     for _ in 0..ROUNDS {
-        (first, second) = serve_round(rt, alloc, config, shared, first, second, now);
+        let Some(served) = serve_round(rt, alloc, config, shared, first, second, now) else {
+            return false;
+        };
+        (first, second) = served;
     }
     let is_first_right = leaves_as(first, roster, &both[0]);
     leaves_as(second, roster, &both[1]) && is_first_right && is_turned_away(alloc, roster)

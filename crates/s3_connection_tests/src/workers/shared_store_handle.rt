@@ -5,20 +5,20 @@ use s3_driver::StoreHandle;
 use s3_history::AsItself;
 use s3_journal::{Ground, Roster, Seat, SharedStore};
 use s3_machine::{Answer, Turn};
-use s3_records::Records;
+use s3_records::MapRecords;
 use s3_terms::NoMemory;
 use std::marker::Model;
 use std::sync::Wait;
 
-/// A seat of its own at a store that many share. Contracts see the seat.
+/// A seat of its own at a store in memory that many share. Contracts see the seat.
 #[derive(Drop)]
-pub(crate) struct SharedStoreHandle<'a, J: Ground, S: Records + Drop, W: Wait> {
+pub(crate) struct SharedStoreHandle<'a, J: Ground, W: Wait> {
     rt: &'a W,
-    store: &'a SharedStore<J, S>,
+    store: &'a SharedStore<J, MapRecords>,
     seat: Seat<J>,
 }
 
-impl<'a, J: Ground, S: Records + Drop, W: Wait> Model for SharedStoreHandle<'a, J, S, W> {
+impl<'a, J: Ground, W: Wait> Model for SharedStoreHandle<'a, J, W> {
     ghost use Rattle.s3_journal.specs.SharedStore.{Seated};
 
     ghost Value = { Seated };
@@ -26,13 +26,13 @@ impl<'a, J: Ground, S: Records + Drop, W: Wait> Model for SharedStoreHandle<'a, 
     ghost view = { λ handle. handle.seat };
 }
 
-impl<'a, J: Ground, S: Records + Drop, W: Wait> SharedStoreHandle<'a, J, S, W> {
+impl<'a, J: Ground, W: Wait> SharedStoreHandle<'a, J, W> {
     /// The handle of this seat.
     pub(crate) fn new(
         rt: &'a W,
-        store: &'a SharedStore<J, S>,
+        store: &'a SharedStore<J, MapRecords>,
         seat: Seat<J>,
-    ) -> SharedStoreHandle<'a, J, S, W>
+    ) -> SharedStoreHandle<'a, J, W>
         ensures { result ≡ seat }
     {
         SharedStoreHandle { rt, store, seat }
@@ -49,7 +49,8 @@ impl<'a, J: Ground, S: Records + Drop, W: Wait> SharedStoreHandle<'a, J, S, W> {
     }
 }
 
-impl<J: Ground, S: Records + Drop, W: Wait> StoreHandle for SharedStoreHandle<'_, J, S, W> {
+impl<J: Ground, W: Wait> StoreHandle for SharedStoreHandle<'_, J, W> {
+    ghost use Rattle.std.specs.Prelude.{true};
     ghost use Rattle.s3_machine.specs.Rules.{rules_of};
     ghost use Rattle.s3_journal.specs.RecordedStore.{MayLack};
     ghost use Rattle.s3_journal.specs.Calls.{left_by};
@@ -57,7 +58,7 @@ impl<J: Ground, S: Records + Drop, W: Wait> StoreHandle for SharedStoreHandle<'_
     ghost entries = { λ handle. handle.mine };
 
     // What it has then seen is no older than what it had seen before.
-    ghost may_lack = { λ handle turn. MayLack S.is_in_memory (rules_of J.base.settings) (left_by J.base handle.seen) turn };
+    ghost may_lack = { λ handle turn. MayLack true (rules_of J.base.settings) (left_by J.base handle.seen) turn };
 
     fn call(&mut self, turn: Turn) -> Result<Answer, NoMemory> {
         self.store.submit(self.rt, &mut self.seat, turn)

@@ -12,11 +12,12 @@ use std::sync::Wait;
 const SERVERS: &str = "\
     s3d serve --keys keys --listen localhost:0|localhost:0 8 1024;\
     s3d serve --keys keys --listen :80 --workers 64|:80 64 1024;\
-    s3d serve --keys keys --listen a --workers 001 --max-connections 1 --connections 1|a 1 1 1;\
-    s3d serve --keys keys --listen a --connections 999999999999|a 8 1024 999999999999;\
+    s3d serve --keys keys --listen a --workers 001 --max-connections 1 --connections 1|a 1 1 1x1;\
+    s3d serve --keys keys --listen a --connections 999999999999|a 8 1024 999999999999x1;\
+    s3d serve --keys keys --listen a --connections 3 --rounds 2|a 8 1024 3x2;\
     s3d serve --keys keys --listen a --bucket pail --max-connections 65536 --region eu-west-1|a 8 65536;\
     s3d serve --keys keys --listen a --log log|a 8 1024 to log;\
-    s3d serve --keys keys --listen a --connections 3 --log -|a 8 1024 3 to -;\
+    s3d serve --keys keys --listen a --connections 3 --log -|a 8 1024 3x1 to -;\
     s3d serve --keys keys --listen a --log |a 8 1024 to ;\
     s3d serve --keys keys --listen a --records map|a 8 1024;\
     s3d serve --keys keys --listen a --records sql --log log|a 8 1024 to log over tables;\
@@ -29,6 +30,8 @@ const SERVERS: &str = "\
     s3d serve --keys shelf --listen a --max-connections 65537|bad setting;\
     s3d serve --keys shelf --listen a --connections 0|bad setting;\
     s3d serve --keys shelf --listen a --connections 0000000000001|bad setting;\
+    s3d serve --keys shelf --listen a --rounds 1|bad setting;\
+    s3d serve --keys shelf --listen a --connections 1 --rounds 0|bad setting;\
     s3d serve --keys shelf --listen a --bucket Pail|bad setting;\
     s3d serve --keys shelf --listen a --region US|cannot read shelf;\
     s3d serve --keys twice --listen a --region US|bad keys line 2;\
@@ -58,8 +61,8 @@ fn numbers_text(alloc: Global, mode: &ServeMode) -> Option<String> {
     let text = match mode.connections {
         Some(count) => {
             format!(in alloc;
-                "{} {} {} {count}",
-                mode.address, mode.workers, mode.most_held
+                "{} {} {} {count}x{}",
+                mode.address, mode.workers, mode.most_held, mode.rounds
             )
         }
         None => format!(in alloc; "{} {} {}", mode.address, mode.workers, mode.most_held),

@@ -65,6 +65,7 @@ fn options<'a>(records: &'a str, folder: Option<&'a str>) -> ServeOptions<'a> {
         workers: "2",
         max_connections: "16",
         connections: Some("2"),
+        rounds: None,
         log: Some("log"),
         folder,
     }

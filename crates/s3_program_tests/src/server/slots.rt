@@ -1,4 +1,4 @@
-//! How many connections may be held, and when workers lack a slot.
+//! How many connections may be held, when workers lack a slot, and that a failure is noted.
 use crate::checks::check;
 use s3_server::Slots;
 use std::process::Abort;
@@ -119,4 +119,12 @@ fn shares(rt: HostRuntime) {
         let slots = with_taken(&rt, taken);
         check(&rt, slots.is_within_share(mine) == is_within, "shares");
     }
+}
+
+#[test]
+fn failure(rt: HostRuntime) {
+    let slots = Slots::new(None, 1);
+    check(&rt, !slots.has_failed(), "nothing has failed");
+    slots.fail();
+    check(&rt, slots.has_failed(), "the keeper has failed");
 }

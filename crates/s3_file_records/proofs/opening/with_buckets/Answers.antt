@@ -1,6 +1,7 @@
 use Rattle.std.proofs.Common.{sym, ap, subst, ◌∙◌, ℕ, ℤ, SFits, w64, to_z-of_z, rules}
 use Rattle.s3_records.specs.Places.{AreBelow}
 use Rattle.s3_row_steps.specs.Steps.{AreKept}
+use Rattle.s3_table_records.specs.Kept.{catalogue, kept_in}
 use Rattle.s3_file_records.proofs.opening.with_buckets.Goals as goal
 
 pub over-records-requires : goal.over-records-requires
@@ -15,4 +16,5 @@ over-records-requires g c =
 pub returns-in-Ok-clause-below : goal.returns-in-Ok-clause-below
 returns-in-Ok-clause-below g c =
     c.add_missing.ensures.below c.args.found.now.number
-    (subst (AreBelow c.args.found.now.number) (sym c.over-records.ensures) (c.requires.found.below (g.B.StoredBodies.contents c.args.bodies)))
+    (subst (λ r. AreBelow c.args.found.now.number (catalogue (kept_in g.R.StoredRows.tables g.B.StoredBodies.contents g.B.StoredBodies.uses r))) (sym c.over-records.ensures)
+    (c.requires.found.below (g.B.StoredBodies.contents c.args.bodies)))

@@ -1,5 +1,5 @@
 use Rattle.std.proofs.Common.{◌≡◌, length}
-use Rattle.s3_server.proofs.serve.all_jobs.Given as goal
+use Rattle.s3_server.proofs.jobs.all_jobs.Given as goal
 
 -- there is one for each worker so far, and nothing else is asked of the network
 abbrev pub invariant-loop : goal.invariant-loop
