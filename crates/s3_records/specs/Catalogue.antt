@@ -1,10 +1,13 @@
 -- The catalogue: which buckets there are, and the versions and the open uploads under their keys (Amazon S3 User Guide,
 -- "Buckets overview", "Using versioning in S3 buckets" and "Using multipart upload"). What stands for the bytes is left open: in the state of a server it is the
 -- bytes themselves.
-use Rattle.std.specs.Prelude.{◌≢◌, ℕ, ◌==◌, ◌&&◌, Bool, true, List, [], ◌∷◌, map as each, Option, Some, None, is_some, option_map}
+use Rattle.std.specs.Prelude.{◌≢◌, ℕ, ◌==◌, ◌&&◌, Bool, true, List, [], ◌∷◌, map as each, Option, Some, None, is_some, option_and_then, option_map}
 use Rattle.std.specs.FinMap as map
 use Rattle.std.specs.Ordering.{nat_cmp}
 use Rattle.s3_text.specs.Order.{byte_order}
+use Rattle.s3_names.specs.declared.ids.VersionId.{VersionId}
+use Rattle.s3_versions.specs.Rules.{asked_for, stored}
+use Rattle.s3_versions.specs.declared.version.Data.{Data}
 use Rattle.s3_versions.specs.declared.version.Version.{Version}
 use Rattle.s3_versions.specs.declared.version.Versioning.{Versioning}
 use Rattle.s3_versions.specs.declared.version.Versioning.TheVariants.{Unversioned}
@@ -78,6 +81,11 @@ versions_in (Some b) key = versions_at b.keys key
 
 abbrev pub versions_of : {B : Type 0} → Catalogue B → List ℕ → List ℕ → List (Version B)
 versions_of c name key = versions_in (map.get c name) key
+
+-- the bytes of the version under a key that is asked for, where it is no delete marker
+abbrev pub bytes_asked : {B : Type 0} → Catalogue B → List ℕ → List ℕ → Option VersionId → Option B
+bytes_asked {B} c name key asked =
+    option_map (λ (what : Data B). what.body) (option_and_then stored (asked_for asked (versions_of c name key)))
 
 -- a key that is there has some
 abbrev pub HaveVersions : {B : Type 0} → Keys B → Type 0

@@ -261,6 +261,21 @@ impl Records for MapRecords {
         }
     }
 
+    fn put_copy(
+        &mut self,
+        alloc: Global,
+        _source: &BucketName,
+        _source_key: &Key,
+        _asked: Option<VersionId>,
+        bucket: &BucketName,
+        key: Key,
+        number: u64,
+        moment: Moment,
+        stored: Data<Body>,
+    ) -> Result<(), NoMemory> {
+        self.put_version(alloc, bucket, key, number, moment, stored)
+    }
+
     fn delete(
         &mut self,
         alloc: Global,

@@ -1,7 +1,7 @@
 //! What every keeper of records promises.
 ghost use Rattle.std.specs.Prelude.{◌≡◌, ◌≢◌, ℕ, List, [], Bool, true, false, Some, None, Ok, IfOk, OnOk, OnErr, IsOk, IsTrue, find, take, is_some, option_and_then};
 ghost use Rattle.s3_versions.specs.Rules.{is_under, asked_for, facts_read, pick, stored, replaced, is_new_number, VersionPut, KeyDeleted, VersionDropped};
-ghost use Rattle.s3_records.specs.Catalogue.{Catalogue, facts_in, listed_buckets, has_bucket, is_empty_bucket, versions_of, versioning_of};
+ghost use Rattle.s3_records.specs.Catalogue.{Catalogue, facts_in, listed_buckets, has_bucket, is_empty_bucket, versions_of, bytes_asked, versioning_of};
 ghost use Rattle.s3_uploads.specs.Parts.{part_at, rows_behind};
 ghost use Rattle.s3_records.specs.Changes.{changed, BucketAdded, BucketDropped, VersioningSet, KeyChanged, UploadAdded, PartPut, UploadDropped, UploadCompleted};
 ghost use Rattle.s3_records.specs.Deletions.{all_deleted, markers_of};
@@ -197,6 +197,29 @@ pub trait Records {
     ) -> Result<(), NoMemory>
         requires there { IsTrue (has_bucket (catalogue self.old) bucket.now) }
         requires newer { IsTrue (is_new_number number (versions_of (catalogue self.old) bucket.now key)) }
+        ensures ok { OnOk result (catalogue self.new
+            ≡ changed (catalogue self.old) bucket.now (KeyChanged key (VersionPut number moment stored))) }
+        ensures err { OnErr result (catalogue self.new ≡ catalogue self.old) }
+        ensures memory { OnErr result (is_in_memory ≡ true
+            → replaced (versioning_of (catalogue self.old) bucket.now) number (versions_of (catalogue self.old) bucket.now key) ≡ None) };
+
+    /// Puts a version as `put_version` does, whose bytes are those of the version that is asked for under a source's key, so that a
+    /// keeper may name these bytes once more and keep no others. A keeper in memory has an error only where no version goes.
+    fn put_copy(
+        &mut self,
+        alloc: Global,
+        source: &BucketName,
+        source_key: &Key,
+        asked: Option<VersionId>,
+        bucket: &BucketName,
+        key: Key,
+        number: u64,
+        moment: Moment,
+        stored: Data<Body>,
+    ) -> Result<(), NoMemory>
+        requires there { IsTrue (has_bucket (catalogue self.old) bucket.now) }
+        requires newer { IsTrue (is_new_number number (versions_of (catalogue self.old) bucket.now key)) }
+        requires copied { bytes_asked (catalogue self.old) source.now source_key.now asked ≡ Some stored.body }
         ensures ok { OnOk result (catalogue self.new
             ≡ changed (catalogue self.old) bucket.now (KeyChanged key (VersionPut number moment stored))) }
         ensures err { OnErr result (catalogue self.new ≡ catalogue self.old) }

@@ -13,7 +13,7 @@ use Rattle.s3_versions.specs.Rules.{facts_read, pick}
 use Rattle.s3_uploads.specs.Parts.{part_sent}
 use Rattle.s3_uploads.specs.declared.listed.ListedPart.{ListedPart}
 use Rattle.s3_records.specs.declared.records.BucketFacts.{BucketFacts}
-use Rattle.s3_records.specs.Catalogue.{has_bucket, versions_of, versioning_of}
+use Rattle.s3_records.specs.Catalogue.{has_bucket, versions_of, versioning_of, bytes_asked}
 use Rattle.s3_records.specs.Changes.{BucketAdded, PartPut, changed}
 use Rattle.s3_records.specs.OpenUploads.{completed_at, upload_at}
 use Rattle.s3_machine.specs.Effects.{is_refused}
@@ -31,6 +31,7 @@ use Rattle.s3_machine.specs.declared.rules.Rules.{Rules}
 use Rattle.s3_machine.specs.Step.{State, Stepped, bucket_done, copied, is_taken, stepped}
 use Rattle.s3_store.specs.Steps.{bucket_step, key_step, upload_step, copy_step, copied_as, part_source, part_step, part_step_as, source_in, completed_as, barred_code, read_as_found, selected_by, got_of, MayEnter}
 use Rattle.s3_store.proofs.StepLemmas.{read_shown, read_refused, read_accepted, copies, copy_accepted}
+use Rattle.s3_store.proofs.CopyLemmas.{copied_bytes}
 use Rattle.s3_store.proofs.SourceLemmas.{part_copies, part_copy_accepted, found_open}
 use Rattle.s3_store.proofs.UploadLemmas.{upload_lost, part_put, completes, completion_barred}
 
@@ -77,6 +78,12 @@ module _ (s now : State) (name key : List ℕ) (asked : ObjectRead) (facts : Res
   read_unrefused h selection is n t = read_accepted s n t name key asked selection (chosen_as h (Ok selection) is)
 
 -- ---- copies
+
+-- what is copied has the bytes of the version that is asked for
+pub copy_has_bytes : (s : State) (asked : ObjectCopy) (now : State) (read : Result (Data (List ℕ)) Refusal) (d : Data (List ℕ)) → read ≡ copied s asked → read ≡ Ok d → now ≡ s
+    → bytes_asked now asked.source.bucket asked.source.key asked.source.version ≡ Some d.body
+copy_has_bytes s asked now read d reads is same =
+    ap (λ (s : State). bytes_asked s asked.source.bucket asked.source.key asked.source.version) same ∙ copied_bytes s asked d (sym reads ∙ is)
 
 module _ (s : State) (n t : ℕ) (name key : List ℕ) (asked : ObjectCopy) where
   pub copy_unrefused : is_ok (copied s asked) ≡ true → is_refused (key_step s n t name key (key_commands.Copy asked)).1 ≡ false

@@ -1,4 +1,5 @@
 pub mod CallLemmas
+pub mod CopyLemmas
 pub mod SourceLemmas
 pub mod StepLemmas
 pub mod UploadLemmas

@@ -1,5 +1,6 @@
 //! What a copy does.
-ghost use Rattle.std.specs.Prelude.{◌≡◌, true, false, IfOk, OnErr, is_ok};
+ghost use Rattle.std.specs.Prelude.{◌≡◌, true, false, Some, IfOk, OnErr, is_ok};
+ghost use Rattle.s3_records.specs.Catalogue.{bytes_asked};
 ghost use Rattle.s3_machine.specs.Effects.{is_refused};
 ghost use Rattle.s3_machine.specs.Step as steps;
 ghost use Rattle.s3_store.specs.Steps.{key_step, copy_step, data_found, MayEnter};
@@ -9,7 +10,7 @@ use crate::reading::shown;
 use crate::sources::find_source;
 use s3_bodies::Body;
 use s3_calendar::Moment;
-use s3_machine::{Description, Found, KeyCommand, ObjectCopy, Outcome};
+use s3_machine::{Description, Found, KeyCommand, ObjectCopy, Outcome, Source};
 use s3_names::{BucketName, Key};
 use s3_records::Records;
 use s3_terms::NoMemory;
@@ -18,7 +19,6 @@ use std::alloc::Global;
 
 /// CopyObject. Whether the source meets its conditions is judged before memory is taken. The bytes are shared, and none is
 /// copied. `NoMemory` leaves the records as they were.
-#[tactic(auto, using(crate::proofs::StepLemmas::copy_steps))]
 pub(crate) fn copy<R: Records>(
     records: &mut R,
     alloc: Global,
@@ -37,32 +37,85 @@ pub(crate) fn copy<R: Records>(
     ensures memory { OnErr result (R.is_in_memory ≡ true
         → is_refused (key_step (R.catalogue records.old) number moment bucket.now key (KeyCommand.Copy asked)).1 ≡ false) }
 {
-    match copied(records, alloc, asked)? {
+    let ObjectCopy {
+        source,
+        description,
+    } = asked;
+    let outcome = copy_from(
+        records,
+        alloc,
+        bucket,
+        versioning,
+        key,
+        &source,
+        description,
+        number,
+        moment,
+    );
+    drop(source);
+    outcome
+}
+
+// The same of what is asked for, taken apart.
+#[tactic(auto, using(crate::proofs::StepLemmas::copy_steps))]
+fn copy_from<R: Records>(
+    records: &mut R,
+    alloc: Global,
+    bucket: &BucketName,
+    versioning: Versioning,
+    key: Key,
+    source: &Source,
+    description: Option<Description>,
+    number: u64,
+    moment: Moment,
+) -> Result<Outcome, NoMemory>
+    requires { MayEnter (R.catalogue records.old) number bucket.now versioning }
+    ensures ok { IfOk result (λ outcome.
+        key_step (R.catalogue records.old) number moment bucket.now key (KeyCommand.Copy (record { source = source.now; description = description }))
+        ≡ (R.catalogue records.new, outcome)) }
+    ensures err { OnErr result (R.catalogue records.new ≡ R.catalogue records.old) }
+    ensures memory { OnErr result (R.is_in_memory ≡ true
+        → is_refused (key_step (R.catalogue records.old) number moment bucket.now key (KeyCommand.Copy (record { source = source.now; description = description }))).1
+        ≡ false) }
+{
+    match copied(records, alloc, source, description)? {
         Err(refusal) => Ok(refused_with(refusal)),
         Ok(stored) => put_copy(
-            records, alloc, bucket, versioning, key, stored, number, moment,
+            records, alloc, bucket, versioning, key, source, stored, number, moment,
         ),
     }
 }
 
-// Puts what a copy stores.
+// Puts what a copy stores, whose bytes are those of its source.
 fn put_copy<R: Records>(
     records: &mut R,
     alloc: Global,
     bucket: &BucketName,
     versioning: Versioning,
     key: Key,
+    source: &Source,
     stored: Data<Body>,
     number: u64,
     moment: Moment,
 ) -> Result<Outcome, NoMemory>
-    requires { MayEnter (R.catalogue records.old) number bucket.now versioning }
+    requires enters { MayEnter (R.catalogue records.old) number bucket.now versioning }
+    requires copied { bytes_asked (R.catalogue records.old) source.now.bucket source.now.key source.now.version ≡ Some stored.body }
     ensures ok { IfOk result (λ outcome.
         copy_step (R.catalogue records.old) number moment bucket.now key stored ≡ (R.catalogue records.new, outcome)) }
     ensures err { OnErr result (R.catalogue records.new ≡ R.catalogue records.old) }
 {
     let tag = stored.tag.copy();
-    records.put_version(alloc, bucket, key, number, moment, stored)?;
+    records.put_copy(
+        alloc,
+        &source.bucket,
+        &source.key,
+        source.version,
+        bucket,
+        key,
+        number,
+        moment,
+        stored,
+    )?;
     let shown = shown(versioning, versioning.new_id(number));
     Ok(Outcome::Copied { tag, moment, shown })
 }
@@ -71,19 +124,16 @@ fn put_copy<R: Records>(
 fn copied<R: Records>(
     records: &mut R,
     alloc: Global,
-    asked: ObjectCopy,
+    source: &Source,
+    description: Option<Description>,
 ) -> Result<Result<Data<Body>, Refusal>, NoMemory>
-    ensures value { IfOk result (λ read. read ≡ steps.copied (R.catalogue records.old) asked) }
+    ensures value { IfOk result (λ read. read
+        ≡ steps.copied (R.catalogue records.old) (record { source = source.now; description = description })) }
     ensures same { R.catalogue records.new ≡ R.catalogue records.old }
-    ensures memory { OnErr result (R.is_in_memory ≡ true → is_ok (steps.copied (R.catalogue records.old) asked) ≡ true) }
+    ensures memory { OnErr result (R.is_in_memory ≡ true
+        → is_ok (steps.copied (R.catalogue records.old) (record { source = source.now; description = description })) ≡ true) }
 {
-    let ObjectCopy {
-        source,
-        description,
-    } = asked;
-    let found = find_source(records, alloc, &source, None);
-    drop(source);
-    match found {
+    match find_source(records, alloc, source, None) {
         Ok(found) => Ok(data_found(description, found)),
         Err(no_memory) => {
             drop(description);

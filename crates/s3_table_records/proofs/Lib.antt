@@ -8,4 +8,5 @@ pub mod FreshLemmas
 pub mod DroppingLemmas
 pub mod UploadLemmas
 pub mod ListedLemmas
+pub mod CopyLemmas
 pub mod MissingLemmas

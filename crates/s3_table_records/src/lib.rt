@@ -6,6 +6,7 @@ mod asking;
 mod buckets;
 mod completing;
 mod completion;
+mod copying;
 mod dropping;
 mod found;
 mod gone;

@@ -46,8 +46,8 @@ pub(crate) fn version<R: StoredRows, B: StoredBodies>(
     }
 }
 
-// The row of that version, whose numbers of bodies are among those that rows name.
-fn found<R: StoredRows>(
+/// The row of that version, whose numbers of bodies are among those that rows name; `None` where there is none.
+pub(crate) fn found<R: StoredRows>(
     rows: &mut R,
     bucket: &BucketName,
     key: &Key,

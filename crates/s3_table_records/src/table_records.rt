@@ -4,7 +4,9 @@ ghost use Rattle.s3_records.specs.Catalogue.{opening};
 ghost use Rattle.s3_rows.specs.Columns.{StoreColumns, no_rows};
 ghost use Rattle.s3_table_records.specs.Kept.{kept, kept_in, catalogue, IsKept, IsLeft};
 
-use crate::{asking, buckets, completing, completion, dropping, parts, putting, reading, uploads};
+use crate::{
+    asking, buckets, completing, completion, copying, dropping, parts, putting, reading, uploads,
+};
 use s3_bodies::Body;
 use s3_calendar::Moment;
 use s3_deletions::{Markers, NamedObject};
@@ -212,6 +214,39 @@ impl<R: StoredRows, B: StoredBodies> Records for TableRecords<R, B> {
             &mut self.bodies,
             alloc,
             self.next,
+            bucket,
+            &key,
+            number,
+            moment,
+            stored,
+        );
+        self.next = later;
+        put
+    }
+
+    fn put_copy(
+        &mut self,
+        alloc: Global,
+        source: &BucketName,
+        source_key: &Key,
+        asked: Option<VersionId>,
+        bucket: &BucketName,
+        key: Key,
+        number: u64,
+        moment: Moment,
+        stored: Data<Body>,
+    ) -> Result<(), NoMemory> {
+        let Some(later) = self.next.checked_add(1) else {
+            return Err(NoMemory);
+        };
+        let put = copying::put_copy(
+            &mut self.rows,
+            &mut self.bodies,
+            alloc,
+            self.next,
+            source,
+            source_key,
+            asked,
             bucket,
             &key,
             number,
