@@ -1,20 +1,23 @@
 -- What is kept of a media type and metadata gives them back.
 use Rattle.std.proofs.Common.{◌≡◌, ℕ, zero, suc, get_or, ◌+◌, ◌<◌, ◌≤◌, Bool, true, false, cond, List, [], ◌∷◌, ◌++◌, length, take, drop, map, Option, Some, None, refl, sym, ap, subst, ◌∙◌, arith}
-use Rattle.std.specs.Prelude.{◌&&◌, nat_le, unwrap_or}
-use Rattle.std.specs.List.{flat_map, filter_map, AllByRecursion}
+use Rattle.std.specs.Prelude.{◌&&◌, not, nat_le, nat_lt, unwrap_or, Result, Ok, is_ok}
+use Rattle.std.specs.List.{flat_map, list_all, AllByRecursion}
 use Rattle.std.specs.Str.{bytes_eq}
-use Rattle.std.proofs.lemmas.Bool.{and_parts, and_from, leb-true, le-leb}
-use Rattle.std.proofs.lemmas.List.{length-append, take-append-drop, flat_map_more, map_more}
+use Rattle.std.proofs.lemmas.Bool.{and_parts, and_from, leb-true, le-leb, ltb-false}
+use Rattle.std.proofs.lemmas.List.{flat_map_more, map_more}
 use Rattle.std.proofs.lemmas.List.Concat.{flat_map-cons}
 use Rattle.std.proofs.lemmas.List.Folds.{flat_map-map}
 use Rattle.std.proofs.lemmas.Option.{same_Some, cond_some}
 use Rattle.std.proofs.lemmas.Slice.Eq.{bytes_eq-Decides}
 use Rattle.hex.specs.Hex.{IsBytes}
 use Rattle.s3_text.specs.Order.{rises}
-use Rattle.s3_versions.specs.Metadata.{Entry, names_in, metadata_size}
+use Rattle.s3_terms.specs.Fault.{refuse, ◌>>◌}
+use Rattle.s3_terms.specs.declared.code.Code.{Code}
+use Rattle.s3_terms.specs.declared.code.Code.TheVariants.{InvalidArgument, MetadataTooLarge}
+use Rattle.s3_versions.specs.Metadata.{Entry, names_in, metadata, metadata_size, user_size, is_allowed}
 use Rattle.s3_columns.specs.Items.{◌>>=◌}
 use Rattle.s3_columns.specs.Pairs.{Pair, pair_spelled, Fits, AreFitting, pairs_spelled, pair_at, pairs_read}
-use Rattle.s3_columns.specs.Attributes.{type_name, front, type_pair, entry_pair, kept_of, type_among, content_type_in, entry_of, metadata_in, AreAllowed}
+use Rattle.s3_columns.specs.Attributes.{type_name, type_pair, entry_pair, kept_of, type_among, content_type_in, entry_of, metadata_in, AreAllowed}
 use Rattle.s3_columns.specs.Reading.{type_at, entry_at, are_entries, entries_read, metadata_read, kept_read}
 use Rattle.s3_columns.proofs.ItemLemmas.{bind_some, back_bytes, Reads, all_again, all_back}
 use Rattle.s3_columns.proofs.OrderLemmas.{sorted_from_rises, rises_from_sorted}
@@ -29,25 +32,11 @@ entry_spelled entry = pair_spelled (entry_pair entry)
 abbrev pub EntryFits : Entry → Type 0
 EntryFits entry = Fits (entry_pair entry)
 
--- an entry is found in its pair, and what is found in a pair makes it again
-pub entry_found : (entry : Entry) → entry_of (entry_pair entry) ≡ Some entry
-entry_found entry = refl
-
-pair_made : (pair : Pair) (entry : Entry) → entry_of pair ≡ Some entry → entry_pair entry ≡ pair
-pair_made pair entry e =
-    let made : Entry = record { name = drop 11 pair.name; value = pair.value } in
-    let g = cond_some (bytes_eq (take 11 pair.name) front) made entry e in
-    let begins : take 11 pair.name ≡ front = (bytes_eq-Decides (take 11 pair.name) front).0 g.0 in
-    let name : front ++ drop 11 pair.name ≡ pair.name = ap (λ (t : List ℕ). t ++ drop 11 pair.name) (sym begins) ∙ take-append-drop 11 pair.name in
-    let whole : entry_pair made ≡ pair = ap (λ (t : List ℕ). let p : Pair = record { name = t; value = pair.value } in p) name in
-    ap entry_pair (sym g.1) ∙ whole
-
 entry_shorter : (bytes : List ℕ) (x : Entry × List ℕ) → entry_at bytes ≡ Some x → length x.1 < length bytes
 unfolding entry_at
 entry_shorter bytes x e =
-    let a = bind_some (pair_at bytes) (λ first. entry_of first.0 >>= λ entry. Some (entry, first.1)) x e in
-    let b = bind_some (entry_of a.0.0) (λ entry. Some (entry, a.0.1)) x a.2 in
-    subst (λ (y : Entry × List ℕ). length y.1 < length bytes) (same_Some (b.0, a.0.1) x b.2) (pair_reads.shorter bytes a.0 a.1)
+    let a = bind_some (pair_at bytes) (λ first. Some (entry_of first.0, first.1)) x e in
+    subst (λ (y : Entry × List ℕ). length y.1 < length bytes) (same_Some (entry_of a.0.0, a.0.1) x a.2) (pair_reads.shorter bytes a.0 a.1)
 
 entry_again : (entry : Entry) (rest : List ℕ) → EntryFits entry → entry_at (entry_spelled entry ++ rest) ≡ Some (entry, rest)
 unfolding entry_at
@@ -56,27 +45,24 @@ entry_again entry rest fits = rw (pair_reads.again (entry_pair entry) rest fits)
 entry_back : (bytes : List ℕ) (x : Entry × List ℕ) → IsBytes bytes → entry_at bytes ≡ Some x → (bytes ≡ entry_spelled x.0 ++ x.1) × EntryFits x.0
 unfolding entry_at
 entry_back bytes x fits e =
-    let a = bind_some (pair_at bytes) (λ first. entry_of first.0 >>= λ entry. Some (entry, first.1)) x e in
-    let b = bind_some (entry_of a.0.0) (λ entry. Some (entry, a.0.1)) x a.2 in
-    let read = pair_reads.back bytes a.0 fits a.1 in
-    let made : entry_pair b.0 ≡ a.0.0 = pair_made a.0.0 b.0 b.1 in
-    let same : (bytes ≡ entry_spelled b.0 ++ a.0.1) × EntryFits b.0 = subst (λ (p : Pair). (bytes ≡ pair_spelled p ++ a.0.1) × Fits p) (sym made) read in
-    subst (λ (y : Entry × List ℕ). (bytes ≡ entry_spelled y.0 ++ y.1) × EntryFits y.0) (same_Some (b.0, a.0.1) x b.2) same
+    let a = bind_some (pair_at bytes) (λ first. Some (entry_of first.0, first.1)) x e in
+    let same : (bytes ≡ entry_spelled (entry_of a.0.0) ++ a.0.1) × EntryFits (entry_of a.0.0) = pair_reads.back bytes a.0 fits a.1 in
+    subst (λ (y : Entry × List ℕ). (bytes ≡ entry_spelled y.0 ++ y.1) × EntryFits y.0) (same_Some (entry_of a.0.0, a.0.1) x a.2) same
 
 pub entry_reads : Reads entry_at entry_spelled EntryFits
 entry_reads = record { shorter = entry_shorter; again = entry_again; back = entry_back }
 
 -- entries that are not too large have room
-pub entries_fit : (entries : List Entry) → metadata_size entries ≤ 2_048 → AllByRecursion EntryFits entries
+pub entries_fit : (entries : List Entry) → metadata_size entries ≤ 4_608 → AllByRecursion EntryFits entries
 entries_fit [] small = tt
 entries_fit (entry ∷ entries) small =
-    (record { name = omega (arith, length-append front entry.name); value = omega arith }, entries_fit entries (omega arith))
+    (record { name = omega arith; value = omega arith }, entries_fit entries (omega arith))
 
 pairs_fit : (entries : List Entry) → AllByRecursion EntryFits entries → AreFitting (map entry_pair entries)
 pairs_fit [] fit = tt
 pairs_fit (entry ∷ entries) fit = (fit.0, pairs_fit entries fit.1)
 
-all_fit : (kind : List ℕ) (entries : List Entry) → length kind ≤ 255 → metadata_size entries ≤ 2_048 → AreFitting (type_pair kind ∷ map entry_pair entries)
+all_fit : (kind : List ℕ) (entries : List Entry) → length kind ≤ 255 → metadata_size entries ≤ 4_608 → AreFitting (type_pair kind ∷ map entry_pair entries)
 all_fit kind entries short small =
     (record { name = omega arith; value = omega arith }, pairs_fit entries (entries_fit entries small))
 
@@ -90,25 +76,25 @@ kept_parts kind entries =
     ∙ ap (λ (t : List ℕ). pair_spelled (type_pair kind) ++ t) (flat_map-map pair_spelled entry_pair entries)
 
 -- they are the pairs that are read
-kept_pairs : (kind : List ℕ) (entries : List Entry) → length kind ≤ 255 → metadata_size entries ≤ 2_048
+kept_pairs : (kind : List ℕ) (entries : List Entry) → length kind ≤ 255 → metadata_size entries ≤ 4_608
     → pairs_read (kept_of kind entries) ≡ Some (type_pair kind ∷ map entry_pair entries)
 unfolding kept_of
 kept_pairs kind entries short small = pairs_again (type_pair kind ∷ map entry_pair entries) (all_fit kind entries short small)
 
-pub type_found : (kind : List ℕ) (entries : List Entry) → length kind ≤ 255 → metadata_size entries ≤ 2_048
+pub type_found : (kind : List ℕ) (entries : List Entry) → length kind ≤ 255 → metadata_size entries ≤ 4_608
     → content_type_in (kept_of kind entries) ≡ kind
 unfolding content_type_in
 type_found kind entries short small = ap (λ read. type_among (unwrap_or read [])) (kept_pairs kind entries short small)
 
-entries_among : (entries : List Entry) → filter_map entry_of (map entry_pair entries) ≡ entries
+entries_among : (entries : List Entry) → map entry_of (map entry_pair entries) ≡ entries
 entries_among [] = refl
 entries_among (entry ∷ entries) = ap (λ (rest : List Entry). entry ∷ rest) (entries_among entries)
 
-pub metadata_found : (kind : List ℕ) (entries : List Entry) → length kind ≤ 255 → metadata_size entries ≤ 2_048
+pub metadata_found : (kind : List ℕ) (entries : List Entry) → length kind ≤ 255 → metadata_size entries ≤ 4_608
     → metadata_in (kept_of kind entries) ≡ entries
 unfolding metadata_in
 metadata_found kind entries short small =
-    ap (λ read. filter_map entry_of (unwrap_or read [])) (kept_pairs kind entries short small) ∙ entries_among entries
+    ap (λ read. map entry_of (drop 1 (unwrap_or read []))) (kept_pairs kind entries short small) ∙ entries_among entries
 
 -- ---- reading
 
@@ -129,16 +115,30 @@ type_back bytes x fits e =
     let same : bytes ≡ pair_spelled (type_pair a.0.0.value) ++ a.0.1 = read ∙ ap (λ (p : Pair). pair_spelled p ++ a.0.1) pair in
     subst (λ (y : List ℕ × List ℕ). bytes ≡ pair_spelled (type_pair y.0) ++ y.1) g.1 same
 
+passed_by : {A : Type 0} (fault : Bool) (code : Code) (rest : Result A Code) → is_ok (refuse fault code >> rest) ≡ true → (fault ≡ false) × (is_ok rest ≡ true)
+passed_by true code rest is = absurd cc
+passed_by false code rest is = (refl, is)
+
+-- metadata that a rule makes of entries is these, and not too large
+rule_parts : (entries : List Entry) → is_ok (metadata entries) ≡ true → (metadata_size entries ≤ 4_608) × (metadata entries ≡ Ok entries)
+unfolding metadata
+rule_parts entries are =
+    let one = passed_by (nat_lt 2_048 (user_size entries)) MetadataTooLarge (refuse (not (list_all is_allowed entries)) InvalidArgument >> (refuse (nat_lt 4_608 (metadata_size entries)) MetadataTooLarge >> Ok entries)) are in
+    let two = passed_by (not (list_all is_allowed entries)) InvalidArgument (refuse (nat_lt 4_608 (metadata_size entries)) MetadataTooLarge >> Ok entries) one.1 in
+    let three = passed_by (nat_lt 4_608 (metadata_size entries)) MetadataTooLarge (Ok entries) two.1 in
+    (ltb-false 4_608 (metadata_size entries) three.0, rw (one.0, two.0, three.0) refl)
+
 -- what is allowed passes the tests, and what passes them is allowed
 pub allowed_entries : (entries : List Entry) → are_entries entries ≡ true → (kind : List ℕ) → length kind ≤ 255 → AreAllowed kind entries
 allowed_entries entries are kind short =
-    let a = and_parts (nat_le (length entries) 64) (nat_le (metadata_size entries) 2_048 && rises (names_in entries)) are in
-    let b = and_parts (nat_le (metadata_size entries) 2_048) (rises (names_in entries)) a.1 in
-    record { len = short; count = leb-true _ _ a.0; size = leb-true _ _ b.0; order = sorted_from_rises (names_in entries) b.1 }
+    let a = and_parts (nat_le (length entries) 64) (is_ok (metadata entries) && rises (names_in entries)) are in
+    let b = and_parts (is_ok (metadata entries)) (rises (names_in entries)) a.1 in
+    let c = rule_parts entries b.0 in
+    record { len = short; count = leb-true _ _ a.0; size = c.0; rule = c.1; order = sorted_from_rises (names_in entries) b.1 }
 
 entries_allowed : (kind : List ℕ) (entries : List Entry) → AreAllowed kind entries → are_entries entries ≡ true
 entries_allowed kind entries allowed =
-    and_from _ _ (le-leb _ _ allowed.count) (and_from _ _ (le-leb _ _ allowed.size) (rises_from_sorted (names_in entries) allowed.order))
+    and_from _ _ (le-leb _ _ allowed.count) (and_from _ _ (ap is_ok allowed.rule) (rises_from_sorted (names_in entries) allowed.order))
 
 pub kept_again : (kind : List ℕ) (entries : List Entry) → AreAllowed kind entries → kept_read (kept_of kind entries) ≡ Some (kind, entries)
 unfolding kept_read metadata_read
@@ -174,8 +174,8 @@ kept_back bytes x fits e =
 -- ---- what is written
 
 -- an entry of metadata that isn't too large is small
-pub entry_small : (entries : List Entry) (i : ℕ) (entry : Entry) → i < length entries → entry ≡ get_or entries i entry → metadata_size entries ≤ 2_048
-    → length entry.name + length entry.value ≤ 2_048
+pub entry_small : (entries : List Entry) (i : ℕ) (entry : Entry) → i < length entries → entry ≡ get_or entries i entry → metadata_size entries ≤ 4_608
+    → length entry.name + length entry.value ≤ 4_608
 entry_small [] i entry within is small = absurd (omega arith)
 entry_small (first ∷ rest) zero entry within is small = rw is (omega arith)
 entry_small (first ∷ rest) (suc i) entry within is small = entry_small rest i entry (omega arith) is (omega arith)

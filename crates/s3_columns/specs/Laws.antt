@@ -23,12 +23,12 @@ PairsAreSpelledAgain =
 -- a media type and metadata are found in what is kept of them
 abbrev pub TypeIsFound : Type 0
 TypeIsFound =
-    (kind : List ℕ) (entries : List Entry) → length kind ≤ 255 → metadata_size entries ≤ 2_048
+    (kind : List ℕ) (entries : List Entry) → length kind ≤ 255 → metadata_size entries ≤ 4_608
     → content_type_in (kept_of kind entries) ≡ kind
 
 abbrev pub MetadataIsFound : Type 0
 MetadataIsFound =
-    (kind : List ℕ) (entries : List Entry) → length kind ≤ 255 → metadata_size entries ≤ 2_048
+    (kind : List ℕ) (entries : List Entry) → length kind ≤ 255 → metadata_size entries ≤ 4_608
     → metadata_in (kept_of kind entries) ≡ entries
 
 -- numbers are found in the bytes that they are written as

@@ -1,9 +1,9 @@
 -- How a media type and metadata are read from the bytes that are kept of them.
-use Rattle.std.specs.Prelude.{ℕ, Bool, true, ◌&&◌, nat_le, if◌then◌else◌, List, [], ◌∷◌, length, Option, Some, None}
+use Rattle.std.specs.Prelude.{ℕ, Bool, true, ◌&&◌, nat_le, if◌then◌else◌, List, [], ◌∷◌, length, Option, Some, None, is_ok}
 use Rattle.std.specs.Ordering.{is_lt}
 use Rattle.std.specs.Str.{bytes_eq}
 use Rattle.s3_text.specs.Order.{byte_order, rises}
-use Rattle.s3_versions.specs.Metadata.{Entry, names_in, metadata_size}
+use Rattle.s3_versions.specs.Metadata.{Entry, names_in, metadata}
 use Rattle.s3_columns.specs.Items.{◌>>=◌, items_read}
 use Rattle.s3_columns.specs.Pairs.{pair_at}
 use Rattle.s3_columns.specs.Attributes.{type_name, entry_of}
@@ -18,8 +18,7 @@ type_at bytes = do
 unfoldable pub entry_at : List ℕ → Option (Entry × List ℕ)
 entry_at bytes = do
   first ← pair_at bytes
-  entry ← entry_of first.0
-  Some (entry, first.1)
+  Some (entry_of first.0, first.1)
 
 -- a name comes before the first of others, if there is one
 abbrev pub comes_first : List ℕ → List (List ℕ) → Bool
@@ -28,7 +27,7 @@ comes_first name (next ∷ rest) = is_lt (byte_order name next)
 
 -- entries that metadata may have
 abbrev pub are_entries : List Entry → Bool
-are_entries entries = nat_le (length entries) 64 && (nat_le (metadata_size entries) 2_048 && rises (names_in entries))
+are_entries entries = nat_le (length entries) 64 && (is_ok (metadata entries) && rises (names_in entries))
 
 -- the entries that bytes spell
 abbrev pub entries_read : List ℕ → Option (List Entry)

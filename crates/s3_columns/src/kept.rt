@@ -1,4 +1,4 @@
-//! What is kept of an object beside its bytes: its media type and its user metadata.
+//! What is kept of an object beside its bytes: its media type and its metadata.
 ghost use Rattle.std.specs.Prelude.{ℕ, ◌≡◌, ◌≤◌, ◌++◌, List, length, map, IfOk, OnOk, OnErr, IsSome, IfSome, MatchOption, IsSomeAnd};
 ghost use Rattle.s3_versions.specs.Metadata.{Entry, metadata_size};
 ghost use Rattle.s3_columns.specs.Attributes.{AreAllowed, kept_of, content_type_in, metadata_in, type_pair, entry_pair};
@@ -6,7 +6,7 @@ ghost use Rattle.s3_columns.specs.Pairs.{pair_spelled, pairs_spelled};
 ghost use Rattle.s3_columns.specs.Reading.{type_at, metadata_read, kept_read};
 
 use crate::pairs::add_pair;
-use crate::reading::{FRONT, TYPE_NAME, entries_in, metadata_of, type_at};
+use crate::reading::{TYPE_NAME, entries_in, metadata_of, type_at};
 use s3_terms::NoMemory;
 use s3_versions::{ContentType, Metadata, MetadataEntry};
 use std::alloc::Global;
@@ -22,7 +22,7 @@ pub struct Kept {
 }
 
 /// The bytes that are kept of a media type and metadata, in one pass: pairs of a name and a value, each behind its length. The first
-/// pair is `content-type` and the media type. The entries of the metadata follow in their order, each name behind `x-amz-meta-`.
+/// pair is `content-type` and the media type. The entries of the metadata follow in their order.
 #[tactic(auto, using(crate::proofs::AttributeLemmas::type_found, crate::proofs::AttributeLemmas::metadata_found))]
 pub fn write_kept(
     alloc: Global,
@@ -42,28 +42,28 @@ pub fn write_kept(
 #[tactic(auto, unfolding(crate::specs::Attributes::kept_of))]
 fn bytes_of(alloc: Global, kind: &[u8], entries: &[MetadataEntry]) -> Result<Vec<u8>, NoMemory>
     requires len { length kind.now ≤ 255 }
-    requires size { metadata_size entries.now ≤ 2_048 }
+    requires size { metadata_size entries.now ≤ 4_608 }
     ensures { IfOk result (λ bytes. bytes.items ≡ kept_of kind.now entries.now) }
 {
     let mut bytes = Vec::new(alloc);
-    add_pair(&mut bytes, TYPE_NAME, b"", kind)?;
+    add_pair(&mut bytes, TYPE_NAME, kind)?;
     add_entries(&mut bytes, entries)?;
     Ok(bytes)
 }
 
 // Appends the entries as pairs.
 fn add_entries(out: &mut Vec<u8>, entries: &[MetadataEntry]) -> Result<(), NoMemory>
-    requires { metadata_size entries.now ≤ 2_048 }
+    requires { metadata_size entries.now ≤ 4_608 }
     ensures { OnOk result (out.new.items ≡ out.old.items ++ pairs_spelled (map entry_pair entries.now)) }
 {
     for entry in entries {
-        add_pair(out, FRONT, entry.name(), entry.value())?;
+        add_pair(out, entry.name(), entry.value())?;
     }
     Ok(())
 }
 
-/// The media type and the metadata that bytes are kept of, copied in one pass. `None` where they are no pairs, where the names of the
-/// pairs are others, where the media type is too long, and where the metadata has too many entries, is too large or out of order.
+/// The media type and the metadata that bytes are kept of, copied in one pass. `None` where they are no pairs, where the first is no
+/// media type or too long, and where the metadata has too many entries, is too large or out of order.
 pub fn read_kept(alloc: Global, bytes: &[u8]) -> Result<Option<Kept>, NoMemory>
     // What is read is kept so.
     ensures written { IfOk result (λ read. IfSome read (λ kept. bytes.now ≡ kept_of kept.content_type kept.metadata)) }

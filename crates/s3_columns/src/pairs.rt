@@ -1,5 +1,5 @@
 //! Names and values as bytes.
-ghost use Rattle.std.specs.Prelude.{◌≡◌, ◌<◌, ◌+◌, ◌^◌, ◌++◌, length, OnOk, MatchOption};
+ghost use Rattle.std.specs.Prelude.{◌≡◌, ◌<◌, ◌^◌, ◌++◌, length, OnOk, MatchOption};
 ghost use Rattle.std.specs.Int.{w16, w32};
 ghost use Rattle.s3_columns.specs.Items.{text_at};
 ghost use Rattle.s3_columns.specs.Pairs.{pair_at, pair_spelled};
@@ -41,20 +41,13 @@ pub(crate) fn pair_at(bytes: &[u8]) -> Option<(&[u8], &[u8], &[u8])>
     Some((name, value, rest))
 }
 
-// Appends a pair, whose name is this front and what follows it.
-pub(crate) fn add_pair(
-    out: &mut Vec<u8>,
-    front: &[u8],
-    name: &[u8],
-    value: &[u8],
-) -> Result<(), NoMemory>
-    requires name { length front.now + length name.now < 2 ^ 16 }
+// Appends a pair.
+pub(crate) fn add_pair(out: &mut Vec<u8>, name: &[u8], value: &[u8]) -> Result<(), NoMemory>
+    requires name { length name.now < 2 ^ 16 }
     requires value { length value.now < 2 ^ 32 }
-    ensures { OnOk result (out.new.items
-        ≡ out.old.items ++ pair_spelled (record { name = front.now ++ name.now; value = value.now })) }
+    ensures { OnOk result (out.new.items ≡ out.old.items ++ pair_spelled (record { name = name.now; value = value.now })) }
 {
-    out.extend_from_slice(&((front.len() + name.len()) as u16).to_be_bytes())?;
-    out.extend_from_slice(front)?;
+    out.extend_from_slice(&(name.len() as u16).to_be_bytes())?;
     out.extend_from_slice(name)?;
     out.extend_from_slice(&(value.len() as u32).to_be_bytes())?;
     out.extend_from_slice(value)?;

@@ -1,7 +1,7 @@
 //! How a media type and metadata are read from the bytes that are kept of them.
 ghost use Rattle.std.specs.Prelude.{◌≡◌, ◌≤◌, ◌<◌, true, false, length, map, IfOk, MatchOption};
 ghost use Rattle.s3_text.specs.Order.{rises};
-ghost use Rattle.s3_versions.specs.Metadata.{names_in, metadata_size};
+ghost use Rattle.s3_versions.specs.Metadata.{names_in};
 ghost use Rattle.s3_columns.specs.Reading.{type_at, entry_at, comes_first, are_entries, entries_read};
 
 use crate::pairs::pair_at;
@@ -11,9 +11,6 @@ use std::alloc::Global;
 
 /// The name of the media type.
 pub(crate) const TYPE_NAME: &[u8] = b"content-type";
-
-/// How the names of metadata begin.
-pub(crate) const FRONT: &[u8] = b"x-amz-meta-";
 
 /// The most entries that metadata has.
 const ENTRIES_MAX: usize = 64;
@@ -40,7 +37,6 @@ fn entry_at(bytes: &[u8]) -> Option<(&[u8], &[u8], &[u8])>
         (λ read. entry_at bytes.now ≡ Some (record { name = read.0.now; value = read.1.now }, read.2.now)) }
 {
     let (name, value, rest) = pair_at(bytes)?;
-    let name = name.strip_prefix(FRONT)?;
     Some((name, value, rest))
 }
 

@@ -36,11 +36,10 @@ pub quoted_parts : (start n m v e name text : List ℕ) → n ≡ start ++ name 
 unfolding print_lines
 quoted_parts start n m v e name text named middle valued end = rw (end, valued, middle, named) (simp append_assoc)
 
--- the line of an entry of metadata is its five
-pub entry_parts : (start f n m v e : List ℕ) (entry : Entry) → f ≡ start ++ codes "x-amz-meta-" → n ≡ f ++ entry.name
-    → m ≡ n ++ codes ": " → v ≡ m ++ entry.value → e ≡ v ++ crlf → e ≡ start ++ print_lines (metadata_line entry ∷ [])
-unfolding print_lines
-entry_parts start f n m v e entry front named middle valued end = rw (end, valued, middle, named, front) (simp append_assoc)
+-- so is that of an entry of metadata
+pub entry_parts : (start n m v e : List ℕ) (entry : Entry) → n ≡ start ++ entry.name → m ≡ n ++ codes ": "
+    → v ≡ m ++ entry.value → e ≡ v ++ crlf → e ≡ start ++ print_lines (metadata_line entry ∷ [])
+entry_parts start n m v e entry named middle valued end = line_parts start n m v e entry.name entry.value named middle valued end
 
 -- no entries have no lines
 pub no_entries : (start : List ℕ) (entries : List Entry) → length entries < 1 → start ≡ start ++ print_lines (map metadata_line entries)

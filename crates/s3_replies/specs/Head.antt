@@ -123,7 +123,7 @@ pub record HasRoomFor (head : Fields) : Type 0 where
   pub modified : value_length head.modified ≤ 29
   pub content_range : value_length head.content_range ≤ 68
   pub content_type : value_length head.content_type ≤ 255
-  pub metadata : metadata_size head.metadata ≤ 2048
+  pub metadata : metadata_size head.metadata ≤ 4_608
   pub metadata_count : length head.metadata ≤ 64
 
 -- how many bytes the lines that tell of a bucket, an object or its version take at most: 20, 32, 12, 10 and 17 beside the values of
@@ -134,11 +134,11 @@ version_room head =
     room_with 20 head.version_id + room_with 32 head.source_version_id + 27 + room_with 12 head.location + room_with 10 head.tag + room_with 17 head.modified
 
 -- how many bytes the lines that tell of a body take at most: 22 for `Accept-Ranges`, 17 and 16 beside the values of
--- `Content-Range` and `Content-Type`, where these are there, 15 beside the name and the value of an entry of metadata, 38 for `Content-Length`
+-- `Content-Range` and `Content-Type`, where these are there, 4 beside the name and the value of an entry of metadata, 38 for `Content-Length`
 abbrev pub body_room : Fields → ℕ
 body_room head =
     22 + room_with 17 head.content_range + room_with 16 head.content_type
-    + (metadata_size head.metadata + 15 * length head.metadata) + 38
+    + (metadata_size head.metadata + 4 * length head.metadata) + 38
 
 -- how many bytes the head takes at most: 45 for the status line, 92 for the lines that say who answers, and 2 for the empty
 -- line at the end

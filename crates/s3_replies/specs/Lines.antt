@@ -51,6 +51,6 @@ abbrev pub room_with : ℕ → Option (List ℕ) → ℕ
 room_with beside None = 0
 room_with beside (Some value) = beside + length value
 
--- an entry of metadata as a header line
+-- an entry of metadata as a header line, which has its whole name
 abbrev pub metadata_line : Entry → Line
-metadata_line entry = (codes "x-amz-meta-" ++ entry.name, entry.value)
+metadata_line entry = (entry.name, entry.value)

@@ -15,7 +15,7 @@ use s3_text::number_digits;
 use s3_versions::MetadataEntry;
 
 /// No head is longer.
-pub(crate) const HEAD_MAX: usize = 3848;
+pub(crate) const HEAD_MAX: usize = 5_704;
 
 /// How a message fared, who answers it, and when: what each head has to say; and how a document behind it is spelled.
 #[derive(Clone, Copy)]
@@ -131,13 +131,13 @@ impl<'a> Head<'a> {
         write_optional(out, "Last-Modified", self.modified);
     }
 
-    /// Appends the lines that tell of a body: 3,424 bytes at most, and no more than what they say needs.
+    /// Appends the lines that tell of a body: 5,280 bytes at most, and no more than what they say needs.
     fn write_body_lines<R: Room>(&self, out: &mut R)
         requires fits { HasRoomFor (fields_of self.now) }
-        requires room { R.size out.old + 3424 ≤ R.capacity out.old }
+        requires room { R.size out.old + 5_280 ≤ R.capacity out.old }
         ensures items { R.written out.new
             ≡ R.written out.old ++ print_lines (body_lines (fields_of self.now)) }
-        ensures bound { R.size out.new ≤ R.size out.old + 3424 }
+        ensures bound { R.size out.new ≤ R.size out.old + 5_280 }
         ensures short { R.size out.new ≤ R.size out.old + body_room (fields_of self.now) }
         ensures capacity { R.capacity out.old ≤ R.capacity out.new }
     {

@@ -101,16 +101,15 @@ pub(crate) fn write_number<R: Room>(out: &mut R, name: &str, number: u64, test: 
     write_flag(out, name, digits.format(number), test);
 }
 
-/// Appends the line of an entry of metadata.
+/// Appends the line of an entry of metadata, by its whole name.
 #[tactic(auto, unfolding(crate::specs::Lines::print_lines))]
 fn write_entry<R: Room>(out: &mut R, entry: &MetadataEntry)
-    requires { R.size out.old + length entry.now.name + length entry.now.value + 15 ≤ R.capacity out.old }
+    requires { R.size out.old + length entry.now.name + length entry.now.value + 4 ≤ R.capacity out.old }
     ensures items { R.written out.new ≡ R.written out.old ++ print_lines (metadata_line entry.now ∷ []) }
     ensures len { R.size out.new
-        ≡ R.size out.old + length entry.now.name + length entry.now.value + 15 }
+        ≡ R.size out.old + length entry.now.name + length entry.now.value + 4 }
     ensures capacity { R.capacity out.old ≤ R.capacity out.new }
 {
-    out.write(b"x-amz-meta-");
     out.write(entry.name());
     out.write(b": ");
     out.write(entry.value());
@@ -120,10 +119,10 @@ fn write_entry<R: Room>(out: &mut R, entry: &MetadataEntry)
 /// Appends the lines of metadata.
 #[tactic(auto, unfolding(crate::specs::Lines::print_lines))]
 pub(crate) fn write_metadata<R: Room>(out: &mut R, metadata: &[MetadataEntry])
-    requires { R.size out.old + metadata_size metadata.now + 15 * length metadata.now ≤ R.capacity out.old }
+    requires { R.size out.old + metadata_size metadata.now + 4 * length metadata.now ≤ R.capacity out.old }
     ensures items { R.written out.new ≡ R.written out.old ++ print_lines (map metadata_line metadata.now) }
     ensures bound { R.size out.new
-        ≤ R.size out.old + metadata_size metadata.now + 15 * length metadata.now }
+        ≤ R.size out.old + metadata_size metadata.now + 4 * length metadata.now }
     ensures capacity { R.capacity out.old ≤ R.capacity out.new }
 {
     if let [entry, rest @ ..] = metadata {

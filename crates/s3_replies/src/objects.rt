@@ -24,7 +24,7 @@ use s3_names::{Tag, VersionId};
 
 /// Appends all of the reply to a put, or to that of a part, which shows no version.
 pub(crate) fn put_reply<R: Room>(out: &mut R, opening: Opening, tag: &Tag, shown: Option<VersionId>)
-    requires { R.size out.old + 4096 ≤ R.capacity out.old }
+    requires { R.size out.old + 6_144 ≤ R.capacity out.old }
     ensures written { R.written out.new ≡ R.written out.old ++ print_head (put_fields opening tag.now shown) }
     ensures capacity { R.capacity out.old ≤ R.capacity out.new }
 {
@@ -47,7 +47,7 @@ fn object_head<R: Room>(
     range: Option<RangeText>,
     size: u64,
 )
-    requires { R.size out.old + 4096 ≤ R.capacity out.old }
+    requires { R.size out.old + 6_144 ≤ R.capacity out.old }
     ensures written { R.written out.new ≡ R.written out.old
         ++ print_head (record (got_fields opening found.now modified) {
           content_range = range;
@@ -78,7 +78,7 @@ fn unchanged_reply<R: Room>(
     found: &Found<Body>,
     modified: Option<DateText>,
 )
-    requires { R.size out.old + 4096 ≤ R.capacity out.old }
+    requires { R.size out.old + 6_144 ≤ R.capacity out.old }
     ensures written { R.written out.new ≡ R.written out.old ++ print_head (unchanged_fields opening found.now modified) }
     ensures capacity { R.capacity out.old ≤ R.capacity out.new }
 {
@@ -102,7 +102,7 @@ pub(crate) fn got_reply<R: Room>(
     modified: Option<DateText>,
     head_only: bool,
 )
-    requires { R.size out.old + 4096 ≤ R.capacity out.old }
+    requires { R.size out.old + 6_144 ≤ R.capacity out.old }
     ensures written { R.written out.new
         ≡ R.written out.old ++ front head_only (reply_with opening modified found.now selection) }
     ensures capacity { R.capacity out.old ≤ R.capacity out.new }
@@ -129,7 +129,7 @@ pub(crate) fn copied_reply<R: Room>(
     shown: Option<VersionId>,
     head_only: bool,
 )
-    requires { R.size out.old + 4096 ≤ R.capacity out.old }
+    requires { R.size out.old + 6_144 ≤ R.capacity out.old }
     ensures written { R.written out.new ≡ R.written out.old
         ++ front head_only (beside (stored_fields opening shown) (document_text opening.dialect (copied tag.now moment))) }
     ensures capacity { R.capacity out.old ≤ R.capacity out.new }
@@ -147,7 +147,7 @@ pub(crate) fn part_copied_reply<R: Room>(
     source: Option<VersionId>,
     head_only: bool,
 )
-    requires { R.size out.old + 4096 ≤ R.capacity out.old }
+    requires { R.size out.old + 6_144 ≤ R.capacity out.old }
     ensures written { R.written out.new ≡ R.written out.old
         ++ front head_only (beside (part_copied_fields opening source) (document_text opening.dialect (part_copied tag.now moment))) }
     ensures capacity { R.capacity out.old ≤ R.capacity out.new }
@@ -163,7 +163,7 @@ pub(crate) fn deleted_reply<R: Room>(
     shown: Option<VersionId>,
     is_delete_marker: bool,
 )
-    requires { R.size out.old + 4096 ≤ R.capacity out.old }
+    requires { R.size out.old + 6_144 ≤ R.capacity out.old }
     ensures written { R.written out.new
         ≡ R.written out.old ++ print_head (deleted_fields opening shown is_delete_marker) }
     ensures capacity { R.capacity out.old ≤ R.capacity out.new }

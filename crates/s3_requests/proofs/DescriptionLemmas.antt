@@ -1,17 +1,17 @@
 -- Names of metadata, sorted and each once, and the values of the lines of a name.
-use Rattle.std.proofs.Common.{◌≡◌, inl, inr, ℕ, suc, ◌+◌, ◌≤◌, ◌<◌, Bool, true, false, List, [], ◌∷◌, ◌++◌, map, filter, length, take, drop, min, refl, sym, ap, subst, ◌∙◌, arith, append-nil, cond, slice_get, get_or, Option, Some, None, if◌then◌else◌, IsPermutation}
+use Rattle.std.proofs.Common.{◌≡◌, inl, inr, ℕ, suc, ◌+◌, ◌≤◌, ◌<◌, Bool, true, false, List, [], ◌∷◌, ◌++◌, map, filter, length, take, refl, sym, ap, subst, ◌∙◌, arith, append-nil, cond, slice_get, get_or, Bor, not, Option, Some, None, if◌then◌else◌, IsPermutation}
 use Rattle.std.specs.List.{dedup, dedup_from, filter_map, cons_option, join_with_byte}
 use Rattle.std.specs.List.Sorted.{IsSorted, IsStrictlySortedBy}
 use Rattle.std.specs.Cmp.Lexicographic.{texts_ties}
-use Rattle.std.proofs.lemmas.List.Kept.{IsStrictlySortedBy-dedup}
+use Rattle.std.proofs.lemmas.List.Kept.{IsStrictlySortedBy-dedup, IsStrictlySortedBy-filter}
 use Rattle.std.specs.Option.{option_to_list}
 use Rattle.std.specs.Str.{bytes_eq, str_to_ascii_lowercase}
 use Rattle.std.proofs.lemmas.Bool.{cases_Bool}
 use Rattle.std.proofs.lemmas.Cmp.{nat_list_cmp_total}
-use Rattle.std.proofs.lemmas.List.{take_all, take_more, take_min, drop_min, map_push, length-map}
+use Rattle.std.proofs.lemmas.List.{take_all, take_more, map_push, length-map}
 use Rattle.std.proofs.lemmas.List.Filters.{dedup_is}
 use Rattle.std.specs.List.Retain.{IsFiltered, DiffersFromLast}
-use Rattle.std.proofs.lemmas.List.Elements.{filter_more, filter_map-append}
+use Rattle.std.proofs.lemmas.List.Elements.{filter-append, filter_more, filter_map-append}
 use Rattle.std.proofs.lemmas.List.Sorted.{IsPermutation-map}
 use Rattle.std.proofs.lemmas.Map.Lookups.{exact_bytes}
 use Rattle.std.proofs.lemmas.Option.{get_or_from_slice_get, slice_get_within}
@@ -19,9 +19,10 @@ use Rattle.s3_text.specs.Order.{byte_order}
 use Rattle.s3_text.specs.Sorting.{sorted_by}
 use Rattle.s3_text.proofs.JoinLemmas.{join_with_byte_push}
 use Rattle.s3_text.proofs.SortingLemmas.{sorted_by-unique, IsSorted-map}
+use Rattle.s3_terms.specs.declared.dialect.Dialect.{Dialect}
 use Rattle.s3_http_heads.specs.Head.{HeadParts, is_named, values_of}
 use Rattle.s3_versions.specs.Metadata.{Entry, names_in as names_in_entries, AreInOrder}
-use Rattle.s3_requests.specs.Description.{front, name_in, entry_of}
+use Rattle.s3_requests.specs.Description.{entry_of, is_kept, is_of_transfer, is_said, name_in}
 use Rattle.s3_requests.specs.Name.{text_of, texts}
 use Rattle.s3_requests.specs.declared.description.Name.{Name}
 
@@ -34,21 +35,21 @@ taken xs i x is =
 
 -- ---- names
 
--- the names that lines hold
-abbrev pub names_in : Lines → List (List ℕ)
-names_in lines = filter_map (λ (line : List ℕ × List ℕ). name_in line.0) lines
+-- the names under which lines are kept
+abbrev pub names_in : Dialect → Lines → List (List ℕ)
+names_in dialect lines = filter_map (λ (line : List ℕ × List ℕ). name_in dialect line.0) lines
 
-one_name : (o : Option (List ℕ)) (line : List ℕ × List ℕ) → name_in line.0 ≡ o → names_in (line ∷ []) ≡ option_to_list o
-one_name None line is = rw is refl
-one_name (Some name) line is = rw is refl
+one_name : (dialect : Dialect) (o : Option (List ℕ)) (line : List ℕ × List ℕ) → name_in dialect line.0 ≡ o → names_in dialect (line ∷ []) ≡ option_to_list o
+one_name dialect None line is = rw is refl
+one_name dialect (Some name) line is = rw is refl
 
 -- one line more
-pub names_more : (lines : Lines) (i : ℕ) (sent value : List ℕ) → slice_get lines i ≡ Some (sent, value)
-    → names_in (take (i + 1) lines) ≡ names_in (take i lines) ++ option_to_list (name_in sent)
-names_more lines i sent value is =
-    ap names_in (taken lines i (sent, value) is)
-    ∙ filter_map-append (λ (line : List ℕ × List ℕ). name_in line.0) (take i lines) ((sent, value) ∷ [])
-    ∙ ap (λ more. names_in (take i lines) ++ more) (one_name (name_in sent) (sent, value) refl)
+pub names_more : (dialect : Dialect) (lines : Lines) (i : ℕ) (sent value : List ℕ) → slice_get lines i ≡ Some (sent, value)
+    → names_in dialect (take (i + 1) lines) ≡ names_in dialect (take i lines) ++ option_to_list (name_in dialect sent)
+names_more dialect lines i sent value is =
+    ap (names_in dialect) (taken lines i (sent, value) is)
+    ∙ filter_map-append (λ (line : List ℕ × List ℕ). name_in dialect line.0) (take i lines) ((sent, value) ∷ [])
+    ∙ ap (λ more. names_in dialect (take i lines) ++ more) (one_name dialect (name_in dialect sent) (sent, value) refl)
 
 one_more : {Y : Type 0} (o : Option Y) (ys : List Y) (n : ℕ) → length ys ≤ n → length (cons_option o ys) ≤ suc n
 one_more None ys n fewer = omega (arith, fewer)
@@ -58,32 +59,18 @@ few : {X Y : Type 0} (h : X → Option Y) (xs : List X) → length (filter_map h
 few h [] = omega arith
 few h (x ∷ xs) = one_more (h x) (filter_map h xs) (length xs) (few h xs)
 
--- what a line's name holds, as its front was judged
-judged : (sent part : List ℕ) (n : ℕ) (named : Bool) → n ≡ min (length sent) 11 → part ≡ take n sent → bytes_eq (str_to_ascii_lowercase part) front ≡ named
-    → name_in sent ≡ (if named then Some (str_to_ascii_lowercase (drop 11 sent)) else None)
-judged sent part n named is cut eq =
-    let short : n ≡ min 11 (length sent) = omega (arith, is) in
-    let same = cut ∙ ap (λ k. take k sent) short ∙ take_min 11 sent in
-    ap (λ b. if b then Some (str_to_ascii_lowercase (drop 11 sent)) else None) (ap (λ p. bytes_eq (str_to_ascii_lowercase p) front) (sym same) ∙ eq)
+-- a line of another name is not kept
+pub name_no : (dialect : Dialect) (names : List (List ℕ)) (sent : List ℕ) → is_kept dialect sent ≡ false → names ≡ names ++ option_to_list (name_in dialect sent)
+name_no dialect names sent other = rw other (sym (append-nil names))
 
--- a line with another front holds no name
-pub name_no : (names : List (List ℕ)) (sent part : List ℕ) (n : ℕ) → n ≡ min (length sent) 11 → part ≡ take n sent → bytes_eq (str_to_ascii_lowercase part) front ≡ false
-    → names ≡ names ++ option_to_list (name_in sent)
-name_no names sent part n is cut other =
-    sym (ap (λ more. names ++ option_to_list more) (judged sent part n false is cut other) ∙ append-nil names)
-
--- one with that front holds what follows
-pub name_yes : (sent part rest text : List ℕ) (n : ℕ) → n ≡ min (length sent) 11 → part ≡ take n sent → rest ≡ drop n sent → bytes_eq (str_to_ascii_lowercase part) front ≡ true
-    → text ≡ str_to_ascii_lowercase rest → text ∷ [] ≡ option_to_list (name_in sent)
-name_yes sent part rest text n is cut left named low =
-    let short : n ≡ min 11 (length sent) = omega (arith, is) in
-    let same = left ∙ ap (λ k. drop k sent) short ∙ drop_min 11 sent in
-    ap (λ name. name ∷ []) (low ∙ ap str_to_ascii_lowercase same) ∙ sym (ap option_to_list (judged sent part n true is cut named))
+-- one that is kept has its name in lower case
+pub name_yes : (dialect : Dialect) (sent text : List ℕ) → is_kept dialect sent ≡ true → text ≡ str_to_ascii_lowercase sent → text ∷ [] ≡ option_to_list (name_in dialect sent)
+name_yes dialect sent text kept low = rw (kept, low) refl
 
 -- there are no more of them than lines
-pub names_few : (names : List Name) (lines : Lines) → texts names ≡ names_in lines → length names ≤ length lines
-names_few names lines is =
-    omega (arith, sym (length-map names text_of) ∙ ap length is, few (λ (line : List ℕ × List ℕ). name_in line.0) lines)
+pub names_few : (dialect : Dialect) (names : List Name) (lines : Lines) → texts names ≡ names_in dialect lines → length names ≤ length lines
+names_few dialect names lines is =
+    omega (arith, sym (length-map names text_of) ∙ ap length is, few (λ (line : List ℕ × List ℕ). name_in dialect line.0) lines)
 
 -- what the sort of the code leaves
 names_sorted : (xs ys : List Name) → IsPermutation xs ys → IsSorted (λ p q. byte_order (text_of p) (text_of q)) ys → texts ys ≡ sorted_by byte_order (texts xs)
@@ -121,25 +108,52 @@ names_rise {xs} {ys} {zs} same up filtered =
 
 pub ruleset names_in_order = (names_listed, names_rise)
 
+-- ---- the entries of names
+
+-- those of the names whose entries say something
+abbrev names_said : HeadParts → List (List ℕ) → List (List ℕ)
+names_said head names = filter (λ name. is_said (entry_of head name)) names
+
 -- entries have the names that they were made of
-pub names_kept : (head : HeadParts) (names : List (List ℕ)) → names_in_entries (map (entry_of head) names) ≡ names
+names_kept : (head : HeadParts) (names : List (List ℕ)) → names_in_entries (filter is_said (map (entry_of head) names)) ≡ names_said head names
 names_kept head [] = refl
-names_kept head (name ∷ names) = ap (λ ns. name ∷ ns) (names_kept head names)
+names_kept head (name ∷ names) = elim (cases_Bool (is_said (entry_of head name))) [
+  | inl said ↦ rw said (ap (λ ns. name ∷ ns) (names_kept head names))
+  | inr empty ↦ rw empty (names_kept head names)
+]
 
 -- so they are in order
-pub entries_rise : (head : HeadParts) (entries : List Entry) (names : List (List ℕ)) → entries ≡ map (entry_of head) names
+pub entries_rise : (head : HeadParts) (entries : List Entry) (names : List (List ℕ)) → entries ≡ filter is_said (map (entry_of head) names)
     → IsStrictlySortedBy byte_order names → AreInOrder entries
-entries_rise head entries names is rise = subst (IsStrictlySortedBy byte_order) (sym (ap names_in_entries is ∙ names_kept head names)) rise
+entries_rise head entries names is rise =
+    subst (IsStrictlySortedBy byte_order) (sym (ap names_in_entries is ∙ names_kept head names))
+    (IsStrictlySortedBy-filter byte_order (λ name. is_said (entry_of head name)) names rise)
 
--- one name more, and its entry
-pub entries_more : {Y : Type 0} (f : List ℕ → Y) (names : List Name) (i : ℕ) (name : Name) (rows new : List Y) (row : Y) → i < length names → name ≡ get_or names i name
-    → rows ≡ map f (texts (take i names)) → row ≡ f (text_of name) → new ≡ rows ++ row ∷ [] → new ≡ map f (texts (take (i + 1) names))
-entries_more f names i name rows new row within is before this added =
+fewer : {X : Type 0} (p : X → Bool) (xs : List X) → length (filter p xs) ≤ length xs
+fewer p [] = omega arith
+fewer p (x ∷ xs) = elim (cases_Bool (p x)) [
+  | inl taken ↦ rw taken (omega (arith, fewer p xs))
+  | inr left ↦ rw left (omega (arith, fewer p xs))
+]
+
+-- there are no more entries than names
+pub entries_few : (head : HeadParts) (entries : List Entry) (names : List Name) → entries ≡ filter is_said (map (entry_of head) (texts names)) → length entries ≤ length names
+entries_few head entries names is =
+    omega (arith, ap length is, fewer is_said (map (entry_of head) (texts names)), length-map (texts names) (entry_of head), length-map names text_of)
+
+-- one name more, and its entry, if that says something
+pub entries_more : {Y : Type 0} (p : Y → Bool) (f : List ℕ → Y) (names : List Name) (i : ℕ) (name : Name) (rows new : List Y) (row : Y) → i < length names → name ≡ get_or names i name
+    → rows ≡ filter p (map f (texts (take i names))) → row ≡ f (text_of name) → new ≡ rows ++ filter p (row ∷ []) → new ≡ filter p (map f (texts (take (i + 1) names)))
+entries_more p f names i name rows new row within is before this added =
     let more = take_more names i name within ∙ ap (λ n. take i names ++ n ∷ []) (sym is) in
+    let so_far = map f (texts (take i names)) in
     added
-    ∙ ap (λ rs. rs ++ row ∷ []) before
-    ∙ ap (λ r. map f (texts (take i names)) ++ r ∷ []) this
-    ∙ sym (ap (λ ns. map f (texts ns)) more ∙ ap (map f) (map_push text_of (take i names) name) ∙ map_push f (texts (take i names)) (text_of name))
+    ∙ ap (λ rs. rs ++ filter p (row ∷ [])) before
+    ∙ ap (λ r. filter p so_far ++ filter p (r ∷ [])) this
+    ∙ sym (ap (λ ns. filter p (map f (texts ns))) more
+    ∙ ap (λ ns. filter p (map f ns)) (map_push text_of (take i names) name)
+    ∙ ap (filter p) (map_push f (texts (take i names)) (text_of name))
+    ∙ filter-append p so_far (f (text_of name) ∷ []))
 
 -- ---- the values of a name
 
@@ -181,3 +195,23 @@ join_next c (w ∷ ws) x = join_with_byte_push c (w ∷ ws) x (omega arith)
 pub is_found_push : (xs : List (List ℕ)) (x : List ℕ) → is_found (xs ++ x ∷ []) ≡ true
 is_found_push [] x = refl
 is_found_push (w ∷ ws) x = refl
+
+-- ---- the codings between commas
+
+-- those that are stored
+abbrev pub codings_in : List (Bor (List ℕ)) → List (List ℕ)
+codings_in pieces = filter (λ coding. not (is_of_transfer coding)) (map (λ (piece : Bor (List ℕ)). piece.now) pieces)
+
+-- one piece more
+codings_more : (pieces : List (Bor (List ℕ))) (piece : Bor (List ℕ)) (b : Bool) → is_of_transfer piece.now ≡ b → codings_in (pieces ++ piece ∷ []) ≡ codings_in pieces ++ cond (not b) (piece.now ∷ []) []
+codings_more pieces piece b is =
+    let texts = map (λ (s : Bor (List ℕ)). s.now) pieces in
+    ap (filter (λ coding. not (is_of_transfer coding))) (map_push (λ (s : Bor (List ℕ)). s.now) pieces piece)
+    ∙ filter-append (λ coding. not (is_of_transfer coding)) texts (piece.now ∷ [])
+    ∙ ap (λ other. codings_in pieces ++ cond (not other) (piece.now ∷ []) []) is
+
+pub codings_yes : (pieces : List (Bor (List ℕ))) (piece : Bor (List ℕ)) → is_of_transfer piece.now ≡ false → codings_in (pieces ++ piece ∷ []) ≡ codings_in pieces ++ piece.now ∷ []
+codings_yes pieces piece is = codings_more pieces piece false is
+
+pub codings_no : (pieces : List (Bor (List ℕ))) (piece : Bor (List ℕ)) → is_of_transfer piece.now ≡ true → codings_in (pieces ++ piece ∷ []) ≡ codings_in pieces
+codings_no pieces piece is = codings_more pieces piece true is ∙ append-nil (codings_in pieces)

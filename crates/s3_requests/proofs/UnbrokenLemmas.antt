@@ -1,5 +1,5 @@
 -- What a head asks to be stored beside a body has no carriage return in it, and what is ready without a body brings none.
-use Rattle.std.proofs.Common.{◌≡◌, inl, inr, ℕ, ◌+◌, Bool, true, false, not, ◌&&◌, List, [], ◌∷◌, ◌++◌, map, filter, take, drop, refl, sym, ap, subst, ◌∙◌, arith, Option, Some, None, option_map, Result, Ok, Err, if◌then◌else◌, slice_get, take-append-drop}
+use Rattle.std.proofs.Common.{◌≡◌, inl, inr, ℕ, ◌+◌, Bool, true, false, not, ◌&&◌, List, [], ◌∷◌, map, filter, reverse, refl, sym, ap, subst, ◌∙◌, arith, Option, Some, None, option_map, Result, Ok, Err, if◌then◌else◌, slice_get}
 use Rattle.std.specs.Prelude.{◌==◌, nat_lt, length, not, codes}
 use Rattle.std.specs.Char.{to_ascii_lowercase}
 use Rattle.std.specs.List.{list_all, cons_option, filter_map, dedup, dedup_from, join_with_byte}
@@ -7,12 +7,18 @@ use Rattle.std.specs.Str.{bytes_eq, str_to_ascii_lowercase}
 use Rattle.std.specs.declared.cmp.Ordering.{Ordering}
 use Rattle.std.specs.Ordering.{is_gt}
 use Rattle.std.proofs.lemmas.Bool.{cases_Bool}
+use Rattle.std.proofs.lemmas.List.{reverse-append}
 use Rattle.std.proofs.lemmas.List.Folds.{list_all-append}
+use Rattle.httparse.specs.Grammar.{is_ows, skip_ows, trim_ows}
+use Rattle.s3_text.specs.Characters.{comma}
+use Rattle.s3_text.specs.Cut.{parts_at}
 use Rattle.s3_text.specs.Order.{byte_order}
 use Rattle.s3_text.specs.Sorting.{insert_by, sorted_by}
+use Rattle.s3_text.proofs.JoinLemmas.{joined_all, split_all}
+use Rattle.s3_terms.proofs.FaultLemmas.{test_ok}
 use Rattle.s3_terms.specs.Fault.{refuse, ◌>>◌, ◌>>=◌}
 use Rattle.s3_terms.specs.declared.code.Code.{Code}
-use Rattle.s3_terms.specs.declared.code.Code.TheVariants.{InvalidRequest}
+use Rattle.s3_terms.specs.declared.code.Code.TheVariants.{InvalidArgument, InvalidRequest, MetadataTooLarge}
 use Rattle.s3_terms.specs.declared.dialect.Dialect.{Dialect}
 use Rattle.s3_terms.specs.declared.dialect.Dialect.TheVariants.{Json, S3}
 use Rattle.s3_config.specs.Settings.{Settings}
@@ -20,7 +26,7 @@ use Rattle.s3_http_heads.specs.Method.{method_of}
 use Rattle.s3_http_heads.specs.Head.{HeadParts, LinesAreWhole, is_named, is_unbroken, is_whole_line, values_of}
 use Rattle.s3_http_heads.specs.Target.{TargetParts}
 use Rattle.s3_versions.specs.ContentType.{content_type}
-use Rattle.s3_versions.specs.Metadata.{Entry, metadata, metadata_size}
+use Rattle.s3_versions.specs.Metadata.{Entry, is_allowed, metadata, metadata_limit, metadata_size, user_limit, user_size}
 use Rattle.s3_versions.specs.declared.version.Data.{Data}
 use Rattle.s3_requests.specs.declared.routing.Plan.{Plan}
 use Rattle.s3_requests.specs.declared.routing.Plan.TheVariants as plans
@@ -50,7 +56,7 @@ use Rattle.s3_requests.specs.Operations.{service_operation, bucket_operation, ke
 use Rattle.s3_requests.specs.Protection.{is_protected}
 use Rattle.s3_requests.specs.Addresses.{is_service, address_at}
 use Rattle.s3_requests.specs.Copies.{directive_of, description_by, source_for, object_copy_of, part_copy_of}
-use Rattle.s3_requests.specs.Description.{type_sent, content_type_of, front, name_in, names_of, entry_of, metadata_of, description_of}
+use Rattle.s3_requests.specs.Description.{type_sent, content_type_of, encoding_kept, encoding_name, is_kept, is_of_transfer, is_said, name_in, names_of, value_kept, value_sent, entry_of, entries_of, metadata_of, description_of}
 use Rattle.s3_requests.specs.ListArguments.{parts_asked_of}
 use Rattle.s3_requests.specs.UploadArguments.{upload_argument, part_argument}
 use Rattle.s3_requests.specs.Routing.{served, service_plan_for, service_plan, bucket_named, bucket_command_for, creation_plan, plan_in_bucket, plan_of_bucket, read_command, tags_command, delete_command, key_command_for, put_plan, part_copy_plan, parts_plan, complete_plan, asked_for, key_plan, plan_under, plan_of_key, named_plan, route_of}
@@ -71,11 +77,6 @@ module _ {X : Type 0} (p : X → Bool) where
         | inl taken ↦ rw (taken, parts.0) (chosen q xs parts.1)
         | inr left ↦ rw left (chosen q xs parts.1)
       ]
-
-  behind : (n : ℕ) (xs : List X) → list_all p xs ≡ true → list_all p (drop n xs) ≡ true
-  behind n xs all =
-      (both (list_all p (take n xs)) (list_all p (drop n xs))
-      (sym (list_all-append p (take n xs) (drop n xs)) ∙ ap (list_all p) (take-append-drop n xs) ∙ all)).1
 
   placed : (cmp : X → X → Ordering) (x : X) (ys : List X) → p x ≡ true → list_all p ys ≡ true → list_all p (insert_by cmp x ys) ≡ true
   placed cmp x [] here all = rw here refl
@@ -126,12 +127,46 @@ lower_unbroken (b ∷ bytes) all =
     let parts = both (not (b == 13)) (is_unbroken bytes) all in
     rw (lower_byte b parts.0) (lower_unbroken bytes parts.1)
 
-joined : (texts : List (List ℕ)) → list_all is_unbroken texts ≡ true → is_unbroken (join_with_byte 44 texts) ≡ true
-joined [] all = refl
-joined (x ∷ []) all = (both (is_unbroken x) true all).0
-joined (x ∷ y ∷ texts) all =
-    let parts = both (is_unbroken x) (list_all is_unbroken (y ∷ texts)) all in
-    list_all-append (λ b. not (b == 13)) x (44 ∷ join_with_byte 44 (y ∷ texts)) ∙ rw (parts.0) (joined (y ∷ texts) parts.1)
+-- joined by commas
+joined : (texts : List (List ℕ)) → list_all is_unbroken texts ≡ true → is_unbroken (join_with_byte comma texts) ≡ true
+joined = joined_all (λ b. not (b == 13)) comma refl
+
+-- cut at commas
+cut : (text : List ℕ) → is_unbroken text ≡ true → list_all is_unbroken (parts_at comma text) ≡ true
+cut = split_all (λ b. b == comma) (λ b. not (b == 13)) (λ b. not (b == 13)) (λ b other whole. whole)
+
+-- without the white space at the start, from behind, and without that at both ends
+skipped : (bytes : List ℕ) → is_unbroken bytes ≡ true → is_unbroken (skip_ows bytes) ≡ true
+skipped [] all = refl
+skipped (b ∷ bytes) all = elim (cases_Bool (is_ows b)) [
+  | inl white ↦ rw white (skipped bytes (both (not (b == 13)) (is_unbroken bytes) all).1)
+  | inr other ↦ rw other all
+]
+
+turned : (bytes : List ℕ) → is_unbroken bytes ≡ true → is_unbroken (reverse bytes) ≡ true
+turned [] all = refl
+turned (b ∷ bytes) all =
+    let parts = both (not (b == 13)) (is_unbroken bytes) all in
+    ap is_unbroken (reverse-append (b ∷ []) bytes)
+    ∙ list_all-append (λ c. not (c == 13)) (reverse bytes) (b ∷ [])
+    ∙ rw (turned bytes parts.1, parts.0) refl
+
+trimmed : (bytes : List ℕ) → is_unbroken bytes ≡ true → is_unbroken (trim_ows bytes) ≡ true
+unfolding trim_ows
+trimmed bytes all = turned (skip_ows (reverse (skip_ows bytes))) (skipped (reverse (skip_ows bytes)) (turned (skip_ows bytes) (skipped bytes all)))
+
+-- what is kept of the value of a name
+encoding_unbroken : (value : List ℕ) → is_unbroken value ≡ true → is_unbroken (encoding_kept value) ≡ true
+encoding_unbroken value all =
+    let stored = λ (coding : List ℕ). not (is_of_transfer coding) in
+    let codings = filter stored (parts_at comma value) in
+    trimmed (join_with_byte comma codings) (joined codings (chosen is_unbroken stored (parts_at comma value) (cut value all)))
+
+kept_unbroken : (name value : List ℕ) → is_unbroken value ≡ true → is_unbroken (value_kept name value) ≡ true
+kept_unbroken name value all = elim (cases_Bool (bytes_eq name encoding_name)) [
+  | inl encoding ↦ rw encoding (encoding_unbroken value all)
+  | inr other ↦ rw other all
+]
 
 -- ---- the lines of a head
 
@@ -150,25 +185,25 @@ onto : (test : Bool) (name : List ℕ) (names : List (List ℕ)) → is_unbroken
 onto true name names here all = rw here all
 onto false name names here all = all
 
-names_whole : (lines : List (List ℕ × List ℕ)) → list_all is_whole_line lines ≡ true → list_all is_unbroken (filter_map (λ (line : List ℕ × List ℕ). name_in line.0) lines) ≡ true
-names_whole [] all = refl
-names_whole (line ∷ lines) all =
+names_whole : (dialect : Dialect) (lines : List (List ℕ × List ℕ)) → list_all is_whole_line lines ≡ true
+    → list_all is_unbroken (filter_map (λ (line : List ℕ × List ℕ). name_in dialect line.0) lines) ≡ true
+names_whole dialect [] all = refl
+names_whole dialect (line ∷ lines) all =
     let parts = both (is_whole_line line) (list_all is_whole_line lines) all in
     let sent = (both (is_unbroken line.0) (is_unbroken line.1) parts.0).0 in
-    onto (bytes_eq (str_to_ascii_lowercase (take 11 line.0)) front) (str_to_ascii_lowercase (drop 11 line.0)) _
-    (lower_unbroken (drop 11 line.0) (behind (λ b. not (b == 13)) 11 line.0 sent)) (names_whole lines parts.1)
+    onto (is_kept dialect line.0) (str_to_ascii_lowercase line.0) _ (lower_unbroken line.0 sent) (names_whole dialect lines parts.1)
 
-names_unbroken : (head : HeadParts) → list_all is_whole_line head.headers ≡ true → list_all is_unbroken (names_of head) ≡ true
-names_unbroken head all =
-    let names = filter_map (λ (line : List ℕ × List ℕ). name_in line.0) head.headers in
-    once is_unbroken bytes_eq (sorted_by byte_order names) (sorted is_unbroken byte_order names (names_whole head.headers all))
+names_unbroken : (dialect : Dialect) (head : HeadParts) → list_all is_whole_line head.headers ≡ true → list_all is_unbroken (names_of dialect head) ≡ true
+names_unbroken dialect head all =
+    let names = filter_map (λ (line : List ℕ × List ℕ). name_in dialect line.0) head.headers in
+    once is_unbroken bytes_eq (sorted_by byte_order names) (sorted is_unbroken byte_order names (names_whole dialect head.headers all))
 
 entries_unbroken : (head : HeadParts) (names : List (List ℕ)) → list_all is_whole_line head.headers ≡ true → list_all is_unbroken names ≡ true
     → list_all is_unbroken_entry (map (entry_of head) names) ≡ true
 entries_unbroken head [] lines all = refl
 entries_unbroken head (name ∷ names) lines all =
     let parts = both (is_unbroken name) (list_all is_unbroken names) all in
-    rw (parts.0, joined (values_of (front ++ name) head) (values_unbroken (front ++ name) head lines)) (entries_unbroken head names lines parts.1)
+    rw (parts.0, kept_unbroken name (value_sent head name) (joined (values_of name head) (values_unbroken name head lines))) (entries_unbroken head names lines parts.1)
 
 -- ---- what refuses nothing
 
@@ -190,6 +225,14 @@ made_of : {A B : Type 0} (Is : B → Type 0) (rule : Result A Code) (make : A �
     → ((a : A) → rule ≡ Ok a → Is (make a)) → (rule >>= (λ (a : A). Ok (make a))) ≡ Ok made → Is made
 made_of Is (Ok a) make made all is = let same : make a ≡ made = cc in subst Is same (all a refl)
 made_of Is (Err code) make made all is = absurd (cc)
+
+-- metadata is the entries that it was made of
+metadata_same : (entries made : List Entry) → metadata entries ≡ Ok made → made ≡ entries
+unfolding metadata
+metadata_same entries made is =
+    let few = test_ok (nat_lt user_limit (user_size entries)) MetadataTooLarge _ made is in
+    let allowed = test_ok (not (list_all is_allowed entries)) InvalidArgument _ made few.1 in
+    sym (passed (nat_lt metadata_limit (metadata_size entries)) MetadataTooLarge entries made allowed.1)
 
 -- ---- what is said of an object
 
@@ -217,38 +260,39 @@ module _ (head : HeadParts) (lines : AreWhole head) where
       ap is_unbroken (sym (passed (nat_lt 255 (length sent)) _ sent kind is))
       ∙ type_unbroken (values_of (codes "content-type") head) (values_unbroken (codes "content-type") head lines)
 
-  metadata_unbroken : (entries : List Entry) → metadata_of head ≡ Ok entries → list_all is_unbroken_entry entries ≡ true
-  unfolding metadata_of metadata
-  metadata_unbroken entries is =
-      let all = map (entry_of head) (names_of head) in
-      ap (list_all is_unbroken_entry) (sym (passed (nat_lt 2_048 (metadata_size all)) _ all entries is)) ∙ entries_unbroken head (names_of head) lines (names_unbroken head lines)
+  metadata_unbroken : (dialect : Dialect) (entries : List Entry) → metadata_of dialect head ≡ Ok entries → list_all is_unbroken_entry entries ≡ true
+  unfolding metadata_of
+  metadata_unbroken dialect entries is =
+      let all = map (entry_of head) (names_of dialect head) in
+      ap (list_all is_unbroken_entry) (metadata_same (entries_of dialect head) entries is)
+      ∙ chosen is_unbroken_entry is_said all (entries_unbroken head (names_of dialect head) lines (names_unbroken dialect head lines))
 
-  description_unbroken : (said : Description) → description_of head ≡ Ok said → AreUnbroken said.content_type said.metadata
+  description_unbroken : (dialect : Dialect) (said : Description) → description_of dialect head ≡ Ok said → AreUnbroken said.content_type said.metadata
   unfolding description_of
-  description_unbroken said is =
-      let one = bound (content_type_of head) (λ (kind : List ℕ). metadata_of head >>= (λ (entries : List Entry). Ok (describing kind entries))) said is in
-      let two = bound (metadata_of head) (λ (entries : List Entry). Ok (describing one.0 entries)) said one.2 in
+  description_unbroken dialect said is =
+      let one = bound (content_type_of head) (λ (kind : List ℕ). metadata_of dialect head >>= (λ (entries : List Entry). Ok (describing kind entries))) said is in
+      let two = bound (metadata_of dialect head) (λ (entries : List Entry). Ok (describing one.0 entries)) said one.2 in
       let same : describing one.0 two.0 ≡ said = cc in
-      subst (λ (s : Description). AreUnbroken s.content_type s.metadata) same (content_type_unbroken one.0 one.1, metadata_unbroken two.0 two.1)
+      subst (λ (s : Description). AreUnbroken s.content_type s.metadata) same (content_type_unbroken one.0 one.1, metadata_unbroken dialect two.0 two.1)
 
   -- what is said of a copy is what its head says, or nothing
-  said_unbroken : (directive : Directive) (said : Option Description) → description_by directive head ≡ Ok said → IsUnbrokenSaid said
-  said_unbroken directives.Keep said is =
+  said_unbroken : (dialect : Dialect) (directive : Directive) (said : Option Description) → description_by dialect directive head ≡ Ok said → IsUnbrokenSaid said
+  said_unbroken dialect directives.Keep said is =
       let same : None ≡ said = cc in
       subst IsUnbrokenSaid same tt
-  said_unbroken directives.Replace said is =
-      let one = bound (description_of head) (λ (new : Description). Ok (Some new)) said is in
+  said_unbroken dialect directives.Replace said is =
+      let one = bound (description_of dialect head) (λ (new : Description). Ok (Some new)) said is in
       let same : Some one.0 ≡ said = cc in
-      subst IsUnbrokenSaid same (description_unbroken one.0 one.1)
+      subst IsUnbrokenSaid same (description_unbroken dialect one.0 one.1)
 
   copy_unbroken : (dialect : Dialect) (target : TargetParts) (copy : ObjectCopy) → object_copy_of dialect head target ≡ Ok copy → IsUnbrokenSaid copy.description
   unfolding object_copy_of
   copy_unbroken dialect target copy is =
-      let described = λ (directive : Directive) (source : Source). description_by directive head >>= (λ (said : Option Description). Ok (copying source said)) in
+      let described = λ (directive : Directive) (source : Source). description_by dialect directive head >>= (λ (said : Option Description). Ok (copying source said)) in
       let directive = bound (directive_of dialect head) (λ (directive : Directive). source_for dialect directive head target >>= described directive) copy is in
       let source = bound (source_for dialect directive.0 head target) (described directive.0) copy directive.2 in
-      made_of (λ (made : ObjectCopy). IsUnbrokenSaid made.description) (description_by directive.0 head) (copying source.0) copy
-      (λ said described. said_unbroken directive.0 said described) source.2
+      made_of (λ (made : ObjectCopy). IsUnbrokenSaid made.description) (description_by dialect directive.0 head) (copying source.0) copy
+      (λ said described. said_unbroken dialect directive.0 said described) source.2
 
 -- ---- what is known of a plan: beside a body it has no carriage return, and ready without a body it brings none
 
@@ -302,16 +346,16 @@ module _ (head : HeadParts) where
   command_right dialect operations.GetObjectTagging target asked is = tags_right target asked is
   command_right dialect operations.DeleteObject target asked is = delete_right target asked is
   command_right dialect operations.CreateMultipartUpload target asked is =
-      made_of (IsRightAsk head) (description_of head) (λ (said : Description). key_commands.Begin said) asked
-      (λ said made. ((λ lines. description_unbroken head lines said made), refl)) is
+      made_of (IsRightAsk head) (description_of dialect head) (λ (said : Description). key_commands.Begin said) asked
+      (λ said made. ((λ lines. description_unbroken head lines dialect said made), refl)) is
   command_right dialect _ target asked is = absurd (cc)
 
   asked_right_for : (dialect : Dialect) (operation : Operation) (target : TargetParts) (asked : KeyAsked) → asked_for dialect operation head target ≡ Ok asked → IsRightUnder head asked
   unfolding put_plan part_copy_plan parts_plan complete_plan
   asked_right_for dialect operations.PutObject target asked is =
-      let said = bound (description_of head) (λ (said : Description). absence_of head >>= (λ (if_absent : Bool). Ok (key_asked.Put said if_absent))) asked is in
+      let said = bound (description_of dialect head) (λ (said : Description). absence_of head >>= (λ (if_absent : Bool). Ok (key_asked.Put said if_absent))) asked is in
       made_of (IsRightUnder head) (absence_of head) (λ (if_absent : Bool). key_asked.Put said.0 if_absent) asked
-      (λ if_absent read lines. description_unbroken head lines said.0 said.1) said.2
+      (λ if_absent read lines. description_unbroken head lines dialect said.0 said.1) said.2
   asked_right_for dialect operations.UploadPart target asked is =
       made_of (IsRightUnder head) (part_argument target) (λ (part : ℕ × ℕ). key_asked.PutPart part.0 part.1) asked (λ part read. tt) is
   asked_right_for dialect operations.UploadPartCopy target asked is =

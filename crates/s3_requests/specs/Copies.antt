@@ -44,10 +44,10 @@ unfoldable pub directive_of : Dialect → HeadParts → Result Directive Code
 directive_of dialect head = directive_named dialect (first_value (codes "x-amz-metadata-directive") head)
 
 -- what is to be said of the copy in its place: what the head of a copy says, as that of a put
-abbrev pub description_by : Directive → HeadParts → Result (Option Description) Code
-description_by directives.Keep head = Ok None
-description_by directives.Replace head = do
-  said ← description_of head
+abbrev pub description_by : Dialect → Directive → HeadParts → Result (Option Description) Code
+description_by dialect directives.Keep head = Ok None
+description_by dialect directives.Replace head = do
+  said ← description_of dialect head
   Ok (Some said)
 
 -- a copy of the current version of a key to the key itself that keeps what is said of it, and so would change nothing
@@ -68,7 +68,7 @@ unfoldable pub object_copy_of : Dialect → HeadParts → TargetParts → Result
 object_copy_of dialect head target = do
   directive ← directive_of dialect head
   source ← source_for dialect directive head target
-  description ← description_by directive head
+  description ← description_by dialect directive head
   Ok (record { source = source; description = description })
 
 -- the bytes from a first position to a last one; a copy has no other range

@@ -151,9 +151,9 @@ delete_command target = do
   Ok (key_commands.Delete version)
 
 -- CreateMultipartUpload, with what the head says of the object
-abbrev pub begin_command : HeadParts → Result KeyCommand Code
-begin_command head = do
-  said ← description_of head
+abbrev pub begin_command : Dialect → HeadParts → Result KeyCommand Code
+begin_command dialect head = do
+  said ← description_of dialect head
   Ok (key_commands.Begin said)
 
 -- an operation on a key that needs no body, with its arguments
@@ -163,13 +163,13 @@ key_command_for dialect operations.GetObject head target = read_command head tar
 key_command_for dialect operations.HeadObject head target = read_command head target
 key_command_for dialect operations.GetObjectTagging head target = tags_command target
 key_command_for dialect operations.DeleteObject head target = delete_command target
-key_command_for dialect operations.CreateMultipartUpload head target = begin_command head
+key_command_for dialect operations.CreateMultipartUpload head target = begin_command dialect head
 key_command_for dialect other head target = Err NotImplemented
 
 -- PutObject, with what the head says of the object, and its condition
-unfoldable pub put_plan : HeadParts → Result KeyAsked Code
-put_plan head = do
-  said ← description_of head
+unfoldable pub put_plan : Dialect → HeadParts → Result KeyAsked Code
+put_plan dialect head = do
+  said ← description_of dialect head
   if_absent ← absence_of head
   Ok (key_asked.Put said if_absent)
 
@@ -214,7 +214,7 @@ of_key command = do
 
 -- an operation on a key, or on an upload to it, with its arguments
 abbrev pub asked_for : Dialect → Operation → HeadParts → TargetParts → Result KeyAsked Code
-asked_for dialect operations.PutObject head target = put_plan head
+asked_for dialect operations.PutObject head target = put_plan dialect head
 asked_for dialect operations.UploadPart head target = part_plan target
 asked_for dialect operations.UploadPartCopy head target = part_copy_plan dialect head target
 asked_for dialect operations.ListParts head target = parts_plan target

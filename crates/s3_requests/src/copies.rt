@@ -37,7 +37,7 @@ pub(crate) fn object_copy(
 {
     let directive = directive_of(dialect, head)?;
     let source = source_for(alloc, dialect, directive, head, target)?;
-    let description = description_by(alloc, directive, head)?;
+    let description = description_by(alloc, dialect, directive, head)?;
     Ok(ObjectCopy {
         source,
         description,
@@ -112,14 +112,15 @@ fn read_directive(dialect: Dialect, text: &[u8]) -> Result<Directive, Code>
 // What is to be said of the copy.
 fn description_by(
     alloc: Global,
+    dialect: Dialect,
     directive: Directive,
     head: &Head,
 ) -> Result<Option<Description>, Code>
-    ensures { Follows result (rules.description_by directive head.now) }
+    ensures { Follows result (rules.description_by dialect directive head.now) }
 {
     match directive {
         Directive::Keep => Ok(None),
-        Directive::Replace => Ok(Some(description_of(alloc, head)?)),
+        Directive::Replace => Ok(Some(description_of(alloc, dialect, head)?)),
     }
 }
 

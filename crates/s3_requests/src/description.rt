@@ -1,8 +1,9 @@
-//! What the head of a put, or of the beginning of an upload, says of its object: its media type and its user metadata.
-ghost use Rattle.std.specs.Prelude.{◌≡◌, ◌++◌, ◌∷◌, ◌≤◌, if◌then◌else◌, map, length, IfOk, OnOk};
+//! What the head of a put, or of the beginning of an upload, says of its object: its media type and its metadata.
+ghost use Rattle.std.specs.Prelude.{◌≡◌, ◌++◌, ◌∷◌, [], ◌≤◌, not, if◌then◌else◌, filter, map, length, IfOk, OnOk};
 ghost use Rattle.std.specs.List.{dedup, filter_map, join_with_byte};
 ghost use Rattle.std.specs.List.Sorted.{IsStrictlySortedBy};
 ghost use Rattle.std.specs.Str.{bytes_eq};
+ghost use Rattle.s3_text.specs.Cut.{parts_at};
 ghost use Rattle.s3_text.specs.Order.{byte_order};
 ghost use Rattle.s3_text.specs.Sorting.{sorted_by};
 ghost use Rattle.std.specs.Option.{option_copied, option_to_list};
@@ -14,25 +15,31 @@ ghost use Rattle.s3_requests.specs.Description as rules;
 ghost use Rattle.s3_requests.specs.Memory.{DescriptionTakes, FollowsWhere};
 ghost use Rattle.s3_requests.specs.Name.{texts};
 
-use s3_http_heads::{Head, is_named};
+use crate::line_names::begins_with;
+use crate::operations::is_xml;
+use s3_http_heads::{Head, is_named, trimmed};
 use s3_machine::Description;
-use s3_terms::Code;
+use s3_terms::{Code, Dialect};
 use s3_versions::{ContentType, Metadata, MetadataEntry};
 use std::alloc::{AllocError, Global};
 
 /// The media type of an object where none is named.
 const DEFAULT_TYPE: &[u8] = b"binary/octet-stream";
 
-/// How the names of metadata lines begin.
-const FRONT: &[u8] = b"x-amz-meta-";
+/// How the names of user-defined metadata begin.
+const USER_FRONT: &[u8] = b"x-amz-meta-";
 
-// What is said of the object: `InvalidArgument` of its media type, and then `MetadataTooLarge`.
+// What is said of the object: `InvalidArgument` of its media type, and then the fault of its metadata.
 #[tactic(auto, unfolding(crate::specs::Description::description_of))]
-pub(crate) fn description_of(alloc: Global, head: &Head) -> Result<Description, Code>
-    ensures { FollowsWhere (DescriptionTakes head.now) result (rules.description_of head.now) }
+pub(crate) fn description_of(
+    alloc: Global,
+    dialect: Dialect,
+    head: &Head,
+) -> Result<Description, Code>
+    ensures { FollowsWhere (DescriptionTakes head.now) result (rules.description_of dialect head.now) }
 {
     let content_type = content_type_of(alloc, head)?;
-    let metadata = metadata_of(alloc, head)?;
+    let metadata = metadata_of(alloc, dialect, head)?;
     Ok(Description {
         content_type,
         metadata,
@@ -58,25 +65,29 @@ fn type_sent<'a>(sent: Option<&'a [u8]>) -> &'a [u8]
     }
 }
 
-// The metadata of the object. `MetadataTooLarge` above 2,048 bytes.
+// The metadata of the object: `MetadataTooLarge` or `InvalidArgument`, as `Metadata::new` judges it.
 #[tactic(auto, unfolding(crate::specs::Description::metadata_of))]
-fn metadata_of(alloc: Global, head: &Head) -> Result<Metadata, Code>
-    ensures { Follows result (rules.metadata_of head.now) }
+fn metadata_of(alloc: Global, dialect: Dialect, head: &Head) -> Result<Metadata, Code>
+    ensures { Follows result (rules.metadata_of dialect head.now) }
 {
-    match entries_of(alloc, head) {
+    match entries_of(alloc, dialect, head) {
         Ok(entries) => Metadata::new(entries),
         Err(AllocError) => Err(Code::InternalError),
     }
 }
 
 // The entries of the metadata, in the order of their names.
-fn entries_of(alloc: Global, head: &Head) -> Result<Vec<MetadataEntry>, AllocError>
-    ensures value { IfOk result (λ entries. entries.items ≡ map (rules.entry_of head.now) (rules.names_of head.now)) }
+fn entries_of(
+    alloc: Global,
+    dialect: Dialect,
+    head: &Head,
+) -> Result<Vec<MetadataEntry>, AllocError>
+    ensures value { IfOk result (λ entries. entries.items ≡ rules.entries_of dialect head.now) }
     ensures order { IfOk result (λ entries. AreInOrder entries.items) }
     ensures count { IfOk result (λ entries. length entries.items ≤ 64) }
 {
     head.has_few_lines();
-    let mut names = names_sent(alloc, head)?;
+    let mut names = names_sent(alloc, dialect, head)?;
     put_in_order(&mut names)?;
     let entries = entries_under(alloc, head, &names)?;
     Ok(entries)
@@ -100,43 +111,83 @@ pub(crate) struct Name {
     text: Vec<u8>,
 }
 
-// The names of metadata that header lines hold, as they come.
-fn names_sent(alloc: Global, head: &Head) -> Result<Vec<Name>, AllocError>
+// The names under which header lines are kept, as they come.
+fn names_sent(alloc: Global, dialect: Dialect, head: &Head) -> Result<Vec<Name>, AllocError>
     ensures { IfOk result (λ names. texts names.items
-        ≡ filter_map (λ line. rules.name_in line.0) head.now.headers) }
+        ≡ filter_map (λ line. rules.name_in dialect line.0) head.now.headers) }
 {
     let mut names = Vec::new(alloc);
     for index in 0..head.header_count() {
-        push_name(alloc, head.header(index).0, &mut names)?;
+        push_name(alloc, dialect, head.header(index).0, &mut names)?;
     }
     Ok(names)
 }
 
-// Appends the name of metadata that the name of a header line holds, if it holds one.
-fn push_name(alloc: Global, sent: &[u8], names: &mut Vec<Name>) -> Result<(), AllocError>
-    ensures { IfOk result (λ _. texts names.new.items ≡ texts names.old.items ++ option_to_list (rules.name_in sent.now)) }
+// Appends the name under which a header line is kept, if it is.
+fn push_name(
+    alloc: Global,
+    dialect: Dialect,
+    sent: &[u8],
+    names: &mut Vec<Name>,
+) -> Result<(), AllocError>
+    ensures { IfOk result (λ _. texts names.new.items
+        ≡ texts names.old.items ++ option_to_list (rules.name_in dialect sent.now)) }
 {
-    let (front, name) = sent.split_at(sent.len().min(FRONT.len()));
-    if is_named(front, FRONT) {
-        let text = name.to_ascii_lowercase(alloc)?;
+    if is_kept(dialect, sent) {
+        let text = sent.to_ascii_lowercase(alloc)?;
         names.push(Name { text })?;
     }
     Ok(())
 }
 
-// Each of the names with its value.
+// Whether header lines of a name are kept with an object.
+fn is_kept(dialect: Dialect, sent: &[u8]) -> bool
+    ensures { result ≡ rules.is_kept dialect sent.now }
+{
+    begins_with(sent, USER_FRONT) || (is_xml(dialect) && is_system_name(sent))
+}
+
+// Whether they are system-defined metadata.
+fn is_system_name(sent: &[u8]) -> bool
+    ensures { result ≡ rules.is_system_name sent.now }
+{
+    is_named(sent, b"cache-control")
+        || is_named(sent, b"content-disposition")
+        || is_named(sent, b"content-encoding")
+        || is_named(sent, b"content-language")
+        || is_named(sent, b"expires")
+}
+
+// Those of the names that say something, each with its value.
 fn entries_under(
     alloc: Global,
     head: &Head,
     names: &[Name],
 ) -> Result<Vec<MetadataEntry>, AllocError>
-    ensures { IfOk result (λ entries. entries.items ≡ map (rules.entry_of head.now) (texts names.now)) }
+    ensures { IfOk result (λ entries. entries.items ≡ filter rules.is_said (map (rules.entry_of head.now) (texts names.now))) }
 {
     let mut entries = Vec::new(alloc);
     for name in names {
-        entries.push(entry_under(alloc, head, &name.text)?)?;
+        push_entry(entry_under(alloc, head, &name.text)?, &mut entries)?;
     }
     Ok(entries)
+}
+
+// Appends an entry, if it says something.
+fn push_entry(entry: MetadataEntry, entries: &mut Vec<MetadataEntry>) -> Result<(), AllocError>
+    ensures { IfOk result (λ _. entries.new.items ≡ entries.old.items ++ filter rules.is_said (entry ∷ [])) }
+{
+    if is_said(&entry) {
+        entries.push(entry)?;
+    }
+    Ok(())
+}
+
+// Whether an entry says something: a user-defined one may be empty.
+fn is_said(entry: &MetadataEntry) -> bool
+    ensures { result ≡ rules.is_said entry.now }
+{
+    entry.name().starts_with(USER_FRONT) || !entry.value().is_empty()
 }
 
 // The name with its value.
@@ -148,24 +199,54 @@ fn entry_under(alloc: Global, head: &Head, name: &[u8]) -> Result<MetadataEntry,
     Ok(MetadataEntry::new(name, value))
 }
 
-// The value of the name.
+// What is kept of the values of the lines of a name.
 fn value_under(alloc: Global, head: &Head, name: &[u8]) -> Result<Vec<u8>, AllocError>
-    ensures { IfOk result (λ value. value.items
-        ≡ join_with_byte comma (values_of (rules.front ++ name.now) head.now)) }
+    ensures { IfOk result (λ value. value.items ≡ rules.value_kept name.now (rules.value_sent head.now name.now)) }
 {
-    let line = line_name(alloc, name)?;
     let mut value = Vec::new(alloc);
-    push_values(head, &line, &mut value)?;
+    push_values(head, name, &mut value)?;
+    value_kept(alloc, name, value)
+}
+
+// What is kept of the value of a name.
+fn value_kept(alloc: Global, name: &[u8], value: Vec<u8>) -> Result<Vec<u8>, AllocError>
+    ensures { IfOk result (λ kept. kept.items ≡ rules.value_kept name.now value.items) }
+{
+    if name == b"content-encoding".as_slice() {
+        return encoding_kept(alloc, &value);
+    }
     Ok(value)
 }
 
-// The name of the header lines of that name.
-fn line_name(alloc: Global, name: &[u8]) -> Result<Vec<u8>, AllocError>
-    ensures { IfOk result (λ line. line.items ≡ rules.front ++ name.now) }
+// The codings without that of a body that is sent in chunks.
+fn encoding_kept(alloc: Global, value: &[u8]) -> Result<Vec<u8>, AllocError>
+    ensures { IfOk result (λ kept. kept.items ≡ rules.encoding_kept value.now) }
 {
-    let mut line = Vec::from_slice(alloc, FRONT)?;
-    line.extend_from_slice(name)?;
-    Ok(line)
+    let codings = codings_kept(alloc, value)?;
+    Vec::from_slice(alloc, trimmed(&codings))
+}
+
+// The same, with the white space that stood around them.
+fn codings_kept(alloc: Global, value: &[u8]) -> Result<Vec<u8>, AllocError>
+    ensures { IfOk result (λ codings. codings.items
+        ≡ join_with_byte comma (filter (λ coding. not (rules.is_of_transfer coding)) (parts_at comma value.now))) }
+{
+    let mut codings = Vec::new(alloc);
+    let mut found = false;
+    for coding in value.split(|byte| *byte == b',') {
+        if !is_of_transfer(coding) {
+            push_value(coding, found, &mut codings)?;
+            found = true;
+        }
+    }
+    Ok(codings)
+}
+
+// Whether a coding is that of a body that is sent in chunks.
+fn is_of_transfer(coding: &[u8]) -> bool
+    ensures { result ≡ rules.is_of_transfer coding.now }
+{
+    is_named(trimmed(coding), b"aws-chunked")
 }
 
 // Appends the values of the lines of a name, joined by commas.

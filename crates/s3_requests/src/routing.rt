@@ -348,7 +348,7 @@ fn asked_for(
     ensures { FollowsWhere (memory.UnderKeyTakes dialect operation head.now target.now) result (rules.asked_for dialect operation head.now target.now) }
 {
     match operation {
-        Operation::PutObject => put_plan(alloc, head),
+        Operation::PutObject => put_plan(alloc, dialect, head),
         Operation::UploadPart => part_plan(target),
         Operation::UploadPartCopy => part_copy_plan(alloc, dialect, head, target),
         Operation::ListParts => parts_plan(target),
@@ -363,10 +363,10 @@ fn asked_for(
 
 // PutObject, with what the head says of the object, and its condition.
 #[tactic(auto, unfolding(crate::specs::Routing::put_plan))]
-fn put_plan(alloc: Global, head: &Head) -> Result<KeyAsked, Code>
-    ensures { FollowsWhere (memory.DescriptionTakes head.now) result (rules.put_plan head.now) }
+fn put_plan(alloc: Global, dialect: Dialect, head: &Head) -> Result<KeyAsked, Code>
+    ensures { FollowsWhere (memory.DescriptionTakes head.now) result (rules.put_plan dialect head.now) }
 {
-    let said = description_of(alloc, head)?;
+    let said = description_of(alloc, dialect, head)?;
     let if_absent = absence_of(head)?;
     Ok(KeyAsked::Put { said, if_absent })
 }
@@ -451,7 +451,7 @@ fn key_command_for(
         Operation::GetObject | Operation::HeadObject => read_command(alloc, head, target),
         Operation::GetObjectTagging => tags_command(target),
         Operation::DeleteObject => delete_command(target),
-        Operation::CreateMultipartUpload => begin_command(alloc, head),
+        Operation::CreateMultipartUpload => begin_command(alloc, dialect, head),
         _ => Err(Code::NotImplemented),
     }
 }
@@ -501,9 +501,9 @@ fn delete_command(target: &Target) -> Result<KeyCommand, Code>
 }
 
 // CreateMultipartUpload, with what the head says of the object.
-fn begin_command(alloc: Global, head: &Head) -> Result<KeyCommand, Code>
-    ensures { FollowsWhere (memory.DescriptionTakes head.now) result (rules.begin_command head.now) }
+fn begin_command(alloc: Global, dialect: Dialect, head: &Head) -> Result<KeyCommand, Code>
+    ensures { FollowsWhere (memory.DescriptionTakes head.now) result (rules.begin_command dialect head.now) }
 {
-    let said = description_of(alloc, head)?;
+    let said = description_of(alloc, dialect, head)?;
     Ok(KeyCommand::Begin(said))
 }

@@ -18,7 +18,7 @@ type Attributes = (&'static [u8], &'static [Entry]);
 
 // Bytes, and what they are kept of, if they are kept of anything. The bytes are those of Python's `struct.pack`: for each pair
 // `pack('>H', len(name)) + name + pack('>I', len(value)) + value`.
-static KEPT: [(&[u8], Option<Attributes>); 14] = [
+static KEPT: [(&[u8], Option<Attributes>); 15] = [
     (b"\x00\x0ccontent-type\x00\x00\x00\x00", Some((b"", &[]))),
     (
         b"\x00\x0ccontent-type\x00\x00\x00\x0atext/plain",
@@ -28,12 +28,15 @@ static KEPT: [(&[u8], Option<Attributes>); 14] = [
         b"\x00\x0ccontent-type\x00\x00\x00\x0atext/plain\x00\x11x-amz-meta-colour\x00\x00\x00\x03red\x00\x0fx-amz-meta-size\x00\x00\x00\x02\x00\xff",
         Some((
             b"text/plain",
-            &[(b"colour", b"red"), (b"size", b"\x00\xff")],
+            &[
+                (b"x-amz-meta-colour", b"red"),
+                (b"x-amz-meta-size", b"\x00\xff"),
+            ],
         )),
     ),
     (
         b"\x00\x0ccontent-type\x00\x00\x00\x01t\x00\x0bx-amz-meta-\x00\x00\x00\x00",
-        Some((b"t", &[(b"", b"")])),
+        Some((b"t", &[(b"x-amz-meta-", b"")])),
     ),
     // Nothing at all.
     (b"", None),
@@ -53,13 +56,21 @@ static KEPT: [(&[u8], Option<Attributes>); 14] = [
         None,
     ),
     (b"\x00\x0cContent-Type\x00\x00\x00\x01t", None),
-    // Two media types, and another name.
+    // An entry has any name.
     (
-        b"\x00\x0ccontent-type\x00\x00\x00\x01t\x00\x0ccontent-type\x00\x00\x00\x01t",
-        None,
+        b"\x00\x0ccontent-type\x00\x00\x00\x01t\x00\x0dcache-control\x00\x00\x00\x08no-store\x00\x0cx-amz-meta-a\x00\x00\x00\x011",
+        Some((
+            b"t",
+            &[(b"cache-control", b"no-store"), (b"x-amz-meta-a", b"1")],
+        )),
     ),
     (
-        b"\x00\x0ccontent-type\x00\x00\x00\x01t\x00\x04etag\x00\x00\x00\x011",
+        b"\x00\x0ccontent-type\x00\x00\x00\x01t\x00\x0ccontent-type\x00\x00\x00\x01u",
+        Some((b"t", &[(b"content-type", b"u")])),
+    ),
+    // A control byte in a value that isn't user-defined.
+    (
+        b"\x00\x0ccontent-type\x00\x00\x00\x01t\x00\x0dcache-control\x00\x00\x00\x01\x0a",
         None,
     ),
     // Names that do not rise.

@@ -7,7 +7,7 @@ use crate::requests::heads::{has_parts, length_text};
 use crate::requests::plans::{description_text, operation_text, route_text};
 use crate::requests::targets::{parameters_text, target_text};
 use s3_http_heads::Head;
-use s3_terms::Code;
+use s3_terms::{Code, Dialect};
 use std::alloc::Global;
 
 /// A text that tells of something, or the refusal in its place.
@@ -44,6 +44,8 @@ pub(crate) enum Question {
     Operation,
     /// What a put says of its object: the media type, and in a line each the names of metadata, a colon, and their values.
     Description,
+    /// The same where documents are XML.
+    DescriptionInXml,
 }
 
 /// Texts of heads and what is told of them, with what stands before and behind each of these texts.
@@ -93,7 +95,8 @@ fn answer(alloc: Global, head: &Head, question: &Question) -> Told {
         Question::Hash => hash_text(alloc, head),
         Question::Route => route_text(alloc, head),
         Question::Operation => operation_text(alloc, head),
-        Question::Description => description_text(alloc, head),
+        Question::Description => description_text(alloc, Dialect::Json, head),
+        Question::DescriptionInXml => description_text(alloc, Dialect::S3, head),
     }
 }
 

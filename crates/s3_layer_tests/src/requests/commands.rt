@@ -34,8 +34,8 @@ fn planned(alloc: Global, plan: Plan, body: &[u8]) -> Result<Command, Code> {
     command(alloc, plan, payload_of(alloc, body)?)
 }
 
-/// The command of a request with this method and target, and this body. It says that its body is text, and has one name of
-/// metadata, `colour`, with the value `red`, and the lines that stand behind a line feed. Documents are of this dialect.
+/// The command of a request with this method and target, and this body. It says that its body is text, and has one entry of
+/// metadata, `x-amz-meta-colour`, with the value `red`, and the lines that stand behind a line feed. Documents are of this dialect.
 pub(crate) fn command_of(
     alloc: Global,
     dialect: Dialect,

@@ -346,7 +346,7 @@ fn is_described(stored: &Data<Body>) -> bool {
     let entries = stored.metadata.entries();
     is_same(stored.content_type.as_bytes(), b"text/plain")
         && entries.len() == 1
-        && is_same(entries[0].name(), b"colour")
+        && is_same(entries[0].name(), b"x-amz-meta-colour")
         && is_same(entries[0].value(), b"red")
 }
 

@@ -56,9 +56,9 @@ fn put_text(alloc: Global, plan: &Plan) -> Told {
     }
 }
 
-/// What the head, that of a put or of the beginning of an upload, says of the object.
-pub(crate) fn description_text(alloc: Global, head: &Head) -> Told {
-    let plan = routed(alloc, Dialect::Json, head)?;
+/// What the head, that of a put or of the beginning of an upload, says of the object where documents are of this dialect.
+pub(crate) fn description_text(alloc: Global, dialect: Dialect, head: &Head) -> Told {
+    let plan = routed(alloc, dialect, head)?;
     let text = put_text(alloc, &plan);
     drop(plan);
     text

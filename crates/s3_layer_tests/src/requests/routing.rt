@@ -431,8 +431,10 @@ const DESCRIPTIONS: Table = Table {
         |binary/octet-stream^\
         Content-Type:\r\n|^\
         content-TYPE:  text/plain; charset=utf-8 \r\nContent-Type: b\r\n|text/plain; charset=utf-8^\
-        x-amz-meta-b:1\r\nX-AMZ-META-A: x  y \r\nhost: h\r\nx-amz-meta-b: 2\r\nX-Amz-Meta-B:\r\n|binary/octet-stream\na:x  y\nb:1,2,^\
-        x-amz-meta-ab: 1\r\nx-amz-meta-a: 2\r\nx-amz-meta-: 3\r\nx-amz-meta-a-: 4\r\n|binary/octet-stream\n:3\na:2\na-:4\nab:1",
+        x-amz-meta-b:1\r\nX-AMZ-META-A: x  y \r\nhost: h\r\nx-amz-meta-b: 2\r\nX-Amz-Meta-B:\r\n|binary/octet-stream\nx-amz-meta-a:x  y\nx-amz-meta-b:1,2,^\
+        x-amz-meta-ab: 1\r\nx-amz-meta-a: 2\r\nx-amz-meta-: 3\r\nx-amz-meta-a-: 4\r\n|binary/octet-stream\nx-amz-meta-:3\nx-amz-meta-a:2\nx-amz-meta-a-:4\nx-amz-meta-ab:1^\
+        Cache-Control: no-cache\r\nContent-Encoding: gzip\r\nx-amz-meta-a: 1\r\nExpires: 0\r\n|binary/octet-stream\nx-amz-meta-a:1^\
+        content-disposition: {d*256}\r\ncontent-language: en\r\n|binary/octet-stream",
     end: "\r\n",
 };
 
@@ -442,18 +444,42 @@ const BEGUN: Table = Table {
     front: "POST /pail/k?uploads HTTP/1.1\r\n",
     rows: "\
         |binary/octet-stream^\
-        Content-Type: text/plain\r\nx-amz-meta-b: 1\r\nX-Amz-Meta-A: 2\r\n|text/plain\na:2\nb:1",
+        Content-Type: text/plain\r\nx-amz-meta-b: 1\r\nX-Amz-Meta-A: 2\r\n|text/plain\nx-amz-meta-a:2\nx-amz-meta-b:1",
     end: "\r\n",
 };
 
-static SAID: [Table; 5] = [COPIES, SOURCES, NO_PUT, DESCRIPTIONS, BEGUN];
+// What a put says where documents are XML, as with Amazon S3 (Amazon S3 API Reference, PutObject, "Request headers"): other lines
+// are kept too, unless they are empty. The coding of a transfer is none of what is stored.
+const KEPT: Table = Table {
+    question: Question::DescriptionInXml,
+    front: "PUT /pail/k HTTP/1.1\r\n",
+    rows: "\
+        |binary/octet-stream^\
+        Expires: Thu, 01 Dec 1994 16:00:00 GMT\r\nContent-Language: mi, en\r\nCONTENT-ENCODING: gzip, br\r\nx-amz-meta-b: 1\r\ncontent-disposition: attachment; filename=\"a.txt\"\r\nCache-Control: max-age=60\r\n|binary/octet-stream\ncache-control:max-age=60\ncontent-disposition:attachment; filename=\"a.txt\"\ncontent-encoding:gzip, br\ncontent-language:mi, en\nexpires:Thu, 01 Dec 1994 16:00:00 GMT\nx-amz-meta-b:1^\
+        cache-control: no-cache\r\nCache-Control: no-transform\r\n|binary/octet-stream\ncache-control:no-cache,no-transform^\
+        Cache-Control:\r\nx-amz-meta-a:\r\n|binary/octet-stream\nx-amz-meta-a:^\
+        cache-controls: a\r\nx-cache-control: b\r\nx-expires: c\r\n|binary/octet-stream^\
+        Content-Encoding: aws-chunked\r\n|binary/octet-stream^\
+        Content-Encoding: aws-chunked,gzip\r\n|binary/octet-stream\ncontent-encoding:gzip^\
+        Content-Encoding: AWS-Chunked , gzip\r\n|binary/octet-stream\ncontent-encoding:gzip^\
+        Content-Encoding: gzip, aws-chunked\r\n|binary/octet-stream\ncontent-encoding:gzip^\
+        Content-Encoding: aws-chunked\r\nContent-Encoding: gzip, br\r\n|binary/octet-stream\ncontent-encoding:gzip, br^\
+        Content-Encoding: aws-chunked2, aws\r\n|binary/octet-stream\ncontent-encoding:aws-chunked2, aws^\
+        Content-Language: aws-chunked\r\n|binary/octet-stream\ncontent-language:aws-chunked^\
+        Cache-Control: {c*256}\r\n|InvalidArgument^\
+        Expires: a\tb\r\n|InvalidArgument^\
+        Expires: a\tb\r\nx-amz-meta-a: {v*2048}\r\n|MetadataTooLarge",
+    end: "\r\n",
+};
+
+static SAID: [Table; 6] = [COPIES, SOURCES, NO_PUT, DESCRIPTIONS, BEGUN, KEPT];
 
 // Bytes beyond ASCII stay as they are, and names that only look like it are none.
 const BEYOND_ASCII: &[u8] =
     b"PUT /pail/k HTTP/1.1\r\nx-amz-met-a: 1\r\nx-amz-meta: 2\r\nxx-amz-meta-a: 3\r\nx-amz-meta-b: \xc3\xa9\xff\r\n\r\n";
 
 fn is_kept(alloc: Global) -> bool {
-    let wanted = b"binary/octet-stream\nb:\xc3\xa9\xff";
+    let wanted = b"binary/octet-stream\nx-amz-meta-b:\xc3\xa9\xff";
     is_so(alloc, &Question::Description, BEYOND_ASCII, wanted)
 }
 

@@ -36,7 +36,7 @@ pub(crate) fn stored_with<B: Drop>(alloc: Global, body: B) -> Result<Data<B>, Co
 }
 
 fn metadata_of_one(alloc: Global) -> Result<Metadata, Code> {
-    let name = Vec::from_slice(alloc, b"colour")?;
+    let name = Vec::from_slice(alloc, b"x-amz-meta-colour")?;
     let value = Vec::from_slice(alloc, b"red")?;
     let mut entries = Vec::new(alloc);
     entries.push(MetadataEntry::new(name, value))?;

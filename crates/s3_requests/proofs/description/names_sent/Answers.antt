@@ -7,10 +7,10 @@ use Rattle.s3_requests.proofs.description.names_sent.Goals as goal
 
 pub loop-index-preserved : goal.loop-index-preserved
 loop-index-preserved c =
-    let more = names_more c.args.head.now.headers c.loop-index.index _ _ c.header.ensures in
-    c.in_ok-push_name.ensures ∙ ap (λ names. names ++ option_to_list (name_in c.header.result.0.now)) c.loop-index.invariant ∙ sym more
+    let more = names_more c.args.dialect c.args.head.now.headers c.loop-index.index _ _ c.header.ensures in
+    c.in_ok-push_name.ensures ∙ ap (λ names. names ++ option_to_list (name_in c.args.dialect c.header.result.0.now)) c.loop-index.invariant ∙ sym more
 
 pub returns : goal.returns
 returns c =
     let lines = c.args.head.now.headers in
-    c.loop-index.invariant ∙ ap names_in (take_all c.loop-index.index lines (omega (arith, c.header_count-index-end.ensures)))
+    c.loop-index.invariant ∙ ap (names_in c.args.dialect) (take_all c.loop-index.index lines (omega (arith, c.header_count-index-end.ensures)))
