@@ -8,8 +8,10 @@ from .documents import CONTENT_TYPES
 
 # The moment of a reply, where none is said.
 START = 1369353600
-# The headers that replies have, in their order.
+# How the names of user-defined metadata begin, and all names of system-defined metadata.
 METADATA = "x-amz-meta-"
+SYSTEM = ("cache-control", "content-disposition", "content-encoding", "content-language", "expires")
+# The headers that replies have, in their order.
 ORDER = (
     "Date",
     "Connection",
@@ -35,7 +37,7 @@ def date(moment):
 
 def place(name):
     """Where a header stands among others. Those of metadata are sorted by their names."""
-    return ORDER.index(METADATA if name.startswith(METADATA) else name), name
+    return ORDER.index(METADATA if name.startswith(METADATA) or name in SYSTEM else name), name
 
 
 def reply(status, number, lines=(), body=Body(), moment=START):

@@ -11,6 +11,8 @@ from urllib.parse import unquote_to_bytes
 from .bodies import Body
 from .documents import JSON, S3
 from .markup import NotXml, last_text, read, rows, trimmed
+from .replies import METADATA, SYSTEM
+from .sums import CHECKSUM, KINDS, is_met
 
 SUB_RESOURCES = set(
     b"""accelerate acl analytics attributes cors delete encryption intelligent-tiering inventory legal-hold lifecycle
@@ -122,6 +124,11 @@ def xml_of(body, root):
         raise Refused("MalformedXML") from None
 
 
+def encoding_kept(value):
+    """The codings of a body, but for that of its transfer."""
+    return ",".join(it for it in value.split(",") if it.strip(" \t").lower() != "aws-chunked").strip(" \t")
+
+
 class Request:
     """A request: its method, what its target names, the pairs of its query and of these its parameters, its header
     lines and its body. The server says in which dialect it reads it."""
@@ -161,14 +168,28 @@ class Request:
             return any(map(self.values, UNSERVED_OF_WRITES)) or any(others)
         return operation == "get_object" and any(map(self.values, UNSERVED_OF_READS))
 
+    def checksums(self):
+        """The checksums that its lines tell of its body, by their kinds."""
+        is_read = is_s3(self) and self.method == "PUT"
+        return [(kind, value) for kind, value in self.values(CHECKSUM) if is_read and kind in KINDS]
+
+    def metadata(self):
+        """The metadata of what is made, by its whole names: that of users, and in XML that of the system too."""
+        user, system = {}, {}
+        for name, value in self.values(""):
+            kept = user if name.startswith(METADATA) else system if is_s3(self) and name in SYSTEM else {}
+            kept[name] = f"{kept[name]},{value}" if name in kept else value
+        system = {name: encoding_kept(value) if name == "content-encoding" else value for name, value in system.items()}
+        size = sum(len(f"{name}{value}".encode()) - len(METADATA) for name, value in user.items())
+        refuse(size > 2048, "MetadataTooLarge")
+        refuse(any(len(value.encode()) > 255 or re.search("[\0-\x1f\x7f]", value) for value in system.values()))
+        return user | {name: value for name, value in system.items() if value}
+
     def description(self):
         """The media type and the metadata of what is made."""
-        content_type, metadata = self.line("content-type"), {}
-        for name, value in self.values("x-amz-meta-"):
-            metadata[name] = f"{metadata[name]},{value}" if name in metadata else value
+        content_type = self.line("content-type")
         refuse(content_type is not None and len(content_type.encode()) > 255)
-        refuse(sum(len(f"{name}{value}".encode()) for name, value in metadata.items()) > 2048, "MetadataTooLarge")
-        return "binary/octet-stream" if content_type is None else content_type, metadata
+        return "binary/octet-stream" if content_type is None else content_type, self.metadata()
 
     def wants_none(self):
         """Whether a write is to be refused where its key has an object."""
@@ -251,9 +272,10 @@ class Request:
     # Bodies.
 
     def received(self):
-        """The body, which has to be the one that Content-MD5 tells, where that is there."""
-        told = self.line("content-md5")
-        refuse(told is not None and base64.b64decode(told) != hashlib.md5(self.body.bytes()).digest(), "BadDigest")
+        """The body, which has to be the one that Content-MD5 and a checksum tell, where they are there."""
+        told, body = self.line("content-md5"), self.body.bytes()
+        refuse(told is not None and base64.b64decode(told) != hashlib.md5(body).digest(), "BadDigest")
+        refuse(not all(is_met(kind, value, body) for kind, value in self.checksums()), "BadDigest")
         return self.body
 
     def versioning(self):

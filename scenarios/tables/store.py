@@ -317,7 +317,7 @@ class Store:
         size_told = [f"Content-Range: bytes */{data.body.size}"] if self.dialect == S3 else []
         part = range_of(request.line("range"), data.body.size, size_told)
         told += of_got(data.tag, version.moment, data.content_type)
-        told += [f"x-amz-meta-{name}: {value}" for name, value in data.metadata.items()]
+        told += [f"{name}: {value}" for name, value in data.metadata.items()]
         if part is None:
             return self.reply(200, told, data.body)
         told.append(f"Content-Range: bytes {part[0]}-{part[1]}/{data.body.size}")

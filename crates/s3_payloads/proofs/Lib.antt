@@ -3,6 +3,10 @@ pub mod WordLemmas
 pub mod WholeLemmas
 pub mod StandsLemmas
 pub mod ChunkLemmas
+pub mod SummedLemmas
+pub mod TrailedLemmas
+pub mod TrailedForLemmas
+pub mod TrailedLawLemmas
 pub mod ReaderLemmas
 pub mod JudgeLemmas
 pub mod FinalLemmas

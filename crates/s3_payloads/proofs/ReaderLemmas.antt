@@ -18,8 +18,9 @@ pub chunks_fed_for : (form : Form) (announced : Announced) (old new : ChunksRead
     → ((terms : Terms) → chunked.Stands old.chunks terms bytes false old.payload
     → FedTo piece (part_of terms.encoded bytes piece) (chunked.Stands new.chunks terms (bytes ++ piece) false new.payload) (chunked.Failed new.chunks) result)
     → FedTo piece (part_of announced.length bytes piece) (ChunksFor form new announced (bytes ++ piece) false) (chunked.Failed new.chunks) result
-chunks_fed_for (forms.Whole hash digest) announced old new bytes piece result stands fed = absurd stands
+chunks_fed_for (forms.Whole hash digests) announced old new bytes piece result stands fed = absurd stands
 chunks_fed_for (forms.Chunks decoded) announced old new bytes piece result stands fed = fed (terms_of announced decoded) stands
+chunks_fed_for (forms.UnsignedChunks decoded algorithm) announced old new bytes piece result stands fed = absurd stands
 
 -- the end of input
 pub chunks_ended_for : (form : Form) (announced : Announced) (old new : ChunksReader) (bytes : List ℕ) (result : Result ⊤ Code)
@@ -27,5 +28,6 @@ pub chunks_ended_for : (form : Form) (announced : Announced) (old new : ChunksRe
     → ((terms : Terms) → chunked.Stands old.chunks terms bytes false old.payload
     → EndedTo (chunked.Stands new.chunks terms bytes true new.payload) (chunked.Failed new.chunks) (chunked.IsDone new.chunks) result)
     → EndedTo (ChunksFor form new announced bytes true) (chunked.Failed new.chunks) (chunked.IsDone new.chunks) result
-chunks_ended_for (forms.Whole hash digest) announced old new bytes result stands ended = absurd stands
+chunks_ended_for (forms.Whole hash digests) announced old new bytes result stands ended = absurd stands
 chunks_ended_for (forms.Chunks decoded) announced old new bytes result stands ended = ended (terms_of announced decoded) stands
+chunks_ended_for (forms.UnsignedChunks decoded algorithm) announced old new bytes result stands ended = absurd stands

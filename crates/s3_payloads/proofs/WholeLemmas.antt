@@ -6,6 +6,7 @@ use Rattle.std.proofs.lemmas.List.{append-nil, take_all, length-append, length-t
 use Rattle.std.proofs.lemmas.Bool.{cases_Bool, cases_lt}
 use Rattle.std.proofs.Math.Seq.{take-append-add, take-append_seam}
 use Rattle.s3_terms.specs.declared.code.Code.{Code}
+use Rattle.s3_payloads.specs.declared.form.Digests.{Digests}
 use Rattle.s3_payloads.specs.declared.whole.Stage.{Stage}
 use Rattle.s3_payloads.specs.declared.whole.Stage.TheVariants as stages
 use Rattle.s3_payloads.specs.Whole.{EndedAt, FedAt, FinishedAt, WholeState, IsRead, IsStage, answered, at_stage, body_part, told, verdict_on, with_bytes}
@@ -24,10 +25,10 @@ undecided place bytes held code true is = cc
 undecided place bytes held code false is = cc
 
 -- once it is whole, it is judged
-pub whole_bytes : (hash digest : Option (List ℕ)) (size : ℕ) (ended : Bool) (bytes : List ℕ) → length bytes ≡ size
-    → whole_verdict hash digest size ended bytes ≡ decided_at (length bytes) (checked_data hash digest bytes)
+pub whole_bytes : (hash : Option (List ℕ)) (digests : Digests) (size : ℕ) (ended : Bool) (bytes : List ℕ) → length bytes ≡ size
+    → whole_verdict hash digests size ended bytes ≡ decided_at (length bytes) (checked_data hash digests bytes)
 unfolding whole_verdict
-whole_bytes hash digest size ended bytes many =
+whole_bytes hash digests size ended bytes many =
     let all : take size bytes ≡ bytes = take_all size bytes (omega arith) in
     grind (arith, nat_tests, all)
 
@@ -36,11 +37,11 @@ pub cut_at : (bytes piece : List ℕ) (more size : ℕ) → size ≡ length byte
 cut_at bytes piece more size is = rw is (take-append-add bytes piece more)
 
 -- what comes behind the last byte is not judged, and is not taken
-pub verdict_cut : (hash digest : Option (List ℕ)) (size : ℕ) (bytes piece : List ℕ) → length bytes ≤ size
-    → whole_verdict hash digest size false (bytes ++ take (min (length piece) (size - length bytes)) piece)
-    ≡ whole_verdict hash digest size false (bytes ++ piece)
+pub verdict_cut : (hash : Option (List ℕ)) (digests : Digests) (size : ℕ) (bytes piece : List ℕ) → length bytes ≤ size
+    → whole_verdict hash digests size false (bytes ++ take (min (length piece) (size - length bytes)) piece)
+    ≡ whole_verdict hash digests size false (bytes ++ piece)
 unfolding whole_verdict
-verdict_cut hash digest size bytes piece within = elim (cases_lt (size - length bytes) (length piece)) [
+verdict_cut hash digests size bytes piece within = elim (cases_lt (size - length bytes) (length piece)) [
   | inr short ↦
       let part : min (length piece) (size - length bytes) ≡ length piece = omega arith in
       rw (part, take_all (length piece) piece (omega arith)) refl
@@ -68,12 +69,12 @@ read_part old read new piece stage len result within taken is judged part answer
     record {
       taken = rw (is, taken) refl;
       same = rw (is, taken) refl;
-      told = rw (is, taken) (told_cut ∙ verdict_cut old.hash old.digest old.size old.bytes piece within);
+      told = rw (is, taken) (told_cut ∙ verdict_cut old.hash old.digests old.size old.bytes piece within);
       answer = rw (is, ← part) answer;
     }
 
 -- a body that has passed stays accepted, whatever comes behind it
-pub passed_verdict : (s : WholeState) (ended : Bool) (more : List ℕ) → IsStage s.hash s.digest s.size s.bytes stages.Passed
+pub passed_verdict : (s : WholeState) (ended : Bool) (more : List ℕ) → IsStage s.hash s.digests s.size s.bytes stages.Passed
     → verdict_on s ended (s.bytes ++ more) ≡ Accepted s.bytes
 unfolding whole_verdict
 passed_verdict s ended more (many, passed) =
@@ -81,7 +82,7 @@ passed_verdict s ended more (many, passed) =
     rw (nat_le-true s.size (length (s.bytes ++ more)) (omega (arith, length-append s.bytes more)), whole, passed) refl
 
 -- and then nothing is taken
-pub pass_part : (s : WholeState) (piece : List ℕ) → IsStage s.hash s.digest s.size s.bytes s.stage → s.stage ≡ stages.Passed
+pub pass_part : (s : WholeState) (piece : List ℕ) → IsStage s.hash s.digests s.size s.bytes s.stage → s.stage ≡ stages.Passed
     → IsRead s piece (Ok 0) s
 pass_part s piece kept is =
     let passed = rw is at kept in
@@ -94,7 +95,7 @@ pass_part s piece kept is =
     }
 
 -- and nothing changes at the end
-pub pass_end : (stage : Stage) (s : WholeState) → IsStage s.hash s.digest s.size s.bytes s.stage → s.stage ≡ stage
+pub pass_end : (stage : Stage) (s : WholeState) → IsStage s.hash s.digests s.size s.bytes s.stage → s.stage ≡ stage
     → stage ≡ stages.Passed → EndedAt stage s (Ok tt) s
 pass_end stages.Reading s kept is other = absurd (cc)
 pass_end (stages.Failed code) s kept is other = absurd (cc)
@@ -107,16 +108,16 @@ decided_never_open place (Ok all) bytes is = cc
 decided_never_open place (Err code) bytes is = cc
 
 -- nothing stays open once no more bytes come
-pub never_open : (hash digest : Option (List ℕ)) (size : ℕ) (bytes other : List ℕ) → Open other ≡ whole_verdict hash digest size true bytes → ⊥
+pub never_open : (hash : Option (List ℕ)) (digests : Digests) (size : ℕ) (bytes other : List ℕ) → Open other ≡ whole_verdict hash digests size true bytes → ⊥
 unfolding whole_verdict
-never_open hash digest size bytes other is = elim (cases_Bool (nat_le size (length bytes))) [
-  | inl whole ↦ decided_never_open size (checked_data hash digest (take size bytes)) other (rw whole at is)
+never_open hash digests size bytes other is = elim (cases_Bool (nat_le size (length bytes))) [
+  | inl whole ↦ decided_never_open size (checked_data hash digests (take size bytes)) other (rw whole at is)
   | inr part ↦ let refused = rw part at is in cc
 ]
 
 ended_ok : (s new : WholeState) (stage : Stage) (result : Result ⊤ Code) → told new.bytes stage ≡ verdict_on s true s.bytes
     → result ≡ answered tt stage → result ≡ Ok tt → verdict_on s true s.bytes ≡ Accepted new.bytes
-ended_ok s new stages.Reading result is answer ok = absurd (never_open s.hash s.digest s.size s.bytes new.bytes is)
+ended_ok s new stages.Reading result is answer ok = absurd (never_open s.hash s.digests s.size s.bytes new.bytes is)
 ended_ok s new stages.Passed result is answer ok = sym is
 ended_ok s new (stages.Failed code) result is answer ok = let other = sym answer ∙ ok in absurd (cc)
 

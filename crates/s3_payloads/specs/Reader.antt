@@ -11,25 +11,36 @@ use Rattle.s3_payloads.specs.declared.form.Form.TheVariants as forms
 use Rattle.s3_payloads.specs.declared.reader.PayloadReader.{PayloadReader}
 use Rattle.s3_payloads.specs.declared.reader.Mode.{Mode}
 use Rattle.s3_payloads.specs.declared.reader.Mode.TheVariants as modes
+use Rattle.s3_payloads.specs.declared.trailed.TrailedReader.{TrailedReader}
 use Rattle.s3_payloads.specs.declared.whole.Stage.TheVariants as stages
 use Rattle.s3_payloads.specs.Form.{Announced}
 use Rattle.s3_payloads.specs.Outcome.{FedTo, EndedTo, part_of}
-use Rattle.s3_payloads.specs.Verdict.{terms_of}
+use Rattle.s3_payloads.specs.Trailed.{TrailedDone, TrailedFailed, TrailedStands, trailed_by, trailed_taken}
+use Rattle.s3_payloads.specs.Verdict.{terms_of, trailed_terms}
 use Rattle.s3_payloads.specs.Whole.{WholeState, WholeStands, told}
 
 abbrev pub WholeFor : Form → WholeState → Announced → List ℕ → Bool → Type 0
-WholeFor (forms.Whole hash digest) whole announced bytes ended =
-    WholeStands whole hash digest announced.length bytes ended
+WholeFor (forms.Whole hash digests) whole announced bytes ended =
+    WholeStands whole hash digests announced.length bytes ended
 WholeFor (forms.Chunks decoded) whole announced bytes ended = ⊥
+WholeFor (forms.UnsignedChunks decoded algorithm) whole announced bytes ended = ⊥
 
 abbrev pub ChunksFor : Form → ChunksReader → Announced → List ℕ → Bool → Type 0
-ChunksFor (forms.Whole hash digest) chunks announced bytes ended = ⊥
+ChunksFor (forms.Whole hash digests) chunks announced bytes ended = ⊥
 ChunksFor (forms.Chunks decoded) chunks announced bytes ended =
     chunked.Stands chunks.chunks (terms_of announced decoded) bytes ended chunks.payload
+ChunksFor (forms.UnsignedChunks decoded algorithm) chunks announced bytes ended = ⊥
+
+abbrev pub TrailedFor : Form → TrailedReader → Announced → List ℕ → Bool → Type 0
+TrailedFor (forms.Whole hash digests) trailed announced bytes ended = ⊥
+TrailedFor (forms.Chunks decoded) trailed announced bytes ended = ⊥
+TrailedFor (forms.UnsignedChunks decoded algorithm) trailed announced bytes ended =
+    TrailedStands trailed algorithm (trailed_terms announced decoded algorithm) bytes ended
 
 abbrev pub ModeStands : Mode → Announced → List ℕ → Bool → Type 0
 ModeStands (modes.Whole whole) announced bytes ended = WholeFor announced.form whole announced bytes ended
 ModeStands (modes.Chunks chunks) announced bytes ended = ChunksFor announced.form chunks announced bytes ended
+ModeStands (modes.Trailed trailed) announced bytes ended = TrailedFor announced.form trailed announced bytes ended
 
 -- after these bytes of a body that was announced so, and the end of the input where it has ended, the reader
 -- stands there; memory never ran out
@@ -45,6 +56,7 @@ Begins rule (Err code) = rule ≡ Err code
 abbrev pub mode_verdict : Mode → Verdict
 mode_verdict (modes.Whole whole) = told whole.bytes whole.stage
 mode_verdict (modes.Chunks chunks) = chunked.verdict_of chunks.chunks chunks.payload
+mode_verdict (modes.Trailed trailed) = trailed_by trailed
 
 -- what the reader says of its body
 abbrev pub verdict_of : PayloadReader → Verdict
@@ -53,6 +65,7 @@ verdict_of reader = mode_verdict reader.mode
 abbrev pub ModeFailed : Mode → Code → Type 0
 ModeFailed (modes.Whole whole) code = whole.stage ≡ stages.Failed code
 ModeFailed (modes.Chunks chunks) code = chunked.Failed chunks.chunks code
+ModeFailed (modes.Trailed trailed) code = TrailedFailed trailed code
 
 -- the reader has refused with this code
 abbrev pub HasFailed : PayloadReader → Code → Type 0
@@ -61,6 +74,7 @@ HasFailed reader code = ModeFailed reader.mode code
 abbrev pub ModePassed : Mode → Type 0
 ModePassed (modes.Whole whole) = whole.stage ≡ stages.Passed
 ModePassed (modes.Chunks chunks) = chunked.IsDone chunks.chunks
+ModePassed (modes.Trailed trailed) = TrailedDone trailed
 
 -- the reader has read a whole body, with nothing wrong
 abbrev pub HasPassed : PayloadReader → Type 0
@@ -69,6 +83,7 @@ HasPassed reader = ModePassed reader.mode
 abbrev pub mode_taken : Mode → ℕ
 mode_taken (modes.Whole whole) = length whole.bytes
 mode_taken (modes.Chunks chunks) = chunked.taken_of chunks.chunks
+mode_taken (modes.Trailed trailed) = trailed_taken trailed
 
 -- how many bytes of the body it has taken
 abbrev pub taken_of : PayloadReader → ℕ

@@ -2,19 +2,24 @@
 -- Only clauses of private functions cite these, and nobody has to believe them.
 use Rattle.std.specs.Prelude.{◌≡◌, ◌⊎◌, ℕ, ◌-◌, ◌<◌, Bool, true, false, min, List, ◌++◌, length, take, Option, Some, None, Result, Ok, Err, ⊤}
 use Rattle.sha2.specs.Hashers.{Holds256}
+use Rattle.s3_integrity.specs.declared.checksum.Checksum.{Checksum}
+use Rattle.s3_integrity.specs.Hasher.{Holds}
+use Rattle.s3_integrity.specs.Sum.{algorithm_of}
 use Rattle.s3_terms.specs.declared.code.Code.{Code}
 use Rattle.s3_terms.specs.declared.code.Code.TheVariants.{InternalError}
 use Rattle.s3_payloads.specs.Outcome.{EndedTo, FedTo, part_of}
 use Rattle.s3_payloads.specs.declared.whole.Stage.{Stage}
 use Rattle.s3_payloads.specs.declared.whole.Stage.TheVariants as stages
+use Rattle.s3_payloads.specs.declared.form.Digests.{Digests}
 use Rattle.s3_payloads.specs.declared.running_hash.RunningHash.{RunningHash}
+use Rattle.s3_payloads.specs.declared.running_sum.RunningSum.{RunningSum}
 use Rattle.s3_aws_chunked.specs.Verdict.{Verdict, Open, Accepted, Refused}
 use Rattle.s3_payloads.specs.Verdict.{checked_data, whole_verdict}
 
 -- what the reader knows: what has to be found, how many bytes there are, and those that were taken
 pub record WholeState : Type 0 where
   pub hash : Option (List ℕ)
-  pub digest : Option (List ℕ)
+  pub digests : Digests
   pub size : ℕ
   pub bytes : List ℕ
   pub stage : Stage
@@ -29,11 +34,21 @@ abbrev pub RunsOver : Option RunningHash → List ℕ → Type 0
 RunsOver None bytes = Unit {0}
 RunsOver (Some hash) bytes = Holds256 hash.running bytes
 
+-- the checksum that is told
+abbrev pub sum_told : Option RunningSum → Option Checksum
+sum_told None = None
+sum_told (Some sum) = Some sum.told
+
+-- it runs over these bytes
+abbrev pub SumsUp : Option RunningSum → List ℕ → Type 0
+SumsUp None bytes = Unit {0}
+SumsUp (Some sum) bytes = Holds sum.running (algorithm_of sum.told) bytes
+
 -- what was decided agrees with what was found
-abbrev pub IsStage : Option (List ℕ) → Option (List ℕ) → ℕ → List ℕ → Stage → Type 0
-IsStage hash digest size bytes stages.Reading = Unit {0}
-IsStage hash digest size bytes stages.Passed = (length bytes ≡ size) × (checked_data hash digest bytes ≡ Ok bytes)
-IsStage hash digest size bytes (stages.Failed code) = Unit {0}
+abbrev pub IsStage : Option (List ℕ) → Digests → ℕ → List ℕ → Stage → Type 0
+IsStage hash digests size bytes stages.Reading = Unit {0}
+IsStage hash digests size bytes stages.Passed = (length bytes ≡ size) × (checked_data hash digests bytes ≡ Ok bytes)
+IsStage hash digests size bytes (stages.Failed code) = Unit {0}
 
 -- nothing is refused
 abbrev pub IsOpen : Stage → Type 0
@@ -49,7 +64,7 @@ told bytes (stages.Failed code) = Refused (length bytes) code
 
 -- the verdict on so many bytes as these are, once they have ended or not
 abbrev pub verdict_on : WholeState → Bool → List ℕ → Verdict
-verdict_on s ended bytes = whole_verdict s.hash s.digest s.size ended bytes
+verdict_on s ended bytes = whole_verdict s.hash s.digests s.size ended bytes
 
 -- the same reader with these bytes, and at this stage
 abbrev pub with_bytes : WholeState → List ℕ → WholeState
@@ -103,21 +118,21 @@ FinishedAt other s (Ok bytes) = verdict_on s true s.bytes ≡ Accepted bytes
 FinishedAt other s (Err code) = verdict_on s true s.bytes ≡ Refused (length s.bytes) code
 
 -- after these bytes of a body of this length, and the end of the input where it has ended, the reader has the
--- body's part of them, and says what is known of the body; the hash and the MD5 are told where they are
-pub record WholeStands (s : WholeState) (hash digest : Option (List ℕ)) (size : ℕ) (bytes : List ℕ) (ended : Bool) : Type 0 where
+-- body's part of them, and says what is known of the body; the hash and the digests are told where they are
+pub record WholeStands (s : WholeState) (hash : Option (List ℕ)) (digests : Digests) (size : ℕ) (bytes : List ℕ) (ended : Bool) : Type 0 where
   pub hash_is : s.hash ≡ hash
-  pub digest_is : s.digest ≡ digest
+  pub digests_are : s.digests ≡ digests
   pub size_is : s.size ≡ size
   pub taken : s.bytes ≡ take size bytes
-  pub told : told s.bytes s.stage ≡ whole_verdict hash digest size ended bytes
+  pub told : told s.bytes s.stage ≡ whole_verdict hash digests size ended bytes
 
 -- what a piece brings behind these bytes: how much of it was taken, with the verdict; or a refusal, where memory
 -- ran out for some of the body's bytes, or by the verdict
-abbrev pub WholeFed : Option (List ℕ) → Option (List ℕ) → ℕ → List ℕ → List ℕ → Result ℕ Code → WholeState → Type 0
-WholeFed hash digest size bytes piece result new =
-    FedTo piece (part_of size bytes piece) (WholeStands new hash digest size (bytes ++ piece) false) (λ code. new.stage ≡ stages.Failed code) result
+abbrev pub WholeFed : Option (List ℕ) → Digests → ℕ → List ℕ → List ℕ → Result ℕ Code → WholeState → Type 0
+WholeFed hash digests size bytes piece result new =
+    FedTo piece (part_of size bytes piece) (WholeStands new hash digests size (bytes ++ piece) false) (λ code. new.stage ≡ stages.Failed code) result
 
 -- what the end of input brings
-abbrev pub WholeEnded : Option (List ℕ) → Option (List ℕ) → ℕ → List ℕ → Result ⊤ Code → WholeState → Type 0
-WholeEnded hash digest size bytes result new =
-    EndedTo (WholeStands new hash digest size bytes true) (λ code. new.stage ≡ stages.Failed code) (new.stage ≡ stages.Passed) result
+abbrev pub WholeEnded : Option (List ℕ) → Digests → ℕ → List ℕ → Result ⊤ Code → WholeState → Type 0
+WholeEnded hash digests size bytes result new =
+    EndedTo (WholeStands new hash digests size bytes true) (λ code. new.stage ≡ stages.Failed code) (new.stage ≡ stages.Passed) result

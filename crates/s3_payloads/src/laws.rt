@@ -2,6 +2,7 @@
 
 ghost use Rattle.s3_payloads.specs.Laws.{AcceptedAreWhole, DigestsAreEncoded, EndsDecide, OpenBodiesAreShort, OpenBodiesEndIncomplete, PayloadsCount, PayloadsFail, PayloadsJudge, PayloadsPass, PayloadsStayOpen, PayloadsStayWithin, PayloadsStopThere, RefusalsComeBehind, RefusalsStand, VerdictsAreOne, VerdictsExist, VerdictsStay, WholePayloadsAreBodies};
 
+use crate::trailed::trailed_bodies_are_judged;
 use s3_aws_chunked::readers_judge;
 
 /// A law: an MD5 is found in its base64 and in no other text, so that a Content-MD5 that lacks its padding,
@@ -23,6 +24,7 @@ pub fn payloads_are_judged()
     ensures undecided { PayloadsStayOpen }
 {
     readers_judge();
+    trailed_bodies_are_judged();
 }
 
 /// A law: what is decided about a body before its input has ended stays decided, whatever follows; the same bytes
@@ -35,6 +37,7 @@ pub fn verdicts_are_final()
     ensures end { EndsDecide }
 {
     s3_aws_chunked::verdicts_are_final();
+    trailed_bodies_are_judged();
 }
 
 /// A law: a body that is open lacks bytes of Content-Length, and is incomplete where its input ends there.
@@ -43,6 +46,7 @@ pub fn open_bodies_are_short()
     ensures incomplete { OpenBodiesEndIncomplete }
 {
     s3_aws_chunked::open_bodies_are_short();
+    trailed_bodies_are_judged();
 }
 
 /// A law: a refusal before the end of the input stands at its place: the bytes up to there have come, and they are
@@ -56,6 +60,7 @@ pub fn refusals_stand()
     readers_judge();
     s3_aws_chunked::refusals_stand();
     s3_aws_chunked::verdicts_are_final();
+    trailed_bodies_are_judged();
 }
 
 /// A law: a body is accepted once its last byte has come, by its own bytes alone; and where it is sent as it is,
@@ -65,4 +70,5 @@ pub fn accepted_bodies_are_whole()
     ensures payload { WholePayloadsAreBodies }
 {
     s3_aws_chunked::verdicts_are_final();
+    trailed_bodies_are_judged();
 }

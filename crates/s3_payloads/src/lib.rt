@@ -7,9 +7,12 @@ mod form;
 mod laws;
 mod reader;
 mod running_hash;
+mod running_sum;
+mod summed_data;
+mod trailed;
 mod whole;
 
-pub use form::{Form, form_of};
+pub use form::{Digests, Form, form_of};
 pub use laws::{
     accepted_bodies_are_whole, digests_are_encoded, open_bodies_are_short, payloads_are_judged,
     refusals_stand, verdicts_are_final,

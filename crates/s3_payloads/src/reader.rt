@@ -9,6 +9,7 @@ ghost use Rattle.s3_payloads.specs.Reader.{ModeStands};
 
 use crate::chunks::ChunksReader;
 use crate::form::{Form, form_of};
+use crate::trailed::TrailedReader;
 use crate::whole::WholeReader;
 use s3_bodies::Payload;
 use s3_config::Config;
@@ -24,6 +25,8 @@ pub(crate) enum Mode {
     Whole(WholeReader),
     // In signed chunks.
     Chunks(ChunksReader),
+    // In chunks without signatures.
+    Trailed(TrailedReader),
 }
 
 // How a body of so many bytes is read that is sent in this form, before any of it has come.
@@ -31,18 +34,23 @@ fn mode_of(alloc: Global, form: Form, length: u64, verified: &Verified) -> Mode
     ensures { ModeStands result (record { length = length; form = form; proved = verified.now }) [] false }
 {
     match form {
-        Form::Whole { hash, digest } => Mode::Whole(WholeReader::new(alloc, hash, digest, length)),
+        Form::Whole { hash, digests } => {
+            Mode::Whole(WholeReader::new(alloc, hash, digests, length))
+        }
         Form::Chunks { decoded } => {
             Mode::Chunks(ChunksReader::new(alloc, verified, length, decoded))
+        }
+        Form::UnsignedChunks { decoded, algorithm } => {
+            Mode::Trailed(TrailedReader::new(alloc, algorithm, length, decoded))
         }
     }
 }
 
-/// Reads the body of a verified message as its bytes arrive, whichever of the three payload words its head
-/// has.
+/// Reads the body of a verified message as its bytes arrive, whichever of the four payload words its head has: a hash,
+/// `UNSIGNED-PAYLOAD`, `STREAMING-AWS4-HMAC-SHA256-PAYLOAD` or `STREAMING-UNSIGNED-PAYLOAD-TRAILER`.
 ///
-/// However the bytes are cut, a body is refused at the same byte and with the same code. Each byte of data is
-/// copied once; MD5 runs over it, and SHA-256 where the word asks for it.
+/// However the bytes are cut, a body is refused at the same byte and with the same code. Each byte of data is copied once;
+/// MD5 runs over it, SHA-256 where the word asks for it, and a checksum where the head says one or announces its trailer.
 #[derive(Drop)]
 pub struct PayloadReader {
     mode: Mode,
@@ -56,9 +64,8 @@ impl PayloadReader {
     ///
     /// # Errors
     ///
-    /// For signed chunks: `InvalidRequest` where `x-amz-decoded-content-length` was not sent once, or is not 1
-    /// to 18 decimal digits, and `EntityTooLarge` where it is over the limit of the settings. Otherwise
-    /// `InvalidDigest` where Content-MD5 was sent several times, or is not the base64 of 16 bytes.
+    /// Those of `form_of`: `InvalidRequest`, `EntityTooLarge`, `InvalidDigest` and `NotImplemented`, where what the head says
+    /// of its body is wrong or isn't served.
     #[tactic(auto, unfolding(crate::specs::Form::announced_payload))]
     pub fn new(
         alloc: Global,
@@ -82,6 +89,7 @@ impl PayloadReader {
         match &self.mode {
             Mode::Whole(whole) => whole.is_whole(),
             Mode::Chunks(chunks) => chunks.is_whole(),
+            Mode::Trailed(trailed) => trailed.is_whole(),
         }
     }
 
@@ -92,20 +100,24 @@ impl PayloadReader {
         match &self.mode {
             Mode::Whole(whole) => whole.taken(),
             Mode::Chunks(chunks) => chunks.taken(),
+            Mode::Trailed(trailed) => trailed.taken(),
         }
     }
 
     /// Takes the next piece of the body, up to the end of Content-Length, and answers how many of its bytes it
-    /// took; what comes behind them is not looked at. Takes time by the length of the piece: MD5 over the data,
-    /// SHA-256 where the word asks for it, and one copy; and memory for the data.
+    /// took; what comes behind them is not looked at. Takes time by the length of the piece: MD5 over the data, SHA-256 and
+    /// a checksum where they are asked for, and one copy; and memory for the data.
     ///
     /// # Errors
     ///
     /// In the piece that brings the byte at which the body is refused, wherever the piece ends:
     /// `XAmzContentSHA256Mismatch` and then `BadDigest` at the last byte of a body that is sent as it is, where it
     /// has none in the first piece; `InvalidRequest`, `SignatureDoesNotMatch` and `IncompleteBody` for signed
-    /// chunks, as `s3_aws_chunked::ChunkReader` says; and `InternalError` where there is no memory for the data.
-    /// From then on the reader refuses always, with the same code.
+    /// chunks, as `s3_aws_chunked::ChunkReader` says; `InvalidRequest` and `IncompleteBody` for chunks without
+    /// signatures, as `s3_unsigned_chunks::UnsignedChunkReader` says, and at the last byte of those that are whole
+    /// `InvalidRequest` where the trailer's value is no checksum of the kind that `x-amz-trailer` names, and `BadDigest`
+    /// where the data has another; and `InternalError` where there is no memory for the data. From then on the reader
+    /// refuses always, with the same code.
     pub fn feed(&mut self, piece: &[u8]) -> Result<usize, Code>
         ensures stands { (announced : Announced) (bytes : List ℕ)
             → Stands self.old announced bytes false → IsFed announced bytes piece.now result self.new }
@@ -123,6 +135,7 @@ impl PayloadReader {
         match &mut self.mode {
             Mode::Whole(whole) => whole.feed(piece),
             Mode::Chunks(chunks) => chunks.feed(piece),
+            Mode::Trailed(trailed) => trailed.feed(piece),
         }
     }
 
@@ -146,6 +159,7 @@ impl PayloadReader {
         match &mut self.mode {
             Mode::Whole(whole) => whole.end(),
             Mode::Chunks(chunks) => chunks.end(),
+            Mode::Trailed(trailed) => trailed.end(),
         }
     }
 
@@ -162,6 +176,7 @@ impl PayloadReader {
         match self.mode {
             Mode::Whole(whole) => whole.finish(),
             Mode::Chunks(chunks) => chunks.finish(),
+            Mode::Trailed(trailed) => trailed.finish(),
         }
     }
 }

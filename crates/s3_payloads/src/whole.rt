@@ -1,13 +1,16 @@
 //! The reader of a body that is sent as it is.
 
 ghost use Rattle.std.specs.Prelude.{◌≡◌, ◌≤◌, ◌++◌, length, None, Some, Ok, Err, false, OnOk, OnErr, IfOk, IfErr, Bool, List, [], ℕ, ◌+◌, ◌<◌, take, Option};
+ghost use Rattle.s3_payloads.specs.declared.form.Digests.{Digests as Told};
 ghost use Rattle.s3_aws_chunked.specs.Reader.{said_at_end};
 ghost use Rattle.s3_aws_chunked.specs.Verdict.{accepts};
 ghost use Rattle.s3_payloads.specs.Outcome.{finished};
-ghost use Rattle.s3_payloads.specs.Verdict.{checked_data, has_digest, has_hash};
+ghost use Rattle.s3_payloads.specs.Verdict.{checked_data, has_checksum, has_hash, has_md5};
 ghost use Rattle.s3_payloads.specs.Whole.{WholeEnded, WholeFed, WholeStands, EndedAt, FedAt, FinishedAt, IsStage, answered, at_stage, body_part, told, verdict_on, with_bytes};
 
+use crate::form::Digests;
 use crate::running_hash::RunningHash;
+use crate::running_sum::{RunningSum, add_to_sum};
 use s3_bodies::{Payload, PayloadBuilder, Sink};
 use s3_terms::{Code, NoMemory};
 use std::alloc::Global;
@@ -29,7 +32,8 @@ pub(crate) enum Stage {
 #[derive(Drop)]
 pub(crate) struct WholeReader {
     hash: Option<RunningHash>,
-    digest: Option<[u8; 16]>,
+    md5: Option<[u8; 16]>,
+    sum: Option<RunningSum>,
     size: u64,
     payload: PayloadBuilder,
     stage: Stage,
@@ -37,13 +41,13 @@ pub(crate) struct WholeReader {
 
 impl Model for WholeReader {
     ghost use Rattle.std.specs.Prelude.{◌≤◌, length};
-    ghost use Rattle.s3_payloads.specs.Whole.{WholeState, hash_told, IsStage, RunsOver};
+    ghost use Rattle.s3_payloads.specs.Whole.{WholeState, hash_told, sum_told, IsStage, RunsOver, SumsUp};
 
     ghost Value = { WholeState };
 
     ghost view = { λ r. record {
       hash = hash_told r.hash;
-      digest = r.digest;
+      digests = record { md5 = r.md5; checksum = sum_told r.sum };
       size = r.size;
       bytes = r.payload;
       stage = r.stage;
@@ -51,19 +55,15 @@ impl Model for WholeReader {
 
     ghost invariant = { λ r.
         RunsOver r.hash r.payload
+        × SumsUp r.sum r.payload
         × (length r.payload ≤ r.size)
-        × IsStage (hash_told r.hash) r.digest r.size r.payload r.stage };
+        × IsStage (hash_told r.hash) (record { md5 = r.md5; checksum = sum_told r.sum }) r.size r.payload r.stage };
 }
 
 impl WholeReader {
     // A reader of a body of `size` bytes, of which none has come.
-    fn start(
-        alloc: Global,
-        hash: Option<[u8; 64]>,
-        digest: Option<[u8; 16]>,
-        size: u64,
-    ) -> WholeReader
-        ensures { result ≡ record { hash = hash; digest = digest; size = size; bytes = []; stage = Stage.Reading } }
+    fn start(alloc: Global, hash: Option<[u8; 64]>, digests: Digests, size: u64) -> WholeReader
+        ensures { result ≡ record { hash = hash; digests = digests; size = size; bytes = []; stage = Stage.Reading } }
     {
         let hash = match hash {
             Some(told) => Some(RunningHash::new(told)),
@@ -71,7 +71,8 @@ impl WholeReader {
         };
         WholeReader {
             hash,
-            digest,
+            md5: digests.md5,
+            sum: RunningSum::of(digests.checksum),
             size,
             payload: PayloadBuilder::new(alloc, size),
             stage: Stage::Reading,
@@ -82,12 +83,12 @@ impl WholeReader {
     pub(crate) fn new(
         alloc: Global,
         hash: Option<[u8; 64]>,
-        digest: Option<[u8; 16]>,
+        digests: Digests,
         size: u64,
     ) -> WholeReader
-        ensures { WholeStands result hash digest size [] false }
+        ensures { WholeStands result hash digests size [] false }
     {
-        let mut reader = WholeReader::start(alloc, hash, digest, size);
+        let mut reader = WholeReader::start(alloc, hash, digests, size);
         reader.stage = reader.stage_at(false);
         reader
     }
@@ -103,11 +104,21 @@ impl WholeReader {
     }
 
     // Whether they have the MD5 that is told.
-    fn has_digest(&self) -> bool
-        ensures { result ≡ has_digest self.now.digest self.now.bytes }
+    fn has_md5(&self) -> bool
+        ensures { result ≡ has_md5 self.now.digests.md5 self.now.bytes }
     {
-        match &self.digest {
+        match &self.md5 {
             Some(digest) => self.payload.digest().as_slice() == digest.as_slice(),
+            None => true,
+        }
+    }
+
+    // Whether they have the checksum that is told.
+    fn has_checksum(&self) -> bool
+        ensures { result ≡ has_checksum self.now.digests.checksum self.now.bytes }
+    {
+        match &self.sum {
+            Some(sum) => sum.is_met(),
             None => true,
         }
     }
@@ -115,13 +126,13 @@ impl WholeReader {
     // What is wrong with the bytes so far, if they are the whole body.
     #[tactic(auto, unfolding(crate::specs::Verdict::checked_data))]
     fn check(&self) -> Result<(), Code>
-        ensures ok { OnOk result (checked_data self.now.hash self.now.digest self.now.bytes ≡ Ok self.now.bytes) }
-        ensures err { IfErr result (λ code. checked_data self.now.hash self.now.digest self.now.bytes ≡ Err code) }
+        ensures ok { OnOk result (checked_data self.now.hash self.now.digests self.now.bytes ≡ Ok self.now.bytes) }
+        ensures err { IfErr result (λ code. checked_data self.now.hash self.now.digests self.now.bytes ≡ Err code) }
     {
         if !self.has_hash() {
             return Err(Code::XAmzContentSHA256Mismatch);
         }
-        if !self.has_digest() {
+        if !(self.has_md5() && self.has_checksum()) {
             return Err(Code::BadDigest);
         }
         Ok(())
@@ -132,7 +143,7 @@ impl WholeReader {
     #[tactic(auto, unfolding(crate::specs::Verdict::whole_verdict), using(crate::proofs::WholeLemmas::whole_bytes))]
     fn stage_at(&self, ended: bool) -> Stage
         ensures told { told self.now.bytes result ≡ verdict_on self.now ended self.now.bytes }
-        ensures kept { IsStage self.now.hash self.now.digest self.now.size self.now.bytes result }
+        ensures kept { IsStage self.now.hash self.now.digests self.now.size self.now.bytes result }
     {
         if self.payload.size() < self.size {
             return if ended {
@@ -159,6 +170,7 @@ impl WholeReader {
         if let Some(hash) = &mut self.hash {
             hash.update(piece);
         }
+        add_to_sum(&mut self.sum, piece);
         Ok(())
     }
 
@@ -183,7 +195,7 @@ impl WholeReader {
 
     // Leaves the reader at this stage, which tells what the call answers.
     fn leave<T: Drop>(&mut self, stage: Stage, value: T) -> Result<T, Code>
-        requires { IsStage self.old.hash self.old.digest self.old.size self.old.bytes stage }
+        requires { IsStage self.old.hash self.old.digests self.old.size self.old.bytes stage }
         ensures stage { self.new ≡ at_stage self.old stage }
         ensures answer { result ≡ answered value stage }
     {
@@ -270,9 +282,9 @@ impl WholeReader {
     // Takes as much of the piece as is the body's, and judges it: how many bytes that were. After a refusal
     // the answer is always its code.
     pub(crate) fn feed(&mut self, piece: &[u8]) -> Result<usize, Code>
-        ensures stands { (hash digest : Option (List ℕ)) (size : ℕ) (bytes : List ℕ)
-            → WholeStands self.old hash digest size bytes false
-            → WholeFed hash digest size bytes piece.now result self.new }
+        ensures stands { (hash : Option (List ℕ)) (digests : Told) (size : ℕ) (bytes : List ℕ)
+            → WholeStands self.old hash digests size bytes false
+            → WholeFed hash digests size bytes piece.now result self.new }
         ensures count { IfOk result (λ n. length self.new.bytes ≡ length self.old.bytes + n) }
         ensures counts { (length self.old.bytes ≤ length self.new.bytes)
             × (length self.new.bytes ≤ length self.old.bytes + length piece.now) }
@@ -285,11 +297,11 @@ impl WholeReader {
 
     // Says that no more bytes come: the code of what is wrong with the body then.
     pub(crate) fn end(&mut self) -> Result<(), Code>
-        ensures stands { (hash digest : Option (List ℕ)) (size : ℕ) (bytes : List ℕ)
-            → WholeStands self.old hash digest size bytes false
-            → WholeEnded hash digest size bytes result self.new }
-        ensures says { (hash digest : Option (List ℕ)) (size : ℕ) (bytes : List ℕ)
-            → WholeStands self.old hash digest size bytes false
+        ensures stands { (hash : Option (List ℕ)) (digests : Told) (size : ℕ) (bytes : List ℕ)
+            → WholeStands self.old hash digests size bytes false
+            → WholeEnded hash digests size bytes result self.new }
+        ensures says { (hash : Option (List ℕ)) (digests : Told) (size : ℕ) (bytes : List ℕ)
+            → WholeStands self.old hash digests size bytes false
             → result ≡ said_at_end (told self.old.bytes self.old.stage) }
         ensures bytes { self.new.bytes ≡ self.old.bytes }
         ensures err { IfErr result (λ code. self.new.stage ≡ Stage.Failed code) }
@@ -301,8 +313,8 @@ impl WholeReader {
 
     // The payload, as no more bytes come.
     pub(crate) fn finish(self) -> Result<Payload, Code>
-        ensures says { (hash digest : Option (List ℕ)) (size : ℕ) (bytes : List ℕ) (ended : Bool)
-            → WholeStands self hash digest size bytes ended
+        ensures says { (hash : Option (List ℕ)) (digests : Told) (size : ℕ) (bytes : List ℕ) (ended : Bool)
+            → WholeStands self hash digests size bytes ended
             → result ≡ finished (told self.bytes self.stage) }
         ensures refuses { (code : Code) → self.stage ≡ Stage.Failed code → result ≡ Err code }
     {

@@ -3,6 +3,7 @@ use Rattle.std.proofs.Common.{◌≡◌, ℕ, Bool, true, false, List, Option, S
 use Rattle.std.specs.Prelude.{⊤, if◌then◌else◌, ok_or, not, ◌&&◌, ◌==◌, nat_lt, length, codes}
 use Rattle.s3_config.specs.Settings.{Settings, secret_of}
 use Rattle.s3_terms.specs.Fault.{refuse, ◌>>◌, ◌>>=◌}
+use Rattle.s3_terms.specs.declared.dialect.Dialect.{Dialect}
 use Rattle.s3_terms.specs.declared.code.Code.{Code}
 use Rattle.s3_terms.specs.declared.code.Code.TheVariants.{AccessDenied, AuthorizationHeaderMalformed, AuthorizationQueryParametersError, EntityTooLarge, InternalError, InvalidAccessKeyId, InvalidArgument, InvalidRequest, InvalidURI, MissingContentLength, NotImplemented, RequestTimeTooSkewed}
 use Rattle.s3_calendar.specs.Moment.{stamp_seconds}
@@ -76,13 +77,13 @@ never_line head =
     never_then _ _ (never_some (first_value (codes "x-amz-content-sha256") head) InvalidRequest refl)
     (λ text. never_refuse (not (length (word_lines head) == 1)) InvalidArgument refl _ (never_ok text))
 
-never_word_of : (text : List ℕ) → Never (word_of text)
+never_word_of : (dialect : Dialect) (text : List ℕ) → Never (word_of dialect text)
 unfolding word_of
-never_word_of text = never_refuse _ NotImplemented refl _ (never_refuse _ InvalidArgument refl _ (never_ok text))
+never_word_of dialect text = never_refuse _ NotImplemented refl _ (never_refuse _ InvalidArgument refl _ (never_ok text))
 
-never_word : (head : HeadParts) → Never (word_at head)
+never_word : (dialect : Dialect) (head : HeadParts) → Never (word_at dialect head)
 unfolding word_at
-never_word head = never_then _ _ (never_line head) never_word_of
+never_word dialect head = never_then _ _ (never_line head) (never_word_of dialect)
 
 never_lines : (settings : Settings) (head : HeadParts) (moment : ℕ) → Never (checked_lines settings head moment)
 unfolding checked_lines secret_at
@@ -91,7 +92,7 @@ never_lines settings head moment =
     (never_refuse (is_other_scope settings sent stamp) AuthorizationHeaderMalformed refl _
     (never_then _ _ (never_some (secret_of settings.keys sent.id) InvalidAccessKeyId refl)
     (λ secret. never_refuse (not (is_near (stamp_seconds stamp) moment)) RequestTimeTooSkewed refl _ (never_ok secret))))
-    (λ secret. never_then _ _ (never_word head) (λ word. never_refuse _ AccessDenied refl _ (never_ok _)))))
+    (λ secret. never_then _ _ (never_word settings.dialect head) (λ word. never_refuse _ AccessDenied refl _ (never_ok _)))))
 
 -- ---- of a query
 

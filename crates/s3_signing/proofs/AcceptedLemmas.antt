@@ -13,6 +13,7 @@ use Rattle.s3_text.specs.Digest.{is_hex_digest}
 use Rattle.s3_text.proofs.JoinLemmas.{other_than}
 use Rattle.s3_text.proofs.ListLemmas.{all_weaker, is_some-first_kept}
 use Rattle.s3_text.proofs.OptionLemmas.{some_kept}
+use Rattle.s3_terms.specs.declared.dialect.Dialect.{Dialect}
 use Rattle.s3_terms.specs.declared.code.Code.TheVariants.{AccessDenied}
 use Rattle.s3_calendar.specs.Moment.{is_stamp, is_stamp_date, is_stamp_form, is_stamp_time, stamp_seconds, stamp_date}
 use Rattle.s3_config.specs.Settings.{Settings, Credentials, are_settings, are_access_keys, are_credentials, is_access_key_id, is_secret, is_region, is_id_byte, is_region_byte, secret_of}
@@ -28,6 +29,7 @@ use Rattle.s3_signing.specs.Signature.{signature_of}
 use Rattle.s3_signing.specs.Verdict.{Checked, authorization_at, checked_head, checked_lines, checked_stamp, head_verdict, is_near, is_word, key_proved, secret_at, sent_authorization, sent_stamp, sent_word, stamp_at, word_at, word_line, word_lines, word_of}
 use Rattle.s3_signing.proofs.CoverLemmas.{AreCut, cover_enough, cover_form, cover_others}
 use Rattle.s3_signing.proofs.OtherLineLemmas.{signature_same, values_of_other}
+use Rattle.s3_signing.proofs.WordFormLemmas.{word_in}
 
 -- ---- what is known of a signer and of a stamp
 
@@ -148,9 +150,9 @@ module _ (head signed : HeadParts) (value : List ℕ) (carries : Carries head va
       let first = get_within (word_lines head) one in
       rw (words_same, first.1, one) refl
 
-  own_word : length (word_lines head) ≡ 1 → is_word (sent_word head) ≡ true → word_at signed ≡ Ok (sent_word head)
+  own_word : (dialect : Dialect) → length (word_lines head) ≡ 1 → is_word (sent_word head) ≡ true → word_at dialect signed ≡ Ok (sent_word head)
   unfolding word_at word_of
-  own_word one sound = rw (own_line one, sound) refl
+  own_word dialect one sound = rw (own_line one, word_in dialect (sent_word head) sound) refl
 
   module _ (settings : Settings) (id secret region stamp : List ℕ) (knows : Knows settings id secret region) (ready : IsReady head stamp) (ordered : IsOrdered (names_to_cover head)) (cut : AreCut) where
     -- what the signer wrote
@@ -176,7 +178,7 @@ module _ (head signed : HeadParts) (value : List ℕ) (carries : Carries head va
     own_checked : (moment : ℕ) → is_near (stamp_seconds stamp) moment ≡ true → authorization_of value ≡ Some meant → checked_head settings signed moment ≡ Ok found
     unfolding checked_head checked_lines
     own_checked moment near is =
-        rw (target_passes ready.readable, ready.unsigned_query, own_authorization meant is, own_stamp stamp ready.stamped, own_secret moment near, own_word ready.one_word ready.word, cover_enough head ready.names ready.host ordered cut signed carries.lines) refl
+        rw (target_passes ready.readable, ready.unsigned_query, own_authorization meant is, own_stamp stamp ready.stamped, own_secret moment near, own_word settings.dialect ready.one_word ready.word, cover_enough head ready.names ready.host ordered cut signed carries.lines) refl
 
     -- and the signature is the formula
     own_key : key_proved settings signed found ≡ Ok (signing_key secret (stamp_date stamp) region)

@@ -7,5 +7,6 @@ pub mod OrderLemmas
 pub mod OtherLineLemmas
 pub mod PresigningLemmas
 pub mod VerdictLemmas
+pub mod WordFormLemmas
 pub mod WordLemmas
 pub mod WritingLemmas

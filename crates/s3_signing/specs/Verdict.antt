@@ -7,6 +7,8 @@ use Rattle.s3_text.specs.Digest.{is_hex_digest}
 use Rattle.s3_terms.specs.Fault.{refuse, ◌>>◌, ◌>>=◌}
 use Rattle.s3_config.specs.Settings.{Settings, are_settings, secret_of}
 use Rattle.s3_calendar.specs.Moment.{last_moment, is_stamp, stamp_seconds, stamp_date}
+use Rattle.s3_terms.specs.declared.dialect.Dialect.{Dialect}
+use Rattle.s3_terms.specs.declared.dialect.Dialect.TheVariants.{Json, S3}
 use Rattle.s3_terms.specs.declared.code.Code.{Code}
 use Rattle.s3_terms.specs.declared.code.Code.TheVariants.{AccessDenied, AuthorizationHeaderMalformed, AuthorizationQueryParametersError, InvalidAccessKeyId, RequestTimeTooSkewed, InvalidRequest, InvalidArgument, NotImplemented, SignatureDoesNotMatch}
 use Rattle.s3_http_heads.specs.Head.{HeadParts, values_of, first_value, is_sent, only}
@@ -17,7 +19,7 @@ use Rattle.s3_signing.specs.Cover.{covers_enough}
 use Rattle.s3_signing.specs.Key.{signing_key}
 use Rattle.s3_signing.specs.Presigned.{Presigned, is_presigned, presigned_at}
 use Rattle.s3_signing.specs.Signature.{signature_of}
-use Rattle.s3_signing.specs.Word.{signed_chunks, unsigned_payload}
+use Rattle.s3_signing.specs.Word.{signed_chunks, unsigned_chunks, unsigned_payload}
 
 -- the parts of the one Authorization line, if it has the form
 abbrev pub sent_authorization : HeadParts → Option authorization.Parts
@@ -57,6 +59,11 @@ abbrev pub is_word : List ℕ → Bool
 is_word word =
     is_hex_digest word || bytes_eq word unsigned_payload || bytes_eq word signed_chunks
 
+-- and a fourth in S3's dialect: chunks that are not signed
+abbrev pub is_word_in : Dialect → List ℕ → Bool
+is_word_in Json word = is_word word
+is_word_in S3 word = is_word word || bytes_eq word unsigned_chunks
+
 -- the parts of the one Authorization line
 unfoldable pub authorization_at : HeadParts → Result authorization.Parts Code
 authorization_at head = do
@@ -82,18 +89,18 @@ word_line head = do
   refuse (not (length (word_lines head) == 1)) InvalidArgument
   Ok text
 
--- the text as a word of one of the three forms
-unfoldable pub word_of : List ℕ → Result (List ℕ) Code
-word_of text = do
-  refuse (not (is_word text) && starts_with nat_eq text (codes "STREAMING-")) NotImplemented
-  refuse (not (is_word text)) InvalidArgument
+-- the text as a word of one of the dialect's forms
+unfoldable pub word_of : Dialect → List ℕ → Result (List ℕ) Code
+word_of dialect text = do
+  refuse (not (is_word_in dialect text) && starts_with nat_eq text (codes "STREAMING-")) NotImplemented
+  refuse (not (is_word_in dialect text)) InvalidArgument
   Ok text
 
 -- the word of that line
-unfoldable pub word_at : HeadParts → Result (List ℕ) Code
-word_at head = do
+unfoldable pub word_at : Dialect → HeadParts → Result (List ℕ) Code
+word_at dialect head = do
   text ← word_line head
-  word_of text
+  word_of dialect text
 
 -- what was found in a head: the parts of its authorization, its stamp, the secret of the authorization's
 -- id, and the word that stands for the body
@@ -109,7 +116,7 @@ checked_lines settings head moment = do
   sent ← authorization_at head
   stamp ← stamp_at head
   secret ← secret_at settings moment sent stamp
-  word ← word_at head
+  word ← word_at settings.dialect head
   refuse (not (covers_enough head sent.signed)) AccessDenied
   Ok (record { sent = sent; stamp = stamp; secret = secret; word = word })
 

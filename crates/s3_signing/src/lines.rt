@@ -11,7 +11,7 @@ use crate::word::Word;
 use s3_authorization::Authorization;
 use s3_calendar::Stamp;
 use s3_http_heads::{Head, is_named};
-use s3_terms::Code;
+use s3_terms::{Code, Dialect};
 
 const WORD_NAME: &[u8] = b"x-amz-content-sha256";
 
@@ -63,13 +63,13 @@ fn word_line(head: &Head) -> Result<&[u8], Code>
     Ok(text)
 }
 
-// The word that a text is.
+// The word that a text is in a dialect.
 #[tactic(auto, unfolding(crate::specs::Verdict::word_of))]
-fn word_of(text: &[u8]) -> Result<Word, Code>
-    ensures ok { IfOk result (λ word. rules.word_of text.now ≡ Ok (word_text word)) }
-    ensures err { IfErr result (λ code. rules.word_of text.now ≡ Err code) }
+fn word_of(dialect: Dialect, text: &[u8]) -> Result<Word, Code>
+    ensures ok { IfOk result (λ word. rules.word_of dialect text.now ≡ Ok (word_text word)) }
+    ensures err { IfErr result (λ code. rules.word_of dialect text.now ≡ Err code) }
 {
-    match Word::read(text) {
+    match Word::read_in(dialect, text) {
         Some(word) => Ok(word),
         None if text.starts_with(b"STREAMING-") => Err(Code::NotImplemented),
         None => Err(Code::InvalidArgument),
@@ -78,12 +78,12 @@ fn word_of(text: &[u8]) -> Result<Word, Code>
 
 // The word that stands for the body.
 #[tactic(auto, unfolding(crate::specs::Verdict::word_at))]
-pub(crate) fn word_at(head: &Head) -> Result<Word, Code>
-    ensures ok { IfOk result (λ word. rules.word_at head.now ≡ Ok (word_text word)) }
-    ensures err { IfErr result (λ code. rules.word_at head.now ≡ Err code) }
+pub(crate) fn word_at(dialect: Dialect, head: &Head) -> Result<Word, Code>
+    ensures ok { IfOk result (λ word. rules.word_at dialect head.now ≡ Ok (word_text word)) }
+    ensures err { IfErr result (λ code. rules.word_at dialect head.now ≡ Err code) }
 {
     let text = word_line(head)?;
-    word_of(text)
+    word_of(dialect, text)
 }
 
 // Whether the line names another word than that of a body that is not signed.

@@ -7,7 +7,7 @@ ghost use Rattle.hex.specs.Hex.{encode_lower};
 ghost use Rattle.s3_hmac.specs.Hmac.{hmac};
 ghost use Rattle.s3_canonical.specs.Request.{canonical_request};
 ghost use Rattle.s3_signing.specs.Signature.{string_to_sign};
-ghost use Rattle.s3_signing.specs.Verdict.{WasVerified, is_near, is_other_scope, is_word, proved_with};
+ghost use Rattle.s3_signing.specs.Verdict.{WasVerified, is_near, is_other_scope, is_word_in, proved_with};
 ghost use Rattle.s3_signing.specs.Verdict as rules;
 ghost use Rattle.s3_signing.specs.Word.{word_text};
 
@@ -25,7 +25,7 @@ use s3_calendar::{Moment, Stamp};
 use s3_canonical::request_hash;
 use s3_config::Config;
 use s3_http_heads::{Head, Target};
-use s3_terms::Code;
+use s3_terms::{Code, Dialect};
 use std::alloc::Global;
 use std::marker::Model;
 
@@ -106,7 +106,7 @@ impl Verified {
     #[tactic(auto, using(crate::proofs::VerdictLemmas::is_word_kept))]
     pub fn word(&self) -> Word
         ensures value { word_text result ≡ self.now.word }
-        ensures form { is_word self.now.word ≡ true }
+        ensures form { is_word_in Dialect.S3 self.now.word ≡ true }
         ensures kept { ∥ WasVerified self.now ∥₁ }
     {
         self.word
@@ -190,7 +190,7 @@ fn checked_lines<'a>(
     let sent = authorization_at(head)?;
     let stamp = stamp_at(head)?;
     let secret = secret_at(config, moment, &sent, &stamp)?;
-    let word = word_at(head)?;
+    let word = word_at(config.dialect(), head)?;
     if !covers_enough(head, sent.signed()) {
         return Err(Code::AccessDenied);
     }

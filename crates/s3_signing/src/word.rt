@@ -1,9 +1,10 @@
 //! The word that stands for the body of a signed request.
 
 ghost use Rattle.std.specs.Prelude.{◌≡◌, true, false, MatchOption};
-ghost use Rattle.s3_signing.specs.Verdict.{is_word};
+ghost use Rattle.s3_signing.specs.Verdict.{is_word, is_word_in};
 ghost use Rattle.s3_signing.specs.Word.{word_text};
 
+use s3_terms::Dialect;
 use s3_text::read_hex_digest;
 
 /// What the value of `x-amz-content-sha256` says of the body (Amazon S3 API Reference,
@@ -16,15 +17,35 @@ pub enum Word {
     Unsigned,
     /// `STREAMING-AWS4-HMAC-SHA256-PAYLOAD`: the body is chunks, and each has its own signature.
     Chunks,
+    /// `STREAMING-UNSIGNED-PAYLOAD-TRAILER`: the body is chunks without signatures, with a checksum behind them.
+    UnsignedChunks,
 }
 
 const UNSIGNED: &[u8] = b"UNSIGNED-PAYLOAD";
 
 const CHUNKS: &[u8] = b"STREAMING-AWS4-HMAC-SHA256-PAYLOAD";
 
+const UNSIGNED_CHUNKS: &[u8] = b"STREAMING-UNSIGNED-PAYLOAD-TRAILER";
+
 impl Word {
-    // The word that a text is; `None` for a text of no such form.
-    pub(crate) fn read(text: &[u8]) -> Option<Word>
+    // The word that a text is in a dialect; `None` for a text of no such form.
+    #[tactic(auto, using(crate::proofs::WordFormLemmas::unsigned_chunks_in, crate::proofs::WordFormLemmas::other_in))]
+    pub(crate) fn read_in(dialect: Dialect, text: &[u8]) -> Option<Word>
+        ensures { MatchOption result
+            (is_word_in dialect text.now ≡ false)
+            (λ word. (is_word_in dialect text.now ≡ true) × (word_text word ≡ text.now)) }
+    {
+        if text != UNSIGNED_CHUNKS {
+            return Word::read(text);
+        }
+        match dialect {
+            Dialect::S3 => Some(Word::UnsignedChunks),
+            Dialect::Json => None,
+        }
+    }
+
+    // The word of any dialect that a text is; `None` for a text of no such form.
+    fn read(text: &[u8]) -> Option<Word>
         ensures { MatchOption result
             (is_word text.now ≡ false)
             (λ word. (is_word text.now ≡ true) × (word_text word ≡ text.now)) }
@@ -49,6 +70,7 @@ impl Word {
             Word::Hash(digits) => digits,
             Word::Unsigned => UNSIGNED,
             Word::Chunks => CHUNKS,
+            Word::UnsignedChunks => UNSIGNED_CHUNKS,
         }
     }
 }

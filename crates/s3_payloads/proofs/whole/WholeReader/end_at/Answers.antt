@@ -7,4 +7,4 @@ use Rattle.s3_payloads.proofs.whole.WholeReader.end_at.Goals as goal
 pub returns-in-Passed : goal.returns-in-Passed
 returns-in-Passed c =
     let passed : c.args.self.now.stage ≡ stages.Passed = sym (ap (λ (s : WholeState). s.stage) c.self.view_is) ∙ c.in-Passed.is in
-    pass_end c.args.self.now.stage c.args.self.now (rw (← c.self.view_is) (c.self.invariant.2)) refl passed
+    pass_end c.args.self.now.stage c.args.self.now (rw (← c.self.view_is) (c.self.invariant.3)) refl passed

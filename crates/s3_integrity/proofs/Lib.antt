@@ -1,0 +1,3 @@
+pub mod SumLemmas
+pub mod SpellingLemmas
+pub mod LawLemmas

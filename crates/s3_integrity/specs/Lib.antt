@@ -1,0 +1,4 @@
+pub mod Algorithm
+pub mod Hasher
+pub mod Laws
+pub mod Sum

@@ -1,0 +1,11 @@
+pub mod DigitLemmas
+pub mod SinkLemmas
+pub mod RunLemmas
+pub mod KeptLemmas
+pub mod ReaderLemmas
+pub mod FinalLemmas
+pub mod CourseLemmas
+pub mod AcceptLemmas
+pub mod StepLemmas
+pub mod WholeLemmas
+pub mod HoldLemmas

@@ -1,0 +1,9 @@
+pub mod Place
+pub mod Reading
+pub mod Verdict
+pub mod Sinks
+pub mod Reader
+pub mod Laws
+pub mod Finality
+pub mod Body
+pub use Rattle.s3_terms.specs.Code

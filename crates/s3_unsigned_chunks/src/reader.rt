@@ -1,0 +1,162 @@
+//! A reader of a body in chunks without signatures.
+
+ghost use Rattle.std.specs.Prelude.{◌≡◌, ◌≢◌, ℕ, ◌+◌, ◌<◌, ◌≤◌, ◌⊎◌, true, false, List, [], ◌++◌, length, IfOk, OnOk, IfErr, Err};
+ghost use Rattle.s3_integrity.specs.Algorithm.{header_of};
+ghost use Rattle.s3_unsigned_chunks.specs.Reading.{Terms};
+ghost use Rattle.s3_unsigned_chunks.specs.Verdict.{accepts};
+
+use crate::decoder::advance;
+use crate::place::Fault;
+use crate::standing::Standing;
+use s3_bodies::Sink;
+use s3_integrity::ChecksumAlgorithm;
+use s3_terms::Code;
+
+/// A reader of a body in chunks without signatures, with a checksum behind the last of them (Amazon S3 API Reference,
+/// "Authenticating requests", `STREAMING-UNSIGNED-PAYLOAD-TRAILER`), which is fed with the body as it comes.
+///
+/// It keeps no byte of the data: it hands it on. It takes no memory.
+#[derive(Drop)]
+pub struct UnsignedChunkReader {
+    // The kind of checksum that the trailer says.
+    algorithm: ChecksumAlgorithm,
+    // Content-Length.
+    encoded: u64,
+    standing: Standing,
+    // Whether memory ran out.
+    lost: bool,
+}
+
+impl UnsignedChunkReader {
+    ghost use Rattle.s3_unsigned_chunks.specs.Sinks.{Grows, got};
+    ghost use Rattle.s3_unsigned_chunks.specs.Reader.{Failed, IsDone, Stands, refusal_of, said_at_end, taken_of, value_of, verdict_by};
+
+    /// A reader of a body with a trailer of this kind of checksum, which `x-amz-trailer` names, with the length that
+    /// `Content-Length` says, which counts all bytes as they are sent, and the one that `x-amz-decoded-content-length` says,
+    /// which counts the data of the chunks.
+    pub fn new(algorithm: ChecksumAlgorithm, encoded: u64, decoded: u64) -> UnsignedChunkReader
+        ensures { Stands result (record { name = header_of algorithm; encoded = encoded; decoded = decoded }) [] false [] }
+    {
+        UnsignedChunkReader {
+            algorithm,
+            encoded,
+            standing: Standing::new(encoded, decoded),
+            lost: false,
+        }
+    }
+
+    // The code with which it has refused.
+    fn refusal(&self) -> Option<Code>
+        ensures { result ≡ refusal_of self.now }
+    {
+        if self.lost {
+            return Some(Code::InternalError);
+        }
+        self.standing.place.code()
+    }
+
+    /// Takes the next piece of the body, up to the end of Content-Length, and answers how many of its bytes it took. The
+    /// data of a chunk goes to the sink as it comes, so what a sink got of a body that is refused is to be thrown away.
+    ///
+    /// Takes time by the length of `piece`: the copy of the data into the sink.
+    ///
+    /// # Errors
+    ///
+    /// `InvalidRequest` and `IncompleteBody` in the piece that brings the byte at which the body is refused, wherever it
+    /// ends, and `InternalError` where the sink has no memory. From then on it refuses always, with the same code.
+    pub fn feed<S: Sink>(&mut self, piece: &[u8], sink: &mut S) -> Result<usize, Code>
+        // The reader stands after all bytes so far, and its sinks got what it stands for.
+        ensures stands { result ≢ Err Code.InternalError → (terms : Terms) (bytes held : List ℕ)
+            → Stands self.old terms bytes false held
+            → Stands self.new terms (bytes ++ «piece».now) false (held ++ got (S.taken sink.old) (S.taken sink.new)) }
+
+        // It answers what its place says.
+        ensures ok { IfOk result (λ n. (code : Code) → Failed self.new code → ⊥) }
+        ensures err { IfErr result (λ code. Failed self.new code) }
+        ensures count { IfOk result (λ n. taken_of self.new ≡ taken_of self.old + n) }
+
+        // Whatever it answers, it takes bytes of the piece alone.
+        ensures counts { (taken_of self.old ≤ taken_of self.new)
+            × (taken_of self.new ≤ taken_of self.old + length «piece».now) }
+        ensures within { IfOk result (λ n. n ≤ length «piece».now) }
+        ensures all { IfOk result (λ n. (terms : Terms) (bytes held : List ℕ) → Stands self.old terms bytes false held
+            → (n ≡ length «piece».now) ⊎ IsDone self.new) }
+
+        // What has refused refuses always, and takes nothing more.
+        ensures refuses { (code : Code) → Failed self.old code
+            → (result ≡ Err code) × (taken_of self.new ≡ taken_of self.old) × (S.taken sink.new ≡ S.taken sink.old) }
+
+        // A sink only grows.
+        ensures grows { Grows (S.taken sink.old) (S.taken sink.new) }
+
+        // Memory runs out in the sink alone, and for bytes of the piece.
+        ensures memory { result ≡ Err Code.InternalError
+            → Failed self.old Code.InternalError
+            ⊎ ((0 < length «piece».now) × (state : S) × (refused : List ℕ) × S.may_refuse state refused) }
+
+        // And only while bytes of Content-Length are to come.
+        ensures short { result ≡ Err Code.InternalError → (terms : Terms) (bytes held : List ℕ)
+            → Stands self.old terms bytes false held → length bytes < terms.encoded }
+    {
+        if let Some(code) = self.refusal() {
+            return Err(code);
+        }
+        let name = self.algorithm.header();
+        let Ok(count) = advance(&mut self.standing, name, self.encoded, piece, sink) else {
+            self.lost = true;
+            return Err(Code::InternalError);
+        };
+        match self.refusal() {
+            Some(code) => Err(code),
+            None => Ok(count),
+        }
+    }
+
+    /// Ends the input.
+    ///
+    /// # Errors
+    ///
+    /// `IncompleteBody` where the body isn't whole, and the code of an earlier refusal.
+    pub fn end(&mut self) -> Result<(), Code>
+        ensures stands { (terms : Terms) (bytes held : List ℕ)
+            → Stands self.old terms bytes false held → Stands self.new terms bytes true held }
+        ensures ok { OnOk result (IsDone self.new) }
+        ensures err { IfErr result (λ code. Failed self.new code) }
+
+        // It answers what it says of the body, where memory never ran out.
+        ensures says { self.old.lost ≡ false → (held : List ℕ) → result ≡ said_at_end (verdict_by self.old held) }
+        ensures refuses { (code : Code) → Failed self.old code → result ≡ Err code }
+        ensures taken { taken_of self.new ≡ taken_of self.old }
+        ensures value { value_of self.new ≡ value_of self.old }
+    {
+        if let Some(code) = self.refusal() {
+            return Err(code);
+        }
+        if self.standing.place.is_settled() {
+            return Ok(());
+        }
+        self.standing.refuse(Fault::Incomplete);
+        Err(Code::IncompleteBody)
+    }
+
+    /// Whether it has read a whole body, with nothing wrong.
+    pub fn is_whole(&self) -> bool
+        ensures { (held : List ℕ) → result ≡ accepts (verdict_by self.now held) }
+    {
+        self.standing.place.is_over()
+    }
+
+    /// How many bytes of the body it has taken; after a refusal of the body, the place of that.
+    pub fn taken(&self) -> u64
+        ensures { result ≡ taken_of self.now }
+    {
+        self.standing.taken
+    }
+
+    /// The value of the trailer, as far as it was read: all of it where the body is whole.
+    pub fn value(&self) -> &[u8]
+        ensures { «result».now ≡ value_of self.now }
+    {
+        self.standing.value.bytes()
+    }
+}
