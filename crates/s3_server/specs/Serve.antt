@@ -15,7 +15,7 @@ HasServer known o = (mode : ServeMode) × (settings : Settings) × IsServer know
 
 -- why a server that is asked for fails, each fault only where none that comes before it is there: first what is wrong with the
 -- options, the keys file and the settings, and then the file of the log, the folder, the address of the options, the output or the
--- memory
+-- memory; and a folder may fail later too, while the server runs
 abbrev pub IsServeFault : (List ℕ → Option (List ℕ)) → ServeOptions → Fault → Type 0
 IsServeFault known o (CannotListen address) =
     (option_map (λ text. text.now) o.listen ≡ Some address.now) × HasServer known o

@@ -185,9 +185,12 @@ impl<'a, S: Service> Worker<'a, S> {
         }
     }
 
-    // Takes the turns that wait to the store, and has their connections go on. Where what keeps the records has failed, all
-    // workers are told so.
+    // Takes the turns that wait to the store, and has their connections go on. Where what keeps the records has failed, none is
+    // taken, and all workers are told so.
     fn take_turns(&mut self, now: &Now) {
+        if self.slots.has_failed() {
+            return;
+        }
         let (buffer, registry) = (self.buffer.as_mut_slice(), self.poll.registry());
         let taken = self
             .held
