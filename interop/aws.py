@@ -13,8 +13,6 @@ from server import BUCKET, ID, REGION
 WHOLE, PARTS = "1GB", str(PART)
 AWS_CONFIG = f"""[default]
 region = {REGION}
-request_checksum_calculation = when_required
-response_checksum_validation = when_required
 s3 =
     addressing_style = path
     signature_version = s3v4

@@ -41,14 +41,7 @@ class Boto3(Client):
         """What clients and resources of this library are made with."""
         from botocore.config import Config
 
-        settings = {"s3": {"addressing_style": "path"}, "retries": {"total_max_attempts": 1}, "proxies": {}, **more}
-        try:
-            config = Config(
-                request_checksum_calculation="when_required", response_checksum_validation="when_required", **settings
-            )
-        except TypeError:
-            # A library of before these settings sends no checksums.
-            config = Config(**settings)
+        config = Config(**{"s3": {"addressing_style": "path"}, "retries": {"total_max_attempts": 1}, "proxies": {}, **more})
         place = {"endpoint_url": f"http://{self.address}", "region_name": REGION}
         return {**place, "aws_access_key_id": ID, "aws_secret_access_key": self.secret, "config": config}
 
