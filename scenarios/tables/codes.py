@@ -63,4 +63,5 @@ CODES = {
     "OwnershipControlsNotFoundError": (404, "The bucket has no ownership controls."),
     "ReplicationConfigurationNotFoundError": (404, "The bucket has no replication rules."),
     "ServerSideEncryptionConfigurationNotFoundError": (404, "The bucket has no default encryption."),
+    "InvalidStorageClass": (400, "The storage class is not valid."),
 }

@@ -11,6 +11,8 @@ START = 1369353600
 # How the names of user-defined metadata begin, and all names of system-defined metadata.
 METADATA = "x-amz-meta-"
 SYSTEM = ("cache-control", "content-disposition", "content-encoding", "content-language", "expires")
+# What a 304 has of the lines that a 200 to the same request would have (RFC 9110, section 15.4.5).
+OF_UNCHANGED = ("cache-control", "content-location", "date", "etag", "expires", "vary")
 # The headers that replies have, in their order.
 ORDER = (
     "Date",

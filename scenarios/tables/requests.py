@@ -53,6 +53,11 @@ UNSERVED_OF_WRITES = (
     "x-amz-grant-",
 )
 UNSERVED_OF_READS = ("x-amz-server-side-encryption-customer-",)
+# Conditions for what a copy replaces, and for the date and the size of what is deleted.
+UNSERVED_CONDITIONS = {
+    "copy_object": ("if-match", "if-none-match"),
+    "delete_object": ("x-amz-if-match-last-modified-time", "x-amz-if-match-size"),
+}
 UNSERVED_VALUES = {
     "x-amz-acl": {"private", "bucket-owner-full-control", "bucket-owner-read"},
     "x-amz-bucket-object-lock-enabled": {"false"},
@@ -60,6 +65,12 @@ UNSERVED_VALUES = {
     "x-amz-tagging-directive": {"COPY"},
     "x-amz-website-redirect-location": set(),
 }
+# What makes an object of a storage class, and the classes of S3.
+CLASSED = {"put_object", "copy_object", "create_multipart_upload"}
+CLASSES = set(
+    """STANDARD REDUCED_REDUNDANCY STANDARD_IA ONEZONE_IA INTELLIGENT_TIERING GLACIER DEEP_ARCHIVE OUTPOSTS GLACIER_IR SNOW
+    EXPRESS_ONEZONE FSX_OPENZFS FSX_ONTAP""".split()
+)
 # The conditions of a key that is to be deleted with others, which aren't there; and how a document says yes and no.
 CONDITIONS, TRUTHS = {"ETag", "LastModifiedTime", "Size"}, {"true": True, "false": False}
 VERSION_ID, UPLOAD_ID = re.compile(rb"null|v[0-9a-f]{16}"), re.compile(rb"u[0-9a-f]{16}")
@@ -163,10 +174,16 @@ class Request:
 
     def asks_for_more(self, operation):
         """Whether a line asks an operation for what isn't here."""
+        if any(map(self.all_of, UNSERVED_CONDITIONS.get(operation, ()))):
+            return True
         if operation in WRITES:
             others = (value not in said for name, said in UNSERVED_VALUES.items() for value in self.all_of(name))
             return any(map(self.values, UNSERVED_OF_WRITES)) or any(others)
         return operation == "get_object" and any(map(self.values, UNSERVED_OF_READS))
+
+    def asks_for_no_class(self, operation):
+        """Whether a line asks what makes an object for a storage class that is none."""
+        return operation in CLASSED and not CLASSES.issuperset(self.all_of("x-amz-storage-class"))
 
     def checksums(self):
         """The checksums that its lines tell of its body, by their kinds."""
@@ -191,11 +208,15 @@ class Request:
         refuse(content_type is not None and len(content_type.encode()) > 255)
         return "binary/octet-stream" if content_type is None else content_type, self.metadata()
 
-    def wants_none(self):
-        """Whether a write is to be refused where its key has an object."""
-        found = self.line("if-none-match")
-        refuse(found not in (None, "*"), "NotImplemented")
-        return found is not None
+    def tags_wanted(self):
+        """The tags one of which the object has to have that a write replaces or deletes, where they are named."""
+        return self.line("if-match") if is_s3(self) else None
+
+    def condition(self):
+        """Whether a write is to be refused where its key has an object, and the tags one of which that has to have."""
+        found, tags = self.line("if-none-match"), self.tags_wanted()
+        refuse(found not in (None, "*") or (found is not None and tags is not None), "NotImplemented")
+        return found is not None, tags
 
     def replaces(self):
         """Whether a copy has the media type and the metadata of its own head, and not those of its source. JSON has
@@ -434,5 +455,6 @@ def operation(request):
         if method == request.method and is_key == (request.key != b"") and is_so(request):
             refuse(found is None, "NotImplemented")
             refuse(is_s3(request) and request.asks_for_more(found), "NotImplemented")
+            refuse(is_s3(request) and request.asks_for_no_class(found), "InvalidStorageClass")
             return found
     raise Refused("MethodNotAllowed")

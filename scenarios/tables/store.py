@@ -9,7 +9,7 @@ import time
 from .bodies import Body
 from .codes import CODES
 from .documents import JSON, S3, document
-from .replies import START, of_got, of_stored, of_told, of_unmodified, reply
+from .replies import OF_UNCHANGED, START, of_got, of_stored, of_told, of_unmodified, reply
 from .requests import CONFIGURATIONS, Refused, is_s3, operation, refuse
 
 # The least size of a part, but for the last one, in the servers of scenarios.
@@ -177,6 +177,13 @@ class Bucket:
         is_made = any(version.number == number for version in self.keys.get(key, []))
         return is_made if name is None else name == id_of(number)
 
+    def admit(self, key, wants_none, tags):
+        """Refuses a write that wants no object, or one with one of some tags, where the key has another."""
+        found = self.current().get(key)
+        deny(wants_none and found is not None, "PreconditionFailed")
+        deny(tags is not None and found is None, "NoSuchKey")
+        deny(tags is not None and not matches(tags, found.data.tag), "PreconditionFailed")
+
     def picked(self, key, name):
         """The version that a get finds."""
         versions = self.keys.get(key, [])
@@ -277,9 +284,9 @@ class Store:
     # Objects.
 
     def put_object(self, request):
-        description, wants_none, body = request.description(), request.wants_none(), request.received()
+        description, condition, body = request.description(), request.condition(), request.received()
         data, bucket = Data(hashlib.md5(body.bytes()).hexdigest(), description, body), self.bucket(request)
-        deny(wants_none and request.key in bucket.current(), "PreconditionFailed")
+        bucket.admit(request.key, *condition)
         name = bucket.put(request.key, self.number, self.moment, data)
         return self.reply(200, [*shown(name), *of_stored(data.tag)])
 
@@ -310,14 +317,15 @@ class Store:
         bucket = self.bucket(request)
         version = bucket.picked(request.key, name)
         data, told = version.data, shown(bucket.mode and version.name)
+        kept = {name: f"{name}: {value}" for name, value in data.metadata.items()}
         status = judged(request, "", version)
         deny(status == 412, "PreconditionFailed")
         if status == 304:
+            told += [line for name, line in kept.items() if name in OF_UNCHANGED]
             return self.reply(304, [*told, *of_unmodified(data.tag, version.moment)])
         size_told = [f"Content-Range: bytes */{data.body.size}"] if self.dialect == S3 else []
         part = range_of(request.line("range"), data.body.size, size_told)
-        told += of_got(data.tag, version.moment, data.content_type)
-        told += [f"{name}: {value}" for name, value in data.metadata.items()]
+        told += [*of_got(data.tag, version.moment, data.content_type), *kept.values()]
         if part is None:
             return self.reply(200, told, data.body)
         told.append(f"Content-Range: bytes {part[0]}-{part[1]}/{data.body.size}")
@@ -330,8 +338,10 @@ class Store:
         return self.told({"TagSet": {}}, shown(bucket.mode and version.name))
 
     def delete_object(self, request):
-        name = request.version_id()
+        name, tags = request.version_id(), request.tags_wanted()
+        refuse(name is not None and tags is not None, "NotImplemented")
         bucket = self.bucket(request)
+        bucket.admit(request.key, False, tags)
         marker = bucket.delete(request.key, name, self.number, self.moment)
         return self.reply(204, [*shown(bucket.mode and (name or marker)), *(MARKER if marker else [])])
 
@@ -380,9 +390,9 @@ class Store:
         return self.told(facts, lines, root="CopyPartResult")
 
     def complete_multipart_upload(self, request):
-        name, wants_none, listed = request.upload_id(), request.wants_none(), request.listed_parts()
+        name, condition, listed = request.upload_id(), request.condition(), request.listed_parts()
         upload, bucket = self.upload(request, name), self.bucket(request)
-        deny(wants_none and request.key in bucket.current(), "PreconditionFailed")
+        bucket.admit(request.key, *condition)
         data = upload.joined(listed)
         del bucket.uploads[request.key, name]
         version = bucket.put(request.key, self.number, self.moment, data)

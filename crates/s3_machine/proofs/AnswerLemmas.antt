@@ -34,6 +34,7 @@ use Rattle.s3_machine.specs.declared.command.Found.{Found}
 use Rattle.s3_machine.specs.declared.command.ObjectCopy.{ObjectCopy}
 use Rattle.s3_machine.specs.declared.command.Source.{Source as CopySource}
 use Rattle.s3_machine.specs.declared.command.Outcome.TheVariants as outcomes
+use Rattle.s3_machine.specs.declared.command.WriteCondition.{WriteCondition}
 use Rattle.s3_machine.specs.declared.rules.Rules.{Rules}
 use Rattle.s3_terms.specs.Fault.{◌>>◌, ◌>>=◌}
 use Rattle.s3_machine.specs.Fault.{refuse, as_refusal}
@@ -294,29 +295,29 @@ copy_versions_are_kept tells law rules s n entries legal before between later co
 -- ---- completions
 
 -- what a completion stores is what its upload's listed parts make
-made_of : (s : State) (n t : ℕ) (upload : UploadPlace) (listed : List ListedPart) (if_absent : Bool) (found : Option (Upload (List ℕ)))
+made_of : (s : State) (n t : ℕ) (upload : UploadPlace) (listed : List ListedPart) (condition : WriteCondition) (found : Option (Upload (List ℕ)))
     (object : Object)
     → open_at s upload ≡ found
-    → option_map (object_of s n t upload.address) (upload_stored found (upload_commands.Complete listed if_absent)) ≡ Some object
+    → option_map (object_of s n t upload.address) (upload_stored found (upload_commands.Complete listed condition)) ≡ Some object
     → (upload.address ≡ object.address) × WouldMake s upload listed object.stored
-made_of s n t upload listed if_absent (Some u) object there is =
+made_of s n t upload listed condition (Some u) object there is =
     let same : object_of s n t upload.address (joined_data u (parts_listed listed u.parts)) ≡ object = cc in (
       ap (λ (o : Object). o.address) same,
       record { found = u; there = there; makes = sym (ap (λ (o : Object). o.stored) same) },
     )
-made_of s n t upload listed if_absent None object there is = absurd (cc)
+made_of s n t upload listed condition None object there is = absurd (cc)
 
-parts_made : (s : State) (n t : ℕ) (upload : UploadPlace) (listed : List ListedPart) (if_absent : Bool) (object : Object)
-    → joined_at s n t upload (upload_commands.Complete listed if_absent) ≡ Some object
+parts_made : (s : State) (n t : ℕ) (upload : UploadPlace) (listed : List ListedPart) (condition : WriteCondition) (object : Object)
+    → joined_at s n t upload (upload_commands.Complete listed condition) ≡ Some object
     → (upload.address ≡ object.address) × WouldMake s upload listed object.stored
-parts_made s n t upload listed if_absent object is = made_of s n t upload listed if_absent (open_at s upload) object refl is
+parts_made s n t upload listed condition object is = made_of s n t upload listed condition (open_at s upload) object refl is
 
 completion_stored : (s : State) (n t : ℕ) (command : Command) (upload : UploadPlace) (listed : List ListedPart) (object : Object)
     → completes command ≡ Some (upload, listed) → stored_by s n t command ≡ Some object → WouldMake s upload listed object.stored
-completion_stored s n t (commands.Upload bucket key id (upload_commands.Complete parts if_absent)) upload listed object asks is =
+completion_stored s n t (commands.Upload bucket key id (upload_commands.Complete parts condition)) upload listed object asks is =
     let same = same_Some (place_of bucket key id, parts) (upload, listed) asks in
     subst (λ (p : UploadPlace × List ListedPart). WouldMake s p.0 p.1 object.stored) same
-    (parts_made s n t (place_of bucket key id) parts if_absent object is).1
+    (parts_made s n t (place_of bucket key id) parts condition object is).1
 completion_stored s n t _ upload listed object asks is = absurd (cc)
 
 pub completions_store_their_parts : CompletionsStoreTheirParts
@@ -341,9 +342,9 @@ source_of s e (commands.Key bucket key (key_commands.Copy copy)) object same is 
     Copy (source_read copy.source) copy.description from.source
     (record { written = ap writes same ∙ ap (λ (a : Address). a ∷ []) address; from = ap copies same; accepted = accepted })
     from.gives from.is
-source_of s e (commands.Upload bucket key id (upload_commands.Complete listed if_absent)) object same is accepted =
+source_of s e (commands.Upload bucket key id (upload_commands.Complete listed condition)) object same is accepted =
     let upload = place_of bucket key id in
-    let made = parts_made s e.answer.number e.moment upload listed if_absent object is in
+    let made = parts_made s e.answer.number e.moment upload listed condition object is in
     Completion upload listed made.0 (record { asks = ap completes same; accepted = accepted }) made.1
 source_of s e _ object same is accepted = absurd (cc)
 

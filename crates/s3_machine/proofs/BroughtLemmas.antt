@@ -1,10 +1,9 @@
--- What is stored was put once, or joined once by a completion, however often it was copied; but for what a copy said of it.
+-- What is stored was put once, or joined once by a completion, or stood at the beginning, however often it was copied; but for what
+-- a copy said of it.
 use Rattle.std.proofs.Common.{◌≡◌, refl, sym, ap, subst, ◌∙◌, arith, ◌⊎◌, ⊎_elim, inl, inr, ℕ, zero, suc, ◌≤◌, ◌+◌, List, ◌∷◌, ◌++◌, append_assoc, length, length-append, Option, Some, None}
 use Rattle.std.proofs.lemmas.Option.{same_Some}
 use Rattle.s3_versions.specs.Laws.{IdsAreTold}
 use Rattle.s3_versions.specs.declared.version.Data.{Data}
-use Rattle.s3_records.specs.Catalogue.{opening}
-use Rattle.s3_records.specs.Laws.{OpeningIsEmpty}
 use Rattle.s3_records.specs.Places.{ChangesAreByPlace}
 use Rattle.s3_machine.specs.declared.command.Command.{Command}
 use Rattle.s3_machine.specs.declared.command.Command.TheVariants as commands
@@ -15,9 +14,10 @@ use Rattle.s3_machine.specs.declared.command.Outcome.{Outcome}
 use Rattle.s3_machine.specs.declared.command.Outcome.TheVariants as outcomes
 use Rattle.s3_machine.specs.declared.rules.Rules.{Rules}
 use Rattle.s3_conditions.specs.declared.conditions.Selection.TheVariants.{Whole}
+use Rattle.s3_machine.specs.Bases.{IsSound, EverySoundHistory}
 use Rattle.s3_machine.specs.Effects.{Address, Object, Read, object_of, reads, given, given_whole, found_object}
 use Rattle.s3_machine.specs.History.{Entry, Legal, after}
-use Rattle.s3_machine.specs.Kept.{Stores, WasStored, Copies, WasPut, WasDescribed, Source, Put, Copy, Completion, EveryHistory, StoredWasBrought}
+use Rattle.s3_machine.specs.Kept.{Stores, WasStored, Stayed, Stood, Copies, WasPut, WasDescribed, Source, Put, Copy, Completion, EveryHistory, StoredWasBrought}
 use Rattle.s3_machine.specs.Step.{State, described}
 use Rattle.s3_machine.specs.Uploads.{AreJoined, WasJoined}
 use Rattle.s3_machine.specs.UploadsKept.{CompletionsJoinWhatWasSent}
@@ -80,10 +80,10 @@ described_before entries before more origin what parts was = record {
   is = was.is;
 }
 
--- these data have an origin that was put or joined: they are it, or it as a copy said of it
+-- these data have an origin that was put or joined, or stood at the beginning: they are it, or it as a copy said of it
 pub record WasBrought (rules : Rules) (s : State) (entries : List Entry) (what : Data (List ℕ)) : Type 0 where
   pub origin : Data (List ℕ)
-  pub brought : WasPut entries origin ⊎ WasJoined rules s entries origin
+  pub brought : WasPut entries origin ⊎ (WasJoined rules s entries origin ⊎ Stood s origin)
   pub since : (what ≡ origin) ⊎ WasDescribed entries origin what
 
 brought_before : (rules : Rules) (s : State) (entries before more : List Entry) (what : Data (List ℕ)) → entries ≡ before ++ more
@@ -91,7 +91,8 @@ brought_before : (rules : Rules) (s : State) (entries before more : List Entry) 
 brought_before rules s entries before more what parts was = record {
   origin = was.origin;
   brought = ⊎_elim (λ put. inl (put_before entries before more was.origin parts put))
-      (λ joined. inr (joined_before rules s entries before more was.origin parts joined)) was.brought;
+      (λ others. inr (⊎_elim (λ joined. inl (joined_before rules s entries before more was.origin parts joined)) (λ stood. inr stood) others))
+      was.brought;
   since = ⊎_elim (λ is. inl is) (λ said. inr (described_before entries before more was.origin what parts said)) was.since;
 }
 
@@ -107,8 +108,8 @@ same_stored : (s : State) (e : Entry) (n t : ℕ) (address : Address) (what : Da
 same_stored s e n t address what object stores others =
     ap (λ (o : Object). o.stored) (same_Some (object_of s n t address what) object (sym others.by ∙ stores.by))
 
-module _ (places : ChangesAreByPlace (List ℕ)) (follow : FollowRules) (numbers : Numbers) (empty : OpeningIsEmpty (List ℕ))
-    (ids : IdsAreTold (List ℕ)) (joins : EveryHistory CompletionsJoinWhatWasSent) (rules : Rules) (s : State) (n : ℕ) (names : List (List ℕ)) (opens : s ≡ opening names) where
+module _ (places : ChangesAreByPlace (List ℕ)) (follow : FollowRules) (numbers : Numbers) (ids : IdsAreTold (List ℕ))
+    (joins : EveryHistory CompletionsJoinWhatWasSent) (rules : Rules) (s : State) (n : ℕ) (sound : IsSound s n) where
   -- what a copy stores has the origin of its source
   by_copy : (earlier : List Entry) (object : Object) (was : WasStored rules s earlier object) (asked : Read) (said : Option Description)
       (source : Data (List ℕ))
@@ -130,7 +131,7 @@ module _ (places : ChangesAreByPlace (List ℕ)) (follow : FollowRules) (numbers
       } in
       record { origin = old.origin; brought = old.brought; since = inr copied }
 
-  -- what an entry stored was put or joined, if all that was stored before it was
+  -- what an entry stored was put or joined, or stood, if that is so of all that was stored before it
   from_source : (earlier : List Entry) (object : Object) (was : WasStored rules s earlier object) → Legal rules s n earlier → Legal rules s n was.before
       → ((o : Object) → WasStored rules s was.before o → WasBrought rules s was.before o.stored)
       → Source (after rules s was.before) was.write object → WasBrought rules s earlier object.stored
@@ -139,7 +140,7 @@ module _ (places : ChangesAreByPlace (List ℕ)) (follow : FollowRules) (numbers
       record { before = was.before; put = was.write; later = was.between; parts = was.parts; address = object.address; puts = puts } in
       record { origin = object.stored; brought = inl put; since = inl refl }
   from_source earlier object was all legal known (Completion upload listed at completes makes) =
-      let made = joins rules s n earlier all names was.before was.between was.write upload listed opens was.parts completes in
+      let made = joins rules s n earlier all was.before was.between was.write upload listed was.parts completes in
       let same = same_stored (after rules s was.before) was.write was.write.answer.number was.write.moment upload.address made.0 object was.stores made.2 in
       let joined : WasJoined rules s earlier object.stored =
       record {
@@ -152,16 +153,20 @@ module _ (places : ChangesAreByPlace (List ℕ)) (follow : FollowRules) (numbers
         completes = completes;
         joined = subst (AreJoined rules s was.before upload listed) same made.1;
       } in
-      record { origin = object.stored; brought = inr joined; since = inl refl }
+      record { origin = object.stored; brought = inr (inl joined); since = inl refl }
   from_source earlier object was all legal known (Copy asked said source copies gives is) =
       let here = after rules s was.before in
       let read = reads_found ids rules here 0 0 (read_of asked) asked gives.found (reads_it asked)
       (whole_given _ gives.found (gives.gives rules 0 0 (read_of asked) (reads_it asked))) in
       let from = found_object asked.address read.0 gives.found in
-      let stored = only_stored_stands places follow numbers empty rules s n was.before legal names from opens read.2 in
       by_copy earlier object was asked said source copies is
-      (brought_before rules s earlier was.before (was.write ∷ was.between) source was.parts
+      (⊎_elim (λ (stored : WasStored rules s was.before from).
+      brought_before rules s earlier was.before (was.write ∷ was.between) source was.parts
       (subst (WasBrought rules s was.before) gives.holds (known from stored)))
+      (λ (stayed : Stayed s was.before from).
+      let stood : Stood s source = record { object = from; at_base = stayed.at_base; holds = gives.holds } in
+      record { origin = source; brought = inr (inr stood); since = inl refl })
+      (only_stored_stands places follow numbers rules s n was.before sound legal from read.2))
 
   brought_within : (k : ℕ) (earlier : List Entry) (object : Object) → length earlier ≤ k → Legal rules s n earlier
       → WasStored rules s earlier object → WasBrought rules s earlier object.stored
@@ -176,9 +181,9 @@ module _ (places : ChangesAreByPlace (List ℕ)) (follow : FollowRules) (numbers
       (λ (o : Object) stored. brought_within k was.before o fewer before stored)
       (stored_has_source (after rules s was.before) was.write object was.stores)
 
-pub stored_was_brought : ChangesAreByPlace (List ℕ) → FollowRules → Numbers → OpeningIsEmpty (List ℕ) → IdsAreTold (List ℕ)
-    → EveryHistory CompletionsJoinWhatWasSent → EveryHistory StoredWasBrought
-stored_was_brought places follow numbers empty ids joins rules s n entries legal names earlier later object opens parts was =
-    let brought = brought_within places follow numbers empty ids joins rules s n names opens (length earlier) earlier object (omega arith)
+pub stored_was_brought : ChangesAreByPlace (List ℕ) → FollowRules → Numbers → IdsAreTold (List ℕ)
+    → EveryHistory CompletionsJoinWhatWasSent → EverySoundHistory StoredWasBrought
+stored_was_brought places follow numbers ids joins rules s n entries sound legal earlier later object parts was =
+    let brought = brought_within places follow numbers ids joins rules s n sound (length earlier) earlier object (omega arith)
     (Legal-append rules s n earlier later (subst (Legal rules s n) parts legal)).0 was in
     (brought.origin, brought.brought, brought.since)

@@ -1,6 +1,6 @@
 -- What holds of the states that changes lead to: numbers stay above those of all versions, and where versioning was never set all
 -- versions are `null`.
-use Rattle.std.proofs.Common.{◌≡◌, ◌≢◌, refl, sym, ap, subst, ◌∙◌, true, false, not, cond, ℕ, ◌+◌, ◌<◌, inl, inr, List, [], ◌∷◌, filter, Option, Some, None, IfSome, option_map}
+use Rattle.std.proofs.Common.{◌≡◌, ◌≢◌, refl, sym, ap, subst, ◌∙◌, arith, true, false, not, cond, ℕ, ◌+◌, ◌<◌, IsTrue, inl, inr, List, [], ◌∷◌, filter, Option, Some, None, IfSome, option_map}
 use Rattle.std.proofs.lemmas.Bool.{false_from_ne_true}
 use Rattle.std.specs.Cmp.{eq_by_cmp_equiv}
 use Rattle.std.specs.Cmp.Lexicographic.{nat_list_cmp_total}
@@ -16,27 +16,59 @@ use Rattle.s3_versions.specs.declared.version.Versioning.{Versioning}
 use Rattle.s3_versions.specs.declared.version.Versioning.TheVariants.{Unversioned}
 use Rattle.s3_versions.specs.declared.version.VersioningStatus.{VersioningStatus}
 use Rattle.s3_versions.specs.declared.version.VersioningStatus.TheVariants as status
-use Rattle.s3_versions.specs.Rules.{is_under, without, KeyChange, VersionPut, KeyDeleted, VersionDropped, after_change}
+use Rattle.s3_versions.specs.Laws.{number_of}
+use Rattle.s3_versions.specs.Rules.{is_new_number, is_under, without, KeyChange, VersionPut, KeyDeleted, VersionDropped, after_change}
 use Rattle.s3_uploads.specs.Uploads.{with_part}
 use Rattle.s3_uploads.specs.declared.upload.Upload.{Upload}
-use Rattle.s3_records.specs.Catalogue.{Keys, Bucket, opening, found_versions, versions_at, versions_in, versioning_in}
+use Rattle.s3_records.specs.Catalogue.{Keys, Bucket, opening, found_versions, versions_at, versions_in, versions_of, versioning_in}
 use Rattle.s3_records.specs.Changes.{Change, BucketAdded, BucketDropped, VersioningSet, KeyChanged, UploadAdded, PartPut, UploadDropped, UploadCompleted, with_versions, set_in, change_in, upload_change_in, bucket_after, with_bucket, changed}
-use Rattle.s3_records.specs.Laws.{OpeningIsEmpty}
+use Rattle.s3_records.specs.Laws.{AreCatalogued, IsNew, VersionsStayInOrder, OpeningIsEmpty}
 use Rattle.s3_records.specs.Places.{number_in, AreBelow, NumbersStayBelow}
 use Rattle.s3_machine.specs.Step.{State}
 
--- a state that comes of another by changes of an entry of this number
+-- a state that comes of another by changes of an entry of this number, each new to its key where the number is above all before
 pub data Comes (n : ℕ) (s : State) : State → Type 0 where
   Stays : Comes n s s
-  Then : {c : State} → Comes n s c → (name : List ℕ) → (change : Change (List ℕ)) → IfSome (number_in change) (λ m. m < n + 1)
-      → Comes n s (changed c name change)
+  Then : {c : State} → Comes n s c → (name : List ℕ) → (change : Change (List ℕ)) → IfSome (number_in change) (λ m. m ≡ n)
+      → (AreBelow n s → AreBelow (n + 1) c → IsNew c name change) → Comes n s (changed c name change)
+
+-- the first of them is new so
+number_new : (n : ℕ) (vs : List (Version (List ℕ))) (number : Option ℕ) → IfSome number (λ m. m ≡ n) → IsTrue (is_new_number n vs)
+    → IfSome number (λ m. IsTrue (is_new_number m vs))
+number_new n vs None same new = tt
+number_new n vs (Some m) same new = subst (λ (k : ℕ). IsTrue (is_new_number k vs)) (sym same) new
+
+first_new : (n : ℕ) (s : State) (name : List ℕ) (change : Change (List ℕ)) → IfSome (number_in change) (λ m. m ≡ n) → AreBelow n s → IsNew s name change
+first_new n s name (KeyChanged key what) same below = number_new n (versions_of s name key) (number_of what) same (below name key)
+first_new n s name (UploadCompleted key id what) same below = number_new n (versions_of s name key) (number_of what) same (below name key)
+first_new n s name (BucketAdded t) same below = tt
+first_new n s name BucketDropped same below = tt
+first_new n s name (VersioningSet to) same below = tt
+first_new n s name (UploadAdded key id u) same below = tt
+first_new n s name (PartPut key id number part) same below = tt
+first_new n s name (UploadDropped key id) same below = tt
+
+-- a state that comes of another by one change
+pub one_change : (n : ℕ) (s : State) (name : List ℕ) (change : Change (List ℕ)) → IfSome (number_in change) (λ m. m ≡ n) → Comes n s (changed s name change)
+one_change n s name change same = Then Stays name change same (λ below next. first_new n s name change same below)
 
 -- ---- numbers
 
+number_below : (n : ℕ) (number : Option ℕ) → IfSome number (λ m. m ≡ n) → IfSome number (λ m. m < n + 1)
+number_below n None same = tt
+number_below n (Some m) same = omega arith
+
 pub comes_below : NumbersStayBelow (List ℕ) → (n : ℕ) (s c : State) → Comes n s c → AreBelow (n + 1) s → AreBelow (n + 1) c
 comes_below stay n s _ Stays below = below
-comes_below stay n s _ (Then {c} before name change numbered) below =
-    stay (n + 1) c name change (comes_below stay n s c before below) numbered
+comes_below stay n s _ (Then {c} before name change numbered new) below =
+    stay (n + 1) c name change (comes_below stay n s c before below) (number_below n (number_in change) numbered)
+
+-- under each key stay versions of one key, in their order
+pub comes_ordered : VersionsStayInOrder (List ℕ) → NumbersStayBelow (List ℕ) → (n : ℕ) (s c : State) → Comes n s c → AreBelow n s → AreBelow (n + 1) s
+    → AreCatalogued s → AreCatalogued c
+comes_ordered order stay n s _ Stays below next ordered = ordered
+comes_ordered order stay n s _ (Then {c} before name change numbered new) below next ordered =
+    order c name change (comes_ordered order stay n s c before below next ordered) (new below (comes_below stay n s c before next))
 
 -- ---- maps by keys of bytes
 
@@ -168,7 +200,7 @@ stay_null c name change nulls other =
 
 pub comes_null : (n : ℕ) (s c : State) → Comes n s c → AreNull s → AreNull c
 comes_null n s _ Stays nulls = nulls
-comes_null n s _ (Then {c} before name change numbered) nulls = stay_null c name change (comes_null n s c before nulls)
+comes_null n s _ (Then {c} before name change numbered new) nulls = stay_null c name change (comes_null n s c before nulls)
 
 -- at the opening nothing stands
 pub opening_null : OpeningIsEmpty (List ℕ) → (names : List (List ℕ)) → AreNull (opening names)

@@ -1,5 +1,6 @@
--- An upload that is open was begun by an entry of the history, and its parts were put by entries behind that one.
-use Rattle.std.proofs.Common.{◌≡◌, ◌≢◌, refl, sym, ap, subst, ◌∙◌, ℕ, suc, inl, inr, List, [], ◌∷◌, ◌++◌, append_assoc, append-nil, Some, None}
+-- An upload that is open was begun by an entry of the history, and its parts were put by entries behind that one; or it was open at
+-- the beginning, and each part was put since or stood in it.
+use Rattle.std.proofs.Common.{◌≡◌, ◌≢◌, refl, sym, ap, subst, ◌∙◌, ℕ, suc, ◌⊎◌, ⊎_elim, inl, inr, List, [], ◌∷◌, ◌++◌, append_assoc, append-nil, Option, Some, None}
 use Rattle.std.proofs.lemmas.Bool.Decides.{eqb_tells}
 use Rattle.std.proofs.lemmas.Option.{same_Some}
 use Rattle.std.specs.List.{AllByRecursion}
@@ -8,8 +9,7 @@ use Rattle.s3_uploads.specs.Parts.{part_at, part_put}
 use Rattle.s3_uploads.specs.Uploads.{with_part}
 use Rattle.s3_uploads.specs.declared.part.Part.{Part}
 use Rattle.s3_uploads.specs.declared.upload.Upload.{Upload}
-use Rattle.s3_records.specs.Catalogue.{opening}
-use Rattle.s3_records.specs.Laws.{OpeningIsEmpty}
+use Rattle.s3_records.specs.OpenUploads.{parts_sent}
 use Rattle.s3_records.specs.Places.{ChangesAreByUpload}
 use Rattle.s3_machine.specs.declared.command.Command.{Command}
 use Rattle.s3_machine.specs.declared.command.Command.TheVariants as commands
@@ -17,10 +17,10 @@ use Rattle.s3_machine.specs.declared.command.KeyCommand.TheVariants as key_comma
 use Rattle.s3_machine.specs.declared.command.Description.{Description}
 use Rattle.s3_machine.specs.declared.command.UploadCommand.TheVariants as upload_commands
 use Rattle.s3_machine.specs.declared.rules.Rules.{Rules}
-use Rattle.s3_machine.specs.Effects.{Address, UploadPlace, PartPlace, open_at, begins, sends, puts_part, ends, succeeds}
+use Rattle.s3_machine.specs.Effects.{Address, UploadPlace, PartPlace, open_at, begins, sends, ends, succeeds}
 use Rattle.s3_machine.specs.History.{Entry, IsAnswer, Legal, after, after_entry}
 use Rattle.s3_machine.specs.Step.{State, upload_begun, step}
-use Rattle.s3_machine.specs.Uploads.{Sends, KeepsOpen, KeepsPart, WasBegun, WasSent, begun_state}
+use Rattle.s3_machine.specs.Uploads.{Sends, KeepsOpen, KeepsPart, WasBegun, WasSent, IsOpen, StayedOpen, StayedPart, begun_state}
 use Rattle.s3_machine.proofs.HistoryLemmas.{after-push, after-append}
 use Rattle.s3_machine.proofs.KeptLemmas.{outcome_is}
 use Rattle.s3_machine.proofs.UploadLemmas.{IsLeft, Fate, Left, Begun, Sent, Ended, step_fate}
@@ -39,9 +39,19 @@ pub record Course (rules : Rules) (s : State) (past : List Entry) (upload : Uplo
   pub sent : (number : ℕ) (p : Part (List ℕ)) → part_at number u.parts ≡ Some p
       → WasSent rules (begun_state rules s begun) begun.since (part_of upload number) p
 
+-- a part was put by one of the entries, or stood at the beginning and stayed
+abbrev pub SentOrStayed : Rules → State → List Entry → PartPlace → Part (List ℕ) → Type 0
+SentOrStayed rules s past part what = WasSent rules s past part what ⊎ StayedPart s past part what
+
+-- an upload that is open was so at the beginning, and each of its parts was put since, or stood there and stayed
+pub record Stay (rules : Rules) (s : State) (past : List Entry) (upload : UploadPlace) (u : Upload (List ℕ)) : Type 0 where
+  pub stayed : StayedOpen s past upload u.moment (asked_of u)
+  pub parts : (number : ℕ) (p : Part (List ℕ)) → part_at number u.parts ≡ Some p → SentOrStayed rules s past (part_of upload number) p
+
 abbrev pub AllCourses : Rules → State → List Entry → Type 0
 AllCourses rules s past =
-    (upload : UploadPlace) (u : Upload (List ℕ)) → open_at (after rules s past) upload ≡ Some u → Course rules s past upload u
+    (upload : UploadPlace) (u : Upload (List ℕ)) → open_at (after rules s past) upload ≡ Some u
+    → Course rules s past upload u ⊎ Stay rules s past upload u
 
 -- what the entries leave is what those behind the beginning leave
 since_begun : (rules : Rules) (s : State) (past : List Entry) (upload : UploadPlace) (t : ℕ) (asked : Description)
@@ -79,6 +89,20 @@ sent_push rules s past e part what was keeps stays = record {
   last = all_push (KeepsPart part) was.later e was.last keeps;
   stays = all_push (KeepsOpen part.upload) was.later e was.stays stays;
 }
+
+open_push : (s : State) (past : List Entry) (e : Entry) (upload : UploadPlace) (t : ℕ) (asked : Description) → StayedOpen s past upload t asked
+    → KeepsOpen upload e → StayedOpen s (past ++ e ∷ []) upload t asked
+open_push s past e upload t asked was keeps =
+    record { at_base = was.at_base; stays = all_push (KeepsOpen upload) past e was.stays keeps }
+
+part_push : (rules : Rules) (s : State) (past : List Entry) (e : Entry) (part : PartPlace) (what : Part (List ℕ)) → SentOrStayed rules s past part what
+    → KeepsPart part e → KeepsOpen part.upload e → SentOrStayed rules s (past ++ e ∷ []) part what
+part_push rules s past e part what (inl was) keeps stays = inl (sent_push rules s past e part what was keeps stays)
+part_push rules s past e part what (inr was) keeps stays = inr (record {
+  at_base = was.at_base;
+  last = all_push (KeepsPart part) past e was.last keeps;
+  stays = all_push (KeepsOpen part.upload) past e was.stays stays;
+})
 
 -- a command that begins an upload neither puts a part nor ends one, and one that puts a part ends none
 pub begins_alone : (command : Command) (what : Address × Description) → begins command ≡ Some what → (sends command ≡ None) × (ends command ≡ None)
@@ -144,27 +168,88 @@ module _ (law : ChangesAreByUpload (List ℕ)) (puts : PutsAreUnderOneNumber (Li
             (sent_keeps_open e upload number sends.at)
       ]
 
-  -- what is open behind an entry was begun by it, or before it
+  -- where the upload stayed, the others were put before or stayed, too
+  stayed_parts : (s : State) (past : List Entry) (e : Entry) (upload : UploadPlace) (number : ℕ) (what : Part (List ℕ)) (found : Upload (List ℕ))
+      → Sends (after rules s past) (part_of upload number) what e
+      → ((m : ℕ) (p : Part (List ℕ)) → part_at m found.parts ≡ Some p → SentOrStayed rules s past (part_of upload m) p)
+      → (m : ℕ) (p : Part (List ℕ)) → part_at m (part_put number what found.parts) ≡ Some p
+      → SentOrStayed rules s (past ++ e ∷ []) (part_of upload m) p
+  stayed_parts s past e upload number what found sends known m p is =
+      elim (eqb_tells m number) [
+        | inl same ↦
+            let there = (puts number what found.parts).0 in
+            let part = same_Some what p (sym there ∙ sym (ap (λ (k : ℕ). part_at k (part_put number what found.parts)) same.1) ∙ is) in
+            inl (subst (WasSent rules s (past ++ e ∷ []) (part_of upload m)) part (record {
+              before = past;
+              send = e;
+              later = [];
+              parts = refl;
+              sends = subst (λ (k : ℕ). Sends (after rules s past) (part_of upload k) what e) (sym same.1) sends;
+              last = tt;
+              stays = tt;
+            }))
+        | inr other ↦
+            part_push rules s past e (part_of upload m) p
+            (known m p (sym ((puts number what found.parts).1 m other.1) ∙ is))
+            (sent_keeps_others e upload number m sends.at other.1)
+            (sent_keeps_open e upload number sends.at)
+      ]
+
+  -- an entry that leaves an upload, which an entry began or which stayed
+  left_course : (s : State) (past : List Entry) (e : Entry) (upload : UploadPlace) (u : Upload (List ℕ)) → KeepsOpen upload e
+      → ((number : ℕ) → KeepsPart (part_of upload number) e) → Course rules s past upload u → Course rules s (past ++ e ∷ []) upload u
+  unfolding begun_push
+  left_course s past e upload u stays keeps course = record {
+    begun = begun_push past e upload u.moment (asked_of u) course.begun stays;
+    sent = λ number p at.
+        sent_push rules (begun_state rules s course.begun) course.begun.since e (part_of upload number) p
+        (course.sent number p at) (keeps number) stays;
+  }
+
+  left_stay : (s : State) (past : List Entry) (e : Entry) (upload : UploadPlace) (u : Upload (List ℕ)) → KeepsOpen upload e
+      → ((number : ℕ) → KeepsPart (part_of upload number) e) → Stay rules s past upload u → Stay rules s (past ++ e ∷ []) upload u
+  left_stay s past e upload u stays keeps stay = record {
+    stayed = open_push s past e upload u.moment (asked_of u) stay.stayed stays;
+    parts = λ number p at. part_push rules s past e (part_of upload number) p (stay.parts number p at) (keeps number) stays;
+  }
+
+  -- and one that puts a part to it
+  sent_course : (s : State) (past : List Entry) (e : Entry) (upload : UploadPlace) (number : ℕ) (what : Part (List ℕ)) (found : Upload (List ℕ))
+      → Sends (after rules s past) (part_of upload number) what e → Course rules s past upload found
+      → Course rules s (past ++ e ∷ []) upload (with_part number what found)
+  unfolding begun_push
+  sent_course s past e upload number what found sends course =
+      let start = begun_state rules s course.begun in
+      let state = since_begun rules s past upload found.moment (asked_of found) course.begun in
+      let here = subst (λ (before : State). Sends before (part_of upload number) what e) state sends in
+      record {
+        begun = begun_push past e upload found.moment (asked_of found) course.begun (sent_keeps_open e upload number sends.at);
+        sent = sent_parts start course.begun.since e upload number what found here course.sent;
+      }
+
+  sent_stay : (s : State) (past : List Entry) (e : Entry) (upload : UploadPlace) (number : ℕ) (what : Part (List ℕ)) (found : Upload (List ℕ))
+      → Sends (after rules s past) (part_of upload number) what e → Stay rules s past upload found
+      → Stay rules s (past ++ e ∷ []) upload (with_part number what found)
+  sent_stay s past e upload number what found sends stay = record {
+    stayed = open_push s past e upload found.moment (asked_of found) stay.stayed (sent_keeps_open e upload number sends.at);
+    parts = stayed_parts s past e upload number what found sends stay.parts;
+  }
+
+  -- what is open behind an entry was begun by it, or open before it
   course_push : (s : State) (n : ℕ) (past : List Entry) (e : Entry) → AllCourses rules s past → IsAnswer rules (after rules s past) n e
       → AllCourses rules s (past ++ e ∷ [])
-  unfolding begun_push
   course_push s n past e known answer upload u is =
       let here = after rules s past in
       let now : open_at (after_entry rules here e) upload ≡ Some u = sym (ap (λ (t : State). open_at t upload) (after-push rules s past e)) ∙ is in
       let outcome = ap succeeds (outcome_is rules here n e answer) in
       elim (fate_of here e upload) [
         | Left left ↦
-            let course = known upload u (sym left.same ∙ now) in
             let keeps = left_keeps here n e upload answer left in
-            record {
-              begun = begun_push past e upload u.moment (asked_of u) course.begun keeps.0;
-              sent = λ number p at.
-                  sent_push rules (begun_state rules s course.begun) course.begun.since e (part_of upload number) p
-                  (course.sent number p at) (keeps.1 number) keeps.0;
-            }
+            ⊎_elim (λ course. inl (left_course s past e upload u keeps.0 keeps.1 course))
+            (λ stay. inr (left_stay s past e upload u keeps.0 keeps.1 stay)) (known upload u (sym left.same ∙ now))
         | Begun begun ↦
             let what = same_Some (upload_begun e.moment begun.asked) u (sym begun.now ∙ now) in
-            subst (Course rules s (past ++ e ∷ []) upload) what (record {
+            inl (subst (Course rules s (past ++ e ∷ []) upload) what (record {
               begun = record {
                 before = past;
                 begin = e;
@@ -175,22 +260,14 @@ module _ (law : ChangesAreByUpload (List ℕ)) (puts : PutsAreUnderOneNumber (Li
                 stays = tt;
               };
               sent = λ number p at. absurd (no_part number p at);
-            })
+            }))
         | Sent send ↦
             let what = same_Some (with_part send.number send.part send.found) u (sym send.now ∙ now) in
-            let course = known upload send.found send.there in
-            let start = begun_state rules s course.begun in
-            let state = since_begun rules s past upload send.found.moment (asked_of send.found) course.begun in
-            let sends : Sends (after rules start course.begun.since) (part_of upload send.number) send.part e =
-            record {
-              at = send.at;
-              puts = sym (ap (λ (before : State). puts_part before e.moment e.command) state) ∙ send.puts;
-              accepted = outcome ∙ send.accepted;
-            } in
-            subst (Course rules s (past ++ e ∷ []) upload) what (record {
-              begun = begun_push past e upload send.found.moment (asked_of send.found) course.begun (sent_keeps_open e upload send.number send.at);
-              sent = sent_parts start course.begun.since e upload send.number send.part send.found sends course.sent;
-            })
+            let sends : Sends here (part_of upload send.number) send.part e =
+            record { at = send.at; puts = send.puts; accepted = outcome ∙ send.accepted } in
+            subst (λ (v : Upload (List ℕ)). Course rules s (past ++ e ∷ []) upload v ⊎ Stay rules s (past ++ e ∷ []) upload v) what
+            (⊎_elim (λ course. inl (sent_course s past e upload send.number send.part send.found sends course))
+            (λ stay. inr (sent_stay s past e upload send.number send.part send.found sends stay)) (known upload send.found send.there))
         | Ended ended ↦ let none = ended.now in absurd (cc)
       ]
 
@@ -202,8 +279,18 @@ module _ (law : ChangesAreByUpload (List ℕ)) (puts : PutsAreUnderOneNumber (Li
       (course_after s (suc n) (past ++ e ∷ []) es (course_push s n past e known legal.0)
       (subst (λ (t : State). Legal rules t (suc n) es) (sym (after-push rules s past e)) legal.1))
 
-  pub courses : OpeningIsEmpty (List ℕ) → (s : State) (n : ℕ) (names : List (List ℕ)) (es : List Entry) → s ≡ opening names → Legal rules s n es
-      → AllCourses rules s es
-  courses empty s n names es opens =
-      subst (λ (t : State). Legal rules t n es → AllCourses rules t es) (sym opens) (course_after (opening names) n [] es
-      (λ upload u is. let none = (empty names upload.address.bucket).no_uploads upload.address.key upload.id in absurd (cc)))
+  -- before all entries what is open is what is open at the beginning
+  stay_at_base : (s : State) → AllCourses rules s []
+  stay_at_base s upload u is =
+      let at_base : IsOpen s upload u.moment (asked_of u) = record { found = u; there = is; moment = refl; content_type = refl; metadata = refl } in
+      inr (record {
+        stayed = record { at_base = at_base; stays = tt };
+        parts = λ number p at. inr (record {
+          at_base = ap (λ (found : Option (Upload (List ℕ))). part_at number (parts_sent found)) is ∙ at;
+          last = tt;
+          stays = tt;
+        });
+      })
+
+  pub courses : (s : State) (n : ℕ) (es : List Entry) → Legal rules s n es → AllCourses rules s es
+  courses s n es = course_after s n [] es (stay_at_base s)

@@ -22,16 +22,17 @@ use Rattle.s3_deletions.specs.declared.named.NamedObject.{NamedObject}
 use Rattle.s3_deletions.specs.declared.named.NamedObject.TheVariants.{Object, Fault}
 use Rattle.s3_deletions.specs.declared.told.DeletionRow.{DeletionRow}
 use Rattle.s3_deletions.specs.declared.told.DeletionRow.TheVariants as rows
-use Rattle.s3_records.specs.Catalogue.{opening, has_bucket, versions_of, versioning_of}
+use Rattle.s3_records.specs.Catalogue.{has_bucket, versions_of, versioning_of}
 use Rattle.s3_records.specs.Changes.{KeyChanged, changed}
 use Rattle.s3_records.specs.Deletions.{deleted, all_deleted, markers_of}
-use Rattle.s3_records.specs.Laws.{ChangesFollowRules, OpeningIsEmpty}
+use Rattle.s3_records.specs.Laws.{ChangesFollowRules}
 use Rattle.s3_records.specs.Places.{version_at, ChangesAreByPlace, AreBelow}
 use Rattle.s3_documents.specs.Document as documents
 use Rattle.s3_machine.specs.declared.command.Command.{Command}
 use Rattle.s3_machine.specs.declared.command.Command.TheVariants as commands
 use Rattle.s3_machine.specs.declared.command.Outcome.TheVariants as outcomes
 use Rattle.s3_machine.specs.declared.rules.Rules.{Rules}
+use Rattle.s3_machine.specs.Bases.{EverySoundHistory}
 use Rattle.s3_machine.specs.Deleted.{Deletes, Reaches, TellsMarker, NamedKeysAreGone, NamedVersionsAreGone, OtherVersionsStay, DeletionsAreTold, MarkersAreToldOnce}
 use Rattle.s3_machine.specs.Effects.{Address, deletes, succeeds}
 use Rattle.s3_machine.specs.Fault.{refuse}
@@ -45,7 +46,7 @@ use Rattle.s3_machine.proofs.DeletionRowLemmas.{same_row}
 use Rattle.s3_machine.proofs.EffectLemmas.{FollowRules, versions_at}
 use Rattle.s3_machine.proofs.HistoryLemmas.{after-push, after-append, Legal-append, parts_of, right_at}
 use Rattle.s3_machine.proofs.KeptLemmas.{outcome_is, picked, read_there, key_left}
-use Rattle.s3_machine.proofs.StateLemmas.{Numbers, numbered_by, opened_below, opened_null}
+use Rattle.s3_machine.proofs.StateLemmas.{Numbers, numbered_by, below_after, null_after}
 
 -- ---- a key that is named alone
 
@@ -357,21 +358,21 @@ module _ (places : ChangesAreByPlace (List ℕ)) where
 
 module _ (places : ChangesAreByPlace (List ℕ)) (follow : FollowRules) (numbers : Numbers) where
   -- the number of an entry is above those of all versions before it
-  below_before : (rules : Rules) (s : State) (n : ℕ) (entries : List Entry) (names : List (List ℕ)) (before later : List Entry) (e : Entry)
-      → Legal rules s n entries → s ≡ opening names → entries ≡ before ++ e ∷ later → AreBelow e.answer.number (after rules s before)
-  below_before rules s n entries names before later e legal opens parts =
+  below_before : (rules : Rules) (s : State) (n : ℕ) (entries before later : List Entry) (e : Entry)
+      → AreBelow n s → Legal rules s n entries → entries ≡ before ++ e ∷ later → AreBelow e.answer.number (after rules s before)
+  below_before rules s n entries before later e below legal parts =
       let joined = Legal-append rules s n before (e ∷ later) (subst (Legal rules s n) parts legal) in
       subst (λ (m : ℕ). AreBelow m (after rules s before)) (sym (numbered_by rules (after rules s before) _ e joined.1.0))
-      (opened_below places follow rules numbers s n names before opens joined.0)
+      (below_after places follow rules numbers s n before joined.0 below)
 
-  pub named_versions_are_gone : EveryHistory NamedVersionsAreGone
-  named_versions_are_gone rules s n entries legal names before later e bucket key deletion id opens parts asked named unmade =
+  pub named_versions_are_gone : EverySoundHistory NamedVersionsAreGone
+  named_versions_are_gone rules s n entries sound legal before later e bucket key deletion id parts asked named unmade =
       let here = after rules s before in
       let answer = right_at rules s n entries before later e legal parts in
       let whole = entry_deletes rules here _ e bucket deletion answer asked in
       ap (λ (state : State). version_at state bucket key id) (after-push rules s before e ∙ whole.state)
       ∙ all_absent places (versioning_of here bucket) bucket e.answer.number e.moment here deletion.objects key id
-      (found_in_bucket here bucket whole.there) (below_before rules s n entries names before later e legal opens parts)
+      (found_in_bucket here bucket whole.there) (below_before rules s n entries before later e sound.versions legal parts)
       (λ d within there alone is.
       unmade (record {
         named = subst (Contains deletion.objects) (ap Object (same_deletion d (record { key = key; version = None }) there alone)) within;
@@ -379,8 +380,8 @@ module _ (places : ChangesAreByPlace (List ℕ)) (follow : FollowRules) (numbers
       }))
       named
 
-  pub named_keys_are_gone : OpeningIsEmpty (List ℕ) → versions.MarkersHide (List ℕ) → EveryHistory NamedKeysAreGone
-  named_keys_are_gone empty hide rules s n entries legal names before between later e read a deletion opens parts asked named leaves reads found =
+  pub named_keys_are_gone : versions.MarkersHide (List ℕ) → EverySoundHistory NamedKeysAreGone
+  named_keys_are_gone hide rules s n entries sound legal before between later e read a deletion parts asked named leaves reads found =
       let here = after rules s before in
       let split = parts ∙ append_assoc before (e ∷ between) (read ∷ later) in
       let answer = right_at rules s n entries before (between ++ read ∷ later) e legal split in
@@ -389,11 +390,12 @@ module _ (places : ChangesAreByPlace (List ℕ)) (follow : FollowRules) (numbers
       let whole = entry_deletes rules here _ e a.bucket deletion answer asked in
       let b = versioning_of here a.bucket in
       let there = after rules (after_entry rules here e) between in
-      let below = below_before rules s n entries names before (between ++ read ∷ later) e legal opens split in
+      let below = below_before rules s n entries before (between ++ read ∷ later) e sound.versions legal split in
+      let nulls = null_after places follow rules s n before joined.0 (λ name is key. sound.null name key is) in
       let fresh : IsFresh b e.answer.number (versions_at here a) =
       record {
         unmade = not_made e.answer.number (versions_at here a) (below a.bucket a.key);
-        null = λ is. opened_null places follow rules empty s n names before opens joined.0 a.bucket is a.key;
+        null = λ is. nulls a.bucket is a.key;
       } in
       let gone = all_gone places follow.keys hide b a.bucket e.answer.number e.moment here deletion.objects a.key
       (found_in_bucket here a.bucket whole.there)

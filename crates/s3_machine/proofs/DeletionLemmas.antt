@@ -1,7 +1,7 @@
 -- What several deletions by one entry do to the versions under a bucket's keys, one after another.
-use Rattle.std.proofs.Common.{◌≡◌, ◌≢◌, refl, sym, ap, ap₂, subst, ◌∙◌, arith, Bool, true, false, not, ◌&&◌, ◌||◌, cond, ℕ, ◌+◌, ◌<◌, nat_lt, ◌==◌, ◌⊎◌, inl, inr, List, [], ◌∷◌, find, Contains, Option, Some, None, IfSome, option_map, is_some}
+use Rattle.std.proofs.Common.{◌≡◌, ◌≢◌, refl, sym, ap, ap₂, subst, ◌∙◌, arith, Bool, true, false, not, ◌&&◌, ◌||◌, cond, ℕ, ◌+◌, ◌<◌, nat_lt, ◌==◌, IsTrue, ◌⊎◌, inl, inr, List, [], ◌∷◌, find, Contains, Option, Some, None, IfSome, option_map, is_some}
 use Rattle.std.proofs.lemmas.Bool.{false≢true, not-true, not-false, and_parts, or_parts, ltb-true}
-use Rattle.std.proofs.lemmas.Bool.Decides.{eqb_tells}
+use Rattle.std.proofs.lemmas.Bool.Decides.{eqb_tells, nat_tests}
 use Rattle.std.specs.FinMap as map
 use Rattle.std.specs.List.{list_all}
 use Rattle.std.specs.Option.{unwrap_or}
@@ -87,6 +87,18 @@ in_changed b name c key what is =
     let facts = facts_stay key what found in
     record { there = ap is_some here ∙ facts.0 ∙ is.there; versioning = ap versioning_in here ∙ facts.1 ∙ is.versioning }
 
+-- a number is new to versions that are below the next one where none of them has it
+less_or_other : (k n : ℕ) → nat_lt k (n + 1) ≡ true → (k == n) ≡ false → nat_lt k n ≡ true
+less_or_other k n next other = grind (arith, nat_tests)
+
+unmade_new : (n : ℕ) (vs : List (Version (List ℕ))) → is_new_number (n + 1) vs ≡ true → has_made n vs ≡ false → is_new_number n vs ≡ true
+unfolding is_new_number
+unmade_new n [] next unmade = refl
+unmade_new n (v ∷ vs) next unmade =
+    let both = and_parts (nat_lt v.number (n + 1)) (list_all (λ w. nat_lt w.number (n + 1)) vs) next in
+    let others = or_parts (v.number == n) (has_made n vs) unmade in
+    ap (λ x. x && list_all (λ w. nat_lt w.number n) vs) (less_or_other v.number n both.0 others.0) ∙ unmade_new n vs both.1 others.1
+
 module _ (b : Versioning) (name : List ℕ) (n t : ℕ) where
   pub stays_in : (c : State) (d : KeyDeletion) → IsIn b name c → IsIn b name (deleted c name n t (Object d))
   stays_in c d is =
@@ -148,9 +160,15 @@ module _ (b : Versioning) (name : List ℕ) (n t : ℕ) where
 
   -- ---- by changes of the number of the entry
 
-  numbered : (version : Option VersionId) → IfSome (number_of (change_named {B = List ℕ} n t version)) (λ m. m < n + 1)
-  numbered None = omega arith
+  numbered : (version : Option VersionId) → IfSome (number_of (change_named {B = List ℕ} n t version)) (λ m. m ≡ n)
+  numbered None = refl
   numbered (Some id) = tt
+
+  -- one that acts is new to its key
+  new_named : (version : Option VersionId) (vs : List (Version (List ℕ))) → acts n version vs ≡ true → IsTrue (is_new_number (n + 1) vs)
+      → IfSome (number_of (change_named {B = List ℕ} n t version)) (λ m. IsTrue (is_new_number m vs))
+  new_named None vs does next = unmade_new n vs next (not-true (has_made n vs) does)
+  new_named (Some id) vs does next = tt
 
   -- all uploads stay
   pub uploads_stay : ChangesAreByUpload (List ℕ) → (c : State) (objects : List NamedObject) → IsIn b name c → SameUploads c (all_deleted c name n t objects)
@@ -167,7 +185,8 @@ module _ (b : Versioning) (name : List ℕ) (n t : ℕ) where
       all_keep (Comes n c) objects c is
       (λ e d within row there before.
       deed e name n t d (λ after marker. Comes n c after) (λ rests. before)
-      (λ does. Then before name (KeyChanged d.key (change_named n t d.version)) (numbered d.version)))
+      (λ does. Then before name (KeyChanged d.key (change_named n t d.version)) (numbered d.version)
+      (λ below next. new_named d.version (versions_of e name d.key) does (next name d.key))))
       Stays
 
 -- ---- ids and numbers

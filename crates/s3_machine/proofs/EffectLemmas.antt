@@ -1,11 +1,11 @@
 -- What one step does: to the versions under keys, and that a refusal and a command that only reads do nothing.
-use Rattle.std.proofs.Common.{◌≡◌, ◌≢◌, refl, sym, ap, ap₂, subst, ◌∙◌, arith, Bool, true, false, not, ◌&&◌, ℕ, ◌+◌, ◌<◌, ◌⊎◌, ⊎_elim, inl, inr, IsTrue, List, [], ◌∷◌, Contains, Option, Some, None, option_map, IfSome, Result, Ok, Err, ok_or}
+use Rattle.std.proofs.Common.{◌≡◌, ◌≢◌, refl, sym, ap, ap₂, subst, ◌∙◌, arith, Bool, true, false, not, ℕ, ◌+◌, ◌⊎◌, ⊎_elim, inl, inr, IsTrue, List, [], ◌∷◌, Contains, Option, Some, None, option_map, IfSome, Result, Ok, Err, ok_or}
 use Rattle.std.proofs.lemmas.Bool.{false≢true, not-false}
 use Rattle.std.specs.List.{list_all, list_any}
 use Rattle.std.specs.Result.{result_ok}
 use Rattle.s3_text.proofs.MapLemmas.{same_or}
 use Rattle.s3_terms.specs.declared.code.Code.{Code}
-use Rattle.s3_terms.specs.declared.code.Code.TheVariants.{NoSuchBucket, BucketAlreadyOwnedByYou, BucketNotEmpty, InvalidArgument, NoSuchUpload, PreconditionFailed, InvalidPartOrder, InvalidPart, EntityTooSmall}
+use Rattle.s3_terms.specs.declared.code.Code.TheVariants.{NoSuchBucket, BucketAlreadyOwnedByYou, BucketNotEmpty, InvalidArgument, NoSuchUpload, InvalidPartOrder, InvalidPart, EntityTooSmall}
 use Rattle.s3_names.specs.declared.ids.VersionId.{VersionId}
 use Rattle.s3_conditions.specs.declared.conditions.Conditions.{Conditions}
 use Rattle.s3_versions.specs.declared.picking.Refusal.{Refusal}
@@ -43,14 +43,16 @@ use Rattle.s3_machine.specs.declared.command.UploadCommand.{UploadCommand}
 use Rattle.s3_machine.specs.declared.command.UploadCommand.TheVariants as upload_commands
 use Rattle.s3_machine.specs.declared.command.Outcome.{Outcome}
 use Rattle.s3_machine.specs.declared.command.Outcome.TheVariants as outcomes
+use Rattle.s3_machine.specs.declared.command.WriteCondition.{WriteCondition}
+use Rattle.s3_machine.specs.declared.command.WriteCondition.TheVariants as write_conditions
 use Rattle.s3_machine.specs.declared.rules.Rules.{Rules}
 use Rattle.s3_terms.specs.Fault as faults
 use Rattle.s3_terms.specs.Fault.{◌>>◌, ◌>>=◌}
 use Rattle.s3_machine.specs.Fault.{refuse, as_refusal}
 use Rattle.s3_machine.specs.Effects.{Address, writes, object_of, upload_stored, stored_by, acknowledged, touched, told, is_refused, succeeds, only_reads}
-use Rattle.s3_machine.specs.Step.{State, Stepped, is_taken, copied, source_found, lies_in, part_copied, data_of, shown_in, found_in, outcome_shown, shown_by, upload_begun, open_upload, bucket_done, key_done, upload_done, done, stepped, step}
+use Rattle.s3_machine.specs.Step.{State, Stepped, tag_at, is_barred, barred_code, copied, source_found, lies_in, part_copied, data_of, shown_in, found_in, outcome_shown, shown_by, upload_begun, open_upload, bucket_done, key_done, upload_done, done, stepped, step}
 use Rattle.s3_machine.specs.Laws.{QuietStepsChangeNothing, StepsStayBelow}
-use Rattle.s3_machine.proofs.ChangeLemmas.{Comes, Stays, Then, comes_below}
+use Rattle.s3_machine.proofs.ChangeLemmas.{Comes, Stays, one_change, comes_below}
 use Rattle.s3_machine.proofs.ContainsLemmas.{nothing_in, one_in, is_in}
 use Rattle.s3_machine.proofs.DeletionLemmas.{nothing_stored, IsIn, all_come}
 use Rattle.s3_machine.proofs.DeletionRowLemmas.{unwritten_keys, touched_others, touched_empty}
@@ -136,11 +138,11 @@ not_quiet command outcome accepted more (inr is) = absurd (false≢true (sym mor
 
 -- a change that leaves all versions
 same_versions : {outcome : Outcome} (s : State) (name : List ℕ) (change : Change (List ℕ)) (n t : ℕ) (command : Command)
-    → writes command ≡ [] → is_refused outcome ≡ false → only_reads command ≡ false → IfSome (number_in change) (λ m. m < n + 1)
+    → writes command ≡ [] → is_refused outcome ≡ false → only_reads command ≡ false → IfSome (number_in change) (λ m. m ≡ n)
     → SameVersions s (changed s name change) → Does s n t command (changed s name change, outcome)
 same_versions {outcome} s name change n t command none accepted more numbered same =
     record {
-      comes = Then Stays name change numbered;
+      comes = one_change n s name change numbered;
       effect = inl (record {
         versions = same;
         refused = no_write command outcome none;
@@ -268,7 +270,7 @@ module _ (places : ChangesAreByPlace (List ℕ)) (follow : FollowRules) where
       (outcome : Outcome)
       → OnePlaceChanges s (changed s name change) name key (id_changed (versioning_of s name) what) (version_made (versioning_of s name) what)
       → writes command ≡ record { bucket = name; key = key } ∷ []
-      → succeeds outcome ≡ true → only_reads command ≡ false → IfSome (number_in change) (λ m. m < n + 1)
+      → succeeds outcome ≡ true → only_reads command ≡ false → IfSome (number_in change) (λ m. m ≡ n)
       → touched command outcome (record { bucket = name; key = key }) ≡ id_changed (versioning_of s name) what ∷ []
       → Adds s n t command (changed s name change, outcome) ⊎ AddsNothing s n t command (changed s name change, outcome)
       → Does s n t command (changed s name change, outcome)
@@ -277,7 +279,7 @@ module _ (places : ChangesAreByPlace (List ℕ)) (follow : FollowRules) where
       let id = id_changed (versioning_of s name) what in
       let after = changed s name change in
       record {
-        comes = Then Stays name change numbered;
+        comes = one_change n s name change numbered;
         effect = inr (record {
           accepted = accepted;
           more = more;
@@ -301,7 +303,7 @@ module _ (places : ChangesAreByPlace (List ℕ)) (follow : FollowRules) where
       (outcome : Outcome)
       → OnePlaceChanges s (changed s name change) name key (id_changed (versioning_of s name) what) (version_made (versioning_of s name) what)
       → writes command ≡ record { bucket = name; key = key } ∷ []
-      → succeeds outcome ≡ true → only_reads command ≡ false → IfSome (number_in change) (λ m. m < n + 1)
+      → succeeds outcome ≡ true → only_reads command ≡ false → IfSome (number_in change) (λ m. m ≡ n)
       → touched command outcome (record { bucket = name; key = key }) ≡ id_changed (versioning_of s name) what ∷ []
       → stored_by s n t command ≡ None
       → ((v : Version (List ℕ)) → version_made (versioning_of s name) what ≡ Some v → stored v ≡ None)
@@ -331,10 +333,9 @@ module _ (places : ChangesAreByPlace (List ℕ)) (follow : FollowRules) where
       → touched command outcome (record { bucket = name; key = key }) ≡ told (shown_in (versioning_of s name) (new_id (versioning_of s name) n)) ∷ []
       → Does s n t command (changed s name change, outcome)
   stores s n t name key command change what outcome place versions numbered written by accepted more tagged touches =
-      let next : n < n + 1 = omega arith in
       let under = touches ∙ ap (λ (id : VersionId). id ∷ []) (told_new (versioning_of s name) n) in
       writing s n t name key command change (VersionPut n t what) outcome place written accepted more
-      (subst (λ (number : Option ℕ). IfSome number (λ m. m < n + 1)) (sym numbered) next) under
+      (subst (λ (number : Option ℕ). IfSome number (λ m. m ≡ n)) (sym numbered) refl) under
       (inl (record {
         address = record { bucket = name; key = key };
         what = what;
@@ -374,7 +375,7 @@ module _ (places : ChangesAreByPlace (List ℕ)) (follow : FollowRules) where
   unfolding key_done copy_done
   key_does s n t name key (key_commands.Copy copy) there = key_copies s n t name key copy (copied s copy) refl there
   key_does s n t name key (key_commands.Put put) there =
-      after_line (Does s n t (commands.Key name key (key_commands.Put put))) s (put.if_absent && is_taken s name key) PreconditionFailed _
+      after_line (Does s n t (commands.Key name key (key_commands.Put put))) s (is_barred put.condition (tag_at s name key)) (barred_code (tag_at s name key)) _
       (untouched s n t (commands.Key name key (key_commands.Put put)) _ (λ a written. refl))
       (λ free. puts s n t name key (commands.Key name key (key_commands.Put put)) (data_of put) _ there refl refl refl refl refl refl)
   key_does s n t name key (key_commands.Read asked) there =
@@ -390,6 +391,14 @@ module _ (places : ChangesAreByPlace (List ℕ)) (follow : FollowRules) where
       emptying s n t name key (commands.Key name key (key_commands.Delete (Some id))) (KeyChanged key (VersionDropped id))
       (VersionDropped id) _ (places s name (KeyChanged key (VersionDropped id)) there) refl refl refl tt refl refl
       (λ v is. absurd (cc))
+  key_does s n t name key (key_commands.DeleteMatching tags) there =
+      after_line (Does s n t (commands.Key name key (key_commands.DeleteMatching tags)))
+      s (is_barred (write_conditions.IfMatch tags) (tag_at s name key)) (barred_code (tag_at s name key)) _
+      (untouched s n t (commands.Key name key (key_commands.DeleteMatching tags)) _ (λ a written. refl))
+      (λ met. emptying s n t name key (commands.Key name key (key_commands.DeleteMatching tags)) (KeyChanged key (KeyDeleted n t)) (KeyDeleted n t) _
+      (places s name (KeyChanged key (KeyDeleted n t)) there) refl refl refl (omega arith)
+      (ap (λ (id : VersionId). id ∷ []) (told_new (versioning_of s name) n)) refl
+      (λ v is. nothing_stored (versioning_of s name) n t v is))
   key_does s n t name key (key_commands.Begin begin) there =
       same_versions s name (UploadAdded key n (upload_begun t begin)) n t (commands.Key name key (key_commands.Begin begin))
       refl refl refl tt (places s name (UploadAdded key n (upload_begun t begin)) there)
@@ -406,19 +415,19 @@ module _ (places : ChangesAreByPlace (List ℕ)) (follow : FollowRules) where
       ] refl
 
   -- a completion stores what the listed parts make, or is refused
-  upload_completes : (rules : Rules) (s : State) (n t : ℕ) (name key : List ℕ) (id : ℕ) (listed : List ListedPart) (if_absent : Bool)
+  upload_completes : (rules : Rules) (s : State) (n t : ℕ) (name key : List ℕ) (id : ℕ) (listed : List ListedPart) (condition : WriteCondition)
       (u : Upload (List ℕ)) (rule : Result (Data (List ℕ)) Code)
       → completed rules.least_part listed u ≡ rule → upload_at s name key id ≡ Some u → IsTrue (has_bucket s name)
-      → Does s n t (commands.Upload name key id (upload_commands.Complete listed if_absent)) (stepped s (as_refusal rule >>= completing s n t name key id))
-  upload_completes rules s n t name key id listed if_absent u (Ok what) is found there =
+      → Does s n t (commands.Upload name key id (upload_commands.Complete listed condition)) (stepped s (as_refusal rule >>= completing s n t name key id))
+  upload_completes rules s n t name key id listed condition u (Ok what) is found there =
       let change = UploadCompleted key id (VersionPut n t what) in
-      stores s n t name key (commands.Upload name key id (upload_commands.Complete listed if_absent)) change what _
+      stores s n t name key (commands.Upload name key id (upload_commands.Complete listed condition)) change what _
       (places s name change there) (follow.completions s name key id (VersionPut n t what) there) refl refl
-      (ap (λ (f : Option (Upload (List ℕ))). option_map (object_of s n t (record { bucket = name; key = key })) (upload_stored f (upload_commands.Complete listed if_absent))) found
+      (ap (λ (f : Option (Upload (List ℕ))). option_map (object_of s n t (record { bucket = name; key = key })) (upload_stored f (upload_commands.Complete listed condition))) found
       ∙ ap (λ (d : Data (List ℕ)). Some (object_of s n t (record { bucket = name; key = key }) d)) (completed_is rules.least_part listed u what is))
       refl refl refl refl
-  upload_completes rules s n t name key id listed if_absent u (Err code) is found there =
-      untouched s n t (commands.Upload name key id (upload_commands.Complete listed if_absent)) _ (λ a written. refl)
+  upload_completes rules s n t name key id listed condition u (Err code) is found there =
+      untouched s n t (commands.Upload name key id (upload_commands.Complete listed condition)) _ (λ a written. refl)
 
   -- a part that is copied changes no versions
   part_copies : (s : State) (n t : ℕ) (name key : List ℕ) (id number : ℕ) (copy : PartCopy) (source : Result (Found (List ℕ)) Refusal)
@@ -443,12 +452,12 @@ module _ (places : ChangesAreByPlace (List ℕ)) (follow : FollowRules) where
   upload_does rules s n t name key id (upload_commands.CopyPart number copy) there =
       opened s n t name key id (upload_commands.CopyPart number copy) _
       (λ u is. part_copies s n t name key id number copy (source_found s copy.source) there)
-  upload_does rules s n t name key id (upload_commands.Complete listed if_absent) there =
-      opened s n t name key id (upload_commands.Complete listed if_absent) _
-      (λ u is. after_line (Does s n t (commands.Upload name key id (upload_commands.Complete listed if_absent)))
-      s (if_absent && is_taken s name key) PreconditionFailed _
-      (untouched s n t (commands.Upload name key id (upload_commands.Complete listed if_absent)) _ (λ a written. refl))
-      (λ free. upload_completes rules s n t name key id listed if_absent u (completed rules.least_part listed u) refl is there))
+  upload_does rules s n t name key id (upload_commands.Complete listed condition) there =
+      opened s n t name key id (upload_commands.Complete listed condition) _
+      (λ u is. after_line (Does s n t (commands.Upload name key id (upload_commands.Complete listed condition)))
+      s (is_barred condition (tag_at s name key)) (barred_code (tag_at s name key)) _
+      (untouched s n t (commands.Upload name key id (upload_commands.Complete listed condition)) _ (λ a written. refl))
+      (λ free. upload_completes rules s n t name key id listed condition u (completed rules.least_part listed u) refl is there))
   upload_does rules s n t name key id upload_commands.Abort there =
       opened s n t name key id upload_commands.Abort _
       (λ u is. same_versions s name (UploadDropped key id) n t _ refl refl refl tt (places s name (UploadDropped key id) there))

@@ -1,16 +1,16 @@
--- What a completion joins are the parts that were put last under each listed number.
-use Rattle.std.proofs.Common.{◌≡◌, refl, sym, ap, ap₂, subst, ◌∙◌, Bool, true, false, not, ◌&&◌, ℕ, List, [], ◌∷◌, ◌++◌, append_assoc, length, Option, Some, None, option_map, unwrap_or, Result, Ok, Err, ok_or, map as each}
+-- What a completion joins are the parts that were put last under each listed number, or stood there at the beginning.
+use Rattle.std.proofs.Common.{◌≡◌, refl, sym, ap, ap₂, subst, ◌∙◌, Bool, true, false, not, ◌⊎◌, inl, inr, ℕ, List, [], ◌∷◌, ◌++◌, append_assoc, length, Option, Some, None, option_map, unwrap_or, Result, Ok, Err, ok_or, map as each}
 use Rattle.std.proofs.lemmas.Bool.{false≢true, and_parts}
+use Rattle.std.proofs.lemmas.List.{length-map}
 use Rattle.std.proofs.lemmas.List.Concat.{concat_is}
 use Rattle.std.proofs.lemmas.List.Folds.{flat_map-map}
 use Rattle.std.proofs.lemmas.Option.{same_Some}
 use Rattle.std.proofs.lemmas.Slice.Eq.{bytes_eq-Decides}
-use Rattle.std.proofs.lemmas.Slice.Zip.{AllZip-long}
 use Rattle.std.specs.List.{AllZip, concat, flat_map, list_all}
 use Rattle.std.specs.Str.{bytes_eq}
 use Rattle.md5.specs.Md5.{md5}
 use Rattle.s3_terms.specs.declared.code.Code.{Code}
-use Rattle.s3_terms.specs.declared.code.Code.TheVariants.{NoSuchBucket, NoSuchUpload, PreconditionFailed}
+use Rattle.s3_terms.specs.declared.code.Code.TheVariants.{NoSuchBucket, NoSuchUpload}
 use Rattle.s3_terms.specs.Fault.{◌>>◌, ◌>>=◌}
 use Rattle.s3_names.specs.Tags.{joined_text}
 use Rattle.s3_names.specs.declared.ids.VersionId.{VersionId}
@@ -22,21 +22,21 @@ use Rattle.s3_uploads.specs.declared.listed.ListedPart.{ListedPart}
 use Rattle.s3_uploads.specs.declared.part.Part.{Part}
 use Rattle.s3_uploads.specs.declared.upload.Upload.{Upload}
 use Rattle.s3_records.specs.Catalogue.{has_bucket}
-use Rattle.s3_records.specs.Laws.{OpeningIsEmpty}
 use Rattle.s3_records.specs.OpenUploads.{upload_at}
 use Rattle.s3_records.specs.Places.{ChangesAreByUpload}
 use Rattle.s3_machine.specs.declared.command.Command.{Command}
 use Rattle.s3_machine.specs.declared.command.Command.TheVariants as commands
 use Rattle.s3_machine.specs.declared.command.UploadCommand.TheVariants as upload_commands
+use Rattle.s3_machine.specs.declared.command.WriteCondition.{WriteCondition}
 use Rattle.s3_machine.specs.declared.rules.Rules.{Rules}
 use Rattle.s3_machine.specs.Effects.{UploadPlace, place_of, open_at, upload_stored, completes, object_of, stored_by, succeeds}
 use Rattle.s3_machine.specs.Fault.{refuse, as_refusal}
 use Rattle.s3_machine.specs.History.{Entry, Legal, after}
 use Rattle.s3_machine.specs.Kept.{SparesVersion, ReadsVersion, EveryHistory, StoredIsKept, VersionsAreKept, StoredIsTold}
-use Rattle.s3_machine.specs.Step.{State, is_taken, upload_done, done, stepped, step}
-use Rattle.s3_machine.specs.Uploads.{WasSent, begun_state, IsListedPart, AreJoined}
+use Rattle.s3_machine.specs.Step.{State, tag_at, is_barred, barred_code, upload_done, done, stepped, step}
+use Rattle.s3_machine.specs.Uploads.{begun_state, IsListedPart, IsListedOrStayed, PartsFrom, FromBegun, FromBase, AreJoined}
 use Rattle.s3_machine.specs.UploadsKept.{CompletionsJoinWhatWasSent, CompletionsAreKept, CompletionVersionsAreKept}
-use Rattle.s3_machine.proofs.CourseLemmas.{asked_of, part_of, Course, courses}
+use Rattle.s3_machine.proofs.CourseLemmas.{asked_of, Course, Stay, courses}
 use Rattle.s3_machine.proofs.EffectLemmas.{after_line, completed_is, completing}
 use Rattle.s3_machine.proofs.HistoryLemmas.{Legal-append}
 use Rattle.s3_machine.proofs.KeptLemmas.{outcome_is}
@@ -85,34 +85,46 @@ pieces_joined f g parts listed same =
     ∙ flat_map-map f pick listed
     ∙ same_pieces (λ (part : ListedPart). f (pick part)) g same listed
 
-module _ (rules : Rules) (s : State) (since : List Entry) (upload : UploadPlace) (parts : PartList (List ℕ))
-    (known : (number : ℕ) (p : Part (List ℕ)) → part_at number parts ≡ Some p → WasSent rules s since (part_of upload number) p) where
-  -- a listed part was put last under its number
-  part_listed : (listed : ListedPart) → is_sent parts listed ≡ true
-      → IsListedPart rules s since upload listed (part_or_none (part_at listed.number parts))
+module _ (parts : PartList (List ℕ)) (IsIt : ListedPart → Part (List ℕ) → Type 0)
+    (known : (listed : ListedPart) (p : Part (List ℕ)) → part_at listed.number parts ≡ Some p → listed.tag ≡ part_tag p → IsIt listed p) where
+  -- what is known of the parts of listed numbers that have the listed tags is so of those that are listed
+  part_listed : (listed : ListedPart) → is_sent parts listed ≡ true → IsIt listed (part_or_none (part_at listed.number parts))
   part_listed listed is =
       let there = is_part (part_at listed.number parts) listed is in
-      subst (IsListedPart rules s since upload listed) (sym (ap part_or_none there.1)) (record {
-        last = known listed.number there.0 there.1;
-        tag = sym ((bytes_eq-Decides (part_tag there.0) listed.tag).0 there.2);
-      })
+      subst (IsIt listed) (sym (ap part_or_none there.1))
+      (known listed there.0 there.1 (sym ((bytes_eq-Decides (part_tag there.0) listed.tag).0 there.2)))
 
-  all_listed : (listed : List ListedPart) → list_all (is_sent parts) listed ≡ true
-      → AllZip (IsListedPart rules s since upload) listed (parts_made parts listed)
+  all_listed : (listed : List ListedPart) → list_all (is_sent parts) listed ≡ true → AllZip IsIt listed (parts_made parts listed)
   all_listed [] is = tt
   all_listed (part ∷ rest) is =
       let both = and_parts (is_sent parts part) (list_all (is_sent parts) rest) is in
       (part_listed part both.0, all_listed rest both.1)
 
+-- where the listed parts are from of an upload that an entry began, or that stayed
+parts_from : (rules : Rules) (s : State) (past : List Entry) (upload : UploadPlace) (u : Upload (List ℕ)) (listed : List ListedPart)
+    → Course rules s past upload u ⊎ Stay rules s past upload u → list_all (is_sent u.parts) listed ≡ true
+    → PartsFrom rules s past upload listed u.moment (asked_of u) (parts_made u.parts listed)
+parts_from rules s past upload u listed (inl course) sent =
+    let start = begun_state rules s course.begun in
+    let since = course.begun.since in
+    FromBegun course.begun
+    (all_listed u.parts (IsListedPart rules start since upload)
+    (λ part p there tag. record { last = course.sent part.number p there; tag = tag }) listed sent)
+parts_from rules s past upload u listed (inr stay) sent =
+    FromBase stay.stayed
+    (all_listed u.parts (IsListedOrStayed rules s past upload)
+    (λ part p there tag. record { last = stay.parts part.number p there; tagged = tag }) listed sent)
+
+-- there are as many parts as are listed
+made_long : (parts : PartList (List ℕ)) (listed : List ListedPart) → length (parts_made parts listed) ≡ length listed
+made_long parts listed = length-map listed (λ (part : ListedPart). part_or_none (part_at part.number parts))
+
 -- what is joined of the parts of an upload that takes this course
 joined_of : (rules : Rules) (s : State) (past : List Entry) (upload : UploadPlace) (u : Upload (List ℕ)) (listed : List ListedPart)
     (what : Data (List ℕ))
-    → Course rules s past upload u → Joins listed u what → AreJoined rules s past upload listed what
+    → Course rules s past upload u ⊎ Stay rules s past upload u → Joins listed u what → AreJoined rules s past upload listed what
 joined_of rules s past upload u listed what course joins =
-    let start = begun_state rules s course.begun in
-    let since = course.begun.since in
     let made = parts_made u.parts listed in
-    let zip = all_listed rules start since upload u.parts course.sent listed joins.sent in
     let body = λ (part : Part (List ℕ)). part.body in
     let digest = λ (part : Part (List ℕ)). part.digest in
     let bodies : concat (each body made) ≡ flat_map (λ (part : ListedPart). bytes_at u.parts part.number) listed =
@@ -121,13 +133,12 @@ joined_of rules s past upload u listed what course joins =
     let digests : concat (each digest made) ≡ flat_map (λ (part : ListedPart). digest_at u.parts part.number) listed =
     pieces_joined digest (λ (part : ListedPart). digest_at u.parts part.number) u.parts listed
     (λ (part : ListedPart). digest_found (part_at part.number u.parts)) in
-    let size : length made ≡ length listed = AllZip-long (IsListedPart rules start since upload) listed made zip in
+    let size = made_long u.parts listed in
     record {
       moment = u.moment;
       asked = asked_of u;
-      begun = course.begun;
       made = made;
-      sent = zip;
+      parts = parts_from rules s past upload u listed course joins.sent;
       body = joins.bytes ∙ sym bodies;
       size = joins.size;
       tag = joins.tag ∙ ap (λ (d : List ℕ). joined_text (md5 d) (length listed)) (sym digests)
@@ -146,72 +157,72 @@ pub record IsCompleted (rules : Rules) (s : State) (n t : ℕ) (command : Comman
   pub rule : completed rules.least_part listed found ≡ Ok what
   pub by : stored_by s n t command ≡ Some (object_of s n t upload.address what)
 
-rule_ok : (rules : Rules) (s : State) (n t : ℕ) (name key : List ℕ) (id : ℕ) (listed : List ListedPart) (if_absent : Bool) (found : Upload (List ℕ))
+rule_ok : (rules : Rules) (s : State) (n t : ℕ) (name key : List ℕ) (id : ℕ) (listed : List ListedPart) (condition : WriteCondition) (found : Upload (List ℕ))
     (rule : Result (Data (List ℕ)) Code)
     → upload_at s name key id ≡ Some found → completed rules.least_part listed found ≡ rule
     → succeeds (stepped s (as_refusal rule >>= completing s n t name key id)).1 ≡ true
-    → IsCompleted rules s n t (commands.Upload name key id (upload_commands.Complete listed if_absent)) (place_of name key id) listed
-rule_ok rules s n t name key id listed if_absent found (Ok what) there is success = record {
+    → IsCompleted rules s n t (commands.Upload name key id (upload_commands.Complete listed condition)) (place_of name key id) listed
+rule_ok rules s n t name key id listed condition found (Ok what) there is success = record {
   found = found;
   there = there;
   what = what;
   rule = is;
-  by = ap (λ (u : Option (Upload (List ℕ))). option_map (object_of s n t (place_of name key id).address) (upload_stored u (upload_commands.Complete listed if_absent))) there
+  by = ap (λ (u : Option (Upload (List ℕ))). option_map (object_of s n t (place_of name key id).address) (upload_stored u (upload_commands.Complete listed condition))) there
       ∙ ap (λ (d : Data (List ℕ)). Some (object_of s n t (place_of name key id).address d)) (completed_is rules.least_part listed found what is);
 }
-rule_ok rules s n t name key id listed if_absent found (Err code) there is success = absurd (false≢true success)
+rule_ok rules s n t name key id listed condition found (Err code) there is success = absurd (false≢true success)
 
 -- behind its condition
-free_ok : (rules : Rules) (s : State) (n t : ℕ) (name key : List ℕ) (id : ℕ) (listed : List ListedPart) (if_absent : Bool) (found : Upload (List ℕ))
-    (taken : Bool)
+free_ok : (rules : Rules) (s : State) (n t : ℕ) (name key : List ℕ) (id : ℕ) (listed : List ListedPart) (condition : WriteCondition) (found : Upload (List ℕ))
+    (barred : Bool) (code : Code)
     → upload_at s name key id ≡ Some found
-    → succeeds (stepped s (refuse taken PreconditionFailed >> (as_refusal (completed rules.least_part listed found) >>= completing s n t name key id))).1 ≡ true
-    → IsCompleted rules s n t (commands.Upload name key id (upload_commands.Complete listed if_absent)) (place_of name key id) listed
-free_ok rules s n t name key id listed if_absent found true there success = absurd (false≢true success)
-free_ok rules s n t name key id listed if_absent found false there success =
-    rule_ok rules s n t name key id listed if_absent found (completed rules.least_part listed found) there refl success
+    → succeeds (stepped s (refuse barred code >> (as_refusal (completed rules.least_part listed found) >>= completing s n t name key id))).1 ≡ true
+    → IsCompleted rules s n t (commands.Upload name key id (upload_commands.Complete listed condition)) (place_of name key id) listed
+free_ok rules s n t name key id listed condition found true code there success = absurd (false≢true success)
+free_ok rules s n t name key id listed condition found false code there success =
+    rule_ok rules s n t name key id listed condition found (completed rules.least_part listed found) there refl success
 
-open_ok : (rules : Rules) (s : State) (n t : ℕ) (name key : List ℕ) (id : ℕ) (listed : List ListedPart) (if_absent : Bool)
+open_ok : (rules : Rules) (s : State) (n t : ℕ) (name key : List ℕ) (id : ℕ) (listed : List ListedPart) (condition : WriteCondition)
     (found : Option (Upload (List ℕ)))
     → upload_at s name key id ≡ found
     → succeeds (stepped s (as_refusal (ok_or found NoSuchUpload)
-    >>= (λ (u : Upload (List ℕ)). refuse (if_absent && is_taken s name key) PreconditionFailed
+    >>= (λ (u : Upload (List ℕ)). refuse (is_barred condition (tag_at s name key)) (barred_code (tag_at s name key))
     >> (as_refusal (completed rules.least_part listed u) >>= completing s n t name key id)))).1 ≡ true
-    → IsCompleted rules s n t (commands.Upload name key id (upload_commands.Complete listed if_absent)) (place_of name key id) listed
-open_ok rules s n t name key id listed if_absent None is success = absurd (false≢true success)
-open_ok rules s n t name key id listed if_absent (Some found) is success =
-    free_ok rules s n t name key id listed if_absent found (if_absent && is_taken s name key) is success
+    → IsCompleted rules s n t (commands.Upload name key id (upload_commands.Complete listed condition)) (place_of name key id) listed
+open_ok rules s n t name key id listed condition None is success = absurd (false≢true success)
+open_ok rules s n t name key id listed condition (Some found) is success =
+    free_ok rules s n t name key id listed condition found (is_barred condition (tag_at s name key))
+    (barred_code (tag_at s name key)) is success
 
-step_completed : (rules : Rules) (s : State) (n t : ℕ) (name key : List ℕ) (id : ℕ) (listed : List ListedPart) (if_absent : Bool)
-    → succeeds (step rules s n t (commands.Upload name key id (upload_commands.Complete listed if_absent))).1 ≡ true
-    → IsCompleted rules s n t (commands.Upload name key id (upload_commands.Complete listed if_absent)) (place_of name key id) listed
+step_completed : (rules : Rules) (s : State) (n t : ℕ) (name key : List ℕ) (id : ℕ) (listed : List ListedPart) (condition : WriteCondition)
+    → succeeds (step rules s n t (commands.Upload name key id (upload_commands.Complete listed condition))).1 ≡ true
+    → IsCompleted rules s n t (commands.Upload name key id (upload_commands.Complete listed condition)) (place_of name key id) listed
 unfolding done upload_done
-step_completed rules s n t name key id listed if_absent =
-    let command = commands.Upload name key id (upload_commands.Complete listed if_absent) in
+step_completed rules s n t name key id listed condition =
+    let command = commands.Upload name key id (upload_commands.Complete listed condition) in
     after_line (λ st. succeeds st.1 ≡ true → IsCompleted rules s n t command (place_of name key id) listed)
-    s (not (has_bucket s name)) NoSuchBucket (upload_done rules s n t name key id (upload_commands.Complete listed if_absent))
+    s (not (has_bucket s name)) NoSuchBucket (upload_done rules s n t name key id (upload_commands.Complete listed condition))
     (λ success. absurd (false≢true success))
-    (λ there success. open_ok rules s n t name key id listed if_absent (upload_at s name key id) refl success)
+    (λ there success. open_ok rules s n t name key id listed condition (upload_at s name key id) refl success)
 
 pub command_completed : (rules : Rules) (s : State) (n t : ℕ) (command : Command) (upload : UploadPlace) (listed : List ListedPart)
     → completes command ≡ Some (upload, listed) → succeeds (step rules s n t command).1 ≡ true
     → IsCompleted rules s n t command upload listed
-command_completed rules s n t (commands.Upload name key id (upload_commands.Complete parts if_absent)) upload listed asks success =
+command_completed rules s n t (commands.Upload name key id (upload_commands.Complete parts condition)) upload listed asks success =
     let same = same_Some (place_of name key id, parts) (upload, listed) asks in
-    subst (λ (p : UploadPlace × List ListedPart). IsCompleted rules s n t (commands.Upload name key id (upload_commands.Complete parts if_absent)) p.0 p.1) same
-    (step_completed rules s n t name key id parts if_absent success)
+    subst (λ (p : UploadPlace × List ListedPart). IsCompleted rules s n t (commands.Upload name key id (upload_commands.Complete parts condition)) p.0 p.1) same
+    (step_completed rules s n t name key id parts condition success)
 command_completed rules s n t _ upload listed asks success = absurd (cc)
 
-module _ (law : ChangesAreByUpload (List ℕ)) (puts : PutsAreUnderOneNumber (List ℕ)) (empty : OpeningIsEmpty (List ℕ))
-    (joins : CompletionsJoinTheListed) where
+module _ (law : ChangesAreByUpload (List ℕ)) (puts : PutsAreUnderOneNumber (List ℕ)) (joins : CompletionsJoinTheListed) where
   pub completions_join_what_was_sent : EveryHistory CompletionsJoinWhatWasSent
-  completions_join_what_was_sent rules s n entries legal names before later complete upload listed opens parts completes =
+  completions_join_what_was_sent rules s n entries legal before later complete upload listed parts completes =
       let here = after rules s before in
       let joined = Legal-append rules s n before (complete ∷ later) (subst (Legal rules s n) parts legal) in
       let outcome = ap succeeds (outcome_is rules here _ complete joined.1.0) in
       let done = command_completed rules here complete.answer.number complete.moment complete.command upload listed completes.asks
       (sym outcome ∙ completes.accepted) in
-      let course = courses law puts rules empty s n names before opens joined.0 upload done.found done.there in (
+      let course = courses law puts rules s n before joined.0 upload done.found done.there in (
         done.what,
         joined_of rules s before upload done.found listed done.what course (joins rules.least_part listed done.found done.what done.rule),
         record { by = done.by; accepted = completes.accepted },
@@ -219,17 +230,17 @@ module _ (law : ChangesAreByUpload (List ℕ)) (puts : PutsAreUnderOneNumber (Li
 
 module _ (law : EveryHistory CompletionsJoinWhatWasSent) where
   pub completions_are_kept : EveryHistory StoredIsKept → EveryHistory CompletionsAreKept
-  completions_are_kept kept rules s n entries legal names before between later complete read upload listed opens parts completes leaves reads =
+  completions_are_kept kept rules s n entries legal before between later complete read upload listed parts completes leaves reads =
       let split = parts ∙ append_assoc before (complete ∷ between) (read ∷ later) in
-      let stored = law rules s n entries legal names before (between ++ read ∷ later) complete upload listed opens split completes in
+      let stored = law rules s n entries legal before (between ++ read ∷ later) complete upload listed split completes in
       (stored.0, stored.1, kept rules s n entries legal before between later complete read _ parts stored.2 leaves reads)
 
   pub completion_versions_are_kept : EveryHistory StoredIsTold → EveryHistory VersionsAreKept → EveryHistory CompletionVersionsAreKept
-  completion_versions_are_kept tells kept rules s n entries legal names before between later complete read upload listed id opens parts completes
+  completion_versions_are_kept tells kept rules s n entries legal before between later complete read upload listed id parts completes
       touches spares reads =
       let here = after rules s before in
       let split = parts ∙ append_assoc before (complete ∷ between) (read ∷ later) in
-      let stored = law rules s n entries legal names before (between ++ read ∷ later) complete upload listed opens split completes in
+      let stored = law rules s n entries legal before (between ++ read ∷ later) complete upload listed split completes in
       let object = object_of here complete.answer.number complete.moment upload.address stored.0 in
       let told = tells rules s n entries legal before (between ++ read ∷ later) complete object split stored.2 in
       let same : id ≡ object.id = cc (touches, told.under) in (

@@ -176,9 +176,9 @@ stored_writes s n t (commands.Key bucket key (key_commands.Put put)) object is =
     stored_at_address s n t (record { bucket = bucket; key = key }) (key_commands.Put put) object is
 stored_writes s n t (commands.Key bucket key (key_commands.Copy copy)) object is =
     stored_at_address s n t (record { bucket = bucket; key = key }) (key_commands.Copy copy) object is
-stored_writes s n t (commands.Upload bucket key id (upload_commands.Complete listed if_absent)) object is =
+stored_writes s n t (commands.Upload bucket key id (upload_commands.Complete listed condition)) object is =
     let upload = place_of bucket key id in
-    ap (λ (b : Address). b ∷ []) (stored_there s n t upload.address (upload_stored (open_at s upload) (upload_commands.Complete listed if_absent)) object is)
+    ap (λ (b : Address). b ∷ []) (stored_there s n t upload.address (upload_stored (open_at s upload) (upload_commands.Complete listed condition)) object is)
 stored_writes s n t _ object is = absurd (cc)
 
 -- what an entry leaves that stores an object: its answer tells it, and it stands as the newest version of its key

@@ -1,4 +1,5 @@
 pub mod AnswerLemmas
+pub mod BaseLemmas
 pub mod BroughtLemmas
 pub mod ChangeLemmas
 pub mod ConditionalLemmas

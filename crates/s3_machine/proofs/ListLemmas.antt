@@ -1,5 +1,5 @@
 -- Lists and reads tell the same, and what is listed was stored.
-use Rattle.std.proofs.Common.{◌≡◌, refl, sym, ap, subst, ◌∙◌, ◌↔◌, Bool, true, false, not, ℕ, List, [], ◌∷◌, ◌++◌, Option, Some, None, is_some, option_map, Result, Ok, Err}
+use Rattle.std.proofs.Common.{◌≡◌, refl, sym, ap, subst, ◌∙◌, ⊎_elim, inl, inr, ◌↔◌, Bool, true, false, not, ℕ, List, [], ◌∷◌, ◌++◌, Option, Some, None, is_some, option_map, Result, Ok, Err}
 use Rattle.std.proofs.lemmas.Bool.{false≢true}
 use Rattle.std.specs.List.{Contains}
 use Rattle.std.specs.FinMap as map
@@ -14,7 +14,6 @@ use Rattle.s3_versions.specs.declared.version.Version.{Version}
 use Rattle.s3_versions.specs.Rules.{id_of, pick, facts_of, facts_read}
 use Rattle.s3_versions.specs.Laws.{PutsAreCurrent, IdsAreTold}
 use Rattle.s3_records.specs.Catalogue.{Bucket, Catalogue, has_bucket, versions_in, versions_of, versioning_of}
-use Rattle.s3_records.specs.Laws.{OpeningIsEmpty}
 use Rattle.s3_records.specs.Places.{ChangesAreByPlace}
 use Rattle.s3_records.specs.Rows.{key_rows}
 use Rattle.s3_prefixes.specs.declared.asked.ObjectsAsked.{ObjectsAsked}
@@ -32,9 +31,10 @@ use Rattle.s3_machine.specs.declared.command.Outcome.{Outcome}
 use Rattle.s3_machine.specs.declared.command.Outcome.TheVariants as outcomes
 use Rattle.s3_machine.specs.declared.rules.Rules.{Rules}
 use Rattle.s3_machine.specs.Fault.{refuse}
-use Rattle.s3_machine.specs.Effects.{given_whole, facts_found, succeeds}
+use Rattle.s3_machine.specs.Effects.{Object, given_whole, facts_found, succeeds}
 use Rattle.s3_machine.specs.History.{Entry, Legal, after, after_entry}
-use Rattle.s3_machine.specs.Kept.{EveryHistory, facts_stored, StoredIsListed, ListedIsStored, ListsTellWhatIsThere, VersionListsTellWhatIsThere}
+use Rattle.s3_machine.specs.Bases.{EverySoundHistory}
+use Rattle.s3_machine.specs.Kept.{EveryHistory, WasStored, Stayed, facts_stored, StoredIsListed, ListedIsStored, ListsTellWhatIsThere, VersionListsTellWhatIsThere}
 use Rattle.s3_machine.specs.Laws.{reading, all_keys, IsListed, ListsShowWhatReadsGive, ListsAreTold, VersionListsAreTold}
 use Rattle.s3_machine.specs.Step.{State, Stepped, found_in, bucket_done, key_done, done, stepped, step}
 use Rattle.s3_machine.proofs.EffectLemmas.{FollowRules, versions_at}
@@ -128,17 +128,15 @@ module _ (law : ListedIsCurrent) (places : ChangesAreByPlace (List ℕ)) (follow
       ((law (after rules (after_entry rules here write) between) a.bucket a.key (facts_stored object)).1
       (ap (λ (vs : List (Version (List ℕ))). facts_read (pick None vs)) versions ∙ ap facts_read now.1))
 
-  pub listed_is_stored : Numbers → IdsAreTold (List ℕ) → OpeningIsEmpty (List ℕ) → EveryHistory ListedIsStored
-  listed_is_stored numbers ids empty rules s n entries legal names a facts opens stands =
+  pub listed_is_stored : Numbers → IdsAreTold (List ℕ) → EverySoundHistory ListedIsStored
+  listed_is_stored numbers ids rules s n entries sound legal a facts stands =
       let there = after rules s entries in
       let read = facts_known (pick None (versions_at there a)) facts ((law there a.bucket a.key facts).0 stands) in
       let picks = picked_stands ids there a None read.0 read.1 in
-      record {
-        object = record { address = a; id = id_of read.0.0; moment = read.0.0.moment; stored = read.0.1 };
-        at = refl;
-        known = read.2;
-        stored = only_stored_stands places follow numbers empty rules s n entries legal names _ opens picks.1;
-      }
+      let object : Object = record { address = a; id = id_of read.0.0; moment = read.0.0.moment; stored = read.0.1 } in
+      ⊎_elim (λ (was : WasStored rules s entries object). inl (record { object = object; at = refl; known = read.2; stored = was }))
+      (λ (was : Stayed s entries object). inr (record { object = object; at = refl; known = read.2; stayed = was }))
+      (only_stored_stands places follow numbers rules s n entries sound legal object picks.1)
 
 -- ---- what lists tell
 

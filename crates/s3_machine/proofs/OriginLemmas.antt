@@ -1,5 +1,5 @@
--- Each object that stands was stored by an entry of the history.
-use Rattle.std.proofs.Common.{◌≡◌, refl, sym, ap, ap₂, subst, ◌∙◌, Bool, true, false, not, cond, ℕ, suc, ◌⊎◌, inl, inr, List, [], ◌∷◌, ◌++◌, append_assoc, append-nil, Contains, Option, Some, None, Result, Ok, Err, find}
+-- Each object that stands was stored by an entry of the history, or stood at its beginning and stayed.
+use Rattle.std.proofs.Common.{◌≡◌, refl, sym, ap, ap₂, subst, ◌∙◌, Bool, true, false, not, cond, ℕ, suc, ◌⊎◌, ⊎_elim, inl, inr, List, [], ◌∷◌, ◌++◌, append_assoc, append-nil, Contains, Option, Some, None, Result, Ok, Err, find}
 use Rattle.std.proofs.lemmas.Bool.{false≢true}
 use Rattle.std.proofs.lemmas.Option.{same_Some}
 use Rattle.s3_names.specs.declared.ids.VersionId.{VersionId}
@@ -16,13 +16,13 @@ use Rattle.s3_versions.specs.declared.version.Versioning.TheVariants.{Unversione
 use Rattle.s3_versions.specs.Rules.{id_of, is_under, made, new_id, stored, stored_in, pick, facts_of, asked_for, judged, read_as}
 use Rattle.s3_terms.specs.declared.code.Code.TheVariants.{NoSuchBucket, NoSuchKey, MethodNotAllowed}
 use Rattle.s3_versions.specs.Laws.{IdsAreTold}
-use Rattle.s3_records.specs.Catalogue.{opening, has_bucket, versions_of, versioning_of}
-use Rattle.s3_records.specs.Laws.{OpeningIsEmpty}
+use Rattle.s3_records.specs.Catalogue.{has_bucket, versions_of, versioning_of}
 use Rattle.s3_records.specs.Places.{version_at, ChangesAreByPlace, AreBelow}
 use Rattle.s3_machine.specs.declared.command.Found.{Found}
+use Rattle.s3_machine.specs.Bases.{EverySoundHistory}
 use Rattle.s3_machine.specs.Effects.{Address, Object, Read, writes, object_of, read_at, reads, given, found_object, touched, succeeds}
 use Rattle.s3_machine.specs.History.{Entry, IsAnswer, Legal, after, after_entry}
-use Rattle.s3_machine.specs.Kept.{Spares, SparesVersion, Stores, WasStored, Stands, IsFoundUnder, EveryHistory, OnlyStoredStands, OnlyStoredIsGiven}
+use Rattle.s3_machine.specs.Kept.{Spares, SparesVersion, Stores, WasStored, Stands, Stayed, IsFoundUnder, OnlyStoredStands, OnlyStoredIsGiven}
 use Rattle.s3_machine.specs.declared.command.Command.{Command}
 use Rattle.s3_machine.specs.declared.command.Command.TheVariants as commands
 use Rattle.s3_machine.specs.declared.command.KeyCommand.TheVariants as key_commands
@@ -37,9 +37,9 @@ use Rattle.s3_machine.proofs.HistoryLemmas.{Legal-append, after-push}
 use Rattle.s3_machine.proofs.KeptLemmas.{outcome_is, entry_does, version_left}
 use Rattle.s3_machine.proofs.StateLemmas.{Numbers, numbered_by, entry_below}
 
--- each object that stands behind these entries was stored by one of them
+-- each object that stands behind these entries was stored by one of them, or stood before them and stayed
 abbrev pub Known : Rules → State → List Entry → Type 0
-Known rules s past = (object : Object) → Stands (after rules s past) object → WasStored rules s past object
+Known rules s past = (object : Object) → Stands (after rules s past) object → WasStored rules s past object ⊎ Stayed s past object
 
 spares_push : (a : Address) (id : VersionId) (es : List Entry) (e : Entry) → SparesVersion a id es → Spares a id e → SparesVersion a id (es ++ e ∷ [])
 spares_push a id [] e spares last = (last, tt)
@@ -55,6 +55,11 @@ stored_push rules s past object e known spares = record {
   stores = known.stores;
   spared = spares_push object.address object.id known.between e known.spared spares;
 }
+
+stayed_push : (s : State) (past : List Entry) (object : Object) (e : Entry) → Stayed s past object → Spares object.address object.id e
+    → Stayed s (past ++ e ∷ []) object
+stayed_push s past object e was spares =
+    record { at_base = was.at_base; spared = spares_push object.address object.id past e was.spared spares }
 
 -- the version that a put made, by what it stores
 made_data : (b : Versioning) (n t : ℕ) (e d : Data (List ℕ)) → stored (made b n t (Stored e)) ≡ Some d → d ≡ e
@@ -147,8 +152,10 @@ module _ (places : ChangesAreByPlace (List ℕ)) (follow : FollowRules) (rules :
       let number = numbered_by rules here n e answer in
       elim (stored_or_stood here n e object answer (subst (λ (m : ℕ). AreBelow m here) (sym number) below)
       (subst (λ (t : State). Stands t object) (after-push rules s past e) stands)) [
-        | inl stores ↦ record { before = past; write = e; between = []; parts = refl; stores = stores; spared = tt }
-        | inr before ↦ stored_push rules s past object e (known object before.0) before.1
+        | inl stores ↦ inl (record { before = past; write = e; between = []; parts = refl; stores = stores; spared = tt })
+        | inr before ↦
+            ⊎_elim (λ was. inl (stored_push rules s past object e was before.1)) (λ was. inr (stayed_push s past object e was before.1))
+            (known object before.0)
       ]
 
   pub known_after : Numbers → (s : State) (n : ℕ) (past es : List Entry) → Known rules s past → AreBelow n (after rules s past)
@@ -265,26 +272,20 @@ reads_found ids rules s n t command asked found is gives =
       subst (λ (f : Found (List ℕ)). Stands s (found_object asked.address (id_of read.0.0) f)) read.2 stands.1,
     )
 
--- at the opening nothing stands
-nothing_known : OpeningIsEmpty (List ℕ) → (rules : Rules) (names : List (List ℕ)) → Known rules (opening names) []
-nothing_known empty rules names object stands =
-    let none = ap (asked_for (Some object.id))
-    ((empty names object.address.bucket).empty object.address.key) in let some = stands.there in absurd (cc)
+-- before all entries what stands is what stands at the beginning
+known_at_base : (rules : Rules) (s : State) → Known rules s []
+known_at_base rules s object stands = inr (record { at_base = stands; spared = tt })
 
-module _ (places : ChangesAreByPlace (List ℕ)) (follow : FollowRules) (numbers : Numbers) (empty : OpeningIsEmpty (List ℕ)) where
-  opened : (rules : Rules) (s : State) (n : ℕ) (names : List (List ℕ)) (es : List Entry) → s ≡ opening names → Legal rules s n es
-      → Known rules s es
-  opened rules s n names es opens =
-      subst (λ (t : State). Legal rules t n es → Known rules t es) (sym opens) (known_after places follow rules numbers (opening names) n [] es
-      (nothing_known empty rules names) (numbers.opening n names))
+module _ (places : ChangesAreByPlace (List ℕ)) (follow : FollowRules) (numbers : Numbers) where
+  pub only_stored_stands : EverySoundHistory OnlyStoredStands
+  only_stored_stands rules s n entries sound =
+      known_after places follow rules numbers s n [] entries (known_at_base rules s) sound.versions
 
-  pub only_stored_stands : EveryHistory OnlyStoredStands
-  only_stored_stands rules s n entries legal names object opens stands = opened rules s n names entries opens legal object stands
-
-  pub only_stored_is_given : IdsAreTold (List ℕ) → EveryHistory OnlyStoredIsGiven
-  only_stored_is_given ids rules s n entries legal names earlier later read asked found opens parts is gives =
+  pub only_stored_is_given : IdsAreTold (List ℕ) → EverySoundHistory OnlyStoredIsGiven
+  only_stored_is_given ids rules s n entries sound legal earlier later read asked found parts is gives =
       let legal_there = Legal-append rules s n earlier (read ∷ later) (subst (Legal rules s n) parts legal) in
       let there = after rules s earlier in
       let reading = reads_found ids rules there read.answer.number read.moment read.command asked found is
       (ap given (sym (outcome_is rules there _ read legal_there.1.0)) ∙ gives) in
-      (reading.0, reading.1, opened rules s n names earlier opens legal_there.0 (found_object asked.address reading.0 found) reading.2)
+      let from = found_object asked.address reading.0 found in
+      (reading.0, reading.1, only_stored_stands rules s n earlier sound legal_there.0 from reading.2)

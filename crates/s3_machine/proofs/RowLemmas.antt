@@ -1,5 +1,5 @@
 -- The list of an upload's parts tells each part that stands, and nothing else.
-use Rattle.std.proofs.Common.{◌≡◌, refl, sym, ap, subst, ◌∙◌, arith, true, false, cond, ◌==◌, nat_lt, ℕ, zero, suc, ◌<◌, IsTrue, List, [], ◌∷◌, Contains, Option, Some, None}
+use Rattle.std.proofs.Common.{◌≡◌, refl, sym, ap, subst, ◌∙◌, arith, true, false, cond, ◌==◌, nat_lt, ◌⊎◌, ⊎_elim, inl, inr, ℕ, zero, suc, ◌<◌, IsTrue, List, [], ◌∷◌, Contains, Option, Some, None}
 use Rattle.std.proofs.lemmas.Bool.{and_parts}
 use Rattle.std.proofs.lemmas.Bool.Decides.{nat_tests}
 use Rattle.std.proofs.lemmas.Option.{same_Some}
@@ -9,15 +9,15 @@ use Rattle.s3_uploads.specs.Parts.{PartList, rises, numbers_of, part_at, part_ro
 use Rattle.s3_uploads.specs.declared.part.Part.{Part}
 use Rattle.s3_uploads.specs.declared.part.PartRow.{PartRow}
 use Rattle.s3_uploads.specs.declared.upload.Upload.{Upload}
-use Rattle.s3_records.specs.Catalogue.{opening}
-use Rattle.s3_records.specs.Laws.{OpeningIsEmpty}
 use Rattle.s3_records.specs.OpenUploads.{parts_sent}
 use Rattle.s3_records.specs.Places.{ChangesAreByUpload}
-use Rattle.s3_machine.specs.Effects.{UploadPlace, open_at}
+use Rattle.s3_machine.specs.Bases.{PartsRise, EverySoundHistory}
+use Rattle.s3_machine.specs.Effects.{UploadPlace, open_at, part_in}
 use Rattle.s3_machine.specs.History.{Entry, after, after_entry}
 use Rattle.s3_machine.specs.Kept.{EveryHistory}
 use Rattle.s3_machine.specs.Step.{State, upload_begun}
-use Rattle.s3_machine.specs.UploadsKept.{IsPartListed, TellsOfSent, PartsAreKept, OnlySentStands, PartsAreListedWhileStanding}
+use Rattle.s3_machine.specs.Uploads.{WasSent, StayedPart}
+use Rattle.s3_machine.specs.UploadsKept.{IsPartListed, TellsOfSent, TellsOfStayed, PartsAreKept, OnlySentStands, PartsAreListedWhileStanding}
 use Rattle.s3_machine.proofs.CourseLemmas.{part_of, fate_of}
 use Rattle.s3_machine.proofs.PartLemmas.{part_sized}
 use Rattle.s3_machine.proofs.ContainsLemmas.{contains_later}
@@ -91,15 +91,26 @@ same_row x y number moment tag size =
 -- ---- they rise
 
 -- in each upload that is open the numbers of the parts rise
-abbrev AllRise : State → Type 0
+abbrev pub AllRise : State → Type 0
 AllRise s = (upload : UploadPlace) (u : Upload (List ℕ)) → open_at s upload ≡ Some u → IsTrue (rises (numbers_of u.parts))
 
-module _ (law : ChangesAreByUpload (List ℕ)) (puts : PutsAreUnderOneNumber (List ℕ)) (empty : OpeningIsEmpty (List ℕ))
-    (order : PutsKeepTheOrder (List ℕ)) where
-  none_rises : IsTrue (rises (numbers_of {B = List ℕ} []))
-  unfolding rises
-  none_rises = refl
+pub none_rises : IsTrue (rises (numbers_of {B = List ℕ} []))
+unfolding rises
+none_rises = refl
 
+-- the parts of an upload that is open or not
+pub parts_rise : (found : Option (Upload (List ℕ))) → ((u : Upload (List ℕ)) → found ≡ Some u → IsTrue (rises (numbers_of u.parts)))
+    → IsTrue (rises (numbers_of (parts_sent found)))
+parts_rise None all = none_rises
+parts_rise (Some u) all = all u refl
+
+-- the numbers of each upload's parts rise where those of all places do
+pub rise_all : (s : State) → PartsRise s → AllRise s
+rise_all s rise upload u is =
+    subst (λ (found : Option (Upload (List ℕ))). IsTrue (rises (numbers_of (parts_sent found)))) is
+    (rise upload.address.bucket upload.address.key upload.id)
+
+module _ (law : ChangesAreByUpload (List ℕ)) (puts : PutsAreUnderOneNumber (List ℕ)) (order : PutsKeepTheOrder (List ℕ)) where
   rise_step : (rules : Rules) (s : State) (e : Entry) → AllRise s → AllRise (after_entry rules s e)
   rise_step rules s e rise upload u is =
       elim (fate_of law puts rules s e upload) [
@@ -113,43 +124,46 @@ module _ (law : ChangesAreByUpload (List ℕ)) (puts : PutsAreUnderOneNumber (Li
         | Ended ended ↦ let none = ended.now in absurd (cc)
       ]
 
-  rise_after : (rules : Rules) (s : State) (es : List Entry) → AllRise s → AllRise (after rules s es)
+  pub rise_after : (rules : Rules) (s : State) (es : List Entry) → AllRise s → AllRise (after rules s es)
   rise_after rules s [] rise = rise
   rise_after rules s (e ∷ es) rise = rise_after rules (after_entry rules s e) es (rise_step rules s e rise)
 
-  none_open : (names : List (List ℕ)) → AllRise (opening names)
-  none_open names upload u is = let none = (empty names upload.address.bucket).no_uploads upload.address.key upload.id in absurd (cc)
+  -- a row of a part that stands is one of those of its upload
+  row_stands : (s : State) (upload : UploadPlace) (row : PartRow) (what : Part (List ℕ)) → part_in s (part_of upload row.number) ≡ Some what
+      → part_row (row.number, what) ≡ row → Contains (part_rows (parts_sent (open_at s upload))) row
+  row_stands s upload row what stands same =
+      let parts = parts_sent (open_at s upload) in
+      subst (Contains (part_rows parts)) same (row_of parts (row.number, what) (is_in parts row.number what stands))
 
-  -- the parts of an upload that is open or not
-  parts_rise : (found : Option (Upload (List ℕ))) → ((u : Upload (List ℕ)) → found ≡ Some u → IsTrue (rises (numbers_of u.parts)))
-      → IsTrue (rises (numbers_of (parts_sent found)))
-  parts_rise None all = none_rises
-  parts_rise (Some u) all = all u refl
-
-  pub parts_are_listed_while_standing : EveryHistory PartsAreKept → EveryHistory OnlySentStands → EveryHistory PartsAreListedWhileStanding
-  parts_are_listed_while_standing kept only rules s n entries legal names upload row opens above =
+  pub parts_are_listed_while_standing : EverySoundHistory PartsAreKept → EveryHistory OnlySentStands → EverySoundHistory PartsAreListedWhileStanding
+  parts_are_listed_while_standing kept only rules s n entries sound legal upload row above =
       let there = after rules s entries in
       let parts = parts_sent (open_at there upload) in
-      let rise = parts_rise (open_at there upload)
-      (rise_after rules s entries (subst AllRise (sym opens) (none_open names)) upload) in
+      let rise = parts_rise (open_at there upload) (rise_after rules s entries (rise_all s sound.parts) upload) in
       let passes : nat_lt 0 row.number ≡ true = grind (arith, nat_tests) in (
         λ (shown : IsPartListed there upload row).
             let found = row_there parts row (was_there (λ (r : PartRow). nat_lt 0 r.number) (part_rows parts) row shown) in
             let number : found.0.0 ≡ row.number = ap (λ (r : PartRow). r.number) found.2 in
             let stands = is_at parts found.0.0 found.0.1 rise found.1 in
-            let was = only rules s n entries legal names (part_of upload found.0.0) found.0.1 opens stands in
-            subst (TellsOfSent rules s entries upload) found.2 (record {
+            let place = part_of upload found.0.0 in
+            subst (λ (r : PartRow). TellsOfSent rules s entries upload r ⊎ TellsOfStayed s entries upload r) found.2
+            (⊎_elim (λ (was : WasSent rules s entries place found.0.1). inl (record {
               what = found.0.1;
               was = was;
               moment = refl;
               tag = refl;
               size = part_sized (after rules s was.before) was.send.moment was.send.command found.0.1 was.sends.puts;
-            }),
-        λ (tells : TellsOfSent rules s entries upload row).
-            let stands = kept rules s n entries legal names (part_of upload row.number) tells.what opens tells.was in
+            })) (λ (stayed : StayedPart s entries place found.0.1). inr (record { what = found.0.1; stayed = stayed; is = refl }))
+            (only rules s n entries legal place found.0.1 stands)),
+        λ (tells : TellsOfSent rules s entries upload row ⊎ TellsOfStayed s entries upload row).
+            kept_by (λ (r : PartRow). nat_lt 0 r.number) (part_rows parts) row passes
+            (⊎_elim (λ (tells : TellsOfSent rules s entries upload row).
+            let stands = kept rules s n entries sound legal (part_of upload row.number) tells.what (inl tells.was) in
             let entry : ℕ × Part (List ℕ) = (row.number, tells.what) in
             let sized = part_sized (after rules s tells.was.before) tells.was.send.moment tells.was.send.command tells.what tells.was.sends.puts in
             let same : part_row entry ≡ row = same_row (part_row entry) row refl (sym tells.moment) (sym tells.tag) (sized ∙ sym tells.size) in
-            kept_by (λ (r : PartRow). nat_lt 0 r.number) (part_rows parts) row passes
-            (subst (Contains (part_rows parts)) same (row_of parts entry (is_in parts row.number tells.what stands))),
+            row_stands there upload row tells.what stands same)
+            (λ (tells : TellsOfStayed s entries upload row).
+            row_stands there upload row tells.what
+            (kept rules s n entries sound legal (part_of upload row.number) tells.what (inr tells.stayed)) (sym tells.is)) tells),
       )

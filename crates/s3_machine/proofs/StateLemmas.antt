@@ -1,11 +1,9 @@
--- What holds of the states of a legal history from the opening on.
+-- What holds of the states of a legal history from a sound base on.
 use Rattle.std.proofs.Common.{◌≡◌, sym, ap, subst, arith, ℕ, ◌+◌, suc, List, [], ◌∷◌, length}
-use Rattle.s3_records.specs.Catalogue.{opening}
-use Rattle.s3_records.specs.Laws.{OpeningIsEmpty}
 use Rattle.s3_records.specs.Places.{ChangesAreByPlace, AreBelow, NumbersStayBelow, LaterIsBelow, OpeningIsBelow}
 use Rattle.s3_machine.specs.History.{Entry, IsAnswer, Legal, after, after_entry}
 use Rattle.s3_machine.specs.Step.{State}
-use Rattle.s3_machine.proofs.ChangeLemmas.{AreNull, comes_null, opening_null}
+use Rattle.s3_machine.proofs.ChangeLemmas.{AreNull, comes_null}
 use Rattle.s3_machine.proofs.EffectLemmas.{FollowRules, step_does, steps_stay_below}
 use Rattle.s3_machine.specs.declared.rules.Rules.{Rules}
 
@@ -37,18 +35,8 @@ module _ (places : ChangesAreByPlace (List ℕ)) (follow : FollowRules) (rules :
       subst (λ (m : ℕ). AreBelow m (after rules (after_entry rules s e) es)) same
       (below_after numbers (after_entry rules s e) (suc n) es legal.1 (entry_below numbers s n e legal.0 below))
 
-  null_after : (s : State) (n : ℕ) (es : List Entry) → Legal rules s n es → AreNull s → AreNull (after rules s es)
+  pub null_after : (s : State) (n : ℕ) (es : List Entry) → Legal rules s n es → AreNull s → AreNull (after rules s es)
   null_after s n [] legal nulls = nulls
   null_after s n (e ∷ es) legal nulls =
       null_after (after_entry rules s e) (suc n) es legal.1
       (comes_null e.answer.number s (after_entry rules s e) (step_does places follow rules s e.answer.number e.moment e.command).comes nulls)
-
-  -- from the opening on a number is above those of all versions, and where versioning was never set all are `null`
-  pub opened_below : Numbers → (s : State) (n : ℕ) (names : List (List ℕ)) (es : List Entry) → s ≡ opening names → Legal rules s n es
-      → AreBelow (n + length es) (after rules s es)
-  opened_below numbers s n names es opens legal =
-      below_after numbers s n es legal (subst (AreBelow n) (sym opens) (numbers.opening n names))
-
-  pub opened_null : OpeningIsEmpty (List ℕ) → (s : State) (n : ℕ) (names : List (List ℕ)) (es : List Entry) → s ≡ opening names
-      → Legal rules s n es → AreNull (after rules s es)
-  opened_null empty s n names es opens legal = null_after s n es legal (subst AreNull (sym opens) (opening_null empty names))

@@ -71,7 +71,7 @@ module _ (law : ChangesAreByUpload (List ℕ)) (puts : PutsAreUnderOneNumber (Li
         | Ended ended ↦ absurd (not_ended s n e upload answer keeps ended)
       ]
 
-  open_through : (s : State) (n : ℕ) (es : List Entry) (upload : UploadPlace) (t : ℕ) (asked : Description) → Legal rules s n es
+  pub open_through : (s : State) (n : ℕ) (es : List Entry) (upload : UploadPlace) (t : ℕ) (asked : Description) → Legal rules s n es
       → upload.id < n → StaysOpen upload es → IsOpen s upload t asked → IsOpen (after rules s es) upload t asked
   open_through s n [] upload t asked legal below stays is = is
   open_through s n (e ∷ es) upload t asked legal below stays is =

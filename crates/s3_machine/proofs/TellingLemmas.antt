@@ -1,12 +1,12 @@
 -- What is told of uploads: by answers, and by lists.
-use Rattle.std.proofs.Common.{◌≡◌, ◌≢◌, refl, sym, ap, subst, ◌∙◌, ◌↔◌, arith, Bool, true, false, not, ◌&&◌, cond, ℕ, nat_eq, zero, suc, IsTrue, List, [], ◌∷◌, filter, Contains, Option, Some, None, option_map, Result, Ok, Err, ok_or}
+use Rattle.std.proofs.Common.{◌≡◌, ◌≢◌, refl, sym, ap, subst, ◌∙◌, ◌↔◌, arith, Bool, true, false, not, cond, ℕ, nat_eq, zero, suc, IsTrue, List, [], ◌∷◌, filter, Contains, Option, Some, None, option_map, Result, Ok, Err, ok_or}
 use Rattle.std.proofs.lemmas.Bool.{false≢true}
 use Rattle.std.proofs.lemmas.List.Elements.{All-filter, All-contains, All-contains_itself}
 use Rattle.std.proofs.lemmas.Option.{same_Some}
 use Rattle.std.specs.List.{starts_with}
 use Rattle.std.specs.Result.{result_ok}
 use Rattle.s3_terms.specs.declared.code.Code.{Code}
-use Rattle.s3_terms.specs.declared.code.Code.TheVariants.{NoSuchBucket, InvalidArgument, NoSuchUpload, PreconditionFailed}
+use Rattle.s3_terms.specs.declared.code.Code.TheVariants.{NoSuchBucket, InvalidArgument, NoSuchUpload}
 use Rattle.s3_terms.specs.Fault as faults
 use Rattle.s3_terms.specs.Fault.{◌>>◌, ◌>>=◌}
 use Rattle.s3_names.specs.declared.ids.VersionId.{VersionId}
@@ -43,13 +43,15 @@ use Rattle.s3_machine.specs.declared.command.Found.{Found}
 use Rattle.s3_machine.specs.declared.command.PartCopy.{PartCopy}
 use Rattle.s3_machine.specs.declared.command.UploadCommand.{UploadCommand}
 use Rattle.s3_machine.specs.declared.command.UploadCommand.TheVariants as upload_commands
+use Rattle.s3_machine.specs.declared.command.WriteCondition.{WriteCondition}
 use Rattle.s3_machine.specs.declared.rules.Rules.{Rules}
+use Rattle.s3_machine.specs.Bases.{EverySoundHistory}
 use Rattle.s3_machine.specs.Effects.{Address, UploadPlace, Read, place_of, open_at, begins, sent, copied_part, puts_part, source_read, copies_part, completes, succeeds}
 use Rattle.s3_machine.specs.Fault.{refuse, as_refusal}
 use Rattle.s3_machine.specs.History.{after}
 use Rattle.s3_machine.specs.Kept.{WouldGive, EveryHistory}
 use Rattle.s3_machine.specs.Laws.{asking, UploadListsAreTold, PartListsAreTold, ClosedUploadsAreRefused, IsByRule, completion_rule, CompletionsGoByTheRule}
-use Rattle.s3_machine.specs.Step.{State, Stepped, is_taken, source_found, lies_in, part_copied, bucket_done, key_done, upload_done, done, stepped, step}
+use Rattle.s3_machine.specs.Step.{State, Stepped, tag_at, is_barred, barred_code, source_found, lies_in, part_copied, bucket_done, key_done, upload_done, done, stepped, step}
 use Rattle.s3_machine.specs.UploadsKept.{all_uploads, UploadsAreOpenUntilEnded, BegunIsTold, SentIsTold, CopiedPartIsTold, CompletedIsTold, UploadListsTellWhatIsThere, PartListsTellWhatIsThere, UploadsAreListedWhileOpen, OnlyWritesChangeVersions}
 use Rattle.s3_machine.proofs.AnswerLemmas.{would_find}
 use Rattle.s3_machine.proofs.ContainsLemmas.{contains_later}
@@ -169,13 +171,13 @@ rule_told s n t name key id (Err code) success = absurd (false≢true success)
 complete_told : (rules : Rules) (s : State) (n t : ℕ) (command : Command) (upload : UploadPlace) (listed : List ListedPart)
     → completes command ≡ Some (upload, listed) → TellsWhere (TellsTag upload.address) (step rules s n t command)
 unfolding done upload_done
-complete_told rules s n t (commands.Upload name key id (upload_commands.Complete parts if_absent)) upload listed asks =
+complete_told rules s n t (commands.Upload name key id (upload_commands.Complete parts condition)) upload listed asks =
     let same = same_Some (place_of name key id, parts) (upload, listed) asks in
     let P = TellsTag (record { bucket = name; key = key }) in
-    subst (λ (p : UploadPlace × List ListedPart). TellsWhere (TellsTag p.0.address) (step rules s n t (commands.Upload name key id (upload_commands.Complete parts if_absent)))) same
-    (told_line P s (not (has_bucket s name)) NoSuchBucket (upload_done rules s n t name key id (upload_commands.Complete parts if_absent))
+    subst (λ (p : UploadPlace × List ListedPart). TellsWhere (TellsTag p.0.address) (step rules s n t (commands.Upload name key id (upload_commands.Complete parts condition)))) same
+    (told_line P s (not (has_bucket s name)) NoSuchBucket (upload_done rules s n t name key id (upload_commands.Complete parts condition))
     (told_open P s (upload_at s name key id) _
-    (λ u is. told_line P s (if_absent && is_taken s name key) PreconditionFailed _ (rule_told s n t name key id (completed rules.least_part parts u)))))
+    (λ u is. told_line P s (is_barred condition (tag_at s name key)) (barred_code (tag_at s name key)) _ (rule_told s n t name key id (completed rules.least_part parts u)))))
 complete_told rules s n t _ upload listed asks = absurd (cc)
 
 pub completed_is_told : EveryHistory CompletedIsTold
@@ -211,26 +213,28 @@ by_rule s n t name key id (Ok what) = refl
 by_rule s n t name key id (Err code) = refl
 
 -- behind its condition
-by_condition : (s : State) (n t : ℕ) (name key : List ℕ) (id : ℕ) (taken : Bool) (rule : Result (Data (List ℕ)) Code)
-    → IsByRule (faults.refuse taken PreconditionFailed >> rule)
-    (stepped s (refuse taken PreconditionFailed >> (as_refusal rule >>= completing s n t name key id))).1
-by_condition s n t name key id true rule = refl
-by_condition s n t name key id false rule = by_rule s n t name key id rule
+by_condition : (s : State) (n t : ℕ) (name key : List ℕ) (id : ℕ) (barred : Bool) (code : Code)
+    (rule : Result (Data (List ℕ)) Code)
+    → IsByRule (faults.refuse barred code >> rule)
+    (stepped s (refuse barred code >> (as_refusal rule >>= completing s n t name key id))).1
+by_condition s n t name key id true code rule = refl
+by_condition s n t name key id false code rule = by_rule s n t name key id rule
 
-completed_done : (rules : Rules) (s : State) (n t : ℕ) (name key : List ℕ) (id : ℕ) (listed : List ListedPart) (if_absent : Bool)
+completed_done : (rules : Rules) (s : State) (n t : ℕ) (name key : List ℕ) (id : ℕ) (listed : List ListedPart) (condition : WriteCondition)
     (found : Upload (List ℕ))
     → upload_at s name key id ≡ Some found
-    → IsByRule (completion_rule rules s (record { bucket = name; key = key }) listed if_absent found)
-    (stepped s (upload_done rules s n t name key id (upload_commands.Complete listed if_absent))).1
+    → IsByRule (completion_rule rules s (record { bucket = name; key = key }) listed condition found)
+    (stepped s (upload_done rules s n t name key id (upload_commands.Complete listed condition))).1
 unfolding upload_done
-completed_done rules s n t name key id listed if_absent found is =
-    rw is (by_condition s n t name key id (if_absent && is_taken s name key) (completed rules.least_part listed found))
+completed_done rules s n t name key id listed condition found is =
+    rw is (by_condition s n t name key id (is_barred condition (tag_at s name key)) (barred_code (tag_at s name key))
+    (completed rules.least_part listed found))
 
 pub completions_go_by_the_rule : CompletionsGoByTheRule
-completions_go_by_the_rule rules s n t upload listed if_absent found there is =
-    subst (λ (st : Stepped). IsByRule (completion_rule rules s upload.address listed if_absent found) st.1)
-    (sym (past_bucket rules s n t upload (upload_commands.Complete listed if_absent) there))
-    (completed_done rules s n t upload.address.bucket upload.address.key upload.id listed if_absent found is)
+completions_go_by_the_rule rules s n t upload listed condition found there is =
+    subst (λ (st : Stepped). IsByRule (completion_rule rules s upload.address listed condition found) st.1)
+    (sym (past_bucket rules s n t upload (upload_commands.Complete listed condition) there))
+    (completed_done rules s n t upload.address.bucket upload.address.key upload.id listed condition found is)
 
 pub upload_lists_are_told : UploadListsAreTold
 unfolding done bucket_done
@@ -329,8 +333,8 @@ found_at None t is = absurd (cc)
 found_at (Some u) t is = (u, refl, cc)
 
 module _ (listed : UploadsAreListed (List ℕ)) where
-  pub uploads_are_listed_while_open : EveryHistory UploadsAreOpenUntilEnded → EveryHistory UploadsAreListedWhileOpen
-  uploads_are_listed_while_open law rules s n entries legal names upload t opens some =
+  pub uploads_are_listed_while_open : EverySoundHistory UploadsAreOpenUntilEnded → EverySoundHistory UploadsAreListedWhileOpen
+  uploads_are_listed_while_open law rules s n entries sound legal upload t some =
       let there = after rules s entries in
       let row : UploadRow = record { key = upload.address.key; id = upload.id; moment = t } in
       let rows = all_rows there upload.address.bucket row some in
@@ -339,7 +343,7 @@ module _ (listed : UploadsAreListed (List ℕ)) where
             let found = found_at (open_at there upload) t (is.1 (rows.1 shown)) in
             let asked = asked_of found.0 in (
               asked,
-              (law rules s n entries legal names upload t asked opens).0 (record {
+              (law rules s n entries sound legal upload t asked).0 (record {
                 found = found.0;
                 there = found.1;
                 moment = found.2;
@@ -348,7 +352,7 @@ module _ (listed : UploadsAreListed (List ℕ)) where
               }),
             ),
         λ (asked, begun).
-            let now = (law rules s n entries legal names upload t asked opens).1 begun in
+            let now = (law rules s n entries sound legal upload t asked).1 begun in
             rows.0 (is.0 (ap (option_map (λ (u : Upload (List ℕ)). u.moment)) now.there ∙ ap Some now.moment)),
       )
 

@@ -1,12 +1,12 @@
 -- What one step does to an upload.
-use Rattle.std.proofs.Common.{◌≡◌, refl, sym, ap, ap₂, ◌∙◌, Bool, true, false, not, ◌&&◌, ℕ, ◌⊎◌, inl, inr, IsTrue, List, Option, Some, None, option_map, Result, Ok, Err, ok_or}
+use Rattle.std.proofs.Common.{◌≡◌, refl, sym, ap, ap₂, ◌∙◌, Bool, true, false, not, ℕ, ◌⊎◌, inl, inr, IsTrue, List, Option, Some, None, option_map, Result, Ok, Err, ok_or}
 use Rattle.std.proofs.lemmas.Bool.{not-false}
 use Rattle.std.proofs.lemmas.Bool.Decides.{eqb_tells}
 use Rattle.std.proofs.lemmas.Option.{same_Some}
 use Rattle.std.specs.Result.{result_ok}
 use Rattle.s3_text.proofs.MapLemmas.{same_or}
 use Rattle.s3_terms.specs.declared.code.Code.{Code}
-use Rattle.s3_terms.specs.declared.code.Code.TheVariants.{NoSuchBucket, BucketAlreadyOwnedByYou, BucketNotEmpty, InvalidArgument, NoSuchUpload, PreconditionFailed}
+use Rattle.s3_terms.specs.declared.code.Code.TheVariants.{NoSuchBucket, BucketAlreadyOwnedByYou, BucketNotEmpty, InvalidArgument, NoSuchUpload}
 use Rattle.s3_terms.specs.Fault.{◌>>◌, ◌>>=◌}
 use Rattle.s3_conditions.specs.declared.conditions.Conditions.{Conditions}
 use Rattle.s3_versions.specs.declared.picking.Refusal.{Refusal}
@@ -36,10 +36,11 @@ use Rattle.s3_machine.specs.declared.command.PartCopy.{PartCopy}
 use Rattle.s3_machine.specs.declared.command.UploadCommand.{UploadCommand}
 use Rattle.s3_machine.specs.declared.command.UploadCommand.TheVariants as upload_commands
 use Rattle.s3_machine.specs.declared.command.Outcome.{Outcome}
+use Rattle.s3_machine.specs.declared.command.WriteCondition.TheVariants as write_conditions
 use Rattle.s3_machine.specs.declared.rules.Rules.{Rules}
 use Rattle.s3_machine.specs.Fault.{refuse, as_refusal}
 use Rattle.s3_machine.specs.Effects.{Address, UploadPlace, PartPlace, place_of, open_at, begins, sends, copied_part, puts_part, ends, succeeds}
-use Rattle.s3_machine.specs.Step.{State, Stepped, is_taken, copied, source_found, lies_in, part_copied, data_of, outcome_shown, shown_by, found_in, upload_begun, open_upload, bucket_done, key_done, upload_done, done, stepped, step}
+use Rattle.s3_machine.specs.Step.{State, Stepped, tag_at, is_barred, barred_code, copied, source_found, lies_in, part_copied, data_of, outcome_shown, shown_by, found_in, upload_begun, open_upload, bucket_done, key_done, upload_done, done, stepped, step}
 use Rattle.s3_machine.proofs.DeletionLemmas.{IsIn, uploads_stay}
 use Rattle.s3_machine.proofs.EffectLemmas.{after_line, copy_done, part_copying, shown, completing}
 
@@ -148,7 +149,7 @@ sent_there name key id _ upload number at = absurd (cc)
 
 ended_there : (name key : List ℕ) (id : ℕ) (asked : UploadCommand) (upload : UploadPlace)
     → ends (commands.Upload name key id asked) ≡ Some upload → SamePlace upload name key id
-ended_there name key id (upload_commands.Complete listed if_absent) upload at = parts_place name key id upload (cc)
+ended_there name key id (upload_commands.Complete listed condition) upload at = parts_place name key id upload (cc)
 ended_there name key id upload_commands.Abort upload at = parts_place name key id upload (cc)
 ended_there name key id _ upload at = absurd (cc)
 
@@ -239,7 +240,7 @@ module _ (law : ChangesAreByUpload (List ℕ)) where
       → Fate s n t (commands.Key name key asked) (stepped s (key_done s n t name key asked)) upload
   unfolding key_done copy_done
   key_fate s n t name key (key_commands.Put put) upload there =
-      fate_line s n t _ upload (put.if_absent && is_taken s name key) PreconditionFailed _
+      fate_line s n t _ upload (is_barred put.condition (tag_at s name key)) (barred_code (tag_at s name key)) _
       (λ free. key_changed s n t name key _ (VersionPut n t (data_of put)) _ upload there refl refl refl)
   key_fate s n t name key (key_commands.Copy copy) upload there = copy_fate s n t name key copy (copied s copy) upload there
   key_fate s n t name key (key_commands.Read asked) upload there =
@@ -249,6 +250,9 @@ module _ (law : ChangesAreByUpload (List ℕ)) where
   key_fate s n t name key (key_commands.Delete None) upload there = key_changed s n t name key _ (KeyDeleted n t) _ upload there refl refl refl
   key_fate s n t name key (key_commands.Delete (Some id)) upload there =
       key_changed s n t name key _ (VersionDropped id) _ upload there refl refl refl
+  key_fate s n t name key (key_commands.DeleteMatching tags) upload there =
+      fate_line s n t _ upload (is_barred (write_conditions.IfMatch tags) (tag_at s name key)) (barred_code (tag_at s name key)) _
+      (λ met. key_changed s n t name key _ (KeyDeleted n t) _ upload there refl refl refl)
   key_fate s n t name key (key_commands.Begin begin) upload there = begin_fate s n t name key begin _ upload there refl
 
   -- what is done with an upload, where it is open
@@ -352,10 +356,10 @@ module _ (law : ChangesAreByUpload (List ℕ)) where
   upload_fate rules s n t name key id (upload_commands.CopyPart number copy) upload there =
       opened_fate s n t name key id (upload_commands.CopyPart number copy) _ upload
       (λ u is. copied_fate s n t name key id number copy (source_found s copy.source) upload u refl is there)
-  upload_fate rules s n t name key id (upload_commands.Complete listed if_absent) upload there =
-      opened_fate s n t name key id (upload_commands.Complete listed if_absent) _ upload
-      (λ u is. fate_line s n t _ upload (if_absent && is_taken s name key) PreconditionFailed _
-      (λ free. completed_fate s n t name key id (upload_commands.Complete listed if_absent) (completed rules.least_part listed u) upload refl there))
+  upload_fate rules s n t name key id (upload_commands.Complete listed condition) upload there =
+      opened_fate s n t name key id (upload_commands.Complete listed condition) _ upload
+      (λ u is. fate_line s n t _ upload (is_barred condition (tag_at s name key)) (barred_code (tag_at s name key)) _
+      (λ free. completed_fate s n t name key id (upload_commands.Complete listed condition) (completed rules.least_part listed u) upload refl there))
   upload_fate rules s n t name key id upload_commands.Abort upload there =
       opened_fate s n t name key id upload_commands.Abort _ upload
       (λ u is. end_fate s n t name key id upload_commands.Abort (UploadDropped key id) _ upload (law s name (UploadDropped key id) there) refl refl)

@@ -10,7 +10,7 @@ use Rattle.s3_deletions.specs.declared.named.Deletion.{Deletion}
 use Rattle.s3_deletions.specs.declared.named.NamedObject.TheVariants.{Object}
 use Rattle.s3_deletions.specs.declared.told.DeletionRow.{DeletionRow}
 use Rattle.s3_deletions.specs.declared.told.DeletionRow.TheVariants as rows
-use Rattle.s3_records.specs.Catalogue.{opening, has_bucket, versioning_of}
+use Rattle.s3_records.specs.Catalogue.{has_bucket, versioning_of}
 use Rattle.s3_records.specs.Deletions.{markers_of}
 use Rattle.s3_records.specs.Places.{version_at}
 use Rattle.s3_documents.specs.Document as documents
@@ -53,13 +53,11 @@ pub record TellsMarker (key : List ℕ) (id : VersionId) (row : DeletionRow) : T
 
 -- The laws, of a history that begins at a state.
 module _ (rules : Rules) (s : State) (entries : List Entry) where
-  -- Where nothing stood at the beginning, a key that is named without a version, and no version of which is named, is gone: while
-  -- its bucket is there, a read of it is answered that there is no such key, and whether a delete marker hides it, until an entry
-  -- changes its versions.
+  -- From a sound base a key that is named without a version, and no version of which is named, is gone: while its bucket is there,
+  -- a read of it is answered that there is no such key, and whether a delete marker hides it, until an entry changes its versions.
   abbrev pub NamedKeysAreGone : Type 0
   NamedKeysAreGone =
-      (names : List (List ℕ)) (before between later : List Entry) (e read : Entry) (address : Address) (deletion : Deletion)
-      → s ≡ opening names
+      (before between later : List Entry) (e read : Entry) (address : Address) (deletion : Deletion)
       → entries ≡ before ++ e ∷ between ++ read ∷ later
       → Deletes address.bucket deletion e
       → NamesKeyAlone deletion address.key
@@ -71,8 +69,7 @@ module _ (rules : Rules) (s : State) (entries : List Entry) where
   -- Then a version that is named is gone, too, unless the entry makes a delete marker of its id.
   abbrev pub NamedVersionsAreGone : Type 0
   NamedVersionsAreGone =
-      (names : List (List ℕ)) (before later : List Entry) (e : Entry) (bucket key : List ℕ) (deletion : Deletion) (id : VersionId)
-      → s ≡ opening names
+      (before later : List Entry) (e : Entry) (bucket key : List ℕ) (deletion : Deletion) (id : VersionId)
       → entries ≡ before ++ e ∷ later
       → Deletes bucket deletion e
       → Names deletion key (Some id)

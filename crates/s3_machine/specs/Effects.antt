@@ -43,6 +43,8 @@ use Rattle.s3_machine.specs.declared.command.Outcome.TheVariants as outcomes
 use Rattle.s3_machine.specs.declared.command.Description.{Description}
 use Rattle.s3_machine.specs.declared.command.UploadCommand.{UploadCommand}
 use Rattle.s3_machine.specs.declared.command.UploadCommand.TheVariants as upload_commands
+use Rattle.s3_machine.specs.declared.command.WriteCondition.{WriteCondition}
+use Rattle.s3_machine.specs.declared.command.WriteCondition.TheVariants as write_conditions
 use Rattle.s3_machine.specs.Step.{State, copied, data_of, makes_marker, outcome_shown, part_copied, shown_by, source_found}
 
 -- a key of a bucket
@@ -77,10 +79,11 @@ abbrev pub key_written : Address → KeyCommand → List Address
 key_written address (key_commands.Put put) = address ∷ []
 key_written address (key_commands.Copy copy) = address ∷ []
 key_written address (key_commands.Delete asked) = address ∷ []
+key_written address (key_commands.DeleteMatching tags) = address ∷ []
 key_written address other = []
 
 abbrev pub upload_written : Address → UploadCommand → List Address
-upload_written address (upload_commands.Complete listed if_absent) = address ∷ []
+upload_written address (upload_commands.Complete listed condition) = address ∷ []
 upload_written address other = []
 
 -- the address of an object that is named to be deleted
@@ -100,21 +103,41 @@ deletes (commands.DeleteObjects bucket deletion) = Some (bucket, deletion)
 deletes other = None
 
 -- the address under which a command stores only where no object is
-abbrev pub where_absent : Bool → Address → Option Address
-where_absent if_absent address = if if_absent then Some address else None
+abbrev pub where_absent : WriteCondition → Address → Option Address
+where_absent write_conditions.IfAbsent address = Some address
+where_absent other address = None
 
 abbrev pub key_absent : Address → KeyCommand → Option Address
-key_absent address (key_commands.Put put) = where_absent put.if_absent address
+key_absent address (key_commands.Put put) = where_absent put.condition address
 key_absent address other = None
 
 abbrev pub upload_absent : Address → UploadCommand → Option Address
-upload_absent address (upload_commands.Complete listed if_absent) = where_absent if_absent address
+upload_absent address (upload_commands.Complete listed condition) = where_absent condition address
 upload_absent address other = None
 
 abbrev pub wants_absent : Command → Option Address
 wants_absent (commands.Key bucket key asked) = key_absent (record { bucket = bucket; key = key }) asked
 wants_absent (commands.Upload bucket key id asked) = upload_absent (record { bucket = bucket; key = key }) asked
 wants_absent other = None
+
+-- the address at which a command writes only where the object has one of some tags, and these
+abbrev pub where_matching : WriteCondition → Address → Option (Address × List ℕ)
+where_matching (write_conditions.IfMatch tags) address = Some (address, tags)
+where_matching other address = None
+
+abbrev pub key_matching : Address → KeyCommand → Option (Address × List ℕ)
+key_matching address (key_commands.Put put) = where_matching put.condition address
+key_matching address (key_commands.DeleteMatching tags) = Some (address, tags)
+key_matching address other = None
+
+abbrev pub upload_matching : Address → UploadCommand → Option (Address × List ℕ)
+upload_matching address (upload_commands.Complete listed condition) = where_matching condition address
+upload_matching address other = None
+
+abbrev pub wants_matching : Command → Option (Address × List ℕ)
+wants_matching (commands.Key bucket key asked) = key_matching (record { bucket = bucket; key = key }) asked
+wants_matching (commands.Upload bucket key id asked) = upload_matching (record { bucket = bucket; key = key }) asked
+wants_matching other = None
 
 -- the data that a command brings along, to be stored as they are
 abbrev pub key_brought : KeyCommand → Option (Data (List ℕ))
@@ -149,7 +172,7 @@ key_stored s address other = None
 
 -- the same of a command on this upload, if it is open
 abbrev pub upload_stored : Option (Upload (List ℕ)) → UploadCommand → Option (Data (List ℕ))
-upload_stored found (upload_commands.Complete listed if_absent) =
+upload_stored found (upload_commands.Complete listed condition) =
     option_map (λ (u : Upload (List ℕ)). joined_data u (parts_listed listed u.parts)) found
 upload_stored found other = None
 
@@ -209,7 +232,7 @@ puts_part s t other = None
 
 -- the upload that a command completes, and the parts that it lists
 abbrev pub upload_completes : UploadPlace → UploadCommand → Option (UploadPlace × List ListedPart)
-upload_completes upload (upload_commands.Complete listed if_absent) = Some (upload, listed)
+upload_completes upload (upload_commands.Complete listed condition) = Some (upload, listed)
 upload_completes upload other = None
 
 abbrev pub completes : Command → Option (UploadPlace × List ListedPart)
@@ -218,7 +241,7 @@ completes other = None
 
 -- the upload that it is to end
 abbrev pub upload_ends : UploadPlace → UploadCommand → Option UploadPlace
-upload_ends upload (upload_commands.Complete listed if_absent) = Some upload
+upload_ends upload (upload_commands.Complete listed condition) = Some upload
 upload_ends upload upload_commands.Abort = Some upload
 upload_ends upload other = None
 
@@ -311,6 +334,7 @@ takes_room_in_bucket other = true
 abbrev pub takes_room_at_key : Versioning → KeyCommand → Bool
 takes_room_at_key versioning (key_commands.Delete None) = makes_marker versioning
 takes_room_at_key versioning (key_commands.Delete (Some id)) = false
+takes_room_at_key versioning (key_commands.DeleteMatching tags) = makes_marker versioning
 takes_room_at_key versioning other = true
 
 abbrev pub takes_room_in_upload : UploadCommand → Bool

@@ -15,7 +15,6 @@ use Rattle.s3_versions.specs.Rules.{stored}
 use Rattle.s3_uploads.specs.Completion.{parts_listed, joined_data}
 use Rattle.s3_uploads.specs.declared.listed.ListedPart.{ListedPart}
 use Rattle.s3_uploads.specs.declared.upload.Upload.{Upload}
-use Rattle.s3_records.specs.Catalogue.{opening}
 use Rattle.s3_records.specs.Places.{version_at}
 use Rattle.s3_records.specs.Rows.{key_rows}
 use Rattle.s3_prefixes.specs.declared.asked.ObjectsAsked.{ObjectsAsked}
@@ -93,6 +92,24 @@ pub record Stands (s : State) (object : Object) : Type 0 where
   pub there : version_at s object.address.bucket object.address.key object.id ≡ Some version
   pub moment : version.moment ≡ object.moment
   pub holds : stored version ≡ Some object.stored
+
+-- the object stood at the beginning, and no entry touched its id
+pub record Stayed (s : State) (entries : List Entry) (object : Object) : Type 0 where
+  pub at_base : Stands s object
+  pub spared : SparesVersion object.address object.id entries
+
+-- an object of which these facts are known stayed so at the address
+pub record StayedWith (s : State) (entries : List Entry) (address : Address) (facts : Facts) : Type 0 where
+  pub object : Object
+  pub at : object.address ≡ address
+  pub known : facts_stored object ≡ facts
+  pub stayed : Stayed s entries object
+
+-- these are the data of an object that stood at the beginning
+pub record Stood (s : State) (what : Data (List ℕ)) : Type 0 where
+  pub object : Object
+  pub at_base : Stands s object
+  pub holds : object.stored ≡ what
 
 -- the entry reads the current version of the address, or the version of an id, without conditions
 abbrev pub ReadsKey : Address → Entry → Type 0
@@ -230,31 +247,29 @@ module _ (rules : Rules) (s : State) (entries : List Entry) where
       → LeavesKey object.address between
       → IsListed (after rules s entries) object.address (facts_stored object)
 
-  -- And nothing else: where nothing stood at the beginning, each object that stands at the end was stored,
+  -- And nothing else: from a sound base each object that stands at the end was stored, or stood at the beginning and stayed,
   abbrev pub OnlyStoredStands : Type 0
   OnlyStoredStands =
-      (names : List (List ℕ)) (object : Object)
-      → s ≡ opening names
+      (object : Object)
       → Stands (after rules s entries) object
-      → WasStored rules s entries object
+      → WasStored rules s entries object ⊎ Stayed s entries object
 
-  -- and what a read is given, by whichever conditions, was stored before it.
+  -- and so was what a read is given, by whichever conditions, before it.
   abbrev pub OnlyStoredIsGiven : Type 0
   OnlyStoredIsGiven =
-      (names : List (List ℕ)) (earlier later : List Entry) (read : Entry) (asked : Read) (found : Found (List ℕ))
-      → s ≡ opening names
+      (earlier later : List Entry) (read : Entry) (asked : Read) (found : Found (List ℕ))
       → entries ≡ earlier ++ read ∷ later
       → reads read.command ≡ Some asked
       → given read.answer.outcome ≡ Some found
-      → (id : VersionId) × IsFoundUnder id asked found × WasStored rules s earlier (found_object asked.address id found)
+      → (id : VersionId) × IsFoundUnder id asked found
+      × (WasStored rules s earlier (found_object asked.address id found) ⊎ Stayed s earlier (found_object asked.address id found))
 
   -- Nor is anything else listed.
   abbrev pub ListedIsStored : Type 0
   ListedIsStored =
-      (names : List (List ℕ)) (address : Address) (facts : Facts)
-      → s ≡ opening names
+      (address : Address) (facts : Facts)
       → IsListed (after rules s entries) address facts
-      → WasStoredWith rules s entries address facts
+      → WasStoredWith rules s entries address facts ⊎ StayedWith s entries address facts
 
   -- A list of the objects of a bucket tells the page of those that the entries before it leave, or doesn't succeed,
   abbrev pub ListsTellWhatIsThere : Type 0
@@ -274,15 +289,14 @@ module _ (rules : Rules) (s : State) (entries : List Entry) where
       → succeeds list.answer.outcome ≡ true
       → list.answer.outcome ≡ outcomes.Told (documents.versions name asked (versions_page asked (after rules s before) name))
 
-  -- However often data were copied since, a put brought them once, or a completion joined them once; but for the type and the
-  -- metadata that a copy said of them.
+  -- However often data were copied since, a put brought them once, or a completion joined them once, or they stood at the
+  -- beginning; but for the type and the metadata that a copy said of them.
   abbrev pub StoredWasBrought : Type 0
   StoredWasBrought =
-      (names : List (List ℕ)) (earlier later : List Entry) (object : Object)
-      → s ≡ opening names
+      (earlier later : List Entry) (object : Object)
       → entries ≡ earlier ++ later
       → WasStored rules s earlier object
-      → (origin : Data (List ℕ)) × (WasPut earlier origin ⊎ WasJoined rules s earlier origin)
+      → (origin : Data (List ℕ)) × (WasPut earlier origin ⊎ (WasJoined rules s earlier origin ⊎ Stood s origin))
       × ((object.stored ≡ origin) ⊎ WasDescribed earlier origin object.stored)
 
   -- A read without conditions hands out all of a version, or doesn't succeed.

@@ -1,8 +1,8 @@
 -- What holds of every step.
-use Rattle.std.specs.Prelude.{◌≡◌, ◌↔◌, ◌⊎◌, ℕ, ◌+◌, Bool, true, false, ◌&&◌, IsTrue, List, [], Option, Some, None, option_map, Result, Ok, Err}
+use Rattle.std.specs.Prelude.{◌≡◌, ◌↔◌, ◌⊎◌, ℕ, ◌+◌, true, false, IsTrue, List, [], Option, Some, None, option_map, Result, Ok, Err}
 use Rattle.std.specs.List.{Contains}
 use Rattle.s3_terms.specs.declared.code.Code.{Code}
-use Rattle.s3_terms.specs.declared.code.Code.TheVariants.{NoSuchUpload, PreconditionFailed}
+use Rattle.s3_terms.specs.declared.code.Code.TheVariants.{NoSuchUpload}
 use Rattle.s3_terms.specs.Fault.{refuse, ◌>>◌}
 use Rattle.s3_names.specs.declared.ids.VersionId.{VersionId}
 use Rattle.s3_conditions.specs.declared.conditions.Conditions.{Conditions}
@@ -34,9 +34,10 @@ use Rattle.s3_machine.specs.declared.command.Outcome.{Outcome}
 use Rattle.s3_machine.specs.declared.command.Outcome.TheVariants as outcomes
 use Rattle.s3_machine.specs.declared.command.UploadCommand.{UploadCommand}
 use Rattle.s3_machine.specs.declared.command.UploadCommand.TheVariants as upload_commands
+use Rattle.s3_machine.specs.declared.command.WriteCondition.{WriteCondition}
 use Rattle.s3_machine.specs.declared.rules.Rules.{Rules}
 use Rattle.s3_machine.specs.Effects.{Address, UploadPlace, open_at, is_refused, only_reads, given_whole, acknowledged, facts_found, by_conditions}
-use Rattle.s3_machine.specs.Step.{State, is_taken, step}
+use Rattle.s3_machine.specs.Step.{State, tag_at, is_barred, barred_code, step}
 
 -- a refusal leaves the state as it was, and so does a command that only reads
 abbrev pub QuietStepsChangeNothing : Type 0
@@ -136,17 +137,19 @@ IsByRule (Ok what) outcome = acknowledged outcome ≡ Some what.tag
 IsByRule (Err code) outcome = outcome ≡ outcomes.Refused code false
 
 -- the rules of a completion: its condition, and then the rule of uploads
-abbrev pub completion_rule : Rules → State → Address → List ListedPart → Bool → Upload (List ℕ) → Result (Data (List ℕ)) Code
-completion_rule rules s address listed if_absent found = do
-  refuse (if_absent && is_taken s address.bucket address.key) PreconditionFailed
+abbrev pub completion_rule : Rules → State → Address → List ListedPart → WriteCondition → Upload (List ℕ)
+    → Result (Data (List ℕ)) Code
+completion_rule rules s address listed condition found = do
+  refuse (is_barred condition (tag_at s address.bucket address.key)) (barred_code (tag_at s address.bucket address.key))
   completed rules.least_part listed found
 
 -- The completion of one that is open goes by its condition and the rule of uploads: it is refused where one of them refuses, with
 -- its code, and stores what the rule joins where none does.
 abbrev pub CompletionsGoByTheRule : Type 0
 CompletionsGoByTheRule =
-    (rules : Rules) (s : State) (n t : ℕ) (upload : UploadPlace) (listed : List ListedPart) (if_absent : Bool) (found : Upload (List ℕ))
+    (rules : Rules) (s : State) (n t : ℕ) (upload : UploadPlace) (listed : List ListedPart) (condition : WriteCondition)
+    (found : Upload (List ℕ))
     → IsTrue (has_bucket s upload.address.bucket)
     → open_at s upload ≡ Some found
-    → IsByRule (completion_rule rules s upload.address listed if_absent found)
-    (step rules s n t (asking upload (upload_commands.Complete listed if_absent))).1
+    → IsByRule (completion_rule rules s upload.address listed condition found)
+    (step rules s n t (asking upload (upload_commands.Complete listed condition))).1

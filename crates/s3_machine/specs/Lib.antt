@@ -1,3 +1,4 @@
+pub mod Bases
 pub mod Conditional
 pub mod Configuration
 pub mod Deleted

@@ -1,16 +1,17 @@
 -- The state of a server, and one step of it (Amazon S3 API Reference, the operations that are named; Amazon S3 User
 -- Guide, "Using versioning in S3 buckets" and "Uploading and copying objects using multipart upload").
 use Rattle.std.specs.Prelude.{ℕ, ◌+◌, Bool, true, false, not, ◌&&◌, nat_le, nat_lt, List, [], ◌++◌, length, take, drop, codes, decimal, Option, Some, None, is_some, option_and_then, find, Result, Ok, Err, ok_or}
-use Rattle.std.specs.Option.{option_map, unwrap_or}
+use Rattle.std.specs.Option.{option_map, option_map_or, unwrap_or}
 use Rattle.md5.specs.Md5.{md5}
 use Rattle.s3_bodies.specs.Payload.{tag_of}
 use Rattle.s3_terms.specs.declared.code.Code.{Code}
-use Rattle.s3_terms.specs.declared.code.Code.TheVariants.{NoSuchBucket, BucketAlreadyOwnedByYou, BucketNotEmpty, InvalidArgument, InvalidRequest, MethodNotAllowed, NoSuchUpload, PreconditionFailed}
+use Rattle.s3_terms.specs.declared.code.Code.TheVariants.{NoSuchBucket, BucketAlreadyOwnedByYou, BucketNotEmpty, InvalidArgument, InvalidRequest, MethodNotAllowed, NoSuchKey, NoSuchUpload, PreconditionFailed}
 use Rattle.s3_names.specs.declared.ids.VersionId.{VersionId}
 use Rattle.s3_conditions.specs.declared.conditions.Conditions.{Conditions}
 use Rattle.s3_conditions.specs.declared.conditions.Selection.{Selection}
 use Rattle.s3_conditions.specs.declared.conditions.Selection.TheVariants.{Whole, Outside}
 use Rattle.s3_conditions.specs.Conditions.{judged}
+use Rattle.s3_conditions.specs.Tags.{matches}
 use Rattle.s3_versions.specs.declared.picking.Facts.{Facts}
 use Rattle.s3_versions.specs.declared.picking.Refusal.{Refusal}
 use Rattle.s3_versions.specs.declared.version.Data.{Data}
@@ -46,6 +47,8 @@ use Rattle.s3_machine.specs.declared.command.ObjectPut.{ObjectPut}
 use Rattle.s3_machine.specs.declared.command.Source.{Source}
 use Rattle.s3_machine.specs.declared.command.UploadCommand.{UploadCommand}
 use Rattle.s3_machine.specs.declared.command.UploadCommand.TheVariants as upload_commands
+use Rattle.s3_machine.specs.declared.command.WriteCondition.{WriteCondition}
+use Rattle.s3_machine.specs.declared.command.WriteCondition.TheVariants as write_conditions
 use Rattle.s3_machine.specs.declared.command.Found.{Found}
 use Rattle.s3_machine.specs.declared.command.Outcome.{Outcome}
 use Rattle.s3_machine.specs.declared.command.Outcome.TheVariants as outcomes
@@ -81,6 +84,22 @@ is_marker_under id vs = unwrap_or (option_map is_delete_marker (find (is_under i
 -- a key has an object: it has a current version, and that is no delete marker
 abbrev pub is_taken : State → List ℕ → List ℕ → Bool
 is_taken s name key = is_some (option_and_then stored (current (versions_of s name key)))
+
+-- the tag of the object that a key has
+abbrev pub tag_at : State → List ℕ → List ℕ → Option (List ℕ)
+tag_at s name key = option_map (λ (what : Data (List ℕ)). what.tag) (option_and_then stored (current (versions_of s name key)))
+
+-- a write with this condition is kept from storing where the key has an object of this tag, or none (Amazon S3 API Reference,
+-- PutObject, `If-None-Match` and `If-Match`)
+abbrev pub is_barred : WriteCondition → Option (List ℕ) → Bool
+is_barred write_conditions.Unconditional found = false
+is_barred write_conditions.IfAbsent found = is_some found
+is_barred (write_conditions.IfMatch tags) found = not (option_map_or (matches tags) found false)
+
+-- and is refused for it: where there is no object, none can match
+abbrev pub barred_code : Option (List ℕ) → Code
+barred_code None = NoSuchKey
+barred_code (Some tag) = PreconditionFailed
 
 -- what a put stores
 abbrev pub data_of : ObjectPut → Data (List ℕ)
@@ -211,10 +230,17 @@ abbrev pub upload_begun : ℕ → Description → Upload (List ℕ)
 upload_begun t begin =
     record { moment = t; content_type = begin.content_type; metadata = begin.metadata; parts = [] }
 
+-- what a delete does that names no version, as entry n at moment t
+abbrev pub delete_step : State → ℕ → ℕ → List ℕ → List ℕ → Stepped
+delete_step s n t name key = (
+  changed s name (KeyChanged key (KeyDeleted n t)),
+  outcomes.Deleted (shown_in (versioning_of s name) (new_id (versioning_of s name) n)) (makes_marker (versioning_of s name)),
+)
+
 -- what a command on a key does, as entry n at moment t, in a bucket that is there
 unfoldable pub key_done : State → ℕ → ℕ → List ℕ → List ℕ → KeyCommand → Result Stepped Refusal
 key_done s n t name key (key_commands.Put put) = do
-  refuse (put.if_absent && is_taken s name key) PreconditionFailed
+  refuse (is_barred put.condition (tag_at s name key)) (barred_code (tag_at s name key))
   Ok (
     changed s name (KeyChanged key (VersionPut n t (data_of put))),
     outcomes.Put (tag_of put.payload) (shown_in (versioning_of s name) (new_id (versioning_of s name) n)),
@@ -232,16 +258,15 @@ key_done s n t name key (key_commands.Read asked) = do
 key_done s n t name key (key_commands.ReadTags version) = do
   read ← pick version (versions_of s name key)
   Ok (s, outcomes.NoTags (shown_in (versioning_of s name) (id_of read.0)))
-key_done s n t name key (key_commands.Delete None) =
-    Ok (
-      changed s name (KeyChanged key (KeyDeleted n t)),
-      outcomes.Deleted (shown_in (versioning_of s name) (new_id (versioning_of s name) n)) (makes_marker (versioning_of s name)),
-    )
+key_done s n t name key (key_commands.Delete None) = Ok (delete_step s n t name key)
 key_done s n t name key (key_commands.Delete (Some id)) =
     Ok (
       changed s name (KeyChanged key (VersionDropped id)),
       outcomes.Deleted (shown_in (versioning_of s name) id) (is_marker_under id (versions_of s name key)),
     )
+key_done s n t name key (key_commands.DeleteMatching tags) = do
+  refuse (is_barred (write_conditions.IfMatch tags) (tag_at s name key)) (barred_code (tag_at s name key))
+  Ok (delete_step s n t name key)
 key_done s n t name key (key_commands.Begin begin) =
     Ok (changed s name (UploadAdded key n (upload_begun t begin)), outcomes.Told (documents.begun name key n))
 
@@ -262,9 +287,9 @@ upload_done rules s n t name key id (upload_commands.CopyPart number copy) = do
     changed s name (PartPut key id number (part_copied t copy.range found.stored)),
     outcomes.PartCopied (part_tag (part_copied t copy.range found.stored)) t found.shown,
   )
-upload_done rules s n t name key id (upload_commands.Complete listed if_absent) = do
+upload_done rules s n t name key id (upload_commands.Complete listed condition) = do
   upload ← open_upload s name key id
-  refuse (if_absent && is_taken s name key) PreconditionFailed
+  refuse (is_barred condition (tag_at s name key)) (barred_code (tag_at s name key))
   stored ← as_refusal (completed rules.least_part listed upload)
   Ok (
     changed s name (UploadCompleted key id (VersionPut n t stored)),

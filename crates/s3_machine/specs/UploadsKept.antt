@@ -1,14 +1,14 @@
 -- What the machine keeps of uploads: one is open from the entry that begins it to the one that ends it, the parts that are put
 -- to it stand in it and no others do, and what a completion stores are these, which come back as an object.
-use Rattle.std.specs.Prelude.{◌≡◌, ◌≢◌, ◌↔◌, ℕ, ◌<◌, true, false, List, [], ◌∷◌, ◌++◌, length, Contains, Option, Some, None}
+use Rattle.std.specs.Prelude.{◌≡◌, ◌≢◌, ◌⊎◌, ◌↔◌, ℕ, ◌<◌, true, false, List, [], ◌∷◌, ◌++◌, length, Contains, Option, Some, None}
 use Rattle.s3_names.specs.declared.ids.VersionId.{VersionId}
 use Rattle.s3_bodies.specs.Payload.{tag_of}
 use Rattle.s3_versions.specs.declared.version.Data.{Data}
-use Rattle.s3_uploads.specs.Parts.{part_sent, part_tag}
+use Rattle.s3_uploads.specs.Parts.{part_row, part_sent, part_tag}
 use Rattle.s3_uploads.specs.declared.listed.ListedPart.{ListedPart}
 use Rattle.s3_uploads.specs.declared.part.Part.{Part}
 use Rattle.s3_uploads.specs.declared.part.PartRow.{PartRow}
-use Rattle.s3_records.specs.Catalogue.{opening, versions_of}
+use Rattle.s3_records.specs.Catalogue.{versions_of}
 use Rattle.s3_records.specs.OpenUploads.{parts_at}
 use Rattle.s3_listings.specs.declared.asked.PartsAsked.{PartsAsked}
 use Rattle.s3_listings.specs.declared.asked.UploadsAsked.{UploadsAsked}
@@ -26,7 +26,7 @@ use Rattle.s3_machine.specs.Step.{State, part_copied}
 use Rattle.s3_machine.specs.Effects.{Address, UploadPlace, PartPlace, Read, part_in, writes, copies_part, sends, sent, object_of, touched, succeeds}
 use Rattle.s3_machine.specs.History.{Entry, after}
 use Rattle.s3_machine.specs.Kept.{LeavesKey, SparesVersion, Stores, ReadsKey, ReadsVersion, IsGiven, WouldGive}
-use Rattle.s3_machine.specs.Uploads.{Begins, Sends, Completes, WasBegun, WasSent, IsOpen, AreJoined}
+use Rattle.s3_machine.specs.Uploads.{Begins, Sends, Completes, WasBegun, WasSent, IsOpen, StayedOpen, StayedPart, AreJoined}
 
 -- a list of all uploads of a bucket
 abbrev pub all_uploads : UploadsAsked
@@ -54,6 +54,12 @@ pub record TellsOfSent (rules : Rules) (s : State) (entries : List Entry) (uploa
   pub tag : row.tag ≡ part_tag what
   pub size : row.size ≡ length what.body
 
+-- the row is that of a part that stood in the upload at the beginning and stayed
+pub record TellsOfStayed (s : State) (entries : List Entry) (upload : UploadPlace) (row : PartRow) : Type 0 where
+  pub what : Part (List ℕ)
+  pub stayed : StayedPart s entries (record { upload = upload; number = row.number }) what
+  pub is : row ≡ part_row (row.number, what)
+
 -- the entry sends these bytes as the part, and succeeds
 pub record SendsBytes (part : PartPlace) (bytes : List ℕ) (e : Entry) : Type 0 where
   pub at : sends e.command ≡ Some part
@@ -75,29 +81,28 @@ pub data PartSource (s : State) (e : Entry) (part : PartPlace) (what : Part (Lis
 
 -- The laws, of a history that begins at a state.
 module _ (rules : Rules) (s : State) (entries : List Entry) where
-  -- Where nothing was open at the beginning, an upload is open exactly from the entry that begins it to one that ends it, with
-  -- the moment, the type and the metadata that it was begun with.
+  -- From a sound base an upload is open exactly from the entry that begins it, or from the beginning if it was open there, to one
+  -- that ends it, with the moment, the type and the metadata that it was begun with.
   abbrev pub UploadsAreOpenUntilEnded : Type 0
   UploadsAreOpenUntilEnded =
-      (names : List (List ℕ)) (upload : UploadPlace) (t : ℕ) (asked : Description)
-      → s ≡ opening names
-      → (IsOpen (after rules s entries) upload t asked ↔ WasBegun entries upload t asked)
+      (upload : UploadPlace) (t : ℕ) (asked : Description)
+      → IsOpen (after rules s entries) upload t asked ↔ (WasBegun entries upload t asked ⊎ StayedOpen s entries upload t asked)
 
-  -- A part that was put with success stands in its upload until one is put in its place or the upload ends,
+  -- A part that was put with success, or stood there at the beginning, stands in its upload until one is put in its place or the
+  -- upload ends,
   abbrev pub PartsAreKept : Type 0
   PartsAreKept =
-      (names : List (List ℕ)) (part : PartPlace) (what : Part (List ℕ))
-      → s ≡ opening names
-      → WasSent rules s entries part what
+      (part : PartPlace) (what : Part (List ℕ))
+      → WasSent rules s entries part what ⊎ StayedPart s entries part what
       → part_in (after rules s entries) part ≡ Some what
 
-  -- and nothing else stands there: each part that does was put, and none was put in its place since.
+  -- and nothing else stands there, from whichever base: each part that does was put, or stood there, and none was put in its
+  -- place since.
   abbrev pub OnlySentStands : Type 0
   OnlySentStands =
-      (names : List (List ℕ)) (part : PartPlace) (found : Part (List ℕ))
-      → s ≡ opening names
+      (part : PartPlace) (found : Part (List ℕ))
       → part_in (after rules s entries) part ≡ Some found
-      → WasSent rules s entries part found
+      → WasSent rules s entries part found ⊎ StayedPart s entries part found
 
   -- Who begins an upload is told its id,
   abbrev pub BegunIsTold : Type 0
@@ -138,11 +143,10 @@ module _ (rules : Rules) (s : State) (entries : List Entry) where
       ≡ outcomes.Completed (documents.completed upload.address.bucket upload.address.key tag) tag shown)
 
   -- A completion that succeeds stores, as an object under its key, the parts that were put last under each listed number since
-  -- the upload was begun, joined in the order in which they are listed, with the type and the metadata of the beginning.
+  -- the upload was begun, joined in the order in which they are listed, with the type and the metadata that it was begun with.
   abbrev pub CompletionsJoinWhatWasSent : Type 0
   CompletionsJoinWhatWasSent =
-      (names : List (List ℕ)) (before later : List Entry) (complete : Entry) (upload : UploadPlace) (listed : List ListedPart)
-      → s ≡ opening names
+      (before later : List Entry) (complete : Entry) (upload : UploadPlace) (listed : List ListedPart)
       → entries ≡ before ++ complete ∷ later
       → Completes upload listed complete
       → (what : Data (List ℕ)) × AreJoined rules s before upload listed what
@@ -152,9 +156,7 @@ module _ (rules : Rules) (s : State) (entries : List Entry) where
   -- It comes back just so, by key,
   abbrev pub CompletionsAreKept : Type 0
   CompletionsAreKept =
-      (names : List (List ℕ)) (before between later : List Entry) (complete read : Entry) (upload : UploadPlace)
-      (listed : List ListedPart)
-      → s ≡ opening names
+      (before between later : List Entry) (complete read : Entry) (upload : UploadPlace) (listed : List ListedPart)
       → entries ≡ before ++ complete ∷ between ++ read ∷ later
       → Completes upload listed complete
       → LeavesKey upload.address between
@@ -164,9 +166,7 @@ module _ (rules : Rules) (s : State) (entries : List Entry) where
   -- and by the version that it is told.
   abbrev pub CompletionVersionsAreKept : Type 0
   CompletionVersionsAreKept =
-      (names : List (List ℕ)) (before between later : List Entry) (complete read : Entry) (upload : UploadPlace)
-      (listed : List ListedPart) (id : VersionId)
-      → s ≡ opening names
+      (before between later : List Entry) (complete read : Entry) (upload : UploadPlace) (listed : List ListedPart) (id : VersionId)
       → entries ≡ before ++ complete ∷ between ++ read ∷ later
       → Completes upload listed complete
       → touched complete.command complete.answer.outcome upload.address ≡ id ∷ []
@@ -193,22 +193,21 @@ module _ (rules : Rules) (s : State) (entries : List Entry) where
       → list.answer.outcome
       ≡ outcomes.Told (documents.parts name key id asked (parts_page asked (parts_at (after rules s before) name key id)))
 
-  -- Where nothing was open at the beginning, an upload is listed exactly while it is open: with the moment at which it was begun
-  -- (no key is empty).
+  -- From a sound base an upload is listed exactly while it is open: with the moment at which it was begun (no key is empty).
   abbrev pub UploadsAreListedWhileOpen : Type 0
   UploadsAreListedWhileOpen =
-      (names : List (List ℕ)) (upload : UploadPlace) (t : ℕ)
-      → s ≡ opening names
+      (upload : UploadPlace) (t : ℕ)
       → upload.address.key ≢ []
-      → (IsUploadListed (after rules s entries) upload t ↔ ((asked : Description) × WasBegun entries upload t asked))
+      → IsUploadListed (after rules s entries) upload t
+      ↔ ((asked : Description) × (WasBegun entries upload t asked ⊎ StayedOpen s entries upload t asked))
 
   -- So is a part while it stands, and nothing else is (no number is 0).
   abbrev pub PartsAreListedWhileStanding : Type 0
   PartsAreListedWhileStanding =
-      (names : List (List ℕ)) (upload : UploadPlace) (row : PartRow)
-      → s ≡ opening names
+      (upload : UploadPlace) (row : PartRow)
       → 0 < row.number
-      → (IsPartListed (after rules s entries) upload row ↔ TellsOfSent rules s entries upload row)
+      → IsPartListed (after rules s entries) upload row
+      ↔ (TellsOfSent rules s entries upload row ⊎ TellsOfStayed s entries upload row)
 
   -- No object shows of an upload before it is completed: what doesn't write under a key leaves its versions.
   abbrev pub OnlyWritesChangeVersions : Type 0

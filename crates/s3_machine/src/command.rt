@@ -3,7 +3,7 @@
 use crate::Configuration;
 use s3_bodies::{Body, Payload};
 use s3_calendar::Moment;
-use s3_conditions::{Conditions, Selection};
+use s3_conditions::{Conditions, Selection, TagList};
 use s3_deletions::Deletion;
 use s3_documents::Document;
 use s3_listings::{PartsAsked, UploadsAsked, VersionsAsked};
@@ -81,6 +81,8 @@ pub enum KeyCommand {
     ReadTags { version: Option<VersionId> },
     /// Deletes it, or its version of this id (DeleteObject).
     Delete { version: Option<VersionId> },
+    /// Deletes it, where its object has one of these tags (DeleteObject, `If-Match`).
+    DeleteMatching { tags: TagList },
     /// Begins an upload to it (CreateMultipartUpload).
     Begin(Description),
 }
@@ -101,8 +103,7 @@ pub enum UploadCommand {
     /// Stores under its key the parts that are listed, joined in this order, and ends it (CompleteMultipartUpload).
     Complete {
         listed: ListedParts,
-        /// Whether only where the key has no object.
-        if_absent: bool,
+        condition: WriteCondition,
     },
     /// Drops it with its parts (AbortMultipartUpload).
     Abort,
@@ -115,9 +116,19 @@ pub enum UploadCommand {
 pub struct ObjectPut {
     pub content_type: ContentType,
     pub metadata: Metadata,
-    /// Whether it is to be stored only where the key has no object.
-    pub if_absent: bool,
+    pub condition: WriteCondition,
     pub payload: Payload,
+}
+
+/// What a write asks of the object that its key has (Amazon S3 API Reference, PutObject, `If-None-Match` and `If-Match`).
+#[derive(Drop)]
+pub enum WriteCondition {
+    /// Nothing.
+    Unconditional,
+    /// That there is none.
+    IfAbsent,
+    /// That there is one, and that its tag is among these.
+    IfMatch(TagList),
 }
 
 /// What is said of an object beside its bytes.

@@ -2,18 +2,19 @@
 ghost use Rattle.std.specs.Prelude.{◌≡◌, ℕ, ◌+◌, List, [], ◌∷◌, ◌++◌, length};
 ghost use Rattle.s3_machine.specs.declared.rules.Rules.{Rules};
 ghost use Rattle.s3_machine.specs.Step.{State};
+ghost use Rattle.s3_machine.specs.Bases.{EverySoundHistory, OpeningIsSound, HistoriesLeaveSound, OpeningHasNothing};
 ghost use Rattle.s3_machine.specs.History.{Entry, IsAnswer, Legal, after, after_entry};
 ghost use Rattle.s3_machine.specs.Kept.{EveryHistory, StoredIsKept, VersionsAreKept, StoredIsTold, StoredIsListed, OnlyStoredStands, OnlyStoredIsGiven, ListedIsStored, ListsTellWhatIsThere, VersionListsTellWhatIsThere, StoredWasBrought, ReadsGiveOrFail, ReadsAreJudged, PutsStoreTheirContents, StoredHasSource, PutsAreKept, PutVersionsAreKept, CopiesStoreTheirSource, CopiesAreKept, CopyVersionsAreKept, BodiesAreTagged, CompletionsStoreTheirParts, MarkersHide, QuietEntriesChangeNothing};
 ghost use Rattle.s3_machine.specs.Deleted.{NamedKeysAreGone, NamedVersionsAreGone, OtherVersionsStay, DeletionsAreTold, MarkersAreToldOnce};
-ghost use Rattle.s3_machine.specs.Conditional.{AcceptedFindsNone, RefusedFindsOne, StoredKeepsOthersOut, OneIsAccepted};
+ghost use Rattle.s3_machine.specs.Conditional.{AcceptedFindsNone, RefusedFindsOne, StoredKeepsOthersOut, OneIsAccepted, AcceptedFindsMatching, UnmatchedChangesNothing, RefusalsTellWhy};
 ghost use Rattle.s3_machine.specs.UploadsKept.{UploadsAreOpenUntilEnded, PartsAreKept, OnlySentStands, BegunIsTold, SentIsTold, CopiedPartIsTold, CompletedIsTold, CompletionsJoinWhatWasSent, CompletionsAreKept, CompletionVersionsAreKept, UploadListsTellWhatIsThere, PartListsTellWhatIsThere, UploadsAreListedWhileOpen, PartsAreListedWhileStanding, OnlyWritesChangeVersions, PartsHaveTheirBytes, CopiedPartsAreOfTheirSource, PartsHaveASource};
 
 use crate::laws::steps_keep;
 use s3_bodies::Body;
 use s3_listings::listed_keys_are_read;
 use s3_records::{
-    changes_are_by_place, changes_are_by_upload, changes_follow_rules, numbers_stay_below,
-    uploads_are_listed, versions_stay_in_order,
+    changes_are_by_place, changes_are_by_upload, changes_follow_rules, empty_has_nothing,
+    numbers_stay_below, uploads_are_listed, versions_stay_in_order,
 };
 use s3_uploads::{completions_join_the_listed, puts_are_under_one_number};
 use s3_versions::{ids_differ, puts_are_current};
@@ -41,6 +42,23 @@ pub fn histories_are_cut_anywhere()
         → after rules s (es ++ fs) ≡ after rules (after rules s es) fs }
 {}
 
+/// A law, with nothing to run: which states a history may begin at. The opening state is a sound base, whichever number comes
+/// first, and nothing stands in it; and what a legal history leaves that begins at a sound base is one for the number that comes
+/// next.
+pub fn histories_leave_sound_bases()
+    ensures opening { OpeningIsSound }
+    ensures nothing { OpeningHasNothing }
+    ensures left { HistoriesLeaveSound }
+{
+    changes_are_by_place::<Body>();
+    changes_are_by_upload::<Body>();
+    changes_follow_rules::<Body>();
+    numbers_stay_below::<Body>();
+    versions_stay_in_order::<Body>();
+    empty_has_nothing::<Body>();
+    puts_are_under_one_number::<Body>();
+}
+
 /// A law, with nothing to run: in a legal history what an entry stores comes back, with its moment. It does at each read of
 /// its key before the next entry that changes the key's versions, and at each read of its version by its id before an entry
 /// that makes a version of that id again or deletes it. The entry's answer tells that id, and the tag of what is stored.
@@ -54,15 +72,15 @@ pub fn stored_is_kept()
     puts_are_current::<Body>();
 }
 
-/// A law, with nothing to run: in a legal history from the opening state, what stands was stored by an entry, and so was
-/// what a read is given, and no entry behind that one replaced or deleted it. What was stored was put once, or joined once by a
-/// completion, and may have been copied since: then it has its bytes, and the media type and the metadata that it had or that a
-/// copy said. A read of all of a version is given one, or doesn't succeed; one by conditions is shown what they select, or
-/// doesn't succeed.
+/// A law, with nothing to run: in a legal history from a sound base, what stands was stored by an entry, or stood in the base, and
+/// so was what a read is given, and no entry since replaced or deleted it. What was stored was put once, or joined once by a
+/// completion, or stood in the base, and may have been copied since: then it has its bytes, and the media type and the metadata that
+/// it had or that a copy said. A read of all of a version is given one, or doesn't succeed; one by conditions is shown what they
+/// select, or doesn't succeed.
 pub fn only_stored_is_given()
-    ensures stands { EveryHistory OnlyStoredStands }
-    ensures given { EveryHistory OnlyStoredIsGiven }
-    ensures brought { EveryHistory StoredWasBrought }
+    ensures stands { EverySoundHistory OnlyStoredStands }
+    ensures given { EverySoundHistory OnlyStoredIsGiven }
+    ensures brought { EverySoundHistory StoredWasBrought }
     ensures or_fails { EveryHistory ReadsGiveOrFail }
     ensures judged { EveryHistory ReadsAreJudged }
 {
@@ -70,23 +88,21 @@ pub fn only_stored_is_given()
     changes_follow_rules::<Body>();
     ids_differ::<Body>();
     numbers_stay_below::<Body>();
-    versions_stay_in_order::<Body>();
     completions_join_what_was_sent();
 }
 
 /// A law, with nothing to run: what an entry stored is listed under its key, with its moment, its tag and its size, until an
-/// entry changes the key's versions. In a legal history from the opening state nothing else is listed: what is was stored by an
-/// entry, and no entry behind that one replaced or deleted it.
+/// entry changes the key's versions. In a legal history from a sound base nothing else is listed: what is was stored by an entry, or
+/// stood in the base, and no entry since replaced or deleted it.
 pub fn stored_is_listed()
     ensures listed { EveryHistory StoredIsListed }
-    ensures nothing_else { EveryHistory ListedIsStored }
+    ensures nothing_else { EverySoundHistory ListedIsStored }
 {
     changes_are_by_place::<Body>();
     changes_follow_rules::<Body>();
     puts_are_current::<Body>();
     ids_differ::<Body>();
     numbers_stay_below::<Body>();
-    versions_stay_in_order::<Body>();
     listed_keys_are_read::<Body>();
 }
 
@@ -129,30 +145,28 @@ pub fn copies_are_kept()
     stored_is_kept();
 }
 
-/// A law, with nothing to run: in a legal history from the opening state an upload is open exactly from the entry that begins it,
-/// whose number is its id, to one that completes or aborts it, with its moment, its type and its metadata, and it shows in the
-/// list of all uploads of its bucket exactly so long.
+/// A law, with nothing to run: in a legal history from a sound base an upload is open exactly from the entry that begins it, whose
+/// number is its id, or from the beginning if it is open in the base, to one that completes or aborts it, with its moment, its type
+/// and its metadata, and it shows in the list of all uploads of its bucket exactly so long.
 pub fn uploads_are_open_until_ended()
-    ensures begun { EveryHistory UploadsAreOpenUntilEnded }
-    ensures listed { EveryHistory UploadsAreListedWhileOpen }
+    ensures begun { EverySoundHistory UploadsAreOpenUntilEnded }
+    ensures listed { EverySoundHistory UploadsAreListedWhileOpen }
 {
     changes_are_by_upload::<Body>();
     puts_are_under_one_number::<Body>();
-    versions_stay_in_order::<Body>();
     uploads_are_listed::<Body>();
 }
 
-/// A law, with nothing to run: in a legal history from the opening state a part that was put with success, sent or copied,
-/// stands in its upload as it was put until one is put in its place or the upload ends, and nothing else stands there. The list
-/// of all parts of the upload shows it exactly so long, with its moment, its tag and its size.
+/// A law, with nothing to run: in a legal history from a sound base a part that was put with success, sent or copied, or that
+/// stands in the base, stands in its upload as it was put until one is put in its place or the upload ends. Nothing else stands
+/// there, from whichever base. The list of all parts of the upload shows it exactly so long, with its moment, its tag and its size.
 pub fn parts_are_kept()
-    ensures kept { EveryHistory PartsAreKept }
+    ensures kept { EverySoundHistory PartsAreKept }
     ensures nothing_else { EveryHistory OnlySentStands }
-    ensures listed { EveryHistory PartsAreListedWhileStanding }
+    ensures listed { EverySoundHistory PartsAreListedWhileStanding }
 {
     changes_are_by_upload::<Body>();
     puts_are_under_one_number::<Body>();
-    versions_stay_in_order::<Body>();
 }
 
 /// A law, with nothing to run: what a part is that an entry puts, with the entry's moment: one that is sent has the bytes that
@@ -174,15 +188,15 @@ pub fn uploads_are_told()
     ensures completed { EveryHistory CompletedIsTold }
 {}
 
-/// A law, with nothing to run: in a legal history from the opening state a completion that succeeds stores the bytes of the parts
-/// that were put last under each listed number since the upload was begun, sent or copied, in the order in which they are listed,
-/// with the tag of their digests and their count, and with the type and the metadata of the beginning.
+/// A law, with nothing to run: in a legal history, from whichever base, a completion that succeeds stores the bytes of the parts
+/// that were put last under each listed number since the upload was begun, sent or copied, or that stood in it in the base and
+/// stayed, in the order in which they are listed, with the tag of their digests and their count, and with the type and the metadata
+/// that the upload was begun with.
 pub fn completions_join_what_was_sent()
     ensures { EveryHistory CompletionsJoinWhatWasSent }
 {
     changes_are_by_upload::<Body>();
     puts_are_under_one_number::<Body>();
-    versions_stay_in_order::<Body>();
     completions_join_the_listed();
 }
 
@@ -214,14 +228,14 @@ pub fn delete_markers_hide()
     s3_versions::markers_hide::<Body>();
 }
 
-/// A law, with nothing to run: what becomes of the objects that one entry deletes together. In a legal history from the opening
-/// state a key that it names without a version, and no version of which it names, is gone until an entry changes the key's
-/// versions, and a version that it names is gone, unless the entry makes a delete marker of its id. Every other version stays,
-/// of other keys and of other buckets too. Who asks for it is told of each object in their order, and of no key twice of a delete
-/// marker whose id is the number of the entry.
+/// A law, with nothing to run: what becomes of the objects that one entry deletes together. In a legal history from a sound base a
+/// key that it names without a version, and no version of which it names, is gone until an entry changes the key's versions, and a
+/// version that it names is gone, unless the entry makes a delete marker of its id. Every other version stays, of other keys and of
+/// other buckets too. Who asks for it is told of each object in their order, and of no key twice of a delete marker whose id is the
+/// number of the entry.
 pub fn named_objects_are_gone()
-    ensures keys { EveryHistory NamedKeysAreGone }
-    ensures versions { EveryHistory NamedVersionsAreGone }
+    ensures keys { EverySoundHistory NamedKeysAreGone }
+    ensures versions { EverySoundHistory NamedVersionsAreGone }
     ensures others { EveryHistory OtherVersionsStay }
     ensures told { EveryHistory DeletionsAreTold }
     ensures once { EveryHistory MarkersAreToldOnce }
@@ -229,7 +243,6 @@ pub fn named_objects_are_gone()
     changes_are_by_place::<Body>();
     changes_follow_rules::<Body>();
     numbers_stay_below::<Body>();
-    versions_stay_in_order::<Body>();
     s3_versions::markers_hide::<Body>();
 }
 
@@ -245,6 +258,17 @@ pub fn absent_puts_succeed_once()
     changes_are_by_place::<Body>();
     changes_follow_rules::<Body>();
     puts_are_current::<Body>();
+    steps_keep();
+}
+
+/// A law, with nothing to run: in a legal history a put, a completion or a delete that wants an object with one of some tags finds
+/// one where it succeeds. Where there is none it is refused, which changes nothing, and where its condition is what refuses it, the
+/// code tells whether there is an object with another tag, or no object.
+pub fn matching_writes_find_their_object()
+    ensures found { EveryHistory AcceptedFindsMatching }
+    ensures unmatched { EveryHistory UnmatchedChangesNothing }
+    ensures codes { EveryHistory RefusalsTellWhy }
+{
     steps_keep();
 }
 

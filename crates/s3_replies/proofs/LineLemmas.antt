@@ -1,12 +1,15 @@
 -- How header lines are joined.
-use Rattle.std.proofs.Common.{◌≡◌, ℕ, ◌-◌, ◌<◌, ◌≤◌, List, [], ◌∷◌, ◌++◌, length, get_or, take, drop, map, codes, decimal, sym, ap, arith, append-nil, append_assoc}
-use Rattle.std.proofs.lemmas.List.{take_all}
+use Rattle.std.proofs.Common.{◌≡◌, ℕ, ◌+◌, ◌-◌, ◌*◌, ◌<◌, ◌≤◌, Bool, true, false, List, [], ◌∷◌, ◌++◌, length, get_or, take, drop, map, codes, decimal, refl, sym, ap, ◌∙◌, arith, append-nil, append_assoc}
+use Rattle.std.specs.Prelude.{if◌then◌else◌}
+use Rattle.std.proofs.lemmas.List.{take_all, map-append, length-append}
 use Rattle.std.proofs.lemmas.List.Concat.{flat_map-append}
 use Rattle.s3_text.specs.Characters.{crlf, space}
 use Rattle.s3_terms.specs.declared.status.Status.{Status}
 use Rattle.s3_terms.specs.Status.{number_of, reason_phrase}
-use Rattle.s3_versions.specs.Metadata.{Entry}
-use Rattle.s3_replies.specs.Lines.{Line, print_lines, metadata_line, quoted, status_line}
+use Rattle.s3_versions.specs.Metadata.{Entry, metadata_size}
+use Rattle.s3_replies.specs.declared.lines.Entries.{Entries}
+use Rattle.s3_replies.specs.declared.lines.Entries.TheVariants.{All, Freshness}
+use Rattle.s3_replies.specs.Lines.{Line, print_lines, metadata_line, entries_told, freshness_entries, tells_freshness, quoted, status_line}
 
 -- some lines, and some more behind them
 pub more_lines : (start : List ℕ) (lines more : List Line) → start ++ print_lines lines ++ print_lines more ≡ start ++ print_lines (lines ++ more)
@@ -42,12 +45,68 @@ pub entry_parts : (start n m v e : List ℕ) (entry : Entry) → n ≡ start ++ 
 entry_parts start n m v e entry named middle valued end = line_parts start n m v e entry.name entry.value named middle valued end
 
 -- no entries have no lines
-pub no_entries : (start : List ℕ) (entries : List Entry) → length entries < 1 → start ≡ start ++ print_lines (map metadata_line entries)
+pub no_entries : (start : List ℕ) (tells : Entries) (entries : List Entry) → length entries < 1 → start ≡ start ++ print_lines (map metadata_line (entries_told tells entries))
 unfolding print_lines
-no_entries start [] none = sym (append-nil start)
-no_entries start (entry ∷ entries) none = absurd (omega (arith, none))
+no_entries start All [] none = sym (append-nil start)
+no_entries start Freshness [] none = sym (append-nil start)
+no_entries start tells (entry ∷ entries) none = absurd (omega (arith, none))
 
 -- entries are the first one and the rest of them
 pub first_entry : (entries : List Entry) (entry : Entry) → 1 ≤ length entries → entry ≡ get_or entries 0 entry → entries ≡ entry ∷ take (length entries - 1) (drop 1 entries)
 first_entry [] entry some first = absurd (omega (arith, some))
 first_entry (e ∷ entries) entry some first = rw first (ap (λ rest. e ∷ rest) (sym (take_all _ entries (omega arith))))
+
+one_kept : (is : Bool) (entry : Entry) (entries : List Entry) → (if is then entry ∷ entries else entries) ≡ (if is then entry ∷ [] else []) ++ entries
+one_kept true entry entries = refl
+one_kept false entry entries = refl
+
+-- those that are told are those of the first one and those of the rest
+told_entries : (tells : Entries) (entries : List Entry) (entry : Entry) (rest : List Entry) → entries ≡ entry ∷ rest
+    → entries_told tells entries ≡ entries_told tells (entry ∷ []) ++ entries_told tells rest
+told_entries All entries entry rest split = split
+told_entries Freshness entries entry rest split = ap freshness_entries split ∙ one_kept (tells_freshness entry) entry (freshness_entries rest)
+
+size-append : (xs ys : List Entry) → metadata_size (xs ++ ys) ≡ metadata_size xs + metadata_size ys
+size-append [] ys = omega arith
+size-append (entry ∷ xs) ys = omega (arith, size-append xs ys)
+
+-- so are their sizes, with the 4 bytes that stand beside each
+pub told_room : (tells : Entries) (entries : List Entry) (entry : Entry) (rest : List Entry) → entries ≡ entry ∷ rest
+    → metadata_size (entries_told tells entries) + 4 * length (entries_told tells entries)
+    ≡ (metadata_size (entries_told tells (entry ∷ [])) + 4 * length (entries_told tells (entry ∷ [])))
+    + (metadata_size (entries_told tells rest) + 4 * length (entries_told tells rest))
+told_room tells entries entry rest split =
+    let one = entries_told tells (entry ∷ []) in
+    let more = entries_told tells rest in
+    let all = told_entries tells entries entry rest split in
+    omega (arith, ap metadata_size all, ap length all, size-append one more, length-append one more)
+
+-- and their lines
+pub told_lines : (start : List ℕ) (tells : Entries) (entries : List Entry) (entry : Entry) (rest : List Entry) → entries ≡ entry ∷ rest
+    → start ++ print_lines (map metadata_line (entries_told tells (entry ∷ []))) ++ print_lines (map metadata_line (entries_told tells rest))
+    ≡ start ++ print_lines (map metadata_line (entries_told tells entries))
+told_lines start tells entries entry rest split =
+    let one = entries_told tells (entry ∷ []) in
+    let more = entries_told tells rest in
+    more_lines start (map metadata_line one) (map metadata_line more)
+    ∙ ap (λ lines. start ++ print_lines lines)
+    (sym (map-append metadata_line one more) ∙ ap (map metadata_line) (sym (told_entries tells entries entry rest split)))
+
+kept_size : (is : Bool) (entry : Entry) (kept all : List Entry) → metadata_size kept ≤ metadata_size all → metadata_size (if is then entry ∷ kept else kept) ≤ metadata_size (entry ∷ all)
+kept_size true entry kept all fits = omega (arith, fits)
+kept_size false entry kept all fits = omega (arith, fits)
+
+kept_count : (is : Bool) (entry : Entry) (kept all : List Entry) → length kept ≤ length all → length (if is then entry ∷ kept else kept) ≤ length (entry ∷ all)
+kept_count true entry kept all fits = omega (arith, fits)
+kept_count false entry kept all fits = omega (arith, fits)
+
+-- those that tell of freshness are no more than there are, and no larger
+pub size-freshness : (entries : List Entry) → metadata_size (freshness_entries entries) ≤ metadata_size entries
+size-freshness [] = omega arith
+size-freshness (entry ∷ entries) = kept_size (tells_freshness entry) entry (freshness_entries entries) entries (size-freshness entries)
+
+pub count-freshness : (entries : List Entry) → length (freshness_entries entries) ≤ length entries
+count-freshness [] = omega arith
+count-freshness (entry ∷ entries) = kept_count (tells_freshness entry) entry (freshness_entries entries) entries (count-freshness entries)
+
+pub ruleset freshness_fits = (size-freshness, count-freshness)

@@ -8,7 +8,7 @@ use Rattle.s3_replies.specs.declared.head.Head.{Head}
 use Rattle.s3_replies.specs.declared.head.Opening.{Opening}
 use Rattle.s3_terms.specs.declared.status.Status.{Status}
 use Rattle.s3_terms.specs.Status.{tells_size}
-use Rattle.s3_replies.specs.Lines.{Line, status_line, print_lines, flag, optional, metadata_line, quoted, value_of, value_length, room_with}
+use Rattle.s3_replies.specs.Lines.{Line, status_line, print_lines, flag, optional, metadata_line, entries_told, quoted, value_of, value_length, room_with}
 use Rattle.s3_versions.specs.Metadata.{Entry, metadata_size}
 
 -- what a head says, in the order of its lines
@@ -53,7 +53,7 @@ fields_of head = record {
   accepts_ranges = head.accepts_ranges;
   content_range = value_of head.content_range;
   content_type = value_of head.content_type;
-  metadata = head.metadata.now;
+  metadata = entries_told head.tells head.metadata.now;
   size = head.size;
 }
 

@@ -1,12 +1,15 @@
 -- The status line and the header lines of a reply's head (RFC 9112, sections 4 and 5).
-use Rattle.std.specs.Prelude.{ℕ, ◌+◌, Bool, if◌then◌else◌, List, [], ◌∷◌, ◌++◌, length, codes, Option, Some, None, option_map}
+use Rattle.std.specs.Prelude.{ℕ, ◌+◌, Bool, ◌||◌, if◌then◌else◌, List, [], ◌∷◌, ◌++◌, filter, length, codes, Option, Some, None, option_map}
 use Rattle.std.specs.Borrow.{Bor}
 use Rattle.std.specs.List.{flat_map}
 use Rattle.std.specs.Fmt.{decimal}
+use Rattle.std.specs.Str.{bytes_eq}
 use Rattle.s3_text.specs.Characters.{crlf, space, double_quote}
 use Rattle.s3_terms.specs.declared.status.Status.{Status}
 use Rattle.s3_versions.specs.Metadata.{Entry}
 use Rattle.s3_terms.specs.Status.{number_of, reason_phrase}
+use Rattle.s3_replies.specs.declared.lines.Entries.{Entries}
+use Rattle.s3_replies.specs.declared.lines.Entries.TheVariants.{All, Freshness}
 
 -- a status line: `HTTP/1.1 200 OK`, and the end of the line
 unfoldable pub status_line : Status → List ℕ
@@ -54,3 +57,16 @@ room_with beside (Some value) = beside + length value
 -- an entry of metadata as a header line, which has its whole name
 abbrev pub metadata_line : Entry → Line
 metadata_line entry = (entry.name, entry.value)
+
+-- whether an entry tells how long a cache may use what it keeps (RFC 9111, sections 5.2 and 5.3)
+abbrev pub tells_freshness : Entry → Bool
+tells_freshness entry = bytes_eq entry.name (codes "cache-control") || bytes_eq entry.name (codes "expires")
+
+-- the entries that do: of all that are kept with an object, the lines that a 304 has where a 200 has them (RFC 9110, section 15.4.5)
+abbrev pub freshness_entries : List Entry → List Entry
+freshness_entries entries = filter tells_freshness entries
+
+-- the entries that a head tells
+abbrev pub entries_told : Entries → List Entry → List Entry
+entries_told All entries = entries
+entries_told Freshness entries = freshness_entries entries

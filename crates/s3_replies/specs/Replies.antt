@@ -24,6 +24,7 @@ use Rattle.s3_terms.specs.declared.status.Status.TheVariants as statuses
 use Rattle.s3_replies.specs.Date.{IsHttpDate, IsDateShown}
 use Rattle.s3_replies.specs.Document.{content_type_in, error_document}
 use Rattle.s3_replies.specs.Head.{Fields, bare, print_head, print_with_lines}
+use Rattle.s3_replies.specs.Lines.{freshness_entries}
 use Rattle.s3_replies.specs.Statuses.{reply_status}
 
 -- what is sent of a body: a reply to HEAD has none (RFC 9110, section 9.3.2)
@@ -95,11 +96,17 @@ part_fields opening found modified first last =
     let whole = got_fields opening found modified in
     record whole { content_range = Some (content_range first last (length found.stored.body)) }
 
--- the same of a version that is as the reader knows it (RFC 9110, section 15.4.5): nothing of its bytes
+-- the same of a version that is as the reader knows it (RFC 9110, section 15.4.5): nothing of its bytes, and of the entries of
+-- metadata those that tell how long a cache may use them
 abbrev pub unchanged_fields : Opening → Found (List ℕ) → Option (List ℕ) → Fields
 unchanged_fields opening found modified =
     let base = bare opening in
-    record base { version_id = shown_text found.shown; tag = Some found.stored.tag; modified = modified }
+    record base {
+      version_id = shown_text found.shown;
+      tag = Some found.stored.tag;
+      modified = modified;
+      metadata = freshness_entries found.stored.metadata;
+    }
 
 -- CopyObject, CompleteMultipartUpload and GetObjectTagging: a document, and the id of the version that was made, or is read
 abbrev pub stored_fields : Opening → Option VersionId → Fields

@@ -6,7 +6,7 @@ ghost use Rattle.s3_replies.specs.Lines.{print_lines};
 
 use crate::date::DateText;
 use crate::lines::{
-    write_flag, write_line, write_metadata, write_number, write_optional, write_quoted,
+    Entries, write_flag, write_line, write_metadata, write_number, write_optional, write_quoted,
     write_status,
 };
 use crate::room::Room;
@@ -55,6 +55,8 @@ pub(crate) struct Head<'a> {
     pub content_type: Option<&'a [u8]>,
     /// Sorted by name.
     pub metadata: &'a [MetadataEntry],
+    /// Which entries of the metadata it tells.
+    pub tells: Entries,
     /// The size of the body, also where that is not sent.
     pub size: u64,
 }
@@ -79,6 +81,7 @@ impl<'a> Head<'a> {
             content_range: None,
             content_type: None,
             metadata: &[],
+            tells: Entries::All,
             size: 0,
         }
     }
@@ -144,7 +147,7 @@ impl<'a> Head<'a> {
         write_flag(out, "Accept-Ranges", "bytes", self.accepts_ranges);
         write_optional(out, "Content-Range", self.content_range);
         write_optional(out, "Content-Type", self.content_type);
-        write_metadata(out, self.metadata);
+        write_metadata(out, self.metadata, self.tells);
         write_number(out, "Content-Length", self.size, self.status.tells_size());
     }
 }

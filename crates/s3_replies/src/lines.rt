@@ -1,7 +1,7 @@
 //! The lines of a reply's head, written one after another.
 
-ghost use Rattle.std.specs.Prelude.{◌≡◌, ◌+◌, ◌*◌, ◌≤◌, ◌++◌, [], ◌∷◌, length, map, option_map, decimal};
-ghost use Rattle.s3_replies.specs.Lines.{status_line, print_lines, flag, optional, quoted, value_of, value_length, room_with, metadata_line};
+ghost use Rattle.std.specs.Prelude.{◌≡◌, ◌+◌, ◌*◌, ◌≤◌, if◌then◌else◌, ◌++◌, [], ◌∷◌, length, map, option_map, decimal};
+ghost use Rattle.s3_replies.specs.Lines.{status_line, print_lines, flag, optional, quoted, value_of, value_length, room_with, metadata_line, tells_freshness, entries_told};
 ghost use Rattle.s3_versions.specs.Metadata.{metadata_size};
 
 use crate::room::Room;
@@ -101,6 +101,34 @@ pub(crate) fn write_number<R: Room>(out: &mut R, name: &str, number: u64, test: 
     write_flag(out, name, digits.format(number), test);
 }
 
+/// Which entries of metadata a head tells.
+#[derive(Clone, Copy)]
+pub(crate) enum Entries {
+    /// All.
+    All,
+    /// Those that tell how long a cache may use what it keeps: `cache-control` and `expires`.
+    Freshness,
+}
+
+impl Entries {
+    /// Whether the entry is told.
+    fn has(self, entry: &MetadataEntry) -> bool
+        ensures { entries_told self (entry.now ∷ []) ≡ if result then entry.now ∷ [] else [] }
+    {
+        match self {
+            Entries::All => true,
+            Entries::Freshness => tells_freshness(entry),
+        }
+    }
+}
+
+/// Whether the entry tells how long a cache may use what it keeps (RFC 9111, sections 5.2 and 5.3).
+fn tells_freshness(entry: &MetadataEntry) -> bool
+    ensures { result ≡ tells_freshness entry.now }
+{
+    entry.name() == b"cache-control".as_slice() || entry.name() == b"expires".as_slice()
+}
+
 /// Appends the line of an entry of metadata, by its whole name.
 #[tactic(auto, unfolding(crate::specs::Lines::print_lines))]
 fn write_entry<R: Room>(out: &mut R, entry: &MetadataEntry)
@@ -116,17 +144,35 @@ fn write_entry<R: Room>(out: &mut R, entry: &MetadataEntry)
     out.write(b"\r\n");
 }
 
-/// Appends the lines of metadata.
+/// Appends the line of an entry of metadata, where it is told.
 #[tactic(auto, unfolding(crate::specs::Lines::print_lines))]
-pub(crate) fn write_metadata<R: Room>(out: &mut R, metadata: &[MetadataEntry])
-    requires { R.size out.old + metadata_size metadata.now + 4 * length metadata.now ≤ R.capacity out.old }
-    ensures items { R.written out.new ≡ R.written out.old ++ print_lines (map metadata_line metadata.now) }
-    ensures bound { R.size out.new
-        ≤ R.size out.old + metadata_size metadata.now + 4 * length metadata.now }
+fn write_told<R: Room>(out: &mut R, entry: &MetadataEntry, tells: Entries)
+    requires { R.size out.old + metadata_size (entries_told tells (entry.now ∷ []))
+        + 4 * length (entries_told tells (entry.now ∷ [])) ≤ R.capacity out.old }
+    ensures items { R.written out.new
+        ≡ R.written out.old ++ print_lines (map metadata_line (entries_told tells (entry.now ∷ []))) }
+    ensures bound { R.size out.new ≤ R.size out.old + metadata_size (entries_told tells (entry.now ∷ []))
+        + 4 * length (entries_told tells (entry.now ∷ [])) }
+    ensures capacity { R.capacity out.old ≤ R.capacity out.new }
+{
+    if tells.has(entry) {
+        write_entry(out, entry);
+    }
+}
+
+/// Appends the lines of the entries of metadata that are told.
+#[tactic(auto, unfolding(crate::specs::Lines::print_lines))]
+pub(crate) fn write_metadata<R: Room>(out: &mut R, metadata: &[MetadataEntry], tells: Entries)
+    requires { R.size out.old + metadata_size (entries_told tells metadata.now)
+        + 4 * length (entries_told tells metadata.now) ≤ R.capacity out.old }
+    ensures items { R.written out.new
+        ≡ R.written out.old ++ print_lines (map metadata_line (entries_told tells metadata.now)) }
+    ensures bound { R.size out.new ≤ R.size out.old + metadata_size (entries_told tells metadata.now)
+        + 4 * length (entries_told tells metadata.now) }
     ensures capacity { R.capacity out.old ≤ R.capacity out.new }
 {
     if let [entry, rest @ ..] = metadata {
-        write_entry(out, entry);
-        write_metadata(out, rest);
+        write_told(out, entry, tells);
+        write_metadata(out, rest, tells);
     }
 }

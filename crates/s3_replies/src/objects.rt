@@ -12,6 +12,7 @@ use crate::body::{part_of, place_of, sent};
 use crate::date::DateText;
 use crate::errors::outside_reply;
 use crate::head::{Head, Opening};
+use crate::lines::Entries;
 use crate::room::Room;
 use crate::told::short_reply;
 use crate::values::{RangeText, date_bytes, id_bytes, id_text, range_bytes};
@@ -65,13 +66,16 @@ fn object_head<R: Room>(
         content_range: range_bytes(&range),
         content_type: Some(found.stored.content_type.as_bytes()),
         metadata: found.stored.metadata.entries(),
+        tells: Entries::All,
         size,
         ..Head::bare(&opening)
     };
     head.print(out);
 }
 
-/// Appends the whole reply that tells that a version is as the reader knows it.
+/// Appends the whole reply that tells that a version is as the reader knows it, and how long a cache may use it (RFC 9110, section
+/// 15.4.5).
+#[tactic(auto, using(crate::proofs::LineLemmas::freshness_fits))]
 fn unchanged_reply<R: Room>(
     out: &mut R,
     opening: Opening,
@@ -88,6 +92,8 @@ fn unchanged_reply<R: Room>(
         version_id: id_bytes(&id),
         tag: Some(tag.as_bytes()),
         modified: date_bytes(&modified),
+        metadata: found.stored.metadata.entries(),
+        tells: Entries::Freshness,
         ..Head::bare(&opening)
     };
     head.print(out);

@@ -1,4 +1,4 @@
--- Where memory is taken for a copy.
+-- Where memory is taken for a copy, and for a put.
 use Rattle.std.proofs.Common.{◌≡◌, List, ℕ, Option, Some, None, Result, Ok, IsOk, ok_or, refl}
 use Rattle.std.specs.Option.{IsSomeAnd}
 use Rattle.s3_terms.specs.Fault.{◌>>=◌}
@@ -9,11 +9,13 @@ use Rattle.s3_terms.proofs.FaultLemmas.{stage_ok, test_ok}
 use Rattle.s3_http_heads.specs.Head.{HeadParts, first_value}
 use Rattle.s3_http_heads.specs.Target.{TargetParts, has_bad_escape}
 use Rattle.s3_conditions.specs.declared.conditions.Conditions.{Conditions}
+use Rattle.s3_machine.specs.declared.command.Description.{Description}
 use Rattle.s3_machine.specs.declared.command.Source.{Source}
 use Rattle.s3_requests.specs.declared.copies.Directive.{Directive}
 use Rattle.s3_requests.specs.Copies.{source_for}
 use Rattle.s3_requests.specs.CopySource.{conditions_for_source, path_in, source_in, source_of, version_in}
-use Rattle.s3_requests.specs.Memory.{SourceInTakes, SourceTakes}
+use Rattle.s3_requests.specs.Description.{content_type_of, description_of}
+use Rattle.s3_requests.specs.Memory.{DescriptionTakes, SourceInTakes, SourceTakes}
 
 given_ok : {A : Type 0} (rule : Result A Code) (value : A) → rule ≡ Ok value → IsOk rule
 given_ok rule value is = rw is refl
@@ -42,3 +44,10 @@ unfolding source_for
 copied_takes dialect directive head target source is =
     let stage = stage_ok (source_of dialect head) _ source is in
     source_takes dialect head stage.0 stage.1
+
+-- what is said of an object takes it where that is right
+pub described_takes : (dialect : Dialect) (head : HeadParts) (said : Description) → description_of dialect head ≡ Ok said → DescriptionTakes head
+unfolding description_of
+described_takes dialect head said is =
+    let stage = stage_ok (content_type_of head) _ said is in
+    given_ok _ stage.0 stage.1

@@ -1,5 +1,5 @@
 -- What a head asks to be stored beside a body has no carriage return in it, and what is ready without a body brings none.
-use Rattle.std.proofs.Common.{◌≡◌, inl, inr, ℕ, ◌+◌, Bool, true, false, not, ◌&&◌, List, [], ◌∷◌, map, filter, reverse, refl, sym, ap, subst, ◌∙◌, arith, Option, Some, None, option_map, Result, Ok, Err, if◌then◌else◌, slice_get}
+use Rattle.std.proofs.Common.{◌≡◌, inl, inr, ℕ, ◌+◌, Bool, true, false, not, ◌&&◌, List, [], ◌∷◌, map, filter, reverse, refl, sym, ap, subst, ◌∙◌, arith, Option, Some, None, option_map, is_some, Result, Ok, Err, if◌then◌else◌, slice_get}
 use Rattle.std.specs.Prelude.{◌==◌, nat_lt, length, not, codes}
 use Rattle.std.specs.Char.{to_ascii_lowercase}
 use Rattle.std.specs.List.{list_all, cons_option, filter_map, dedup, dedup_from, join_with_byte}
@@ -18,7 +18,7 @@ use Rattle.s3_text.proofs.JoinLemmas.{joined_all, split_all}
 use Rattle.s3_terms.proofs.FaultLemmas.{test_ok}
 use Rattle.s3_terms.specs.Fault.{refuse, ◌>>◌, ◌>>=◌}
 use Rattle.s3_terms.specs.declared.code.Code.{Code}
-use Rattle.s3_terms.specs.declared.code.Code.TheVariants.{InvalidArgument, InvalidRequest, MetadataTooLarge}
+use Rattle.s3_terms.specs.declared.code.Code.TheVariants.{InvalidArgument, InvalidRequest, MetadataTooLarge, NotImplemented}
 use Rattle.s3_terms.specs.declared.dialect.Dialect.{Dialect}
 use Rattle.s3_terms.specs.declared.dialect.Dialect.TheVariants.{Json, S3}
 use Rattle.s3_config.specs.Settings.{Settings}
@@ -42,6 +42,7 @@ use Rattle.s3_machine.specs.declared.command.Description.{Description}
 use Rattle.s3_machine.specs.declared.command.ObjectCopy.{ObjectCopy}
 use Rattle.s3_machine.specs.declared.command.PartCopy.{PartCopy}
 use Rattle.s3_machine.specs.declared.command.Source.{Source}
+use Rattle.s3_machine.specs.declared.command.WriteCondition.{WriteCondition}
 use Rattle.s3_machine.specs.Effects.{brings, key_brought, sent, upload_sent}
 use Rattle.s3_requests.specs.declared.copies.Directive.{Directive}
 use Rattle.s3_requests.specs.declared.copies.Directive.TheVariants as directives
@@ -51,7 +52,7 @@ use Rattle.s3_names.specs.Names.{object_key}
 use Rattle.s3_names.specs.declared.ids.VersionId.{VersionId}
 use Rattle.s3_requests.specs.Arguments.{version_argument}
 use Rattle.s3_requests.specs.ReadConditions.{conditions_of}
-use Rattle.s3_requests.specs.WriteCondition.{absence_of}
+use Rattle.s3_requests.specs.WriteCondition.{condition_of, deletion_said, tags_wanted}
 use Rattle.s3_requests.specs.Operations.{service_operation, bucket_operation, key_operation}
 use Rattle.s3_requests.specs.Protection.{is_protected}
 use Rattle.s3_requests.specs.Addresses.{is_service, address_at}
@@ -309,7 +310,7 @@ IsRightAsk head asked = (AreWhole head → IsUnbrokenAsk asked) × (key_brought 
 abbrev IsRightUnder : HeadParts → KeyAsked → Type 0
 IsRightUnder head (key_asked.Key asked) = IsRightAsk head asked
 IsRightUnder head (key_asked.Upload id asked) = upload_sent asked ≡ None
-IsRightUnder head (key_asked.Put said if_absent) = AreWhole head → AreUnbroken said.content_type said.metadata
+IsRightUnder head (key_asked.Put said condition) = AreWhole head → AreUnbroken said.content_type said.metadata
 IsRightUnder head other = Unit {0}
 
 module _ (head : HeadParts) where
@@ -317,7 +318,7 @@ module _ (head : HeadParts) where
   under name key (key_asked.Key asked) right =
       (right.0, (ap (option_map (λ (what : Data (List ℕ)). what.body)) right.1, refl))
   under name key (key_asked.Upload id asked) right = ((λ lines. tt), (refl, right))
-  under name key (key_asked.Put said if_absent) right = (right, tt)
+  under name key (key_asked.Put said condition) right = (right, tt)
   under name key _ right = ((λ lines. tt), tt)
 
   read_right : (target : TargetParts) (asked : KeyCommand) → read_command head target ≡ Ok asked → IsRightAsk head asked
@@ -331,10 +332,19 @@ module _ (head : HeadParts) where
   tags_right target asked is =
       made_of (IsRightAsk head) (version_argument (codes "versionId") target) (λ (v : Option VersionId). key_commands.ReadTags v) asked (λ v named. ((λ lines. tt), refl)) is
 
-  delete_right : (target : TargetParts) (asked : KeyCommand) → delete_command target ≡ Ok asked → IsRightAsk head asked
+  deletion_right : (version : Option VersionId) (tags : Option (List ℕ)) (asked : KeyCommand) → deletion_said version tags ≡ Ok asked → IsRightAsk head asked
+  deletion_right version None asked is =
+      let same : key_commands.Delete version ≡ asked = cc in
+      subst (IsRightAsk head) same ((λ lines. tt), refl)
+  deletion_right version (Some tags) asked is =
+      let same = passed (is_some version) NotImplemented (key_commands.DeleteMatching tags) asked is in
+      subst (IsRightAsk head) same ((λ lines. tt), refl)
+
+  delete_right : (dialect : Dialect) (target : TargetParts) (asked : KeyCommand) → delete_command dialect head target ≡ Ok asked → IsRightAsk head asked
   unfolding delete_command
-  delete_right target asked is =
-      made_of (IsRightAsk head) (version_argument (codes "versionId") target) (λ (v : Option VersionId). key_commands.Delete v) asked (λ v named. ((λ lines. tt), refl)) is
+  delete_right dialect target asked is =
+      let version = bound (version_argument (codes "versionId") target) (λ (v : Option VersionId). deletion_said v (tags_wanted dialect head)) asked is in
+      deletion_right version.0 (tags_wanted dialect head) asked version.2
 
   command_right : (dialect : Dialect) (operation : Operation) (target : TargetParts) (asked : KeyCommand) → key_command_for dialect operation head target ≡ Ok asked → IsRightAsk head asked
   unfolding key_command_for
@@ -344,7 +354,7 @@ module _ (head : HeadParts) where
   command_right dialect operations.GetObject target asked is = read_right target asked is
   command_right dialect operations.HeadObject target asked is = read_right target asked is
   command_right dialect operations.GetObjectTagging target asked is = tags_right target asked is
-  command_right dialect operations.DeleteObject target asked is = delete_right target asked is
+  command_right dialect operations.DeleteObject target asked is = delete_right dialect target asked is
   command_right dialect operations.CreateMultipartUpload target asked is =
       made_of (IsRightAsk head) (description_of dialect head) (λ (said : Description). key_commands.Begin said) asked
       (λ said made. ((λ lines. description_unbroken head lines dialect said made), refl)) is
@@ -353,9 +363,9 @@ module _ (head : HeadParts) where
   asked_right_for : (dialect : Dialect) (operation : Operation) (target : TargetParts) (asked : KeyAsked) → asked_for dialect operation head target ≡ Ok asked → IsRightUnder head asked
   unfolding put_plan part_copy_plan parts_plan complete_plan
   asked_right_for dialect operations.PutObject target asked is =
-      let said = bound (description_of dialect head) (λ (said : Description). absence_of head >>= (λ (if_absent : Bool). Ok (key_asked.Put said if_absent))) asked is in
-      made_of (IsRightUnder head) (absence_of head) (λ (if_absent : Bool). key_asked.Put said.0 if_absent) asked
-      (λ if_absent read lines. description_unbroken head lines dialect said.0 said.1) said.2
+      let said = bound (description_of dialect head) (λ (said : Description). condition_of dialect head >>= (λ (condition : WriteCondition). Ok (key_asked.Put said condition))) asked is in
+      made_of (IsRightUnder head) (condition_of dialect head) (λ (condition : WriteCondition). key_asked.Put said.0 condition) asked
+      (λ condition read lines. description_unbroken head lines dialect said.0 said.1) said.2
   asked_right_for dialect operations.UploadPart target asked is =
       made_of (IsRightUnder head) (part_argument target) (λ (part : ℕ × ℕ). key_asked.PutPart part.0 part.1) asked (λ part read. tt) is
   asked_right_for dialect operations.UploadPartCopy target asked is =
@@ -366,8 +376,8 @@ module _ (head : HeadParts) where
       let listed = bound (parts_asked_of target) (λ (listed : PartsAsked). upload_argument target >>= (λ (id : ℕ). Ok (key_asked.Upload id (upload_commands.ListParts listed)))) asked is in
       made_of (IsRightUnder head) (upload_argument target) (λ (id : ℕ). key_asked.Upload id (upload_commands.ListParts listed.0)) asked (λ id read. refl) listed.2
   asked_right_for dialect operations.CompleteMultipartUpload target asked is =
-      let id = bound (upload_argument target) (λ (id : ℕ). absence_of head >>= (λ (if_absent : Bool). Ok (key_asked.Complete id dialect if_absent))) asked is in
-      made_of (IsRightUnder head) (absence_of head) (λ (if_absent : Bool). key_asked.Complete id.0 dialect if_absent) asked (λ if_absent read. tt) id.2
+      let id = bound (upload_argument target) (λ (id : ℕ). condition_of dialect head >>= (λ (condition : WriteCondition). Ok (key_asked.Complete id dialect condition))) asked is in
+      made_of (IsRightUnder head) (condition_of dialect head) (λ (condition : WriteCondition). key_asked.Complete id.0 dialect condition) asked (λ condition read. tt) id.2
   asked_right_for dialect operations.AbortMultipartUpload target asked is =
       made_of (IsRightUnder head) (upload_argument target) (λ (id : ℕ). key_asked.Upload id upload_commands.Abort) asked (λ id read. refl) is
   asked_right_for dialect operation target asked is =

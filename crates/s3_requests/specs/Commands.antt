@@ -13,6 +13,7 @@ use Rattle.s3_machine.specs.declared.command.Description.{Description}
 use Rattle.s3_machine.specs.declared.command.KeyCommand.TheVariants as key_commands
 use Rattle.s3_machine.specs.declared.command.ObjectPut.{ObjectPut}
 use Rattle.s3_machine.specs.declared.command.UploadCommand.TheVariants as upload_commands
+use Rattle.s3_machine.specs.declared.command.WriteCondition.{WriteCondition}
 use Rattle.s3_request_documents.specs.Completion.{completion_read}
 use Rattle.s3_request_documents.specs.Deletion.{deletion_read}
 use Rattle.s3_request_documents.specs.Location.{location_read}
@@ -31,15 +32,15 @@ versioning_command_of name dialect body = do
   Ok (commands.Bucket name (bucket_commands.PutVersioning status))
 
 -- what is to be stored, with its body
-abbrev pub put_of : Description → Bool → List ℕ → ObjectPut
-put_of said if_absent body =
-    record { content_type = said.content_type; metadata = said.metadata; if_absent = if_absent; payload = body }
+abbrev pub put_of : Description → WriteCondition → List ℕ → ObjectPut
+put_of said condition body =
+    record { content_type = said.content_type; metadata = said.metadata; condition = condition; payload = body }
 
 -- CompleteMultipartUpload, with the parts that the body lists
-abbrev pub completion_command_of : List ℕ → List ℕ → UploadId → Dialect → Bool → List ℕ → Result Command Code
-completion_command_of bucket key id dialect if_absent body = do
+abbrev pub completion_command_of : List ℕ → List ℕ → UploadId → Dialect → WriteCondition → List ℕ → Result Command Code
+completion_command_of bucket key id dialect condition body = do
   listed ← completion_read dialect body
-  Ok (commands.Upload bucket key id (upload_commands.Complete listed if_absent))
+  Ok (commands.Upload bucket key id (upload_commands.Complete listed condition))
 
 -- DeleteObjects, with the objects that the body names
 abbrev pub deletion_command_of : List ℕ → List ℕ → Result Command Code
@@ -52,9 +53,9 @@ unfoldable pub command_of : Plan → List ℕ → Result Command Code
 command_of (plans.Ready command) body = Ok command
 command_of (plans.CreateBucket name region) body = creation_command_of name region body
 command_of (plans.PutVersioning name dialect) body = versioning_command_of name dialect body
-command_of (plans.Put bucket key said if_absent) body = Ok (commands.Key bucket key (key_commands.Put (put_of said if_absent body)))
+command_of (plans.Put bucket key said condition) body = Ok (commands.Key bucket key (key_commands.Put (put_of said condition body)))
 command_of (plans.PutPart bucket key id number) body = Ok (commands.Upload bucket key id (upload_commands.PutPart number body))
-command_of (plans.Complete bucket key id dialect if_absent) body = completion_command_of bucket key id dialect if_absent body
+command_of (plans.Complete bucket key id dialect condition) body = completion_command_of bucket key id dialect condition body
 command_of (plans.DeleteObjects bucket) body = deletion_command_of bucket body
 
 -- the plan reads a document from its body: a CreateBucket that isn't ready without, a PutBucketVersioning, a
@@ -62,6 +63,6 @@ command_of (plans.DeleteObjects bucket) body = deletion_command_of bucket body
 abbrev pub reads_body : Plan → Bool
 reads_body (plans.CreateBucket name region) = true
 reads_body (plans.PutVersioning name dialect) = true
-reads_body (plans.Complete bucket key id dialect if_absent) = true
+reads_body (plans.Complete bucket key id dialect condition) = true
 reads_body (plans.DeleteObjects bucket) = true
 reads_body other = false

@@ -44,7 +44,7 @@ IsUnbrokenCommand other = Unit {0}
 -- whether the body is there or is waited for
 abbrev pub IsUnbrokenPlan : Plan → Type 0
 IsUnbrokenPlan (plans.Ready command) = IsUnbrokenCommand command
-IsUnbrokenPlan (plans.Put bucket key said if_absent) = AreUnbroken said.content_type said.metadata
+IsUnbrokenPlan (plans.Put bucket key said condition) = AreUnbroken said.content_type said.metadata
 IsUnbrokenPlan other = Unit {0}
 
 -- what a head asks for has none there

@@ -13,6 +13,7 @@ pub mod Operations
 pub mod Protection
 pub mod ReadConditions
 pub mod Routing
+pub mod StorageClass
 pub mod Unserved
 pub mod UploadArguments
 pub mod WriteCondition

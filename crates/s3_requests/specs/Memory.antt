@@ -1,6 +1,6 @@
 -- Where routing takes memory: for a long name, and for what an operation copies of the head or of the settings. What is wrong
 -- before that is told, whatever memory there is.
-use Rattle.std.specs.Prelude.{◌≡◌, ℕ, ◌<◌, ◌⊎◌, MatchBool, true, false, not, ◌&&◌, ◌==◌, List, length, codes, Result, Ok, Err, IsOk}
+use Rattle.std.specs.Prelude.{◌≡◌, ℕ, ◌<◌, ◌⊎◌, MatchBool, true, false, not, ◌&&◌, ◌==◌, List, length, codes, None, Result, Ok, Err, IsOk}
 use Rattle.std.specs.Option.{IsSomeAnd}
 use Rattle.std.specs.Result.{IsOkAnd}
 use Rattle.s3_names.specs.Names.{object_key}
@@ -20,7 +20,8 @@ use Rattle.s3_requests.specs.Description.{content_type_of}
 use Rattle.s3_requests.specs.ListArguments.{count_named, has_delimiter}
 use Rattle.s3_requests.specs.Operations.{bucket_operation, is_xml, key_operation}
 use Rattle.s3_requests.specs.Routing.{bucket_named, served}
-use Rattle.s3_requests.specs.UploadArguments.{part_argument}
+use Rattle.s3_requests.specs.UploadArguments.{part_argument, upload_argument}
+use Rattle.s3_requests.specs.WriteCondition.{tags_wanted}
 
 -- what is answered is what the rule says, unless memory ran out where it is taken
 abbrev pub FollowsWhere : {A : Type 0} → Type 0 → Result A Code → Result A Code → Type 0
@@ -46,6 +47,22 @@ ConditionsTake head = TagsTake (codes "if-match") head ⊎ TagsTake (codes "if-n
 -- a read takes it for its conditions, where its version is one
 abbrev pub ReadTakes : HeadParts → TargetParts → Type 0
 ReadTakes head target = IsOk (version_argument (codes "versionId") target) × ConditionsTake head
+
+-- the tags that a write wants take it, unless their line is empty
+abbrev pub WantedTake : Dialect → HeadParts → Type 0
+WantedTake dialect head = IsSomeAnd (tags_wanted dialect head) (λ value. 0 < length value)
+
+-- the condition of a write takes it for them, where no line stands beside theirs
+abbrev pub ConditionTakes : Dialect → HeadParts → Type 0
+ConditionTakes dialect head = (first_value (codes "if-none-match") head ≡ None) × WantedTake dialect head
+
+-- so does the completion of an upload, where its upload is one
+abbrev pub CompletionTakes : Dialect → HeadParts → TargetParts → Type 0
+CompletionTakes dialect head target = IsOk (upload_argument target) × ConditionTakes dialect head
+
+-- and a delete, where it names no version
+abbrev pub DeleteTakes : Dialect → HeadParts → TargetParts → Type 0
+DeleteTakes dialect head target = (version_argument (codes "versionId") target ≡ Ok None) × WantedTake dialect head
 
 -- the source of a copy takes it once its version and its escapes are right
 abbrev pub SourceInTakes : List ℕ → Type 0
@@ -86,7 +103,8 @@ unfoldable pub BucketTakes : Dialect → HeadParts → TargetParts → Type 0
 BucketTakes dialect head target =
     IsOkAnd (served dialect head (bucket_operation (method_of head.method) target)) (λ operation. InBucketTakes dialect operation target)
 
--- an operation on a key takes it for what is said of an object, for the tags of a read, or for the source of a copy
+-- an operation on a key takes it for what is said of an object, for the tags of a condition, or for the source of a copy; a put
+-- reads its condition where what is said of its object is right
 abbrev pub UnderKeyTakes : Dialect → Operation → HeadParts → TargetParts → Type 0
 UnderKeyTakes dialect operations.PutObject head target = DescriptionTakes head
 UnderKeyTakes dialect operations.CreateMultipartUpload head target = DescriptionTakes head
@@ -94,6 +112,8 @@ UnderKeyTakes dialect operations.CopyObject head target = CopyTakes dialect head
 UnderKeyTakes dialect operations.UploadPartCopy head target = PartCopyTakes dialect head target
 UnderKeyTakes dialect operations.GetObject head target = ReadTakes head target
 UnderKeyTakes dialect operations.HeadObject head target = ReadTakes head target
+UnderKeyTakes dialect operations.DeleteObject head target = DeleteTakes dialect head target
+UnderKeyTakes dialect operations.CompleteMultipartUpload head target = CompletionTakes dialect head target
 UnderKeyTakes dialect other head target = ⊥
 
 -- what is asked of a key takes it where this server has the operation

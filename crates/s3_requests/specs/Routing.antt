@@ -3,7 +3,7 @@ use Rattle.std.specs.Prelude.{ℕ, not, ◌==◌, if◌then◌else◌, List, len
 use Rattle.s3_names.specs.Names.{bucket_name, object_key}
 use Rattle.s3_terms.specs.Fault.{refuse, ◌>>◌, ◌>>=◌}
 use Rattle.s3_terms.specs.declared.code.Code.{Code}
-use Rattle.s3_terms.specs.declared.code.Code.TheVariants.{InvalidRequest, NotImplemented, MethodNotAllowed}
+use Rattle.s3_terms.specs.declared.code.Code.TheVariants.{InvalidRequest, InvalidStorageClass, NotImplemented, MethodNotAllowed}
 use Rattle.s3_terms.specs.declared.dialect.Dialect.{Dialect}
 use Rattle.s3_terms.specs.declared.dialect.Dialect.TheVariants.{Json, S3}
 use Rattle.s3_config.specs.Settings.{Settings}
@@ -31,17 +31,20 @@ use Rattle.s3_requests.specs.UploadArguments.{upload_argument, part_argument}
 use Rattle.s3_requests.specs.Copies.{object_copy_of, part_copy_of}
 use Rattle.s3_requests.specs.Protection.{is_protected}
 use Rattle.s3_requests.specs.ReadConditions.{conditions_of}
-use Rattle.s3_requests.specs.WriteCondition.{absence_of}
+use Rattle.s3_requests.specs.StorageClass.{asks_for_no_class}
+use Rattle.s3_requests.specs.WriteCondition.{condition_of, deletion_said, tags_wanted}
 use Rattle.s3_requests.specs.Description.{description_of}
 use Rattle.s3_requests.specs.Operations.{service_operation, bucket_operation, key_operation, is_served}
 use Rattle.s3_requests.specs.Unserved.{asks_for_more}
 
--- an operation that is there, that this server has, and of which the head asks for nothing more than that
+-- an operation that is there, that this server has, and of which the head asks for nothing more than that, and for no class that
+-- is none
 unfoldable pub served : Dialect → HeadParts → Option Operation → Result Operation Code
 served dialect head found = do
   operation ← ok_or found MethodNotAllowed
   refuse (not (is_served dialect operation)) NotImplemented
   refuse (asks_for_more dialect operation head) NotImplemented
+  refuse (asks_for_no_class dialect operation head) InvalidStorageClass
   Ok operation
 
 -- the service's operations, with their arguments
@@ -144,11 +147,11 @@ tags_command target = do
   version ← version_argument (codes "versionId") target
   Ok (key_commands.ReadTags version)
 
--- DeleteObject
-unfoldable pub delete_command : TargetParts → Result KeyCommand Code
-delete_command target = do
+-- DeleteObject, on the condition that its head sets
+unfoldable pub delete_command : Dialect → HeadParts → TargetParts → Result KeyCommand Code
+delete_command dialect head target = do
   version ← version_argument (codes "versionId") target
-  Ok (key_commands.Delete version)
+  deletion_said version (tags_wanted dialect head)
 
 -- CreateMultipartUpload, with what the head says of the object
 abbrev pub begin_command : Dialect → HeadParts → Result KeyCommand Code
@@ -162,7 +165,7 @@ key_command_for dialect operations.CopyObject head target = copy_command dialect
 key_command_for dialect operations.GetObject head target = read_command head target
 key_command_for dialect operations.HeadObject head target = read_command head target
 key_command_for dialect operations.GetObjectTagging head target = tags_command target
-key_command_for dialect operations.DeleteObject head target = delete_command target
+key_command_for dialect operations.DeleteObject head target = delete_command dialect head target
 key_command_for dialect operations.CreateMultipartUpload head target = begin_command dialect head
 key_command_for dialect other head target = Err NotImplemented
 
@@ -170,8 +173,8 @@ key_command_for dialect other head target = Err NotImplemented
 unfoldable pub put_plan : Dialect → HeadParts → Result KeyAsked Code
 put_plan dialect head = do
   said ← description_of dialect head
-  if_absent ← absence_of head
-  Ok (key_asked.Put said if_absent)
+  condition ← condition_of dialect head
+  Ok (key_asked.Put said condition)
 
 -- UploadPart, with its part
 abbrev pub part_plan : TargetParts → Result KeyAsked Code
@@ -197,8 +200,8 @@ parts_plan target = do
 unfoldable pub complete_plan : Dialect → HeadParts → TargetParts → Result KeyAsked Code
 complete_plan dialect head target = do
   id ← upload_argument target
-  if_absent ← absence_of head
-  Ok (key_asked.Complete id dialect if_absent)
+  condition ← condition_of dialect head
+  Ok (key_asked.Complete id dialect condition)
 
 -- AbortMultipartUpload, with its upload
 abbrev pub abort_plan : TargetParts → Result KeyAsked Code
@@ -232,9 +235,9 @@ key_plan dialect head target = do
 abbrev pub plan_under : List ℕ → List ℕ → KeyAsked → Plan
 plan_under bucket key (key_asked.Key asked) = plans.Ready (commands.Key bucket key asked)
 plan_under bucket key (key_asked.Upload id asked) = plans.Ready (commands.Upload bucket key id asked)
-plan_under bucket key (key_asked.Put said if_absent) = plans.Put bucket key said if_absent
+plan_under bucket key (key_asked.Put said condition) = plans.Put bucket key said condition
 plan_under bucket key (key_asked.PutPart id number) = plans.PutPart bucket key id number
-plan_under bucket key (key_asked.Complete id dialect if_absent) = plans.Complete bucket key id dialect if_absent
+plan_under bucket key (key_asked.Complete id dialect condition) = plans.Complete bucket key id dialect condition
 
 -- what is asked of a key in the bucket of this name
 abbrev pub plan_of_key : Dialect → List ℕ → HeadParts → TargetParts → Result Plan Code

@@ -5,7 +5,9 @@ ghost use Rattle.s3_requests.specs.Commands as rules;
 
 use crate::routing::Plan;
 use s3_bodies::Payload;
-use s3_machine::{BucketCommand, Command, Description, KeyCommand, ObjectPut, UploadCommand};
+use s3_machine::{
+    BucketCommand, Command, Description, KeyCommand, ObjectPut, UploadCommand, WriteCondition,
+};
 use s3_names::{BucketName, Key, UploadId};
 use s3_prefixes::Text;
 use s3_request_documents::{read_completion, read_deletion, read_location, read_versioning};
@@ -32,11 +34,11 @@ pub fn command(alloc: Global, plan: Plan, payload: Payload) -> Result<Command, C
             bucket,
             key,
             said,
-            if_absent,
+            condition,
         } => Ok(Command::Key {
             bucket,
             key,
-            asked: KeyCommand::Put(put_of(said, if_absent, payload)),
+            asked: KeyCommand::Put(put_of(said, condition, payload)),
         }),
         Plan::PutPart {
             bucket,
@@ -54,8 +56,8 @@ pub fn command(alloc: Global, plan: Plan, payload: Payload) -> Result<Command, C
             key,
             id,
             dialect,
-            if_absent,
-        } => completion_command(alloc, bucket, key, id, dialect, if_absent, payload),
+            condition,
+        } => completion_command(alloc, bucket, key, id, dialect, condition, payload),
         Plan::DeleteObjects { bucket } => deletion_command(alloc, bucket, payload),
     }
 }
@@ -101,13 +103,13 @@ fn versioning_command(
 }
 
 // What is to be stored, with its body.
-fn put_of(said: Description, if_absent: bool, payload: Payload) -> ObjectPut
-    ensures { result ≡ rules.put_of said if_absent payload }
+fn put_of(said: Description, condition: WriteCondition, payload: Payload) -> ObjectPut
+    ensures { result ≡ rules.put_of said condition payload }
 {
     ObjectPut {
         content_type: said.content_type,
         metadata: said.metadata,
-        if_absent,
+        condition,
         payload,
     }
 }
@@ -119,10 +121,10 @@ fn completion_command(
     key: Key,
     id: UploadId,
     dialect: Dialect,
-    if_absent: bool,
+    condition: WriteCondition,
     payload: Payload,
 ) -> Result<Command, Code>
-    ensures rule { Follows result (rules.completion_command_of bucket key id dialect if_absent payload) }
+    ensures rule { Follows result (rules.completion_command_of bucket key id dialect condition payload) }
     ensures memory { IfErr result (λ code. code ≡ Code.InternalError → 0 < length payload) }
 {
     let text = text_of(alloc, payload)?;
@@ -131,7 +133,7 @@ fn completion_command(
             bucket,
             key,
             id,
-            asked: UploadCommand::Complete { listed, if_absent },
+            asked: UploadCommand::Complete { listed, condition },
         }),
         Err(code) => Err(code),
     }

@@ -15,6 +15,7 @@ mod operations;
 mod protection;
 mod read_conditions;
 mod routing;
+mod storage_class;
 mod unserved;
 mod upload_arguments;
 mod write_condition;
@@ -25,4 +26,5 @@ pub use operations::Operation;
 pub use routing::{Plan, route};
 pub use s3_machine::{
     BucketCommand, Command, Description, KeyCommand, ObjectPut, ObjectRead, UploadCommand,
+    WriteCondition,
 };

@@ -14,13 +14,15 @@ use crate::list_arguments::{objects_asked, parts_asked, uploads_asked, versions_
 use crate::operations::{Operation, bucket_operation, is_served, key_operation, service_operation};
 use crate::protection::is_protected;
 use crate::read_conditions::conditions_of;
+use crate::storage_class::asks_for_no_class;
 use crate::unserved::asks_for_more;
 use crate::upload_arguments::{part_argument, upload_argument};
-use crate::write_condition::absence_of;
+use crate::write_condition::{condition_of, deletion_said, tags_wanted};
 use s3_config::Config;
 use s3_http_heads::{Head, Target};
 use s3_machine::{
-    BucketCommand, Command, Description, KeyCommand, ObjectRead, UploadCommand, region_of,
+    BucketCommand, Command, Description, KeyCommand, ObjectRead, UploadCommand, WriteCondition,
+    region_of,
 };
 use s3_names::{BucketName, Key, PartNumber, UploadId};
 use s3_prefixes::{ListVersion, Text};
@@ -48,8 +50,7 @@ pub enum Plan {
         bucket: BucketName,
         key: Key,
         said: Description,
-        /// Whether only where the key has no object.
-        if_absent: bool,
+        condition: WriteCondition,
     },
     /// Put the body under this number, as a part of the upload (UploadPart).
     PutPart {
@@ -65,8 +66,7 @@ pub enum Plan {
         id: UploadId,
         /// How the body spells them.
         dialect: Dialect,
-        /// Whether only where the key has no object.
-        if_absent: bool,
+        condition: WriteCondition,
     },
     /// Delete the objects of the bucket that the body names (DeleteObjects).
     DeleteObjects {
@@ -85,7 +85,7 @@ pub(crate) enum KeyAsked {
     },
     Put {
         said: Description,
-        if_absent: bool,
+        condition: WriteCondition,
     },
     PutPart {
         id: UploadId,
@@ -94,7 +94,7 @@ pub(crate) enum KeyAsked {
     Complete {
         id: UploadId,
         dialect: Dialect,
-        if_absent: bool,
+        condition: WriteCondition,
     },
 }
 
@@ -102,8 +102,8 @@ pub(crate) enum KeyAsked {
 /// Guide, "Path-style requests"). A refusal is the first fault of routing in the order of
 /// `docs/PROTOCOL.md`; `InternalError` says that memory ran out: for the bucket's name or the key, where one of more than 38
 /// bytes is right, or, behind these, for what an operation copies that this server has. That is what a put, a copy or the
-/// beginning of an upload says of its object, the tags that a read or a copy names, the source of a copy, the texts that a
-/// list is asked by, and the region that a new bucket may name. What is judged before that is told, whatever memory there is.
+/// beginning of an upload says of its object, the tags that a condition names, the source of a copy, the texts that a list is
+/// asked by, and the region that a new bucket may name. What is judged before that is told, whatever memory there is.
 /// The cost is linear in the names and the query, and in the header lines times the names of
 /// metadata. Of `config` it takes the dialect, by which there are more operations and arguments and by which the documents of
 /// bodies are read, and the region that a new bucket may name.
@@ -118,8 +118,8 @@ pub fn route(alloc: Global, config: &Config, head: &Head) -> Result<Plan, Code>
     named_plan(alloc, config, head, target)
 }
 
-// The operation, where there is one, and this server has it and all that the head asks of it: `MethodNotAllowed`, and then
-// `NotImplemented`.
+// The operation, where there is one, and this server has it and all that the head asks of it: `MethodNotAllowed`, then
+// `NotImplemented`, and then `InvalidStorageClass`.
 #[tactic(auto, unfolding(crate::specs::Routing::served))]
 fn served(dialect: Dialect, head: &Head, found: Option<Operation>) -> Result<Operation, Code>
     ensures { result ≡ rules.served dialect head.now found }
@@ -130,6 +130,9 @@ fn served(dialect: Dialect, head: &Head, found: Option<Operation>) -> Result<Ope
     }
     if asks_for_more(dialect, operation, head) {
         return Err(Code::NotImplemented);
+    }
+    if asks_for_no_class(dialect, operation, head) {
+        return Err(Code::InvalidStorageClass);
     }
     Ok(operation)
 }
@@ -172,11 +175,11 @@ fn plan_under(bucket: BucketName, key: Key, asked: KeyAsked) -> Plan
             id,
             asked,
         }),
-        KeyAsked::Put { said, if_absent } => Plan::Put {
+        KeyAsked::Put { said, condition } => Plan::Put {
             bucket,
             key,
             said,
-            if_absent,
+            condition,
         },
         KeyAsked::PutPart { id, number } => Plan::PutPart {
             bucket,
@@ -187,13 +190,13 @@ fn plan_under(bucket: BucketName, key: Key, asked: KeyAsked) -> Plan
         KeyAsked::Complete {
             id,
             dialect,
-            if_absent,
+            condition,
         } => Plan::Complete {
             bucket,
             key,
             id,
             dialect,
-            if_absent,
+            condition,
         },
     }
 }
@@ -352,7 +355,7 @@ fn asked_for(
         Operation::UploadPart => part_plan(target),
         Operation::UploadPartCopy => part_copy_plan(alloc, dialect, head, target),
         Operation::ListParts => parts_plan(target),
-        Operation::CompleteMultipartUpload => complete_plan(dialect, head, target),
+        Operation::CompleteMultipartUpload => complete_plan(alloc, dialect, head, target),
         Operation::AbortMultipartUpload => abort_plan(target),
         _ => match key_command_for(alloc, dialect, head, target, operation) {
             Ok(asked) => Ok(KeyAsked::Key(asked)),
@@ -362,13 +365,13 @@ fn asked_for(
 }
 
 // PutObject, with what the head says of the object, and its condition.
-#[tactic(auto, unfolding(crate::specs::Routing::put_plan))]
+#[tactic(auto, unfolding(crate::specs::Routing::put_plan), using(crate::proofs::MemoryLemmas::described_takes))]
 fn put_plan(alloc: Global, dialect: Dialect, head: &Head) -> Result<KeyAsked, Code>
     ensures { FollowsWhere (memory.DescriptionTakes head.now) result (rules.put_plan dialect head.now) }
 {
     let said = description_of(alloc, dialect, head)?;
-    let if_absent = absence_of(head)?;
-    Ok(KeyAsked::Put { said, if_absent })
+    let condition = condition_of(alloc, dialect, head)?;
+    Ok(KeyAsked::Put { said, condition })
 }
 
 // UploadPart, with its part.
@@ -412,15 +415,20 @@ fn parts_plan(target: &Target) -> Result<KeyAsked, Code>
 
 // CompleteMultipartUpload, with its upload, its condition, and the dialect of the document that it brings.
 #[tactic(auto, unfolding(crate::specs::Routing::complete_plan))]
-fn complete_plan(dialect: Dialect, head: &Head, target: &Target) -> Result<KeyAsked, Code>
-    ensures { result ≡ rules.complete_plan dialect head.now target.now }
+fn complete_plan(
+    alloc: Global,
+    dialect: Dialect,
+    head: &Head,
+    target: &Target,
+) -> Result<KeyAsked, Code>
+    ensures { FollowsWhere (memory.CompletionTakes dialect head.now target.now) result (rules.complete_plan dialect head.now target.now) }
 {
     let id = upload_argument(target)?;
-    let if_absent = absence_of(head)?;
+    let condition = condition_of(alloc, dialect, head)?;
     Ok(KeyAsked::Complete {
         id,
         dialect,
-        if_absent,
+        condition,
     })
 }
 
@@ -450,7 +458,7 @@ fn key_command_for(
         Operation::CopyObject => copy_command(alloc, dialect, head, target),
         Operation::GetObject | Operation::HeadObject => read_command(alloc, head, target),
         Operation::GetObjectTagging => tags_command(target),
-        Operation::DeleteObject => delete_command(target),
+        Operation::DeleteObject => delete_command(alloc, dialect, head, target),
         Operation::CreateMultipartUpload => begin_command(alloc, dialect, head),
         _ => Err(Code::NotImplemented),
     }
@@ -491,13 +499,18 @@ fn tags_command(target: &Target) -> Result<KeyCommand, Code>
     Ok(KeyCommand::ReadTags { version })
 }
 
-// DeleteObject.
+// DeleteObject, on the condition that its head sets.
 #[tactic(auto, unfolding(crate::specs::Routing::delete_command))]
-fn delete_command(target: &Target) -> Result<KeyCommand, Code>
-    ensures { result ≡ rules.delete_command target.now }
+fn delete_command(
+    alloc: Global,
+    dialect: Dialect,
+    head: &Head,
+    target: &Target,
+) -> Result<KeyCommand, Code>
+    ensures { FollowsWhere (memory.DeleteTakes dialect head.now target.now) result (rules.delete_command dialect head.now target.now) }
 {
     let version = version_argument(target, b"versionId")?;
-    Ok(KeyCommand::Delete { version })
+    deletion_said(alloc, version, tags_wanted(dialect, head))
 }
 
 // CreateMultipartUpload, with what the head says of the object.

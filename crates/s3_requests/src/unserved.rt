@@ -37,12 +37,13 @@ fn is_unserved_line(operation: Operation, name: &[u8], value: &[u8]) -> bool
     match operation {
         Operation::CreateBucket
         | Operation::PutObject
-        | Operation::CopyObject
         | Operation::CreateMultipartUpload
         | Operation::UploadPart
         | Operation::UploadPartCopy
         | Operation::CompleteMultipartUpload => is_unserved_of_write(name, value),
+        Operation::CopyObject => is_unserved_of_write(name, value) || is_unserved_of_copy(name),
         Operation::GetObject | Operation::HeadObject => is_unserved_of_read(name),
+        Operation::DeleteObject => is_unserved_of_delete(name),
         Operation::ListBuckets
         | Operation::HeadBucket
         | Operation::DeleteBucket
@@ -59,7 +60,6 @@ fn is_unserved_line(operation: Operation, name: &[u8], value: &[u8]) -> bool
         | Operation::GetObjectTagging
         | Operation::GetObjectPart
         | Operation::HeadObjectPart
-        | Operation::DeleteObject
         | Operation::ListParts
         | Operation::AbortMultipartUpload => false,
     }
@@ -107,4 +107,18 @@ fn is_unserved_of_read(name: &[u8]) -> bool
     ensures { result ≡ rules.is_unserved_of_read name.now }
 {
     begins_with(name, b"x-amz-server-side-encryption-customer-")
+}
+
+// Whether lines of this name ask a copy for it: they set a condition for what it replaces.
+fn is_unserved_of_copy(name: &[u8]) -> bool
+    ensures { result ≡ rules.is_unserved_of_copy name.now }
+{
+    is_named(name, b"if-match") || is_named(name, b"if-none-match")
+}
+
+// Whether lines of this name ask a delete for it: they set a condition for the date or the size of what is deleted.
+fn is_unserved_of_delete(name: &[u8]) -> bool
+    ensures { result ≡ rules.is_unserved_of_delete name.now }
+{
+    is_named(name, b"x-amz-if-match-last-modified-time") || is_named(name, b"x-amz-if-match-size")
 }

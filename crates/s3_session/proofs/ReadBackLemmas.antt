@@ -1,6 +1,6 @@
 -- What is read back over one connection is what was stored.
 use Rattle.std.proofs.Common.{◌≡◌, ◌⊎◌, inl, inr, ℕ, true, false, List, [], ◌∷◌, ◌++◌, append_assoc, length, map, Option, Some, None, option_map, is_some, Ok, refl, sym, ap, subst, ◌∙◌}
-use Rattle.std.specs.List.{AllByRecursion, list_all}
+use Rattle.std.specs.List.{AllByRecursion, AllZip, list_all}
 use Rattle.std.proofs.lemmas.List.{map-append}
 use Rattle.s3_config.specs.Settings.{Settings}
 use Rattle.s3_names.specs.declared.ids.VersionId.{VersionId}
@@ -22,11 +22,12 @@ use Rattle.s3_machine.specs.declared.command.Description.{Description}
 use Rattle.s3_machine.specs.declared.command.Found.{Found}
 use Rattle.s3_machine.specs.declared.command.Outcome.{Outcome}
 use Rattle.s3_machine.specs.declared.command.Outcome.TheVariants.{Got}
+use Rattle.s3_machine.specs.Bases.{EverySoundHistory, OpeningIsSound, HasNothing, OpeningHasNothing}
 use Rattle.s3_machine.specs.Step.{State, described}
-use Rattle.s3_machine.specs.Effects.{Address, UploadPlace, Read, brought, brings, sent, whole, given, given_whole, found_object, succeeds}
+use Rattle.s3_machine.specs.Effects.{Address, Object, UploadPlace, Read, brought, brings, sent, whole, given, given_whole, found_object, succeeds}
 use Rattle.s3_machine.specs.History.{Entry, Legal}
-use Rattle.s3_machine.specs.Kept.{LeavesKey, SparesVersion, IsGiven, Puts, WasPut, WasDescribed, Copies, EveryHistory, StoredIsKept, VersionsAreKept, OnlyStoredIsGiven, StoredWasBrought, ReadsGiveOrFail, ReadsAreJudged, PutsAreKept, PutVersionsAreKept, CopiesAreKept, CopyVersionsAreKept}
-use Rattle.s3_machine.specs.Uploads.{Completes, AreJoined, WasJoined}
+use Rattle.s3_machine.specs.Kept.{LeavesKey, SparesVersion, WasStored, Stayed, Stood, IsGiven, Puts, WasPut, WasDescribed, Copies, EveryHistory, StoredIsKept, VersionsAreKept, OnlyStoredIsGiven, StoredWasBrought, ReadsGiveOrFail, ReadsAreJudged, PutsAreKept, PutVersionsAreKept, CopiesAreKept, CopyVersionsAreKept}
+use Rattle.s3_machine.specs.Uploads.{Completes, WasBegun, IsListedPart, begun_state, PartsFrom, FromBegun, FromBase, AreJoined, WasJoined}
 use Rattle.s3_machine.specs.UploadsKept.{CompletionsAreKept, CompletionVersionsAreKept, PartsHaveASource}
 use Rattle.s3_machine.specs.Rules.{rules_of}
 use Rattle.s3_machine.specs.declared.rules.Rules.{Rules}
@@ -102,8 +103,10 @@ pub record LawsBelow : Type 0 where
   pub success : SuccessIsShown
   pub objects : ObjectsAreCarried
   pub parts : PartsAreCarried
-  pub given : EveryHistory OnlyStoredIsGiven
-  pub origins : EveryHistory StoredWasBrought
+  pub sound : OpeningIsSound
+  pub nothing : OpeningHasNothing
+  pub given : EverySoundHistory OnlyStoredIsGiven
+  pub origins : EverySoundHistory StoredWasBrought
 
 -- what the messages of a replay are
 pub record AreReplayed (settings : Settings) (exchanges : List Exchange) : Type 0 where
@@ -114,15 +117,33 @@ pub record AreReplayed (settings : Settings) (exchanges : List Exchange) : Type 
 abbrev BringsWhole : Entry → Type 0
 BringsWhole e = BringsUnbroken e.command
 
+-- where nothing stood at the beginning, what stands was stored since,
+stored_since : (rules : Rules) (s : State) (entries : List Entry) (object : Object) → HasNothing s
+    → WasStored rules s entries object ⊎ Stayed s entries object → WasStored rules s entries object
+stored_since rules s entries object nothing (inl was) = was
+stored_since rules s entries object nothing (inr stayed) = absurd (nothing.objects object stayed.at_base)
+
+-- and an upload whose parts are joined was begun since
+record SinceBegun (rules : Rules) (s : State) (entries : List Entry) (upload : UploadPlace) (listed : List ListedPart) (t : ℕ) (asked : Description) (made : List (UploadPart (List ℕ))) : Type 0 where
+  begun : WasBegun entries upload t asked
+  sent : AllZip (IsListedPart rules (begun_state rules s begun) begun.since upload) listed made
+
+begun_since : (rules : Rules) (s : State) (entries : List Entry) (upload : UploadPlace) (listed : List ListedPart) (t : ℕ) (asked : Description)
+    (made : List (UploadPart (List ℕ)))
+    → HasNothing s → PartsFrom rules s entries upload listed t asked made → SinceBegun rules s entries upload listed t asked made
+begun_since rules s entries upload listed t asked made nothing (FromBegun begun sent) = record { begun = begun; sent = sent }
+begun_since rules s entries upload listed t asked made nothing (FromBase stayed sent) = absurd (nothing.uploads upload t asked stayed.at_base)
+
 -- what a put brought is so, and what a completion joined
-unbroken_origin : TagsAreUnbroken → (rules : Rules) (s : State) (entries : List Entry) (what : Data (List ℕ)) → AllByRecursion BringsWhole entries
-    → (WasPut entries what ⊎ WasJoined rules s entries what) → IsUnbroken what
-unbroken_origin tags rules s entries what all (inl put) =
+unbroken_origin : TagsAreUnbroken → (rules : Rules) (s : State) (entries : List Entry) (what : Data (List ℕ)) → HasNothing s
+    → AllByRecursion BringsWhole entries → (WasPut entries what ⊎ (WasJoined rules s entries what ⊎ Stood s what)) → IsUnbroken what
+unbroken_origin tags rules s entries what nothing all (inl put) =
     (all_of_two BringsWhole put.before (put.put ∷ put.later) (subst (AllByRecursion BringsWhole) put.parts all)).1.0.whole what put.puts.brings
-unbroken_origin tags rules s entries what all (inr it) =
+unbroken_origin tags rules s entries what nothing all (inr (inr stood)) = absurd (nothing.objects stood.object stood.at_base)
+unbroken_origin tags rules s entries what nothing all (inr (inl it)) =
     let before = (all_of_two BringsWhole it.before (it.complete ∷ it.later) (subst (AllByRecursion BringsWhole) it.parts all)).0 in
     let joined = it.joined in
-    let begun = joined.begun in
+    let begun = (begun_since rules s it.before it.upload it.listed joined.moment joined.asked joined.made nothing joined.parts).begun in
     let brings = (all_of_two BringsWhole begun.before (begun.begin ∷ begun.since) (subst (AllByRecursion BringsWhole) begun.parts before)).1.0 in
     let said = brings.begun it.upload.address joined.asked begun.begins.at in
     record {
@@ -146,6 +167,12 @@ module _ (laws : LawsBelow) (settings : Settings) (exchanges : List Exchange) (a
       → Law (rules_of settings) (opening settings.buckets) (entries_from exchanges)
   of_history law = law (rules_of settings) (opening settings.buckets) 0 (entries_from exchanges) are.legal
 
+  -- and what holds of those from a sound base
+  of_sound_history : {Law : Rules → State → List Entry → Type 0} → EverySoundHistory Law
+      → Law (rules_of settings) (opening settings.buckets) (entries_from exchanges)
+  of_sound_history law =
+      law (rules_of settings) (opening settings.buckets) 0 (entries_from exchanges) (laws.sound settings.buckets 0) are.legal
+
   replied_at : (earlier later : List Exchange) (x : Exchange) → exchanges ≡ earlier ++ x ∷ later → IsReplied x
   replied_at earlier later x at =
       (all_of_two IsReplied earlier (x ∷ later) (subst (AllByRecursion IsReplied) at are.replied)).1.0
@@ -155,13 +182,15 @@ module _ (laws : LawsBelow) (settings : Settings) (exchanges : List Exchange) (a
       → exchanges ≡ earlier ++ read ∷ later → AsksFor asked read → given read.answer.outcome ≡ Some found → IsUnbroken found.stored
   unbroken_given earlier later read asked found at asks gives =
       let entries = ap entries_from at ∙ entries_at earlier read later in
-      let was = (of_history laws.given settings.buckets (entries_from earlier) (entries_from later) (entry_of read) asked found
-      refl entries asks.read gives).2 in
+      let reading = of_sound_history laws.given (entries_from earlier) (entries_from later) (entry_of read) asked found entries asks.read gives in
+      let was = stored_since (rules_of settings) (opening settings.buckets) (entries_from earlier) (found_object asked.address reading.0 found)
+      (laws.nothing settings.buckets) reading.2 in
       let all = subst (AllByRecursion BringsWhole) entries (all_entries BringsUnbroken exchanges are.unbroken) in
       let past = (all_of_two BringsWhole (entries_from earlier) (entry_of read ∷ entries_from later) all).0 in
-      let brought = of_history laws.origins settings.buckets (entries_from earlier) (entry_of read ∷ entries_from later) _ refl entries was in
+      let brought = of_sound_history laws.origins (entries_from earlier) (entry_of read ∷ entries_from later) _ entries was in
       unbroken_described (entries_from earlier) brought.0 found.stored past
-      (unbroken_origin laws.tags (rules_of settings) (opening settings.buckets) (entries_from earlier) brought.0 past brought.1) brought.2
+      (unbroken_origin laws.tags (rules_of settings) (opening settings.buckets) (entries_from earlier) brought.0 (laws.nothing settings.buckets) past brought.1)
+      brought.2
 
   -- so its reply carries it, where it is given all of it
   given_carried : (earlier later : List Exchange) (read : Exchange) (asked : Read) (found : Found (List ℕ))
@@ -207,12 +236,13 @@ module _ (laws : LawsBelow) (settings : Settings) (exchanges : List Exchange) (a
       let found = found_there (given_whole read.answer.outcome)
       (of_history or_fails before (entries_from later) (entry_of read) address version entries asks.read
       ∙ sym (shows laws.success read (replied_at earlier later read at)) ∙ told) in
-      let was = of_history laws.given settings.buckets before (entries_from later) (entry_of read) (whole address version) found.0
-      refl entries asks.read (whole_is_given read.answer.outcome found.0 found.1) in (
-        found_object address was.0 found.0,
+      let was = of_sound_history laws.given before (entries_from later) (entry_of read) (whole address version) found.0
+      entries asks.read (whole_is_given read.answer.outcome found.0 found.1) in
+      let object = found_object address was.0 found.0 in (
+        object,
         refl,
         was.1.named,
-        was.2,
+        stored_since (rules_of settings) (opening settings.buckets) before object (laws.nothing settings.buckets) was.2,
         given_carried earlier later read (whole address version) found.0 at asks found.1,
       )
 
@@ -232,11 +262,12 @@ module _ (laws : LawsBelow) (settings : Settings) (exchanges : List Exchange) (a
       let replied = replied_at earlier later read at in
       let shown = of_history judges before (entries_from later) (entry_of read) asked entries asks.read
       (sym (shows laws.success read replied) ∙ told) in
-      let was = of_history laws.given settings.buckets before (entries_from later) (entry_of read) asked shown.found refl entries asks.read shown.gives in (
-        found_object asked.address was.0 shown.found,
+      let was = of_sound_history laws.given before (entries_from later) (entry_of read) asked shown.found entries asks.read shown.gives in
+      let object = found_object asked.address was.0 shown.found in (
+        object,
         refl,
         was.1.named,
-        was.2,
+        stored_since (rules_of settings) (opening settings.buckets) before object (laws.nothing settings.buckets) was.2,
         shown.selection,
         shown.selects,
         shown_of read shown.found shown.selection replied shown.shows shown.gives
@@ -328,12 +359,14 @@ module _ (laws : LawsBelow) (settings : Settings) (exchanges : List Exchange) (a
       → AreJoined (rules_of settings) (opening settings.buckets) (entries_from before) upload listed what → IsGiven complete.context.moment what (entry_of read)
       → CarriesParts settings before upload listed read.reply
   joined_carried sources before between later complete read upload listed asked what parts asks joined given =
-      let begun = joined.begun in
+      let from = begun_since (rules_of settings) (opening settings.buckets) (entries_from before) upload listed joined.moment joined.asked joined.made
+      (laws.nothing settings.buckets) joined.parts in
+      let begun = from.begun in
       record {
         bodies = map (λ (part : UploadPart (List ℕ)). part.body) joined.made;
         put = all_put laws.success sources settings before (replied_parts before between later complete read parts).0 upload
             (begun.before ++ begun.begin ∷ []) begun.since
-            (begun.parts ∙ sym (append_assoc begun.before (begun.begin ∷ []) begun.since)) listed joined.made joined.sent;
+            (begun.parts ∙ sym (append_assoc begun.before (begun.begin ∷ []) begun.since)) listed joined.made from.sent;
         carried = subst (λ (b : List ℕ). Carries b read.reply) joined.body
             (data_carried (before ++ complete ∷ between) later read asked complete.context.moment what parts asks given);
       }
@@ -341,16 +374,16 @@ module _ (laws : LawsBelow) (settings : Settings) (exchanges : List Exchange) (a
   completion_read_back : PartsHaveASource → EveryHistory CompletionsAreKept → CompletionsAreReadBack settings exchanges
   completion_read_back sources kept before between later complete read upload listed parts wrote alone asks =
       let replied = replied_from before between later complete read parts in
-      let found = of_history kept settings.buckets (entries_from before) (entries_from between) (entries_from later) (entry_of complete) (entry_of read)
-      upload listed refl (entries_of_parts before between later complete read parts) (completes_of complete upload listed replied.0 wrote)
+      let found = of_history kept (entries_from before) (entries_from between) (entries_from later) (entry_of complete) (entry_of read)
+      upload listed (entries_of_parts before between later complete read parts) (completes_of complete upload listed replied.0 wrote)
       (leaves_key laws.success upload.address between replied.1 alone) asks.read in
       joined_carried sources before between later complete read upload listed _ found.0 parts asks found.1 found.2
 
   completion_version_read_back : PartsHaveASource → EveryHistory CompletionVersionsAreKept → CompletionVersionsAreReadBack settings exchanges
   completion_version_read_back sources kept before between later complete read upload listed id parts wrote under spared asks =
       let replied = replied_from before between later complete read parts in
-      let found = of_history kept settings.buckets (entries_from before) (entries_from between) (entries_from later) (entry_of complete) (entry_of read)
-      upload listed id refl (entries_of_parts before between later complete read parts) (completes_of complete upload listed replied.0 wrote) under
+      let found = of_history kept (entries_from before) (entries_from between) (entries_from later) (entry_of complete) (entry_of read)
+      upload listed id (entries_of_parts before between later complete read parts) (completes_of complete upload listed replied.0 wrote) under
       (spares_version laws.success upload.address id between replied.1 spared) asks.read in
       joined_carried sources before between later complete read upload listed _ found.0 parts asks found.1 found.2
 
@@ -417,7 +450,7 @@ unfolding command_of
 came_brought (plans.Ready ready) came taken command bodiless made is =
     let same : ready ≡ command = cc in
     let none : None ≡ Some taken = sym (bodiless ready refl) ∙ ap brings same ∙ is in absurd (cc)
-came_brought (plans.Put bucket key said if_absent) came taken command bodiless made is = cc
+came_brought (plans.Put bucket key said condition) came taken command bodiless made is = cc
 came_brought (plans.PutPart bucket key id number) came taken command bodiless made is = absurd (cc)
 came_brought plan came taken command bodiless made is =
     let nothing = (read_brings plan came command refl made).put in
@@ -428,7 +461,7 @@ unfolding command_of
 came_sent (plans.Ready ready) came taken command bodiless made is =
     let same : ready ≡ command = cc in
     let none : None ≡ Some taken = sym (bodiless ready refl) ∙ ap sent same ∙ is in absurd (cc)
-came_sent (plans.Put bucket key said if_absent) came taken command bodiless made is = absurd (cc)
+came_sent (plans.Put bucket key said condition) came taken command bodiless made is = absurd (cc)
 came_sent (plans.PutPart bucket key id number) came taken command bodiless made is = cc
 came_sent plan came taken command bodiless made is =
     let none : None ≡ Some taken = sym (read_brings plan came command refl made).part ∙ is in absurd (cc)

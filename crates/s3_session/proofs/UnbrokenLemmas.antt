@@ -85,8 +85,8 @@ read_brings (plans.CreateBucket name region) payload command reads made =
 read_brings (plans.PutVersioning name dialect) payload command reads made =
     let read = made_of _ (λ (status : VersioningStatus). commands.Bucket name (bucket_commands.PutVersioning status)) command made in
     subst BringsNothing read.2 (record { put = refl; part = refl; begun = refl; copied = refl })
-read_brings (plans.Complete bucket key id dialect if_absent) payload command reads made =
-    let read = made_of _ (λ (listed : List ListedPart). commands.Upload bucket key id (upload_commands.Complete listed if_absent)) command made in
+read_brings (plans.Complete bucket key id dialect condition) payload command reads made =
+    let read = made_of _ (λ (listed : List ListedPart). commands.Upload bucket key id (upload_commands.Complete listed condition)) command made in
     subst BringsNothing read.2 (record { put = refl; part = refl; begun = refl; copied = refl })
 read_brings (plans.DeleteObjects bucket) payload command reads made =
     let read = made_of _ (commands.DeleteObjects bucket) command made in
@@ -128,9 +128,9 @@ unfolding command_of
 planned tags (plans.Ready ready) payload command unbroken made =
     let same : ready ≡ command = cc in
     subst BringsUnbroken same (stores_unbroken tags ready unbroken)
-planned tags (plans.Put bucket key said if_absent) payload command unbroken made =
-    let same : commands.Key bucket key (key_commands.Put (put_of said if_absent payload)) ≡ command = cc in
-    subst BringsUnbroken same (stores_unbroken tags (commands.Key bucket key (key_commands.Put (put_of said if_absent payload))) unbroken)
+planned tags (plans.Put bucket key said condition) payload command unbroken made =
+    let same : commands.Key bucket key (key_commands.Put (put_of said condition payload)) ≡ command = cc in
+    subst BringsUnbroken same (stores_unbroken tags (commands.Key bucket key (key_commands.Put (put_of said condition payload))) unbroken)
 planned tags (plans.PutPart bucket key id number) payload command unbroken made =
     let same : commands.Upload bucket key id (upload_commands.PutPart number payload) ≡ command = cc in
     subst BringsUnbroken same (stores_unbroken tags (commands.Upload bucket key id (upload_commands.PutPart number payload)) tt)

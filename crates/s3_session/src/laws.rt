@@ -7,8 +7,8 @@ ghost use Rattle.s3_session.specs.Stands.{SessionsWrite};
 
 use s3_http_heads::{texts_say_one_thing, verdict_is_exact};
 use s3_machine::{
-    completions_are_kept, copies_are_kept, only_stored_is_given, parts_have_a_source,
-    puts_are_kept, stored_is_kept,
+    completions_are_kept, copies_are_kept, histories_leave_sound_bases, only_stored_is_given,
+    parts_have_a_source, puts_are_kept, stored_is_kept,
 };
 use s3_payloads::{accepted_bodies_are_whole, payloads_are_judged, verdicts_are_final};
 use s3_replies::{refusals_are_unique, replies_are_unique, replies_show_what_came};
@@ -166,6 +166,7 @@ pub fn stored_is_read_back()
     plans_are_unbroken();
     stored_is_kept();
     only_stored_is_given();
+    histories_leave_sound_bases();
     replies_show_what_came();
 }
 
@@ -182,6 +183,7 @@ pub fn puts_are_read_back()
     ready_plans_bring_nothing();
     puts_are_kept();
     only_stored_is_given();
+    histories_leave_sound_bases();
     replies_show_what_came();
 }
 
@@ -195,6 +197,7 @@ pub fn copies_are_read_back()
     plans_are_unbroken();
     copies_are_kept();
     only_stored_is_given();
+    histories_leave_sound_bases();
     replies_show_what_came();
 }
 
@@ -213,5 +216,6 @@ pub fn completions_are_read_back()
     completions_are_kept();
     parts_have_a_source();
     only_stored_is_given();
+    histories_leave_sound_bases();
     replies_show_what_came();
 }

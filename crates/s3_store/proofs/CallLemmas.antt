@@ -1,6 +1,7 @@
 -- What comes of commands, from what the calls ensure that carry them out.
-use Rattle.std.proofs.Common.{◌≡◌, ap, ◌∙◌, sym, subst, ℕ, Bool, true, false, ◌&&◌, List, Option, Some, None, Result, Ok, Err, IfOk, OnErr}
+use Rattle.std.proofs.Common.{◌≡◌, ap, ◌∙◌, sym, subst, ℕ, Bool, true, false, List, Option, Some, None, Result, Ok, Err, IfOk, OnErr}
 use Rattle.std.specs.Prelude.{is_ok, is_some}
+use Rattle.s3_terms.specs.declared.code.Code.{Code}
 use Rattle.s3_terms.specs.declared.code.Code.TheVariants.{BucketAlreadyOwnedByYou, NoSuchUpload}
 use Rattle.s3_terms.specs.Fault.{◌>>◌}
 use Rattle.s3_bodies.specs.Payload.{tag_of}
@@ -27,10 +28,12 @@ use Rattle.s3_machine.specs.declared.command.PartCopy.{PartCopy}
 use Rattle.s3_machine.specs.declared.command.Outcome.{Outcome}
 use Rattle.s3_machine.specs.declared.command.Outcome.TheVariants as outcomes
 use Rattle.s3_machine.specs.declared.command.UploadCommand.TheVariants as upload_commands
+use Rattle.s3_machine.specs.declared.command.WriteCondition.{WriteCondition}
+use Rattle.s3_machine.specs.declared.command.WriteCondition.TheVariants as write_conditions
 use Rattle.s3_machine.specs.declared.rules.Rules.{Rules}
-use Rattle.s3_machine.specs.Step.{State, Stepped, bucket_done, copied, is_taken, stepped}
-use Rattle.s3_store.specs.Steps.{bucket_step, key_step, upload_step, copy_step, copied_as, part_source, part_step, part_step_as, source_in, completed_as, barred_code, read_as_found, selected_by, got_of, MayEnter}
-use Rattle.s3_store.proofs.StepLemmas.{read_shown, read_refused, read_accepted, copies, copy_accepted}
+use Rattle.s3_machine.specs.Step.{State, Stepped, bucket_done, copied, stepped}
+use Rattle.s3_store.specs.Steps.{bucket_step, key_step, upload_step, copy_step, copied_as, part_source, part_step, part_step_as, source_in, bar_at, completed_as, completion_code, read_as_found, selected_by, got_of, MayEnter}
+use Rattle.s3_store.proofs.StepLemmas.{read_shown, read_refused, read_accepted, match_deleted, copies, copy_accepted}
 use Rattle.s3_store.proofs.CopyLemmas.{copied_bytes}
 use Rattle.s3_store.proofs.SourceLemmas.{part_copies, part_copy_accepted, found_open}
 use Rattle.s3_store.proofs.UploadLemmas.{upload_lost, part_put, completes, completion_barred}
@@ -150,20 +153,28 @@ module _ (s : State) (t : ℕ) (name key : List ℕ) (id number : ℕ) (copy : P
       part_copied_as read (Ok f) reads is rules n ∙ ap (λ s. part_step s t name key id number copy.range f) (sym same) ∙ steps
   part_copy_puts now read f (Err e) after reads is same steps = tt
 
+-- ---- deletes with a condition
+
+module _ (s now : State) (n t : ℕ) (name key tags : List ℕ) (same : now ≡ s) where
+  pub match_deletes : bar_at s name key (write_conditions.IfMatch tags) ≡ None
+      → key_step s n t name key (key_commands.DeleteMatching tags) ≡ key_step now n t name key (key_commands.Delete None)
+  match_deletes free =
+      match_deleted s n t name key tags free ∙ ap (λ (s : State). key_step s n t name key (key_commands.Delete None)) (sym same)
+
 -- ---- completions
 
-module _ (rules : Rules) (s now : State) (n t : ℕ) (name key : List ℕ) (id : ℕ) (listed : List ListedPart) (if_absent : Bool) (same : now ≡ s) where
-  pub joins : (if_absent && is_taken s name key) ≡ false
-      → upload_step rules s n t name key id (upload_commands.Complete listed if_absent) ≡ completed_as now n t name key id (completed_at rules.least_part listed (upload_at now name key id))
+module _ (rules : Rules) (s now : State) (n t : ℕ) (name key : List ℕ) (id : ℕ) (listed : List ListedPart) (condition : WriteCondition) (same : now ≡ s) where
+  pub joins : bar_at s name key condition ≡ None
+      → upload_step rules s n t name key id (upload_commands.Complete listed condition) ≡ completed_as now n t name key id (completed_at rules.least_part listed (upload_at now name key id))
   joins free =
-      completes rules s n t name key id listed if_absent free
+      completes rules s n t name key id listed condition free
       ∙ ap (λ (s : State). completed_as s n t name key id (completed_at rules.least_part listed (upload_at s name key id))) (sym same)
 
-  pub completion_fails : {E : Type 0} (r : Result Outcome E) (after : State) → (if_absent && is_taken s name key) ≡ true → after ≡ now
-      → IfOk r (λ o. o ≡ outcomes.Refused (barred_code (upload_at now name key id)) false)
-      → IfOk r (λ o. upload_step rules s n t name key id (upload_commands.Complete listed if_absent) ≡ (after, o))
-  completion_fails (Ok o) after barred left refused = let step = completion_barred rules s n t name key id listed if_absent barred in cc
-  completion_fails (Err e) after barred left refused = tt
+  pub completion_fails : {E : Type 0} (r : Result Outcome E) (after : State) (code : Code) → bar_at s name key condition ≡ Some code → after ≡ now
+      → IfOk r (λ o. o ≡ outcomes.Refused (completion_code code (upload_at now name key id)) false)
+      → IfOk r (λ o. upload_step rules s n t name key id (upload_commands.Complete listed condition) ≡ (after, o))
+  completion_fails (Ok o) after code barred left refused = let step = completion_barred rules s n t name key id listed condition code barred in cc
+  completion_fails (Err e) after code barred left refused = tt
 
 -- ---- buckets that are made
 

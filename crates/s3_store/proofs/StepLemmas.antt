@@ -1,8 +1,8 @@
 -- What comes of commands, from what is told of the records.
 use Rattle.std.proofs.Common.{◌≡◌, ◌≢◌, refl, ap, ◌∙◌, ℕ, Bool, true, false, List, Option, Some, None, Result, Ok, Err, option_map, option_and_then}
-use Rattle.std.specs.Prelude.{◌&&◌, is_ok, is_some}
+use Rattle.std.specs.Prelude.{is_ok, if◌then◌else◌}
 use Rattle.std.specs.FinMap as map
-use Rattle.s3_terms.specs.declared.code.Code.TheVariants.{PreconditionFailed}
+use Rattle.s3_terms.specs.declared.code.Code.{Code}
 use Rattle.s3_names.specs.declared.ids.VersionId.{VersionId}
 use Rattle.s3_conditions.specs.declared.conditions.Conditions.{Conditions}
 use Rattle.s3_conditions.specs.declared.conditions.Selection.{Selection}
@@ -28,11 +28,12 @@ use Rattle.s3_machine.specs.declared.command.ObjectPut.{ObjectPut}
 use Rattle.s3_machine.specs.declared.command.ObjectRead.{ObjectRead}
 use Rattle.s3_machine.specs.declared.command.Outcome.{Outcome}
 use Rattle.s3_machine.specs.declared.command.Outcome.TheVariants as outcomes
+use Rattle.s3_machine.specs.declared.command.WriteCondition.TheVariants as write_conditions
 use Rattle.s3_machine.specs.declared.rules.Rules.{Rules}
 use Rattle.s3_terms.specs.Fault.{◌>>◌, ◌>>=◌}
 use Rattle.s3_machine.specs.Fault.{refuse}
-use Rattle.s3_machine.specs.Step.{State, step, is_taken, data_of, copied, key_done, done, Stepped, stepped, found_in, outcome_shown, shown_by, shown_in}
-use Rattle.s3_store.specs.Steps.{bucket_step, key_step, put_step, copy_step, copied_as, read_as_found, selected_of, selected_by, got_of, tags_of}
+use Rattle.s3_machine.specs.Step.{State, step, tag_at, is_barred, barred_code, data_of, copied, key_done, done, Stepped, stepped, found_in, outcome_shown, shown_by, shown_in}
+use Rattle.s3_store.specs.Steps.{bucket_step, key_step, bar_at, tag_told, put_step, copy_step, copied_as, read_as_found, selected_of, selected_by, got_of, tags_of}
 
 -- a bucket that is there tells its versioning
 abbrev told_versioning : Option BucketFacts → Versioning
@@ -166,46 +167,62 @@ module _ (s : State) (n t : ℕ) (name key : List ℕ) (version : Option Version
       ap (λ (st : Stepped). is_refused st.1) tags_told
       ∙ tags_there (versioning_of s name) version (asked_for version (versions_of s name key)) there
 
--- ---- puts
+-- ---- writes with a condition
 
--- what comes behind a condition that holds, and one that fails
-freed : (s : State) (barred : Bool) (after : Stepped) → barred ≡ false → stepped s (refuse barred PreconditionFailed >> Ok after) ≡ after
-freed s true after is = absurd (cc)
-freed s false after is = refl
+-- what comes after a condition that holds, and after one that fails
+freed : (s : State) (barred : Bool) (code : Code) (after : Stepped) → (if barred then Some code else None) ≡ None
+    → stepped s (refuse barred code >> Ok after) ≡ after
+freed s true code after is = absurd (cc)
+freed s false code after is = refl
 
-pub barred_by : (s : State) (barred : Bool) (next : Result Stepped Refusal) → barred ≡ true
-    → stepped s (refuse barred PreconditionFailed >> next) ≡ (s, outcomes.Refused PreconditionFailed false)
-barred_by s true next is = refl
-barred_by s false next is = absurd (cc)
+pub barred_by : (s : State) (barred : Bool) (code told : Code) (next : Result Stepped Refusal) → (if barred then Some code else None) ≡ Some told
+    → stepped s (refuse barred code >> next) ≡ (s, outcomes.Refused told false)
+barred_by s true code told next is = cc
+barred_by s false code told next is = absurd (cc)
 
 module _ (s : State) (n t : ℕ) (name key : List ℕ) (put : ObjectPut) where
-  pub put_stored : (put.if_absent && is_taken s name key) ≡ false
-      → key_step s n t name key (key_commands.Put put) ≡ put_step s n t name key (data_of put)
+  pub put_stored : bar_at s name key put.condition ≡ None → key_step s n t name key (key_commands.Put put) ≡ put_step s n t name key (data_of put)
   unfolding key_done
-  put_stored = freed s (put.if_absent && is_taken s name key) (put_step s n t name key (data_of put))
+  put_stored =
+      freed s (is_barred put.condition (tag_at s name key)) (barred_code (tag_at s name key)) (put_step s n t name key (data_of put))
 
-  pub put_accepted : (put.if_absent && is_taken s name key) ≡ false
-      → is_refused (key_step s n t name key (key_commands.Put put)).1 ≡ false
+  pub put_accepted : bar_at s name key put.condition ≡ None → is_refused (key_step s n t name key (key_commands.Put put)).1 ≡ false
   put_accepted free = ap (λ (st : Stepped). is_refused st.1) (put_stored free)
 
-  pub put_barred : (put.if_absent && is_taken s name key) ≡ true
-      → key_step s n t name key (key_commands.Put put) ≡ (s, outcomes.Refused PreconditionFailed false)
+  pub put_barred : (code : Code) → bar_at s name key put.condition ≡ Some code
+      → key_step s n t name key (key_commands.Put put) ≡ (s, outcomes.Refused code false)
   unfolding key_done
-  put_barred = barred_by s (put.if_absent && is_taken s name key) _
+  put_barred code = barred_by s (is_barred put.condition (tag_at s name key)) (barred_code (tag_at s name key)) code _
 
--- a read of the current version is given what is known of an object, where there is one
-content_read : (v : Version (List ℕ)) (c : Content (List ℕ)) (refusal : Refusal) → is_ok (facts_read (read_as refusal v c)) ≡ is_some (stored_in c)
-content_read v DeleteMarker refusal = refl
-content_read v (Stored d) refusal = refl
+-- a delete whose condition holds is one that names no version
+module _ (s : State) (n t : ℕ) (name key tags : List ℕ) where
+  pub match_deleted : bar_at s name key (write_conditions.IfMatch tags) ≡ None
+      → key_step s n t name key (key_commands.DeleteMatching tags) ≡ key_step s n t name key (key_commands.Delete None)
+  unfolding key_done
+  match_deleted = freed s (is_barred (write_conditions.IfMatch tags) (tag_at s name key)) (barred_code (tag_at s name key)) _
 
-current_read : (found : Option (Version (List ℕ))) → is_ok (facts_read (judged None found)) ≡ is_some (option_and_then stored found)
-current_read None = refl
-current_read (Some v) = content_read v v.content _
+  pub match_barred : (code : Code) → bar_at s name key (write_conditions.IfMatch tags) ≡ Some code
+      → key_step s n t name key (key_commands.DeleteMatching tags) ≡ (s, outcomes.Refused code false)
+  unfolding key_done
+  match_barred code = barred_by s (is_barred (write_conditions.IfMatch tags) (tag_at s name key)) (barred_code (tag_at s name key)) code _
 
-pub taken_read : (s : State) (name key : List ℕ) → is_ok (facts_read (pick None (versions_of s name key))) ≡ is_taken s name key
-taken_read s name key = current_read (current (versions_of s name key))
+-- a read of the current version is told the tag of an object, where there is one
+content_tag : (v : Version (List ℕ)) (c : Content (List ℕ)) (refusal : Refusal)
+    → tag_told (facts_read (read_as refusal v c)) ≡ option_map (λ (what : Data (List ℕ)). what.tag) (stored_in c)
+content_tag v DeleteMarker refusal = refl
+content_tag v (Stored d) refusal = refl
+
+current_tag : (found : Option (Version (List ℕ)))
+    → tag_told (facts_read (judged None found)) ≡ option_map (λ (what : Data (List ℕ)). what.tag) (option_and_then stored found)
+current_tag None = refl
+current_tag (Some v) = content_tag v v.content _
+
+pub tag_read : (s : State) (name key : List ℕ) → tag_told (facts_read (pick None (versions_of s name key))) ≡ tag_at s name key
+tag_read s name key = current_tag (current (versions_of s name key))
 
 pub ruleset put_steps = (put_stored, put_accepted, put_barred)
+
+pub ruleset match_steps = (match_deleted, match_barred)
 
 -- ---- copies
 

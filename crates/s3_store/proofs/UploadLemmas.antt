@@ -1,11 +1,11 @@
 -- What comes of commands on uploads, from what is told of the records.
-use Rattle.std.proofs.Common.{◌≡◌, refl, ap, ℕ, Bool, true, false, ◌&&◌, List, Option, Some, None, Result, Ok, Err}
-use Rattle.std.specs.Prelude.{is_some, is_ok, not, ok_or}
+use Rattle.std.proofs.Common.{◌≡◌, refl, ap, ℕ, Bool, true, false, List, Option, Some, None, Result, Ok, Err}
+use Rattle.std.specs.Prelude.{if◌then◌else◌, is_some, is_ok, not, ok_or}
 use Rattle.std.specs.List.{list_all, list_any}
 use Rattle.s3_terms.specs.Fault.{◌>>◌, ◌>>=◌}
 use Rattle.s3_terms.specs.Fault as faults
 use Rattle.s3_terms.specs.declared.code.Code.{Code}
-use Rattle.s3_terms.specs.declared.code.Code.TheVariants.{EntityTooSmall, InvalidPart, InvalidPartOrder, NoSuchUpload, PreconditionFailed}
+use Rattle.s3_terms.specs.declared.code.Code.TheVariants.{EntityTooSmall, InvalidPart, InvalidPartOrder, NoSuchUpload}
 use Rattle.s3_bodies.specs.Payload.{tag_of}
 use Rattle.s3_versions.specs.declared.picking.Refusal.{Refusal}
 use Rattle.s3_versions.specs.declared.version.Data.{Data}
@@ -24,9 +24,10 @@ use Rattle.s3_machine.specs.Fault.{refuse, as_refusal}
 use Rattle.s3_machine.specs.declared.command.Outcome.TheVariants as outcomes
 use Rattle.s3_machine.specs.declared.command.UploadCommand.{UploadCommand}
 use Rattle.s3_machine.specs.declared.command.UploadCommand.TheVariants as upload_commands
+use Rattle.s3_machine.specs.declared.command.WriteCondition.{WriteCondition}
 use Rattle.s3_machine.specs.declared.rules.Rules.{Rules}
-use Rattle.s3_machine.specs.Step.{State, Stepped, is_taken, stepped, upload_done}
-use Rattle.s3_store.specs.Steps.{upload_step, completion_step, completed_as, barred_code}
+use Rattle.s3_machine.specs.Step.{State, Stepped, tag_at, is_barred, barred_code, stepped, upload_done}
+use Rattle.s3_store.specs.Steps.{bar_at, upload_step, completion_step, completed_as, completion_code}
 use Rattle.s3_store.proofs.StepLemmas.{barred_by}
 
 -- what is asked for, if it is open
@@ -81,32 +82,35 @@ module _ (rules : Rules) (s : State) (n t : ℕ) (name key : List ℕ) (id : ℕ
   completes_as (Ok stored) = refl
   completes_as (Err code) = refl
 
-  -- behind a condition that holds
-  completes_found : (listed : List ListedPart) (barred : Bool) (found : Option (Upload (List ℕ))) → barred ≡ false
-      → stepped s (opened found >>= (λ u. refuse barred PreconditionFailed
+  -- after a condition that holds
+  completes_found : (listed : List ListedPart) (barred : Bool) (code : Code) (found : Option (Upload (List ℕ))) → (if barred then Some code else None) ≡ None
+      → stepped s (opened found >>= (λ u. refuse barred code
       >> (as_refusal (completed rules.least_part listed u) >>= (λ stored. Ok (completion_step s n t name key id stored)))))
       ≡ completed_as s n t name key id (completed_at rules.least_part listed found)
-  completes_found listed true found free = absurd (cc)
-  completes_found listed false None free = refl
-  completes_found listed false (Some u) free = completes_as (completed rules.least_part listed u)
+  completes_found listed true code found free = absurd (cc)
+  completes_found listed false code None free = refl
+  completes_found listed false code (Some u) free = completes_as (completed rules.least_part listed u)
 
-  pub completes : (listed : List ListedPart) (if_absent : Bool) → (if_absent && is_taken s name key) ≡ false
-      → upload_step rules s n t name key id (upload_commands.Complete listed if_absent)
+  pub completes : (listed : List ListedPart) (condition : WriteCondition) → bar_at s name key condition ≡ None
+      → upload_step rules s n t name key id (upload_commands.Complete listed condition)
       ≡ completed_as s n t name key id (completed_at rules.least_part listed (upload_at s name key id))
   unfolding upload_done
-  completes listed if_absent = completes_found listed (if_absent && is_taken s name key) (upload_at s name key id)
+  completes listed condition =
+      completes_found listed (is_barred condition (tag_at s name key)) (barred_code (tag_at s name key)) (upload_at s name key id)
 
-  -- and behind one that fails
-  barred_found : (barred : Bool) (found : Option (Upload (List ℕ))) (rule : Upload (List ℕ) → Result Stepped Refusal) → barred ≡ true
-      → stepped s (opened found >>= (λ u. refuse barred PreconditionFailed >> rule u)) ≡ (s, outcomes.Refused (barred_code found) false)
-  barred_found barred None rule is = refl
-  barred_found barred (Some u) rule is = barred_by s barred (rule u) is
+  -- and after one that fails
+  barred_found : (barred : Bool) (code told : Code) (found : Option (Upload (List ℕ))) (rule : Upload (List ℕ) → Result Stepped Refusal)
+      → (if barred then Some code else None) ≡ Some told
+      → stepped s (opened found >>= (λ u. refuse barred code >> rule u)) ≡ (s, outcomes.Refused (completion_code told found) false)
+  barred_found barred code told None rule is = refl
+  barred_found barred code told (Some u) rule is = barred_by s barred code told (rule u) is
 
-  pub completion_barred : (listed : List ListedPart) (if_absent : Bool) → (if_absent && is_taken s name key) ≡ true
-      → upload_step rules s n t name key id (upload_commands.Complete listed if_absent)
-      ≡ (s, outcomes.Refused (barred_code (upload_at s name key id)) false)
+  pub completion_barred : (listed : List ListedPart) (condition : WriteCondition) (code : Code) → bar_at s name key condition ≡ Some code
+      → upload_step rules s n t name key id (upload_commands.Complete listed condition)
+      ≡ (s, outcomes.Refused (completion_code code (upload_at s name key id)) false)
   unfolding upload_done
-  completion_barred listed if_absent = barred_found (if_absent && is_taken s name key) (upload_at s name key id) _
+  completion_barred listed condition code =
+      barred_found (is_barred condition (tag_at s name key)) (barred_code (tag_at s name key)) code (upload_at s name key id) _
 
   pub completion_accepted : (r : Result (Data (List ℕ)) Code) → is_ok r ≡ true → is_refused (completed_as s n t name key id r).1 ≡ false
   completion_accepted (Ok stored) is = refl
@@ -138,13 +142,13 @@ bytes_joined least listed None stored is = absurd (cc)
 bytes_joined least listed (Some u) stored is = ap Some (joined_is least listed u stored is)
 
 -- how it is refused, by whether its upload is open
-pub open_code : (found : Option (Upload (List ℕ))) → is_some found ≡ true → barred_code found ≡ PreconditionFailed
-open_code None is = absurd (cc)
-open_code (Some u) is = refl
+pub open_code : (code : Code) (found : Option (Upload (List ℕ))) → is_some found ≡ true → completion_code code found ≡ code
+open_code code None is = absurd (cc)
+open_code code (Some u) is = refl
 
-pub closed_code : (found : Option (Upload (List ℕ))) → is_some found ≡ false → barred_code found ≡ NoSuchUpload
-closed_code None is = refl
-closed_code (Some u) is = absurd (cc)
+pub closed_code : (code : Code) (found : Option (Upload (List ℕ))) → is_some found ≡ false → completion_code code found ≡ NoSuchUpload
+closed_code code None is = refl
+closed_code code (Some u) is = absurd (cc)
 
 pub ruleset barred_codes = (open_code, closed_code)
 

@@ -1,5 +1,5 @@
 -- One step of a store.
-use Rattle.std.specs.Prelude.{◌≡◌, refl, ℕ, ◌+◌, false, not, IsTrue, List, Option, Some, None, Result, Ok, Err, ⊤}
+use Rattle.std.specs.Prelude.{◌≡◌, refl, ℕ, ◌+◌, false, not, if◌then◌else◌, IsTrue, List, Option, Some, None, Result, Ok, Err, ⊤}
 use Rattle.std.specs.Coded.{Coded, code_by, coded×, coded_ℕ}
 use Rattle.s3_terms.specs.declared.code.Code.{Code}
 use Rattle.s3_terms.specs.declared.code.Code.TheVariants.{InvalidArgument, NoSuchUpload, PreconditionFailed}
@@ -34,9 +34,10 @@ use Rattle.s3_machine.specs.declared.command.Outcome.{Outcome}
 use Rattle.s3_machine.specs.declared.command.Outcome.TheVariants as outcomes
 use Rattle.s3_machine.specs.declared.command.Source.{Source}
 use Rattle.s3_machine.specs.declared.command.UploadCommand.{UploadCommand}
+use Rattle.s3_machine.specs.declared.command.WriteCondition.{WriteCondition}
 use Rattle.s3_machine.specs.declared.rules.Rules.{Rules}
 use Rattle.s3_machine.specs.Fault.{refuse}
-use Rattle.s3_machine.specs.Step.{State, Stepped, step, stepped, bucket_done, key_done, upload_done, described, found_in, lies_in, may_be_copied, part_copied, shown_by, shown_in, source_code, source_found}
+use Rattle.s3_machine.specs.Step.{State, Stepped, tag_at, is_barred, barred_code, step, stepped, bucket_done, key_done, upload_done, described, found_in, lies_in, may_be_copied, part_copied, shown_by, shown_in, source_code, source_found}
 
 -- what a store is seen as: the state, and the number of the next entry
 pub record Standing : Type 0 where
@@ -96,6 +97,19 @@ got_of selection (Err refusal) = outcomes.Refused refusal.code refusal.is_delete
 abbrev pub tags_of : Result (Found (List ℕ)) Refusal → Outcome
 tags_of (Ok found) = outcomes.NoTags found.shown
 tags_of (Err refusal) = outcomes.Refused refusal.code refusal.is_delete_marker
+
+-- the code that keeps a write with this condition from storing, where the object of its key has this tag, or there is none
+abbrev pub bar_by : WriteCondition → Option (List ℕ) → Option Code
+bar_by condition found = if is_barred condition found then Some (barred_code found) else None
+
+-- the same of a write under a key
+abbrev pub bar_at : State → List ℕ → List ℕ → WriteCondition → Option Code
+bar_at s name key condition = bar_by condition (tag_at s name key)
+
+-- the tag of a version that is read, if one is
+abbrev pub tag_told : Result Facts Refusal → Option (List ℕ)
+tag_told (Ok facts) = Some facts.tag
+tag_told (Err refusal) = None
 
 -- what a put does whose condition holds
 abbrev pub put_step : State → ℕ → ℕ → List ℕ → List ℕ → Data (List ℕ) → Stepped
@@ -167,10 +181,10 @@ abbrev pub completed_as : State → ℕ → ℕ → List ℕ → List ℕ → �
 completed_as s n t name key id (Ok stored) = completion_step s n t name key id stored
 completed_as s n t name key id (Err code) = (s, outcomes.Refused code false)
 
--- how a completion is refused whose condition fails
-abbrev pub barred_code : Option (Upload (List ℕ)) → Code
-barred_code None = NoSuchUpload
-barred_code (Some u) = PreconditionFailed
+-- how a completion is refused that this code keeps from storing: whether its upload is open is judged before its condition
+abbrev pub completion_code : Code → Option (Upload (List ℕ)) → Code
+completion_code code None = NoSuchUpload
+completion_code code (Some u) = code
 
 -- what the deletion of several objects does in a bucket that is there
 abbrev pub deletion_step : State → ℕ → ℕ → List ℕ → Deletion → Stepped

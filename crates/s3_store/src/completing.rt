@@ -3,15 +3,15 @@ ghost use Rattle.std.specs.Prelude.{◌≡◌, Some, true, false, IfOk, OnErr};
 ghost use Rattle.s3_records.specs.OpenUploads.{bytes_listed, completed_at, upload_at};
 ghost use Rattle.s3_documents.specs.Document as documents;
 ghost use Rattle.s3_machine.specs.Effects.{is_refused};
-ghost use Rattle.s3_store.specs.Steps.{upload_step, completion_step, completed_as, barred_code, MayEnter};
+ghost use Rattle.s3_store.specs.Steps.{upload_step, completion_step, completed_as, completion_code, MayEnter};
 
 use crate::bucket_steps::refused;
-use crate::conditions::is_barred;
+use crate::conditions::bar;
 use crate::reading::shown;
 use s3_bodies::Body;
 use s3_calendar::Moment;
 use s3_documents::Document;
-use s3_machine::{Outcome, Rules, UploadCommand};
+use s3_machine::{Outcome, Rules, UploadCommand, WriteCondition};
 use s3_names::{BucketName, Key, Tag, UploadId};
 use s3_records::Records;
 use s3_terms::{Code, NoMemory};
@@ -31,22 +31,22 @@ pub(crate) fn complete<R: Records>(
     key: Key,
     id: UploadId,
     listed: &ListedParts,
-    if_absent: bool,
+    condition: &WriteCondition,
     number: u64,
     moment: Moment,
 ) -> Result<Outcome, NoMemory>
     requires { MayEnter (R.catalogue records.old) number bucket.now versioning }
     ensures ok { IfOk result (λ outcome.
-        upload_step rules.now (R.catalogue records.old) number moment bucket.now key id (UploadCommand.Complete listed.now if_absent)
+        upload_step rules.now (R.catalogue records.old) number moment bucket.now key id (UploadCommand.Complete listed.now condition.now)
         ≡ (R.catalogue records.new, outcome)) }
     ensures err { OnErr result (R.catalogue records.new ≡ R.catalogue records.old) }
     ensures memory { OnErr result (R.is_in_memory ≡ true
         → is_refused
-        (upload_step rules.now (R.catalogue records.old) number moment bucket.now key id (UploadCommand.Complete listed.now if_absent)).1
+        (upload_step rules.now (R.catalogue records.old) number moment bucket.now key id (UploadCommand.Complete listed.now condition.now)).1
         ≡ false) }
 {
-    match is_barred(records, alloc, bucket, &key, if_absent) {
-        Ok(false) => join(
+    match bar(records, alloc, bucket, &key, condition) {
+        Ok(None) => join(
             records,
             alloc,
             rules.least_part,
@@ -58,12 +58,12 @@ pub(crate) fn complete<R: Records>(
             number,
             moment,
         ),
-        Ok(true) => refuse_barred(records, alloc, bucket, &key, id),
+        Ok(Some(code)) => refuse_barred(records, alloc, bucket, &key, id, code),
         Err(no_memory) => Err(no_memory),
     }
 }
 
-// The refusal of a completion whose condition fails: `NoSuchUpload` comes first.
+// The refusal of a completion that this code keeps from storing: `NoSuchUpload` comes first.
 #[tactic(auto, using(crate::proofs::UploadLemmas::barred_codes))]
 fn refuse_barred<R: Records>(
     records: &mut R,
@@ -71,14 +71,15 @@ fn refuse_barred<R: Records>(
     bucket: &BucketName,
     key: &Key,
     id: UploadId,
+    code: Code,
 ) -> Result<Outcome, NoMemory>
     ensures ok { IfOk result (λ outcome. outcome
-        ≡ Outcome.Refused (barred_code (upload_at (R.catalogue records.old) bucket.now key.now id)) false) }
+        ≡ Outcome.Refused (completion_code code (upload_at (R.catalogue records.old) bucket.now key.now id)) false) }
     ensures same { R.catalogue records.new ≡ R.catalogue records.old }
     ensures memory { OnErr result (R.is_in_memory ≡ false) }
 {
     if records.has_upload(alloc, bucket, key, id)? {
-        Ok(refused(Code::PreconditionFailed))
+        Ok(refused(code))
     } else {
         Ok(refused(Code::NoSuchUpload))
     }

@@ -10,13 +10,13 @@ ghost use Rattle.s3_machine.specs.Step.{step, data_of, makes_marker};
 ghost use Rattle.s3_store.specs.Steps.{key_step, put_step, got_of, selected_by, tags_of, MayEnter};
 
 use crate::bucket_steps::refused;
-use crate::conditions::is_barred;
+use crate::conditions::{bar, bar_by_tags};
 use crate::copying::copy;
 use crate::reading::{look, shown};
 use crate::upload_steps::begin;
 use s3_bodies::{Body, Payload};
 use s3_calendar::Moment;
-use s3_conditions::{Conditions, Selection, judge};
+use s3_conditions::{Conditions, Selection, TagList, judge};
 use s3_machine::{Command, Found, KeyCommand, ObjectPut, ObjectRead, Outcome};
 use s3_names::{BucketName, Key, VersionId};
 use s3_records::Records;
@@ -108,6 +108,9 @@ fn take_in_bucket<R: Records>(
         KeyCommand::Delete { version } => delete(
             records, alloc, bucket, versioning, key, version, number, moment,
         ),
+        KeyCommand::DeleteMatching { tags } => delete_matching(
+            records, alloc, bucket, versioning, key, tags, number, moment,
+        ),
         KeyCommand::Begin(asked) => begin(records, alloc, bucket, key, asked, number, moment),
     }
 }
@@ -132,13 +135,13 @@ fn put<R: Records>(
     ensures memory { OnErr result (R.is_in_memory ≡ true
         → is_refused (key_step (R.catalogue records.old) number moment bucket.now key (KeyCommand.Put asked)).1 ≡ false) }
 {
-    match is_barred(records, alloc, bucket, &key, asked.if_absent) {
-        Ok(false) => store(
+    match bar(records, alloc, bucket, &key, &asked.condition) {
+        Ok(None) => store(
             records, alloc, bucket, versioning, key, asked, number, moment,
         ),
-        Ok(true) => {
+        Ok(Some(code)) => {
             let_go_of_put(key, asked);
-            Ok(refused(Code::PreconditionFailed))
+            Ok(refused(code))
         }
         Err(no_memory) => {
             let_go_of_put(key, asked);
@@ -298,6 +301,41 @@ fn delete<R: Records>(
     match version {
         None => delete_key(records, alloc, bucket, versioning, key, number, moment),
         Some(id) => drop_version(records, alloc, bucket, versioning, &key, id),
+    }
+}
+
+// DeleteObject with `If-Match`, which deletes what one that names no version does. Whether its condition holds is judged
+// before it takes room.
+#[tactic(auto, using(crate::proofs::StepLemmas::match_steps))]
+fn delete_matching<R: Records>(
+    records: &mut R,
+    alloc: Global,
+    bucket: &BucketName,
+    versioning: Versioning,
+    key: Key,
+    tags: TagList,
+    number: u64,
+    moment: Moment,
+) -> Result<Outcome, NoMemory>
+    requires { MayEnter (R.catalogue records.old) number bucket.now versioning }
+    ensures ok { IfOk result (λ outcome.
+        key_step (R.catalogue records.old) number moment bucket.now key (KeyCommand.DeleteMatching tags)
+        ≡ (R.catalogue records.new, outcome)) }
+    ensures err { OnErr result (R.catalogue records.new ≡ R.catalogue records.old) }
+    ensures memory { OnErr result (R.is_in_memory ≡ true
+        → is_refused (key_step (R.catalogue records.old) number moment bucket.now key (KeyCommand.DeleteMatching tags)).1 ≡ false) }
+    ensures room { OnErr result (R.is_in_memory ≡ true → IsTrue (makes_marker versioning)) }
+{
+    match bar_by_tags(records, alloc, bucket, &key, tags) {
+        Ok(None) => delete_key(records, alloc, bucket, versioning, key, number, moment),
+        Ok(Some(code)) => {
+            drop(key);
+            Ok(refused(code))
+        }
+        Err(no_memory) => {
+            drop(key);
+            Err(no_memory)
+        }
     }
 }
 

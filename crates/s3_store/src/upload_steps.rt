@@ -153,8 +153,8 @@ fn take_in_bucket<R: Records>(
         UploadCommand::CopyPart { number: part, copy } => {
             copy_part(records, alloc, bucket, &key, id, part, copy, moment)
         }
-        UploadCommand::Complete { listed, if_absent } => complete(
-            records, alloc, rules, bucket, versioning, key, id, &listed, if_absent, number, moment,
+        UploadCommand::Complete { listed, condition } => complete(
+            records, alloc, rules, bucket, versioning, key, id, &listed, &condition, number, moment,
         ),
         UploadCommand::Abort => abort(records, alloc, bucket, &key, id),
         UploadCommand::ListParts(asked) => tell_parts(records, alloc, bucket, key, id, asked),

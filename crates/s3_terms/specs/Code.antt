@@ -5,7 +5,7 @@ use Rattle.std.specs.Prelude.{ℕ, List, codes}
 use Rattle.s3_terms.specs.declared.code.Code.{Code}
 use Rattle.s3_terms.specs.declared.status.Status.{Status}
 use Rattle.s3_terms.specs.declared.status.Status.TheVariants as statuses
-use Rattle.s3_terms.specs.declared.code.Code.TheVariants.{MalformedHead, HeadTooLarge, NotImplemented, InvalidRequest, MissingContentLength, EntityTooLarge, InvalidURI, AccessDenied, AuthorizationHeaderMalformed, RequestTimeTooSkewed, InvalidArgument, InvalidAccessKeyId, SignatureDoesNotMatch, InvalidDigest, InvalidBucketName, KeyTooLongError, MethodNotAllowed, MetadataTooLarge, NoSuchUpload, IncompleteBody, XAmzContentSHA256Mismatch, BadDigest, MalformedBody, NoSuchBucket, BucketAlreadyOwnedByYou, BucketNotEmpty, NoSuchKey, NoSuchVersion, PreconditionFailed, InvalidRange, InvalidPartOrder, InvalidPart, EntityTooSmall, InternalError, AuthorizationQueryParametersError, MalformedXML, InvalidLocationConstraint, NoSuchBucketPolicy, NoSuchCORSConfiguration, NoSuchLifecycleConfiguration, NoSuchPublicAccessBlockConfiguration, NoSuchTagSet, NoSuchWebsiteConfiguration, ObjectLockConfigurationNotFoundError, OwnershipControlsNotFoundError, ReplicationConfigurationNotFoundError, ServerSideEncryptionConfigurationNotFoundError}
+use Rattle.s3_terms.specs.declared.code.Code.TheVariants.{MalformedHead, HeadTooLarge, NotImplemented, InvalidRequest, MissingContentLength, EntityTooLarge, InvalidURI, AccessDenied, AuthorizationHeaderMalformed, RequestTimeTooSkewed, InvalidArgument, InvalidAccessKeyId, SignatureDoesNotMatch, InvalidDigest, InvalidBucketName, KeyTooLongError, MethodNotAllowed, MetadataTooLarge, NoSuchUpload, IncompleteBody, XAmzContentSHA256Mismatch, BadDigest, MalformedBody, NoSuchBucket, BucketAlreadyOwnedByYou, BucketNotEmpty, NoSuchKey, NoSuchVersion, PreconditionFailed, InvalidRange, InvalidPartOrder, InvalidPart, EntityTooSmall, InternalError, AuthorizationQueryParametersError, MalformedXML, InvalidLocationConstraint, NoSuchBucketPolicy, NoSuchCORSConfiguration, NoSuchLifecycleConfiguration, NoSuchPublicAccessBlockConfiguration, NoSuchTagSet, NoSuchWebsiteConfiguration, ObjectLockConfigurationNotFoundError, OwnershipControlsNotFoundError, ReplicationConfigurationNotFoundError, ServerSideEncryptionConfigurationNotFoundError, InvalidStorageClass}
 
 -- a row of the table: a code's number, its HTTP status, its name and its message
 abbrev pub Row : Type 0
@@ -60,6 +60,7 @@ row_of ObjectLockConfigurationNotFoundError = (44, statuses.NotFound, codes "Obj
 row_of OwnershipControlsNotFoundError = (45, statuses.NotFound, codes "OwnershipControlsNotFoundError", codes "The bucket has no ownership controls.")
 row_of ReplicationConfigurationNotFoundError = (46, statuses.NotFound, codes "ReplicationConfigurationNotFoundError", codes "The bucket has no replication rules.")
 row_of ServerSideEncryptionConfigurationNotFoundError = (47, statuses.NotFound, codes "ServerSideEncryptionConfigurationNotFoundError", codes "The bucket has no default encryption.")
+row_of InvalidStorageClass = (48, statuses.BadRequest, codes "InvalidStorageClass", codes "The storage class is not valid.")
 
 -- the code's number in the table
 abbrev pub number_of : Code → ℕ

@@ -56,6 +56,7 @@ pub enum Code {
     OwnershipControlsNotFoundError = 45,
     ReplicationConfigurationNotFoundError = 46,
     ServerSideEncryptionConfigurationNotFoundError = 47,
+    InvalidStorageClass = 48,
 }
 
 impl Code {
@@ -118,7 +119,8 @@ impl Code {
             | Code::EntityTooSmall
             | Code::AuthorizationQueryParametersError
             | Code::MalformedXML
-            | Code::InvalidLocationConstraint => Status::BadRequest,
+            | Code::InvalidLocationConstraint
+            | Code::InvalidStorageClass => Status::BadRequest,
         }
     }
 
@@ -176,6 +178,7 @@ impl Code {
             Code::ServerSideEncryptionConfigurationNotFoundError => {
                 "ServerSideEncryptionConfigurationNotFoundError"
             }
+            Code::InvalidStorageClass => "InvalidStorageClass",
         }
     }
 
@@ -234,6 +237,7 @@ impl Code {
             Code::ServerSideEncryptionConfigurationNotFoundError => {
                 "The bucket has no default encryption."
             }
+            Code::InvalidStorageClass => "The storage class is not valid.",
         }
     }
 }

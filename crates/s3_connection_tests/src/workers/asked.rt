@@ -2,10 +2,19 @@
 use s3_bodies::{Body, PayloadBuilder, Sink};
 use s3_calendar::Moment;
 use s3_conditions::Conditions;
-use s3_machine::{Command, KeyCommand, ObjectPut, ObjectRead, Turn};
+use s3_machine::{Command, KeyCommand, ObjectPut, ObjectRead, Turn, WriteCondition};
 use s3_names::{BucketName, Key};
 use s3_versions::{ContentType, Metadata};
 use std::alloc::Global;
+
+// What a put asks of its key.
+fn condition(if_absent: bool) -> WriteCondition {
+    if if_absent {
+        WriteCondition::IfAbsent
+    } else {
+        WriteCondition::Unconditional
+    }
+}
 
 // What stores these bytes as a plain text without metadata, and only where the key has no object if so wanted; or reads where
 // there are none.
@@ -26,7 +35,7 @@ fn asked(alloc: Global, bytes: Option<&[u8]>, if_absent: bool) -> Option<KeyComm
         Ok(content_type) => Some(KeyCommand::Put(ObjectPut {
             content_type,
             metadata,
-            if_absent,
+            condition: condition(if_absent),
             payload,
         })),
         Err(_) => None,

@@ -136,17 +136,49 @@ const IN_XML: &str = "\
     GET /pail?versions&encoding-type|InvalidArgument^\
     GET /pail?uploads&encoding-type=utf8|InvalidArgument";
 
-// JSON has no other spelling of keys, and no bucket in another region.
+// Conditions of writes and storage classes where documents are XML (Amazon S3 API Reference, PutObject, `If-Match`,
+// `x-amz-storage-class`). What a write asks of its key is told last, and what a delete does behind its version.
+const WRITES_IN_XML: &str = "\
+    PUT /pail/k\nIf-Match: \"a\"\r\nif-match: b\r\n<hello|PutObject of a match^\
+    PUT /pail/k\nif-match:\r\n<hello|PutObject of a match^\
+    PUT /pail/k\nif-none-match: *\r\n<hello|PutObject hello^\
+    PUT /pail/k\nif-none-match: a\r\n|NotImplemented^\
+    PUT /pail/k\nif-match: a\r\nif-none-match: *\r\n|NotImplemented^\
+    PUT /pail/k\nif-match: a\r\nif-none-match: *\r\nx-amz-storage-class: a\r\n|InvalidStorageClass^\
+    PUT /pail/k\nif-match: a\r\nx-amz-acl: public-read\r\nx-amz-storage-class: a\r\n|NotImplemented^\
+    PUT /pail/k\nif-match: a\r\nx-amz-copy-source: /pail/j\r\n|NotImplemented^\
+    PUT /pail/k\nif-none-match: *\r\nx-amz-copy-source: /pail/j\r\n|NotImplemented^\
+    PUT /pail/k\nx-amz-storage-class: GLACIER_IR\r\n<hello|PutObject hello^\
+    PUT /pail/k\nx-amz-storage-class: STANDARD\r\nX-Amz-Storage-Class: standard\r\n|InvalidStorageClass^\
+    PUT /pail/k\nx-amz-storage-class:\r\n|InvalidStorageClass^\
+    PUT /pail/k\nx-amz-storage-class: GLACIER SNOW\r\n|InvalidStorageClass^\
+    PUT /pail/k\nx-amz-storage-class: a\r\nx-amz-copy-source: /pail/j\r\n|InvalidStorageClass^\
+    POST /pail/k?uploads\nx-amz-storage-class: a\r\n|InvalidStorageClass^\
+    PUT /pail/k?partNumber=1&uploadId=u0000000000000000\nif-match: a\r\nx-amz-storage-class: a\r\n<hello|UploadPart hello^\
+    POST /pail/k?uploadId=u0000000000000000\nif-match: *\r\n<<CompleteMultipartUpload><Part><PartNumber>1</PartNumber><ETag>a</ETag></Part></CompleteMultipartUpload>|CompleteMultipartUpload of a match^\
+    POST /pail/k?uploadId=u0000000000000000\nif-match: a\r\nif-none-match: *\r\n|NotImplemented^\
+    POST /pail/k?uploadId=\nif-match: a\r\nif-none-match: *\r\n|NoSuchUpload^\
+    DELETE /pail/k\nif-match: a\r\nif-none-match: a\r\n|DeleteObject of a match^\
+    DELETE /pail/k?versionId=null\nif-match: a\r\n|NotImplemented^\
+    DELETE /pail/k?versionId=\nif-match: a\r\n|InvalidArgument^\
+    DELETE /pail/k\nx-amz-if-match-size: 1\r\n|NotImplemented^\
+    DELETE /pail/k\nX-Amz-If-Match-Last-Modified-Time: a\r\n|NotImplemented^\
+    DELETE /pail/k?uploadId=u0000000000000000\nif-match: a\r\nx-amz-if-match-size: 1\r\n|AbortMultipartUpload";
+
+// JSON has no other spelling of keys, no tag and no storage class of a write, and no bucket in another region.
 const IN_JSON: &str = "\
     GET /pail?list-type=2&encoding-type=utf8|ListObjectsV2^\
+    PUT /pail/k\nif-match: a\r\nx-amz-storage-class: a\r\n<hello|PutObject hello^\
+    DELETE /pail/k?versionId=null\nif-match: a\r\nx-amz-if-match-size: 1\r\n|DeleteObject of a version^\
     PUT /pail<<CreateBucketConfiguration><LocationConstraint>eu-west-1</LocationConstraint></CreateBucketConfiguration>|CreateBucket";
 
 // Tables, and the dialect of each.
-const TABLES: [(Dialect, &str); 4] = [
+const TABLES: [(Dialect, &str); 5] = [
     (Dialect::Json, ROWS),
     (Dialect::Json, UPLOADS),
     (Dialect::Json, IN_JSON),
     (Dialect::S3, IN_XML),
+    (Dialect::S3, WRITES_IN_XML),
 ];
 
 // Whether a row holds; `None` says that it has no bar.

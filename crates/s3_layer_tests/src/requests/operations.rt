@@ -8,7 +8,7 @@ use s3_documents::Document;
 use s3_machine::{CopyRange, Found, ObjectCopy, Outcome, Source};
 use s3_names::{Tag, UploadId, VersionId};
 use s3_prefixes::ListVersion;
-use s3_requests::{BucketCommand, Command, KeyCommand, Plan, UploadCommand};
+use s3_requests::{BucketCommand, Command, KeyCommand, Plan, UploadCommand, WriteCondition};
 use s3_terms::{Code, Dialect};
 use s3_versions::{Data, Versioning, VersioningStatus};
 use std::alloc::Global;
@@ -45,6 +45,7 @@ fn key_operation(asked: &KeyCommand) -> (&'static str, Option<VersionId>) {
         KeyCommand::Read(asked) => ("GetObject", asked.version),
         KeyCommand::ReadTags { version } => ("GetObjectTagging", *version),
         KeyCommand::Delete { version } => ("DeleteObject", *version),
+        KeyCommand::DeleteMatching { .. } => ("DeleteObject", None),
         KeyCommand::Begin(_) => ("CreateMultipartUpload", None),
     }
 }
@@ -158,13 +159,14 @@ fn with_range(alloc: Global, text: Vec<u8>, range: Option<CopyRange>) -> Told {
     }
 }
 
-// That text, and whether the key is to have no object.
-fn with_absence(alloc: Global, text: &[u8], if_absent: bool) -> Told {
-    let mut told = Vec::from_slice(alloc, text)?;
-    if if_absent {
-        told.extend_from_slice(b" absent")?;
-    }
-    Ok(told)
+// That text, and what a write asks of the object that its key has.
+fn with_condition(alloc: Global, text: &[u8], condition: &WriteCondition) -> Told {
+    let word = match condition {
+        WriteCondition::Unconditional => b"".as_slice(),
+        WriteCondition::IfAbsent => b" absent",
+        WriteCondition::IfMatch(_) => b" match",
+    };
+    Ok([text, word].concat(alloc)?)
 }
 
 // That text, what is copied, and whether the copy is described anew.
@@ -179,6 +181,7 @@ fn with_asked(alloc: Global, text: Vec<u8>, asked: &KeyCommand) -> Told {
     match asked {
         KeyCommand::Copy(asked) => with_copy(alloc, text, asked),
         KeyCommand::Read(asked) => with_conditions(alloc, text, &asked.conditions),
+        KeyCommand::DeleteMatching { .. } => joined(alloc, &text, b" match"),
         _ => Ok(text),
     }
 }
@@ -249,11 +252,11 @@ pub(crate) fn plan_text(alloc: Global, plan: &Plan) -> Told {
         Plan::Put {
             bucket,
             key,
-            if_absent,
+            condition,
             ..
         } => {
             let text = with_key(alloc, operation, bucket.as_bytes(), key.as_bytes())?;
-            with_absence(alloc, &text, *if_absent)
+            with_condition(alloc, &text, condition)
         }
         Plan::PutPart {
             bucket,
@@ -268,11 +271,11 @@ pub(crate) fn plan_text(alloc: Global, plan: &Plan) -> Told {
             bucket,
             key,
             id,
-            if_absent,
+            condition,
             ..
         } => {
             let text = with_upload(alloc, operation, bucket.as_bytes(), key.as_bytes(), *id)?;
-            with_absence(alloc, &text, *if_absent)
+            with_condition(alloc, &text, condition)
         }
         Plan::DeleteObjects { bucket } => with_bucket(alloc, operation, bucket.as_bytes()),
     }
@@ -299,12 +302,19 @@ fn is_hello(payload: &Payload) -> bool {
     is_same(payload.tag().text().as_bytes(), HELLO_TAG)
 }
 
+// Whether a write wants an object with one of some tags.
+fn wants_match(condition: &WriteCondition) -> bool {
+    matches!(condition, WriteCondition::IfMatch(_))
+}
+
 // What a command does to a key.
 fn key_text(asked: &KeyCommand) -> &'static str {
     match asked {
+        KeyCommand::Put(asked) if wants_match(&asked.condition) => "PutObject of a match",
         KeyCommand::Put(asked) if is_hello(&asked.payload) => "PutObject hello",
         KeyCommand::Read(asked) if asked.version.is_some() => "GetObject of a version",
         KeyCommand::Delete { version: Some(_) } => "DeleteObject of a version",
+        KeyCommand::DeleteMatching { .. } => "DeleteObject of a match",
         other => key_operation(other).0,
     }
 }
@@ -313,6 +323,9 @@ fn key_text(asked: &KeyCommand) -> &'static str {
 fn upload_text(asked: &UploadCommand) -> &'static str {
     match asked {
         UploadCommand::PutPart { payload, .. } if is_hello(payload) => "UploadPart hello",
+        UploadCommand::Complete { condition, .. } if wants_match(condition) => {
+            "CompleteMultipartUpload of a match"
+        }
         UploadCommand::Complete { listed, .. } => match listed.as_slice() {
             [part] if part.number.get() == 1 && is_same(part.tag.as_bytes(), HELLO_TAG) => {
                 "CompleteMultipartUpload hello"

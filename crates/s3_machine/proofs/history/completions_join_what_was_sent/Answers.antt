@@ -4,4 +4,4 @@ use Rattle.s3_machine.proofs.history.completions_join_what_was_sent.Goals as goa
 pub returns : goal.returns
 returns c =
     completions_join_what_was_sent c.changes_are_by_upload.ensures c.puts_are_under_one_number.ensures.puts
-    c.versions_stay_in_order.ensures.opening c.completions_join_the_listed.ensures.joined
+    c.completions_join_the_listed.ensures.joined

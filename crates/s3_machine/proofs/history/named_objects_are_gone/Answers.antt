@@ -11,7 +11,7 @@ returns c =
     let numbers : Numbers =
     record { stay = c.numbers_stay_below.ensures.stay; later = c.numbers_stay_below.ensures.later; opening = c.numbers_stay_below.ensures.opening } in
     record {
-      keys = named_keys_are_gone places follow numbers c.versions_stay_in_order.ensures.opening c.markers_hide.ensures.hidden;
+      keys = named_keys_are_gone places follow numbers c.markers_hide.ensures.hidden;
       versions = named_versions_are_gone places follow numbers;
       others = other_versions_stay places;
       told = deletions_are_told;

@@ -13,12 +13,11 @@ returns c =
     record { keys = c.changes_follow_rules.ensures.rules; completions = c.changes_follow_rules.ensures.completions } in
     let numbers : Numbers =
     record { stay = c.numbers_stay_below.ensures.stay; later = c.numbers_stay_below.ensures.later; opening = c.numbers_stay_below.ensures.opening } in
-    let empty = c.versions_stay_in_order.ensures.opening in
     let ids = c.ids_differ.ensures.told in
     record {
-      stands = only_stored_stands places follow numbers empty;
-      given = only_stored_is_given places follow numbers empty ids;
-      brought = stored_was_brought places follow numbers empty ids c.completions_join_what_was_sent.ensures;
+      stands = only_stored_stands places follow numbers;
+      given = only_stored_is_given places follow numbers ids;
+      brought = stored_was_brought places follow numbers ids c.completions_join_what_was_sent.ensures;
       or_fails = reads_give_or_fail;
       judged = reads_are_judged;
     }

@@ -6,11 +6,10 @@ pub returns : goal.returns
 returns c =
     let law = c.changes_are_by_upload.ensures in
     let puts = c.puts_are_under_one_number.ensures.puts in
-    let empty = c.versions_stay_in_order.ensures.opening in
-    let kept = parts_are_kept law puts empty in
-    let only = only_sent_stands law puts empty in
+    let kept = parts_are_kept law puts in
+    let only = only_sent_stands law puts in
     record {
       kept = kept;
       nothing_else = only;
-      listed = parts_are_listed_while_standing law puts empty c.puts_are_under_one_number.ensures.order kept only;
+      listed = parts_are_listed_while_standing law puts c.puts_are_under_one_number.ensures.order kept only;
     }

@@ -13,5 +13,5 @@ returns c =
     record { stay = c.numbers_stay_below.ensures.stay; later = c.numbers_stay_below.ensures.later; opening = c.numbers_stay_below.ensures.opening } in
     record {
       listed = stored_is_listed law places follow c.puts_are_current.ensures;
-      nothing_else = listed_is_stored law places follow numbers c.ids_differ.ensures.told c.versions_stay_in_order.ensures.opening;
+      nothing_else = listed_is_stored law places follow numbers c.ids_differ.ensures.told;
     }

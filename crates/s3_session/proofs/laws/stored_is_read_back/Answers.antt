@@ -11,6 +11,8 @@ returns c =
       success = shown.success;
       objects = shown.objects;
       parts = shown.parts;
+      sound = c.histories_leave_sound_bases.ensures.opening;
+      nothing = c.histories_leave_sound_bases.ensures.nothing;
       given = c.only_stored_is_given.ensures.given;
       origins = c.only_stored_is_given.ensures.brought;
     } in
