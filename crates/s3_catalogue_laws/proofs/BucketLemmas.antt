@@ -22,16 +22,16 @@ use Rattle.s3_catalogue_laws.proofs.EntryLemmas.{nothing_held, held_first, held_
 use Rattle.s3_catalogue_laws.proofs.OrderlyLemmas.{changed_here}
 
 -- when a bucket was made, that is there or not
-abbrev made_in : {B : Type 0} → Option (Bucket B) → Option ℕ
+abbrev pub made_in : {B : Type 0} → Option (Bucket B) → Option ℕ
 made_in found = option_map (λ (facts : BucketFacts). facts.made) (option_map facts_of found)
 
-listed_is_there : {B : Type 0} (c : Catalogue B) (name : List ℕ) (t : ℕ) → IsListed c name t → made_in (get c name) ≡ Some t
+pub listed_is_there : {B : Type 0} (c : Catalogue B) (name : List ℕ) (t : ℕ) → IsListed c name t → made_in (get c name) ≡ Some t
 listed_is_there c name t listed =
     let one = map_held listed_bucket (entries c) (record { name = name; made = t }) listed in
     let got : get c one.0.0 ≡ Some one.0.1 = held_got c one.0.0 one.0.1 one.1 in
     ap (λ r. made_in (get c r.name)) (sym one.2) ∙ ap made_in got ∙ ap (λ r. Some r.made) one.2
 
-there_is_listed : {B : Type 0} (c : Catalogue B) (name : List ℕ) (t : ℕ) → made_in (get c name) ≡ Some t → IsListed c name t
+pub there_is_listed : {B : Type 0} (c : Catalogue B) (name : List ℕ) (t : ℕ) → made_in (get c name) ≡ Some t → IsListed c name t
 there_is_listed c name t there =
     elim (get c name) as (λ found. get c name ≡ found → made_in found ≡ Some t → IsListed c name t) [
       | None ↦ λ none is. absurd (none-some t is)
@@ -48,7 +48,7 @@ made_some : {B : Type 0} (found : Option (Bucket B)) → is_some found ≡ true 
 made_some None there = absurd (false≢true there)
 made_some (Some b) there = (b.made, refl)
 
-some_made : {B : Type 0} (found : Option (Bucket B)) (t : ℕ) → made_in found ≡ Some t → is_some found ≡ true
+pub some_made : {B : Type 0} (found : Option (Bucket B)) (t : ℕ) → made_in found ≡ Some t → is_some found ≡ true
 some_made None t is = absurd (none-some t is)
 some_made (Some b) t is = refl
 
@@ -159,7 +159,7 @@ pub changes_are_told : {B : Type 0} → ChangesAreTold B
 changes_are_told c name change = ap (option_map facts_of) (changed_here c name change) ∙ told_after change (get c name)
 
 -- a bucket whose versioning was set
-switched : {B : Type 0} (what : VersioningStatus) (found : Option (Bucket B)) → is_some found ≡ true → versioning_in (option_map (set_in what) found) ≡ versioning_set what
+pub switched : {B : Type 0} (what : VersioningStatus) (found : Option (Bucket B)) → is_some found ≡ true → versioning_in (option_map (set_in what) found) ≡ versioning_set what
 switched what None there = absurd (false≢true there)
 switched what (Some b) there = refl
 

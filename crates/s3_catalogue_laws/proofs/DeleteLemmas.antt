@@ -42,6 +42,10 @@ read_first : {B : Type 0} (refusal : Refusal) (w : Version B) (content : Content
 read_first refusal w DeleteMarker kept is = absurd (none-some kept is)
 read_first refusal w (Stored stays) kept is = ap (λ d. Ok (w, d)) (same_Some stays kept is)
 
+read_marker : {B : Type 0} (refusal : Refusal) (w : Version B) (content : Content B) → stored_in content ≡ None → read_as refusal w content ≡ Err refusal
+read_marker refusal w DeleteMarker is = refl
+read_marker refusal w (Stored stays) is = absurd (none-some stays (sym is))
+
 pub drops_uncover : {B : Type 0} → ChangesFollowRules B → DropsUncover B
 drops_uncover rules c name key v w others orderly is =
     let left = first_dropped rules c name key v (w ∷ others) orderly is in
@@ -49,6 +53,7 @@ drops_uncover rules c name key v w others orderly is =
       versions = left;
       current = ap current left;
       read = λ kept stores. ap (pick None) left ∙ read_first (record { code = NoSuchKey; is_delete_marker = true }) w w.content kept stores;
+      hidden = λ none. ap (pick None) left ∙ read_marker (record { code = NoSuchKey; is_delete_marker = true }) w w.content none;
     }
 
 pub other_drops_keep_current : {B : Type 0} → ChangesFollowRules B → OtherDropsKeepCurrent B

@@ -1,9 +1,12 @@
 pub mod BucketLemmas
 pub mod DeleteLemmas
 pub mod EntryLemmas
+pub mod IdLemmas
 pub mod KeyRowLemmas
+pub mod ObjectListLemmas
 pub mod OrderlyLemmas
 pub mod PlaceLemmas
+pub mod RunLemmas
 pub mod VersionLemmas
 pub mod VersionOrderLemmas
 pub mod VersionPlaceLemmas

@@ -1,7 +1,10 @@
 pub mod Buckets
+pub mod Ids
 pub mod KeyLists
 pub mod ListPlaces
 pub mod Markers
+pub mod ObjectLists
 pub mod Orderly
+pub mod Runs
 pub mod Undeletions
 pub mod VersionLists

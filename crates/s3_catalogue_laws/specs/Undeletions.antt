@@ -1,6 +1,6 @@
 -- What comes back where a version is deleted by its id (Amazon S3 User Guide, "Deleting object versions from a versioning-enabled
 -- bucket").
-use Rattle.std.specs.Prelude.{◌≡◌, ◌≢◌, ℕ, false, List, [], ◌∷◌, Some, None, Ok, Err}
+use Rattle.std.specs.Prelude.{◌≡◌, ◌≢◌, ℕ, true, false, List, [], ◌∷◌, Some, None, Ok, Err}
 use Rattle.std.specs.List.{Contains}
 use Rattle.s3_terms.specs.declared.code.Code.TheVariants.{NoSuchKey}
 use Rattle.s3_names.specs.declared.ids.VersionId.{VersionId}
@@ -18,12 +18,13 @@ use Rattle.s3_catalogue_laws.specs.Orderly.{IsOrderly}
 abbrev pub after_drop : {B : Type 0} → Catalogue B → List ℕ → List ℕ → VersionId → Catalogue B
 after_drop c name key id = changed c name (KeyChanged key (VersionDropped id))
 
--- a version is what a read of a key without an id finds: the versions under the key are it and these, and where it is no delete
--- marker the read gives it
+-- a version is what a read of a key without an id finds: the versions under the key are it and these; where it is no delete marker
+-- the read gives it, and where it is one the read is refused as if the key weren't there
 pub record IsFound {B : Type 0} (c : Catalogue B) (name key : List ℕ) (w : Version B) (others : List (Version B)) : Type 0 where
   pub versions : versions_of c name key ≡ w ∷ others
   pub current : asked_for None (versions_of c name key) ≡ Some w
   pub read : (kept : Data B) → stored w ≡ Some kept → pick None (versions_of c name key) ≡ Ok (w, kept)
+  pub hidden : stored w ≡ None → pick None (versions_of c name key) ≡ Err (record { code = NoSuchKey; is_delete_marker = true })
 
 -- where the current version of a key is deleted by its id, the one behind it is found
 abbrev pub DropsUncover : Type 0 → Type 0

@@ -4,9 +4,9 @@ ghost use Rattle.s3_catalogue_laws.specs.Undeletions.{DropsUncover, OtherDropsKe
 
 use s3_records::{changes_are_local, changes_follow_rules, versions_stay_in_order};
 
-/// A law, with nothing to run: where the current version of a key is deleted by its id, a read without an id finds the one
-/// behind it, and where another version is, it finds the one that it found before; where it was the only one the key isn't
-/// there, and no list tells it.
+/// A law, with nothing to run: where the current version or delete marker of a key is deleted by its id, a read without an id gives
+/// the version behind it, or is refused where that is a delete marker; where another version is, it finds the one that it found
+/// before; where it was the only one the key isn't there, and no list tells it.
 pub fn versions_are_uncovered<B>()
     ensures uncovered { DropsUncover B }
     ensures kept { OtherDropsKeepCurrent B }

@@ -1,6 +1,10 @@
+pub mod MemberLemmas
 pub mod OrderLemmas
 pub mod PreconditionLemmas
+pub mod QueryLemmas
 pub mod RangeLemmas
+pub mod SignedQueryLemmas
+pub mod SignedTargetLemmas
 pub mod SortingLemmas
 pub mod TagLemmas
 pub mod TextLemmas

@@ -65,10 +65,10 @@ kept_either false true x y f apart = refl
 kept_either false false x y f apart = refl
 
 module _ {X : Type 0} (cmp : X → X → Ordering) where
-  past : (x y : X) (ys : List X) → is_gt (cmp x y) ≡ true → insert_by cmp x (y ∷ ys) ≡ y ∷ insert_by cmp x ys
+  pub past : (x y : X) (ys : List X) → is_gt (cmp x y) ≡ true → insert_by cmp x (y ∷ ys) ≡ y ∷ insert_by cmp x ys
   past x y ys gt = cond-true _ _ _ gt
 
-  here : (x y : X) (ys : List X) → is_gt (cmp x y) ≡ false → insert_by cmp x (y ∷ ys) ≡ x ∷ y ∷ ys
+  pub here : (x y : X) (ys : List X) → is_gt (cmp x y) ≡ false → insert_by cmp x (y ∷ ys) ≡ x ∷ y ∷ ys
   here x y ys le = cond-false _ _ _ le
 
   -- ---- the elements
