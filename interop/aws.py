@@ -27,6 +27,7 @@ class Aws(Command):
 
     program = "aws"
     generation = 1
+    takes_certificate = True
 
     @classmethod
     def found(cls):
@@ -55,8 +56,9 @@ class Aws(Command):
             AWS_SHARED_CREDENTIALS_FILE=config,
             AWS_EC2_METADATA_DISABLED="true",
             AWS_MAX_ATTEMPTS="1",
+            **({"AWS_CA_BUNDLE": self.certificate} if self.certificate else {}),
         )
-        status, wrote, said = ran([self.found()[0], "--endpoint-url", f"http://{self.address}", *words], env)
+        status, wrote, said = ran([self.found()[0], "--endpoint-url", self.endpoint(), *words], env)
         missing, refused = ["(404)", "NoSuchKey", "NoSuchUpload"], ["(403)", "SignatureDoesNotMatch"]
         told(status, said, missing, refused, ["(304)"], ["(412)", "PreconditionFailed"], UNREAD)
         return wrote
@@ -82,6 +84,12 @@ class AwsApi(Aws):
 
     def put_new(self, key, data):
         self.api("put-object", key, "--body", self.path(data), "--if-none-match", "*")
+
+    def put_if(self, key, data, tag):
+        self.api("put-object", key, "--body", self.path(data), "--if-match", tag)
+
+    def delete_if(self, key, tag):
+        self.api("delete-object", key, "--if-match", tag)
 
     def get(self, key, *words):
         path = self.path()
@@ -279,7 +287,7 @@ class AwsCopy(Aws):
 
 class Aws2Api(AwsApi):
     name, generation = "aws2 s3api", 2
-    limits = {"if new": "its older versions have no such option"}
+    limits = dict.fromkeys(["if new", "write if"], "its older versions have no such option")
 
 
 class Aws2Copy(AwsCopy):

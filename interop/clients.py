@@ -65,9 +65,20 @@ class Client:
     skipped_in_json = ""
     # How many bytes are put in parts.
     large = 200 * MIB
+    # Where the certificate stands of a proxy in front of the server, and where the server itself listens then; and
+    # whether the client can be told here to speak TLS by such a certificate.
+    certificate, behind, takes_certificate = None, None, False
 
     def __init__(self, address, folder, secret=SECRET, dialect=JSON):
         self.address, self.folder, self.secret, self.dialect = address, folder, secret, dialect
+
+    def endpoint(self):
+        """The address of the server, or of the proxy in front of it, as a URL."""
+        return f"{'https' if self.certificate else 'http'}://{self.address}"
+
+    def direct_address(self):
+        """Where the server itself listens, also where the client asks a proxy."""
+        return self.behind or self.address
 
     @classmethod
     def absent(cls):
@@ -96,6 +107,14 @@ class Client:
 
     def put_new(self, key, data):
         """Puts an object, where there is none under its key."""
+        raise Lacking()
+
+    def put_if(self, key, data, tag):
+        """Puts an object, where the one under its key has this tag."""
+        raise Lacking()
+
+    def delete_if(self, key, tag):
+        """Deletes an object, where it has this tag."""
         raise Lacking()
 
     def presigned(self, method, key):

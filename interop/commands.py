@@ -145,6 +145,12 @@ class Signer(Single):
     def put_new(self, key, data):
         self.asked("PUT", key, data, ["if-none-match:*"])
 
+    def put_if(self, key, data, tag):
+        self.asked("PUT", key, data, [f"if-match:{tag}"])
+
+    def delete_if(self, key, tag):
+        self.asked("DELETE", key, lines=[f"if-match:{tag}"])
+
     def presigned(self, method, key):
         return self.signed(method, key, ["--presign", str(HOUR), "--url"]).decode().strip()
 
@@ -233,6 +239,12 @@ class Curl(Single):
 
     def put_new(self, key, data):
         self.asked("PUT", key, data, ["-T", self.path(data), "-H", "If-None-Match: *"])
+
+    def put_if(self, key, data, tag):
+        self.asked("PUT", key, data, ["-T", self.path(data), "-H", f"If-Match: {tag}"])
+
+    def delete_if(self, key, tag):
+        self.asked("DELETE", key, more=["-H", f"If-Match: {tag}"])
 
     def put_parts(self, key, data):
         in_parts(self, key, data)

@@ -4,6 +4,7 @@ of copies, of buckets and versions, and of several deletions by one call. `folde
 import os
 import re
 import time
+from hashlib import md5
 
 from clients import MIB, Lacking, Missing, Unmet, copied_in_parts, in_parts
 from documents import Direct
@@ -48,7 +49,7 @@ def new_name():
 
 def filled(client, names):
     """The connection that looks at the bucket, and a new folder in it with such objects."""
-    direct, folder = Direct(client.address, client.dialect), f"{new_name()}/"
+    direct, folder = Direct(client.direct_address(), client.dialect), f"{new_name()}/"
     for name in names:
         direct.put(folder + name, b"hello")
     return direct, folder
@@ -110,7 +111,7 @@ def total(client, _other):
 def bucket_here(client, _other):
     bucket = f"vat-{new_name()}"
     client.make_bucket(bucket, REGION)
-    same(Direct(client.address, client.dialect).is_bucket(bucket), True, "the bucket is there")
+    same(Direct(client.direct_address(), client.dialect).is_bucket(bucket), True, "the bucket is there")
 
 
 def bucket_elsewhere(client, _other):
@@ -178,7 +179,7 @@ def versions(client, _other):
 
 
 def copy_version(client, _other):
-    direct, bucket = Direct(client.address, client.dialect), f"vat-{new_name()}"
+    direct, bucket = Direct(client.direct_address(), client.dialect), f"vat-{new_name()}"
     client.make_bucket(bucket)
     client.set_versioning(bucket, "Enabled")
     ids = [client.put_version(bucket, "k", data) for data in (b"first", b"second")]
@@ -303,6 +304,25 @@ def delete_many(client, _other):
     same(direct.keys(folder), [], "the keys")
 
 
+def tag(data):
+    return f'"{md5(data).hexdigest()}"'
+
+
+def write_if(client, _other):
+    """Writes that change an object only where it is the one that the client knows."""
+    key = f"{new_name()}/k"
+    expect(Missing, lambda: client.put_if(key, b"first", tag(b"first")))
+    client.put(key, b"first")
+    expect(Unmet, lambda: client.put_if(key, b"second", tag(b"other")))
+    expect(Unmet, lambda: client.delete_if(key, tag(b"other")))
+    same_bytes(client.get(key), b"first")
+    client.put_if(key, b"second", tag(b"first"))
+    expect(Unmet, lambda: client.put_if(key, b"third", tag(b"first")))
+    same_bytes(client.get(key), b"second")
+    client.delete_if(key, tag(b"second"))
+    expect(Missing, lambda: client.get(key))
+
+
 # By name, in their order, as those of `interop/run`.
 CHECKS_FOR_S3 = {
     "64 MiB": whole,
@@ -310,6 +330,7 @@ CHECKS_FOR_S3 = {
     "odd names": odd_names,
     "control bytes": control_bytes,
     "new after empty": after_empty,
+    "write if": write_if,
     "sum of sizes": total,
     "move": move,
     "new metadata": new_metadata,

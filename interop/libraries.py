@@ -17,6 +17,7 @@ class Boto3(Client):
     """AWS's library for Python."""
 
     name = "boto3"
+    takes_certificate = True
 
     @classmethod
     def absent(cls):
@@ -42,7 +43,7 @@ class Boto3(Client):
         from botocore.config import Config
 
         config = Config(**{"s3": {"addressing_style": "path"}, "retries": {"total_max_attempts": 1}, "proxies": {}, **more})
-        place = {"endpoint_url": f"http://{self.address}", "region_name": REGION}
+        place = {"endpoint_url": self.endpoint(), "region_name": REGION, "verify": self.certificate}
         return {**place, "aws_access_key_id": ID, "aws_secret_access_key": self.secret, "config": config}
 
     def call(self, operation, key, **more):
@@ -73,6 +74,12 @@ class Boto3(Client):
 
     def put_new(self, key, data):
         self.call("put_object", key, Body=data, IfNoneMatch="*")
+
+    def put_if(self, key, data, tag):
+        self.call("put_object", key, Body=data, IfMatch=tag)
+
+    def delete_if(self, key, tag):
+        self.call("delete_object", key, IfMatch=tag)
 
     def presigned(self, method, key):
         # Without the version it signs an address by the second one, where the region is this.
