@@ -24,7 +24,7 @@ def replies_in(out):
     out = out.removeprefix(CONTINUE)
     while out:
         head, mark, rest = out.partition(b"\r\n\r\n")
-        first, *lines = head.decode().split("\r\n")
+        first, *lines = head.decode("latin-1").split("\r\n")
         status = int(first[9:12])
         lines = dict(line.split(": ", 1) for line in lines)
         lines = {name.lower(): value for name, value in lines.items()}
