@@ -1,5 +1,5 @@
--- Bases: the states that a history may begin at. A server that goes on with what an earlier one kept begins at such a state, and
--- what the laws of histories ask of it is said here.
+-- Bases: the states that a history may begin at, and what the laws of histories ask of one. That what is found on a disk makes
+-- such a state is said by no clause.
 use Rattle.std.specs.Prelude.{◌≡◌, ◌≢◌, ℕ, ◌+◌, ◌<◌, IsTrue, List, [], length, Some, is_some}
 use Rattle.s3_names.specs.declared.ids.VersionId.TheVariants.{Null}
 use Rattle.s3_versions.specs.declared.version.Versioning.TheVariants.{Unversioned}
